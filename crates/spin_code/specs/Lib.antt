@@ -1,0 +1,5 @@
+pub mod Check
+pub mod Size
+pub mod Truth
+pub mod Uses
+pub mod Value

@@ -1,0 +1,4 @@
+pub mod Changes
+pub mod Cutting
+pub mod Received
+pub mod Retired

@@ -1,0 +1,54 @@
+-- What contracts see of an endpoint that keeps its pieces in memory.
+use Rattle.std.specs.Prelude.{ℕ, List, Bool, Some, ◌||◌, ◌&&◌, ◌+◌, ◌-◌, ◌++◌, ◌∷◌, [], not, nat_lt, nat_le, length, take, drop, if◌then◌else◌}
+use Rattle.spin_outside.specs.Counts.{raised_by}
+use Rattle.spin_outside.specs.Calls.{CallsState, next_fails, counted}
+use Rattle.spin_endpoint.specs.Endpoints.{EndpointSeen}
+
+-- the pieces that were kept, and how many pieces and how many bytes there is still room for
+pub record PiecesState : Type 0 where
+  pub pieces : List (List ℕ)
+  pub pieces_left : ℕ
+  pub bytes_left : ℕ
+
+-- whether there is room for the piece
+abbrev pub fits : PiecesState → List ℕ → Bool
+fits kept piece = nat_lt 0 kept.pieces_left && nat_le (length piece) kept.bytes_left
+
+-- the pieces, with one more
+abbrev pub with_kept : PiecesState → List ℕ → PiecesState
+with_kept kept piece = record {
+  pieces = kept.pieces ++ piece ∷ [];
+  pieces_left = kept.pieces_left - 1;
+  bytes_left = kept.bytes_left - length piece;
+}
+
+-- how many bytes pieces of these lengths have in all
+abbrev pub total : List ℕ → ℕ
+total [] = 0
+total (len ∷ lens) = len + total lens
+
+-- bytes cut into pieces of these lengths
+abbrev pub cut : List ℕ → List ℕ → List (List ℕ)
+cut [] bytes = []
+cut (len ∷ lens) bytes = take len bytes ∷ cut lens (drop len bytes)
+
+-- the endpoint: what it keeps, its calls, whether it is finished, and its count of faults
+pub record KeepState : Type 0 where
+  pub kept : PiecesState
+  pub calls : CallsState
+  pub finished : Bool
+  pub faults : ℕ
+
+abbrev pub keep_seen : KeepState → EndpointSeen
+keep_seen end = record { pieces = Some end.kept.pieces; finished = end.finished; faults = end.faults }
+
+-- The next `take` fails: its number is listed, or there is no room for the piece.
+abbrev pub refuses : KeepState → List ℕ → Bool
+refuses end piece = next_fails end.calls || not (fits end.kept piece)
+
+-- the endpoint after a `take` of the piece
+abbrev pub taken : KeepState → List ℕ → KeepState
+taken end piece =
+    if refuses end piece
+    then record end { calls = counted end.calls; faults = raised_by end.faults 1 }
+    else record end { kept = with_kept end.kept piece; calls = counted end.calls }

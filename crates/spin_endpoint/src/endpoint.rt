@@ -1,0 +1,21 @@
+//! What an endpoint does.
+
+ghost use Rattle.std.specs.Prelude.{◌≡◌, true};
+ghost use Rattle.spin_endpoint.specs.Endpoints.{EndpointSeen, Takes};
+
+use spin_outside::Failed;
+
+/// Takes pieces of bytes in order, and is finished once it is retired.
+pub trait Endpoint: Drop {
+    /// What contracts see of the endpoint at a moment.
+    ghost seen: { Self → EndpointSeen };
+
+    /// Takes the piece whole, and adds it to those that the endpoint received. It fails only where the count of
+    /// faults rose, and has then received nothing.
+    fn take(&mut self, bytes: &[u8]) -> Result<(), Failed>
+        ensures { Takes bytes.now result (seen self.old) (seen self.new) };
+
+    /// Finishes the endpoint, and changes nothing else.
+    fn finish(&mut self)
+        ensures { seen self.new ≡ record (seen self.old) { finished = true } };
+}

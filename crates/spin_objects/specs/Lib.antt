@@ -1,0 +1,4 @@
+pub mod Adding
+pub mod Doing
+pub mod Layers
+pub mod Units

@@ -1,0 +1,30 @@
+-- What contracts see of a sink in memory.
+use Rattle.std.specs.Prelude.{ℕ, List, Bool, Some, ◌||◌, ◌-◌, ◌++◌, nat_le, length, take, if◌then◌else◌}
+use Rattle.spin_outside.specs.Counts.{raised_by}
+use Rattle.spin_outside.specs.Calls.{CallsState, next_fails, counted}
+use Rattle.spin_outside.specs.Seen.{SinkSeen}
+
+-- what it took, how many bytes it takes in all, its calls, and its count of faults
+pub record SinkState : Type 0 where
+  pub taken : List ℕ
+  pub room : ℕ
+  pub calls : CallsState
+  pub faults : ℕ
+
+abbrev pub sink_seen : SinkState → SinkSeen
+sink_seen sink = record { told = Some sink.taken; faults = sink.faults }
+
+-- The next write fails: its number is listed, or no room is left.
+abbrev pub refuses : SinkState → Bool
+refuses sink = next_fails sink.calls || nat_le sink.room (length sink.taken)
+
+-- the bytes of a piece that the room left takes
+abbrev pub fitting : SinkState → List ℕ → List ℕ
+fitting sink piece = take (sink.room - length sink.taken) piece
+
+-- the sink after a write of the piece
+abbrev pub written : SinkState → List ℕ → SinkState
+written sink piece =
+    if refuses sink
+    then record sink { calls = counted sink.calls; faults = raised_by sink.faults 1 }
+    else record sink { calls = counted sink.calls; taken = sink.taken ++ fitting sink piece }

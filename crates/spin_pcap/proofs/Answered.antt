@@ -1,0 +1,51 @@
+-- A whole record at the front of the bytes that are left.
+use Rattle.std.proofs.Common.{◌≡◌, ◌≤◌, ◌<◌, ◌+◌, ℕ, List, [], ◌++◌, length, take, drop, Option, Some, None, Result, Ok, Err, refl, sym, ap, subst, ◌∙◌, arith, append_assoc, IfSome}
+use Rattle.std.proofs.lemmas.List.{append-nil, length-append, length-take, length-drop, take-append-drop}
+use Rattle.std.proofs.Math.Seq.{drop-append-le}
+use Rattle.std.specs.Io.KnownBytes.{IsAtEnd}
+use Rattle.byteorder.specs.Numbers.{big_from-append, little_from-append}
+use Rattle.spin_outside.specs.Sources.{SourceSeen}
+use Rattle.spin_pcap.specs.declared.fault.PcapFault.TheVariants as fault
+use Rattle.spin_pcap.specs.declared.next.Next.TheVariants as next
+use Rattle.spin_pcap.specs.declared.order.Order.{Order}
+use Rattle.spin_pcap.specs.declared.order.Order.TheVariants as order
+use Rattle.spin_pcap.specs.Captures.{number, number_at, captured, max_records, max_captured, IsRecord, IsCut, IsBad}
+use Rattle.spin_pcap.specs.Passing.{Passes, left_for, IsAnswer}
+use Rattle.spin_pcap.proofs.Passed.{before-rest, before-end, passes-then, passes-skip}
+
+pub number-front : (way : Order) (width : ℕ) (xs ys : List ℕ) → width ≤ length xs → number way width (xs ++ ys) ≡ number way width xs
+number-front order.Big width xs ys le = big_from-append width xs ys le
+number-front order.Little width xs ys le = little_from-append width xs ys le
+
+pub number_at-front : (way : Order) (place width : ℕ) (xs ys : List ℕ) → place + width ≤ length xs → number_at way place width (xs ++ ys) ≡ number_at way place width xs
+number_at-front way place width xs ys le =
+    ap (λ zs. number way width zs) (drop-append-le place xs ys (omega arith)) ∙ number-front way width (drop place xs) ys (omega (arith, length-drop place xs))
+
+-- the header of a record is at the front of what is held
+captured-held : (way : Order) (held more : List ℕ) → 16 ≤ length held → captured way (take 16 held ++ more) ≡ captured way held
+captured-held way held more le =
+    number_at-front way 8 4 (take 16 held) more (omega (arith, length-take 16 held))
+    ∙ sym (number_at-front way 8 4 (take 16 held) (drop 16 held) (omega (arith, length-take 16 held)))
+    ∙ ap (λ ys. captured way ys) (take-append-drop 16 held)
+
+-- the header of the record and its bytes are gone
+pub passes-record : (held held' held'' frame : List ℕ) (source source' source'' : SourceSeen) → Passes [] held source held' source' → 16 ≤ length held' → Passes frame (drop 16 held') source' held'' source'' → Passes (take 16 held' ++ frame) held source held'' source''
+passes-record held held' held'' frame source source' source'' p size q =
+    passes-then [] (take 16 held' ++ frame) held held' held'' source source' source'' p
+    (passes-then (take 16 held') frame held' (drop 16 held') held'' source' source' source'' (passes-skip held' source' 16 size) q)
+
+pub answers-packet : (way : Order) (given : ℕ) (held held' held'' frame : List ℕ) (source source' source'' : SourceSeen) → Passes [] held source held' source' → 16 ≤ length held' → Passes frame (drop 16 held') source' held'' source'' → given < max_records → captured way held' ≡ length frame → length frame ≤ max_captured → IfSome (left_for held source.left) (λ bytes. IsAnswer way given bytes (Ok next.Packet) frame (left_for held'' source''.left))
+answers-packet way given held held' held'' frame source source' source'' p size q few says small =
+    before-rest (λ bytes. IsAnswer way given bytes (Ok next.Packet) frame (left_for held'' source''.left)) (take 16 held' ++ frame) held held'' source source'' (passes-record held held' held'' frame source source' source'' p size q)
+    (λ rest left. (
+      held'' ++ rest,
+      left,
+      record {
+        few = few;
+        header = take 16 held';
+        size = omega (arith, length-take 16 held');
+        says = ap (λ ys. captured way ys) (sym (append-nil (take 16 held'))) ∙ captured-held way held' [] size ∙ says;
+        small = small;
+        whole = refl;
+      },
+    ))

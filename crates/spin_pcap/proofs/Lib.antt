@@ -1,0 +1,4 @@
+pub mod Answered
+pub mod Passed
+pub mod Readings
+pub mod Started

@@ -1,0 +1,5 @@
+use Rattle.spin_pcap.proofs.Readings.{one_reading}
+use Rattle.spin_pcap.proofs.laws.one_reading.Goals as goal
+
+pub returns : goal.returns
+returns c = one_reading

@@ -1,0 +1,3 @@
+pub mod Captures
+pub mod Laws
+pub mod Passing

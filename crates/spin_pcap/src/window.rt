@@ -1,0 +1,111 @@
+//! The bytes that were taken from a source and not given yet.
+
+ghost use Rattle.std.specs.Prelude.{◌≡◌, ◌<◌, ◌≤◌, ◌-◌, ℕ, List, [], length, take, drop, IfOk};
+ghost use Rattle.std.specs.Io.KnownBytes.{IsAtEnd};
+ghost use Rattle.spin_outside.specs.Counts.{FailsByCount};
+ghost use Rattle.spin_pcap.specs.Passing.{Passes, Fills};
+
+use spin_outside::{Failed, NoMemory, Source};
+use std::alloc::Global;
+use std::marker::Model;
+
+/// The greatest number of bytes that are held.
+const ROOM: usize = 65_536;
+
+/// The bytes that were taken from a source and not given yet. Contracts see the list of these bytes.
+#[derive(Drop)]
+pub struct Window {
+    bytes: Vec<u8>,
+    start: usize,
+    end: usize,
+}
+
+impl Model for Window {
+    ghost use Rattle.std.specs.Prelude.{◌≡◌, ◌≤◌, ◌-◌, ℕ, List, length, take, drop};
+
+    ghost Value = { List ℕ };
+
+    ghost view = { λ w. take (w.end - w.start) (drop w.start w.bytes.items) };
+
+    ghost invariant = { λ w. (w.start ≤ w.end) × (w.end ≤ 65536) × (length w.bytes.items ≡ 65536) };
+}
+
+/// Moves what stands between two places to the front, and answers its length.
+fn move_to_front(bytes: &mut [u8], start: usize, end: usize) -> usize
+    requires ordered { start ≤ end }
+    requires within { end ≤ length bytes.old }
+    ensures len { result ≡ end - start }
+    ensures moved { take result bytes.new ≡ take (end - start) (drop start bytes.old) }
+{
+    if start > 0 {
+        bytes.copy_within(start..end, 0);
+    }
+    end - start
+}
+
+impl Window {
+    /// A window that holds nothing. It takes all its memory now.
+    pub fn new(alloc: Global) -> Result<Window, NoMemory>
+        ensures { IfOk result (λ window. window ≡ []) }
+    {
+        let mut bytes = Vec::new(alloc);
+        bytes.resize(ROOM, 0u8)?;
+        Ok(Window {
+            bytes,
+            start: 0,
+            end: 0,
+        })
+    }
+
+    /// The bytes that are held.
+    pub fn held(&self) -> &[u8]
+        ensures same { result.now ≡ self.now }
+        ensures bound { length self.now ≤ 65536 }
+    {
+        &self.bytes[self.start..self.end]
+    }
+
+    /// Gives up that many bytes at the front.
+    pub fn skip(&mut self, count: usize)
+        requires { count ≤ length self.old }
+        ensures skipped { self.new ≡ drop count self.old }
+        ensures bound { length self.new ≤ 65536 }
+    {
+        self.start += count;
+    }
+
+    /// Does one read, of as many bytes as there is room for. The answer says whether there were any.
+    pub fn fill<S: Source>(&mut self, source: &mut S) -> Result<bool, Failed>
+        requires room { length self.old < 65536 }
+        ensures passed { Passes [] self.old (S.seen source.old) self.new (S.seen source.new) }
+        ensures filled { Fills result self.old self.new (S.seen source.new).left }
+        ensures bound { length self.new ≤ 65536 }
+        ensures cause { FailsByCount (S.seen source.old).faults (S.seen source.new).faults result }
+    {
+        let len = move_to_front(&mut self.bytes, self.start, self.end);
+        self.start = 0;
+        self.end = len;
+        let count = source.read(&mut self.bytes[len..])?;
+        if count == 0 {
+            return Ok(false);
+        }
+        self.end += count;
+        Ok(true)
+    }
+
+    /// Reads until that many bytes are held, or nothing is left.
+    pub fn need<S: Source>(&mut self, source: &mut S, wanted: usize) -> Result<(), Failed>
+        requires room { wanted ≤ 65536 }
+        ensures passed { Passes [] self.old (S.seen source.old) self.new (S.seen source.new) }
+        ensures end { IfOk result (λ _. length self.new < wanted → IsAtEnd (S.seen source.new).left) }
+        ensures bound { length self.new ≤ 65536 }
+        ensures cause { FailsByCount (S.seen source.old).faults (S.seen source.new).faults result }
+    {
+        while self.held().len() < wanted {
+            if !self.fill(source)? {
+                return Ok(());
+            }
+        }
+        Ok(())
+    }
+}

@@ -1,0 +1,4 @@
+pub mod Candidates
+pub mod Faults
+pub mod Orders
+pub mod Precedence

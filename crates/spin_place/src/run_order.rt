@@ -1,0 +1,70 @@
+//! The order in which bindings run, or a cycle.
+
+ghost use Rattle.std.specs.Prelude.{◌≡◌, [], IfOk, List, ℕ};
+ghost use Rattle.spin_place.specs.Orders.{AreDistinct};
+ghost use Rattle.spin_place.specs.Faults.{IfConflict};
+ghost use Rattle.spin_place.specs.Precedence.{numbers_of, IsLawful, IsTheOrder, IsCycle};
+
+use crate::binding::Binding;
+use crate::candidate::{candidates, least_ready, release};
+use crate::cycle::cycle_among;
+use spin_values::{NoMemory, Numbers};
+use std::alloc::Global;
+use thiserror::Error;
+
+/// Why there is no order.
+#[derive(Debug, Drop, PartialEq, Error)]
+pub enum OrderFault {
+    /// Each order lets some binding stand after one that it must precede. The numbers show it: they are distinct and
+    /// at least two, the least comes first, and the binding of each must precede that of the next, and that of the
+    /// last that of the first.
+    #[error("the bindings must precede each other in a cycle")]
+    Conflict(Numbers),
+    /// There was no memory for the answer.
+    #[error("out of memory")]
+    NoMemory,
+}
+
+impl From<NoMemory> for OrderFault {
+    ghost use Rattle.std.specs.Prelude.{◌≡◌};
+    ghost use Rattle.spin_place.specs.declared.run_order.OrderFault.{OrderFault};
+
+    ghost from_gives = { λ _ fault. fault ≡ OrderFault.NoMemory };
+
+    fn from(_: NoMemory) -> OrderFault {
+        OrderFault::NoMemory
+    }
+}
+
+// An empty list with room for this many numbers.
+fn with_room(alloc: Global, room: usize) -> Result<Numbers, NoMemory>
+    ensures { IfOk result (λ numbers. numbers ≡ []) }
+{
+    Ok(Numbers::from_vec(Vec::with_capacity(alloc, room)?))
+}
+
+/// The numbers of the bindings in the order in which they run: of all orders in which nothing stands after a
+/// binding that it must precede, the one that has the smaller number where it first differs from another.
+/// `Conflict` comes exactly where there is no such order.
+///
+/// It compares each two of the bindings at most three times, and takes memory for the answer and for one list beside
+/// it.
+pub fn order(alloc: Global, bindings: &[Binding]) -> Result<Numbers, OrderFault>
+    requires { AreDistinct (numbers_of bindings.now) }
+    ensures order { IfOk result (λ ns. IsTheOrder bindings.now ns) }
+    ensures cycle { IfConflict result (λ ns. IsCycle bindings.now ns) }
+    ensures unlawful { IfConflict result (λ _. (ns : List ℕ) → IsLawful bindings.now ns → ⊥) }
+{
+    let mut rest = candidates(alloc, bindings)?;
+    let mut placed = with_room(alloc, bindings.len())?;
+    while !rest.is_empty() {
+        let Some(at) = least_ready(&rest) else {
+            let cycle = cycle_among(&rest, placed.into_vec())?;
+            return Err(OrderFault::Conflict(Numbers::from_vec(cycle)));
+        };
+        let next = rest.remove(at).binding;
+        placed.push(next.number)?;
+        release(&mut rest, next);
+    }
+    Ok(placed)
+}

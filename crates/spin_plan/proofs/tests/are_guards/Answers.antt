@@ -1,0 +1,12 @@
+use Rattle.std.proofs.Common.{refl}
+use Rattle.std.proofs.lemmas.List.Elements.{All-more}
+use Rattle.spin_plan.specs.Next.{IsGuard}
+use Rattle.spin_plan.proofs.Walked.{walked_all}
+use Rattle.spin_plan.proofs.tests.are_guards.Goals as goal
+
+pub loop-guard-preserved : goal.loop-guard-preserved
+loop-guard-preserved c =
+    All-more (IsGuard c.args.count) c.args.guards.now c.loop-guard.guard-index 0 c.loop-guard-test.true c.loop-guard.invariant (c.if-not-is_guard.ensures refl)
+
+pub returns : goal.returns
+returns c = λ t. walked_all (IsGuard c.args.count) c.args.guards.now c.loop-guard.guard-index c.loop-guard-test.false c.loop-guard.invariant

@@ -1,0 +1,19 @@
+//! Policies: which requests of other modules the owner of an event allows, denies or restricts.
+//!
+//! The module that owns an event is asked about each request of another module (Pardyak and Bershad,
+//! OSDI 1996: authorisers).
+//!
+//! - [`rule`] is one rule: whom it speaks of, and what it decides;
+//! - [`policy`] is a list of rules, of which the first that matches decides, by [`judge`];
+//! - [`authoriser`] is an object that answers as its policy does.
+#![tactic(auto)]
+
+pub mod authoriser;
+pub mod policy;
+pub mod rule;
+#[cfg(test)]
+mod tests;
+
+pub use authoriser::Authoriser;
+pub use policy::{MAX_RULES, Policy, PolicyFault, judge};
+pub use rule::{Effect, Forced, MAX_GUARDS, OpMatch, Request, Rule, Verdict};

@@ -1,0 +1,126 @@
+//! A whole raise of one event.
+
+ghost use Rattle.std.specs.Prelude.{◌≡◌, ◌++◌, ◌<◌, OnOk, IfOk};
+ghost use Rattle.std.specs.List.{flat_map};
+ghost use Rattle.spin_raise.specs.Firing.{units_of, bound_of, IsThere, fired, items_by, answer_of, args_left};
+
+use crate::answer::Answer;
+use crate::stepping::{Progress, Stepped, step};
+use spin_code::{Merge, Sincere};
+use spin_objects::{Catalogue, Outcome};
+use spin_plan::Plan;
+use spin_values::{Args, NoMemory, Steps};
+use std::alloc::Global;
+use std::marker::Brand;
+use std::sync::ledger::{Blank, Ledger};
+
+/// Runs all that fires, with a counter.
+fn raise_counted<L: Ledger>(
+    alloc: Global,
+    plan: &Plan,
+    merge: &Merge,
+    default: u16,
+    cat: &Catalogue,
+    apart: bool,
+    args: &mut Args,
+    out: &mut Outcome,
+    steps: &mut Steps<L>,
+) -> Result<Answer, NoMemory>
+    requires there { IsThere (units_of cat.now) (bound_of plan.now merge.now default) }
+    requires sincere { ⟦<Catalogue as Sincere>⟧.sincere cat.now }
+    ensures answer { IfOk result (λ a. a ≡ answer_of merge.now (fired apart (units_of cat.now) (bound_of plan.now merge.now default) args.old)) }
+    ensures out { OnOk result (out.new ≡ out.old ++ flat_map items_by (fired apart (units_of cat.now) (bound_of plan.now merge.now default) args.old)) }
+    ensures args { OnOk result (args.new ≡ args_left args.old (fired apart (units_of cat.now) (bound_of plan.now merge.now default) args.old)) }
+{
+    let mut progress = Progress::start();
+    'turns: loop {
+        match step(
+            alloc,
+            plan,
+            merge,
+            default,
+            cat,
+            apart,
+            true,
+            &mut progress,
+            args,
+            out,
+            steps,
+        )? {
+            Stepped::Ran => {}
+            Stepped::End => return Ok(progress.answer),
+            Stepped::Full => return Ok(progress.answer),
+        }
+    }
+}
+
+/// Makes the counter.
+fn raise_from<L: Ledger>(
+    alloc: Global,
+    plan: &Plan,
+    merge: &Merge,
+    default: u16,
+    cat: &Catalogue,
+    apart: bool,
+    args: &mut Args,
+    out: &mut Outcome,
+    blank: Blank,
+) -> Result<Answer, NoMemory>
+    requires there { IsThere (units_of cat.now) (bound_of plan.now merge.now default) }
+    requires sincere { ⟦<Catalogue as Sincere>⟧.sincere cat.now }
+    requires name { blank.name ≡ L.name }
+    requires parts { blank.parts ≡ L.parts }
+    requires some { 0 < L.parts }
+    ensures answer { IfOk result (λ a. a ≡ answer_of merge.now (fired apart (units_of cat.now) (bound_of plan.now merge.now default) args.old)) }
+    ensures out { OnOk result (out.new ≡ out.old ++ flat_map items_by (fired apart (units_of cat.now) (bound_of plan.now merge.now default) args.old)) }
+    ensures args { OnOk result (args.new ≡ args_left args.old (fired apart (units_of cat.now) (bound_of plan.now merge.now default) args.old)) }
+{
+    let mut steps = Steps::<L>::new(blank);
+    raise_counted(
+        alloc, plan, merge, default, cat, apart, args, out, &mut steps,
+    )
+}
+
+/// Raises an event: goes along the plan, and runs each binding whose guards all hold of the arguments as they stand
+/// when it is reached.
+///
+/// A binding that runs appends its number and then what its act gives, and leaves the arguments as the act does. An
+/// asynchronous one, where `apart` is false, appends a job with a copy of the arguments instead, and they go on
+/// unchanged; where `apart` is true it runs in place, and its result isn't merged. Where no binding ran, the default
+/// runs under the number 0, unless it is 0 itself.
+///
+/// The answer is [`Answer::Value`] where a result was merged, by `merge` in the order of the bindings;
+/// [`Answer::Done`] where bindings ran and none gave a result that is merged; [`Answer::Default`] with the default's
+/// result where it ran; and [`Answer::NoHandler`] where nothing ran.
+///
+/// The handlers and guards that plan and default name are there, and the catalogue's objects do what they were handed
+/// in with. After want of memory nothing is known of the arguments and the outcome. It is linear in the bindings,
+/// their guards, and what the acts do and give; the arguments are copied for jobs alone.
+pub fn raise(
+    alloc: Global,
+    plan: &Plan,
+    merge: &Merge,
+    default: u16,
+    cat: &Catalogue,
+    apart: bool,
+    args: &mut Args,
+    out: &mut Outcome,
+) -> Result<Answer, NoMemory>
+    requires there { IsThere (units_of cat.now) (bound_of plan.now merge.now default) }
+    requires sincere { ⟦<Catalogue as Sincere>⟧.sincere cat.now }
+    ensures answer { IfOk result (λ a. a ≡ answer_of merge.now (fired apart (units_of cat.now) (bound_of plan.now merge.now default) args.old)) }
+    ensures out { OnOk result (out.new ≡ out.old ++ flat_map items_by (fired apart (units_of cat.now) (bound_of plan.now merge.now default) args.old)) }
+    ensures args { OnOk result (args.new ≡ args_left args.old (fired apart (units_of cat.now) (bound_of plan.now merge.now default) args.old)) }
+{
+    raise_from::<Brand>(
+        alloc,
+        plan,
+        merge,
+        default,
+        cat,
+        apart,
+        args,
+        out,
+        Blank::new(1),
+    )
+}

@@ -1,0 +1,11 @@
+mod Arranged
+mod ImposedFit
+mod Keeping
+mod LawfulOrders
+mod Numbered
+mod Passing
+mod Positions
+mod Sound
+mod Starting
+mod Stepping
+mod Types

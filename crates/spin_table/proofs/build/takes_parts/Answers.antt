@@ -1,0 +1,5 @@
+use Rattle.spin_table.proofs.Types.{is_same_kinds}
+use Rattle.spin_table.proofs.build.takes_parts.Goals as goal
+
+pub returns : goal.returns
+returns c = is_same_kinds _ _ _ c.have_kinds.ensures

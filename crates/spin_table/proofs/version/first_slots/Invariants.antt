@@ -1,0 +1,7 @@
+use Rattle.std.proofs.Common.{◌≡◌, take, map}
+use Rattle.spin_table.specs.States.{first_state}
+use Rattle.spin_table.proofs.version.first_slots.Given as goal
+
+-- the slots of the events so far are there
+abbrev pub invariant-loop-event : goal.invariant-loop-event
+invariant-loop-event l = l.slots ≡ map first_state (take l.event-index l.events)

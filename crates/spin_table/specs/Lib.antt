@@ -1,0 +1,11 @@
+pub mod Setups
+pub mod Catalogues
+pub mod Units
+pub mod States
+pub mod Verdicts
+pub mod Refusals
+pub mod Steps
+pub mod Faults
+pub mod Soundness
+pub mod SetupOf
+pub mod Orders

@@ -1,0 +1,106 @@
+-- Why a command is refused: the first of these conditions that holds.
+use Rattle.std.specs.Prelude.{ℕ, Bool, false, not, ◌&&◌, ◌||◌, ◌==◌, nat_lt, nat_le, List, [], ◌∷◌, length, slice_get, Option, Some}
+use Rattle.std.specs.List.{list_any}
+use Rattle.std.specs.Option.{option_map_or}
+use Rattle.spin_word.specs.declared.command.Mode.{Mode}
+use Rattle.spin_word.specs.declared.command.Mode.TheVariants as mode
+use Rattle.spin_word.specs.declared.command.Op.{Op}
+use Rattle.spin_word.specs.declared.command.Op.TheVariants as op
+use Rattle.spin_word.specs.declared.command.Command.{Command}
+use Rattle.spin_word.specs.Commands.{no_number, target_is_used, guard_is_used, handler_is_used}
+use Rattle.spin_policy.specs.Verdicts.{is_install, first_refusal}
+use Rattle.spin_policy.specs.Imposed.{forces_apart}
+use Rattle.spin_place.specs.declared.binding.Binding.{Binding}
+use Rattle.spin_table.specs.declared.event.EventDef.{EventDef}
+use Rattle.spin_table.specs.declared.refusal.Refusal.{Refusal}
+use Rattle.spin_table.specs.declared.refusal.Refusal.TheVariants as refusal
+use Rattle.spin_objects.specs.Units.{HandlerUnit, GuardUnit}
+use Rattle.spin_table.specs.Setups.{SetupData, unit_of, rules_of}
+use Rattle.spin_table.specs.States.{State, EventState, binding_of, is_live}
+use Rattle.spin_table.specs.Units.{same_signature, same_parameter_kinds, raises_down, sets_argument, has_wrong_mode}
+use Rattle.spin_table.specs.Verdicts.{answer_to, is_denied, named_rule}
+
+-- 3: the op uses a handler, and there is none of its number
+abbrev pub lacks_handler : List HandlerUnit → Command → Bool
+lacks_handler handlers c = handler_is_used c.op && ((c.handler == 0) || nat_lt (length handlers) c.handler)
+
+-- 4: the op uses a guard, and there is none of its number
+abbrev pub lacks_guard : List GuardUnit → Command → Bool
+lacks_guard guards c = guard_is_used c.op && nat_lt (length guards) c.guard
+
+-- a binding is named that isn't live
+abbrev pub names_unknown : List Binding → ℕ → Bool
+names_unknown bs number = not (number == no_number) && not (is_live bs number)
+
+-- 5: the op's target, or one that it goes before or after, is no live binding of the event
+abbrev pub lacks_binding : List Binding → Command → Bool
+lacks_binding bs c =
+    target_is_used c.op && not (is_live bs c.target)
+    || list_any (names_unknown bs) c.before
+    || list_any (names_unknown bs) c.after
+
+-- something of the handler that the op uses
+abbrev pub of_handler : List HandlerUnit → Command → (HandlerUnit → Bool) → Bool
+of_handler handlers c test = handler_is_used c.op && option_map_or test (unit_of handlers c.handler) false
+
+-- something of the guard that the op uses, which isn't 0
+abbrev pub of_guard : List GuardUnit → Command → (GuardUnit → Bool) → Bool
+of_guard guards c test = guard_is_used c.op && option_map_or test (unit_of guards c.guard) false
+
+-- 6: the handler's signature isn't the event's, or the guard hasn't the kinds of the event's parameters
+abbrev pub has_wrong_type : List HandlerUnit → List GuardUnit → EventDef → Command → Bool
+has_wrong_type handlers guards e c =
+    of_handler handlers c (λ h. not (same_signature h.sig e.sig))
+    || of_guard guards c (λ g. not (same_parameter_kinds g.sig e.sig))
+
+-- 7: the handler's act raises an event that isn't greater than this one
+abbrev pub goes_down : List HandlerUnit → Command → Bool
+goes_down handlers c = of_handler handlers c (λ h. raises_down c.event h.act)
+
+-- the mode in which the handler would run: the command's, or the target's, or plain for a default
+abbrev pub mode_of : List Binding → Command → Op → Mode
+mode_of bs c op.Install = c.mode
+mode_of bs c op.Replace = option_map_or (λ b. b.mode) (binding_of bs c.target) mode.Plain
+mode_of bs c o = mode.Plain
+
+-- 8: the handler changes an argument, and wouldn't run as a filter
+abbrev pub has_mode_fault : List HandlerUnit → List Binding → Command → Bool
+has_mode_fault handlers bs c = of_handler handlers c (λ h. has_wrong_mode (mode_of bs c c.op) h.act)
+
+-- 9: the owner denies it
+abbrev pub is_denied_by : EventDef → List Binding → Command → Bool
+is_denied_by e bs c = is_denied (answer_to e bs c)
+
+-- 12: the owner would have a handler run asynchronously that changes an argument
+abbrev pub forces_a_change_apart : List HandlerUnit → EventDef → List Binding → Command → Bool
+forces_a_change_apart handlers e bs c =
+    is_install c.op
+    && forces_apart (rules_of e.authority) (answer_to e bs c)
+    && of_handler handlers c (λ h. sets_argument h.act)
+
+-- 10: an install where the event has as many bindings as it may have
+abbrev pub is_full : ℕ → List Binding → Command → Bool
+is_full live bs c = is_install c.op && nat_le live (length bs)
+
+-- the refusals of a command on this event, with these bindings, but for a conflict; a denied command names the rule
+abbrev pub refusals_at : SetupData → EventDef → List Binding → Command → List (Bool × Refusal)
+refusals_at d e bs c =
+    (nat_le d.modules c.requester, refusal.UnknownModule)
+    ∷ (lacks_handler d.handlers c, refusal.UnknownHandler)
+    ∷ (lacks_guard d.guards c, refusal.UnknownGuard)
+    ∷ (lacks_binding bs c, refusal.UnknownBinding)
+    ∷ (has_wrong_type d.handlers d.guards e c, refusal.WrongType)
+    ∷ (goes_down d.handlers c, refusal.Downward)
+    ∷ (has_mode_fault d.handlers bs c, refusal.WrongMode)
+    ∷ (is_denied_by e bs c, refusal.Denied (named_rule (answer_to e bs c)))
+    ∷ (forces_a_change_apart d.handlers e bs c, refusal.ForcedMode (named_rule (answer_to e bs c)))
+    ∷ (is_full d.live bs c, refusal.TooMany)
+    ∷ []
+
+abbrev pub refusal_on : SetupData → Command → Option EventDef → Option EventState → Option Refusal
+refusal_on d c (Some e) (Some s) = first_refusal (refusals_at d e s.bindings c)
+refusal_on d c _ _ = Some refusal.UnknownEvent
+
+-- the first refusal of the command that applies, but for a conflict
+abbrev pub refusal_of : SetupData → State → Command → Option Refusal
+refusal_of d s c = refusal_on d c (slice_get d.events c.event) (slice_get s.events c.event)

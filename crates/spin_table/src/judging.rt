@@ -1,0 +1,260 @@
+//! Whether a command is refused.
+
+ghost use Rattle.std.specs.Prelude.{◌≡◌, ◌≤◌, ◌&&◌, not, length};
+ghost use Rattle.spin_word.specs.Commands.{target_is_used, guard_is_used, handler_is_used};
+ghost use Rattle.spin_policy.specs.Verdicts.{is_install, first_refusal};
+ghost use Rattle.spin_objects.specs.Units.{handlers_of, guards_of};
+ghost use Rattle.spin_policy.specs.Imposed.{forces_apart};
+ghost use Rattle.spin_table.specs.Setups.{rules_of};
+ghost use Rattle.spin_table.specs.Units as units;
+ghost use Rattle.spin_table.specs.Verdicts as verdicts;
+ghost use Rattle.spin_table.specs.Refusals as specs;
+ghost use Rattle.spin_table.specs.SetupOf.{data_of};
+
+use crate::event::{Authority, EventDef};
+use crate::live::{find_binding, is_live, live_of, name_unknown};
+use crate::refusal::Refusal;
+use crate::setup::Setup;
+use crate::units::{
+    find_guard, find_handler, has_parameter_kinds, has_signature, has_wrong_mode, raises_down,
+    sets_argument,
+};
+use spin_code::Guards;
+use spin_objects::Catalogue;
+use spin_place::Binding;
+use spin_policy::{Policy, Request, Verdict, judge};
+use spin_word::{Command, Mode, Op};
+
+fn uses_handler(op: Op) -> bool
+    ensures { result ≡ handler_is_used op }
+{
+    matches!(op, Op::Install | Op::Replace | Op::Default)
+}
+
+fn uses_guard(op: Op) -> bool
+    ensures { result ≡ guard_is_used op }
+{
+    matches!(op, Op::Install | Op::Replace)
+}
+
+fn uses_target(op: Op) -> bool
+    ensures { result ≡ target_is_used op }
+{
+    matches!(op, Op::Remove | Op::Replace)
+}
+
+fn is_install(op: Op) -> bool
+    ensures { result ≡ is_install op }
+{
+    matches!(op, Op::Install)
+}
+
+fn lacks_handler(catalogue: &Catalogue, c: &Command) -> bool
+    ensures { result ≡ specs.lacks_handler (handlers_of catalogue.now) c.now }
+{
+    uses_handler(c.op) && (c.handler == 0 || c.handler > catalogue.handlers())
+}
+
+fn lacks_guard(catalogue: &Catalogue, c: &Command) -> bool
+    ensures { result ≡ specs.lacks_guard (guards_of catalogue.now) c.now }
+{
+    uses_guard(c.op) && c.guard > catalogue.count()
+}
+
+fn lacks_binding(bindings: &[Binding], c: &Command) -> bool
+    ensures { result ≡ specs.lacks_binding bindings.now c.now }
+{
+    uses_target(c.op) && !is_live(bindings, c.target)
+        || name_unknown(bindings, &c.before)
+        || name_unknown(bindings, &c.after)
+}
+
+fn has_wrong_signature(catalogue: &Catalogue, def: &EventDef, c: &Command) -> bool
+    ensures { result ≡ specs.of_handler (handlers_of catalogue.now) c.now (λ h. not (units.same_signature h.sig def.now.sig)) }
+{
+    if !uses_handler(c.op) {
+        return false;
+    }
+    match find_handler(catalogue, c.handler) {
+        None => false,
+        Some((sig, _)) => !has_signature(sig, &def.sig),
+    }
+}
+
+fn has_wrong_kinds(catalogue: &Catalogue, def: &EventDef, c: &Command) -> bool
+    ensures { result ≡ specs.of_guard (guards_of catalogue.now) c.now (λ g. not (units.same_parameter_kinds g.sig def.now.sig)) }
+{
+    if !uses_guard(c.op) {
+        return false;
+    }
+    match find_guard(catalogue, c.guard) {
+        None => false,
+        Some(sig) => !has_parameter_kinds(sig, &def.sig),
+    }
+}
+
+fn goes_down(catalogue: &Catalogue, c: &Command) -> bool
+    ensures { result ≡ specs.goes_down (handlers_of catalogue.now) c.now }
+{
+    if !uses_handler(c.op) {
+        return false;
+    }
+    match find_handler(catalogue, c.handler) {
+        None => false,
+        Some((_, act)) => raises_down(c.event, act),
+    }
+}
+
+// The mode in which the handler would run.
+fn mode_of(bindings: &[Binding], c: &Command) -> Mode
+    ensures { result ≡ specs.mode_of bindings.now c.now c.now.op }
+{
+    match c.op {
+        Op::Install => c.mode,
+        Op::Replace => match find_binding(bindings, c.target) {
+            Some(binding) => binding.mode,
+            None => Mode::Plain,
+        },
+        _ => Mode::Plain,
+    }
+}
+
+fn has_mode_fault(catalogue: &Catalogue, bindings: &[Binding], c: &Command) -> bool
+    ensures { result ≡ specs.has_mode_fault (handlers_of catalogue.now) bindings.now c.now }
+{
+    if !uses_handler(c.op) {
+        return false;
+    }
+    match find_handler(catalogue, c.handler) {
+        None => false,
+        Some((_, act)) => has_wrong_mode(mode_of(bindings, c), act),
+    }
+}
+
+fn changes_an_argument(catalogue: &Catalogue, c: &Command) -> bool
+    ensures { result ≡ specs.of_handler (handlers_of catalogue.now) c.now (λ h. units.sets_argument h.act) }
+{
+    if !uses_handler(c.op) {
+        return false;
+    }
+    match find_handler(catalogue, c.handler) {
+        None => false,
+        Some((_, act)) => sets_argument(act),
+    }
+}
+
+fn target_owner(bindings: &[Binding], c: &Command) -> Option<u8>
+    ensures { result ≡ (verdicts.request_of bindings.now c.now).target_owner }
+{
+    if !uses_target(c.op) {
+        return None;
+    }
+    find_binding(bindings, c.target).map(|binding| binding.requester)
+}
+
+fn request_of(bindings: &[Binding], c: &Command) -> Request
+    requires few { length bindings.now ≤ 64 }
+    ensures { result ≡ verdicts.request_of bindings.now c.now }
+{
+    Request {
+        op: c.op,
+        requester: c.requester,
+        handler: c.handler,
+        target_owner: target_owner(bindings, c),
+        live: live_of(bindings, c.requester) as u16,
+    }
+}
+
+impl EventDef {
+    /// The rules by which the owner answers.
+    pub(crate) fn rules(&self) -> &Policy
+        ensures { result.now ≡ rules_of self.now.authority }
+    {
+        match &self.authority {
+            Authority::Rules(policy) => policy,
+        }
+    }
+
+    /// What the owner answers to a command of its own or of another module.
+    pub(crate) fn answer(&self, bindings: &[Binding], c: &Command) -> Verdict
+        requires few { length bindings.now ≤ 64 }
+        ensures { result ≡ verdicts.answer_to self.now bindings.now c.now }
+    {
+        if c.requester == self.owner {
+            return Verdict::Allow;
+        }
+        judge(self.rules(), &request_of(bindings, c))
+    }
+}
+
+// The rule that a verdict names, 0 being none.
+fn named_rule(verdict: Verdict) -> u8
+    ensures { result ≡ verdicts.named_rule verdict }
+{
+    match verdict {
+        Verdict::Allow => 0,
+        Verdict::Impose(rule) | Verdict::Force(rule) | Verdict::Deny(rule) => rule,
+    }
+}
+
+fn is_denied(verdict: Verdict) -> bool
+    ensures { result ≡ verdicts.is_denied verdict }
+{
+    matches!(verdict, Verdict::Deny(_))
+}
+
+fn forces_a_change_apart(
+    catalogue: &Catalogue,
+    def: &EventDef,
+    answer: Verdict,
+    c: &Command,
+) -> bool
+    ensures { result ≡ (is_install c.now.op && forces_apart (rules_of def.now.authority) answer && specs.of_handler (handlers_of catalogue.now) c.now (λ h. units.sets_argument h.act)) }
+{
+    is_install(c.op) && def.rules().runs_apart(answer) && changes_an_argument(catalogue, c)
+}
+
+/// The first refusal of a command on an event with these bindings that applies, but for a conflict.
+pub(crate) fn refusal(
+    setup: &Setup,
+    def: &EventDef,
+    bindings: &[Binding],
+    c: &Command,
+) -> Option<Refusal>
+    requires few { length bindings.now ≤ 64 }
+    ensures { result ≡ first_refusal (specs.refusals_at (data_of setup.now) def.now bindings.now c.now) }
+{
+    let catalogue = setup.catalogue();
+    if u16::from(c.requester) >= setup.modules() {
+        return Some(Refusal::UnknownModule);
+    }
+    if lacks_handler(catalogue, c) {
+        return Some(Refusal::UnknownHandler);
+    }
+    if lacks_guard(catalogue, c) {
+        return Some(Refusal::UnknownGuard);
+    }
+    if lacks_binding(bindings, c) {
+        return Some(Refusal::UnknownBinding);
+    }
+    if has_wrong_signature(catalogue, def, c) || has_wrong_kinds(catalogue, def, c) {
+        return Some(Refusal::WrongType);
+    }
+    if goes_down(catalogue, c) {
+        return Some(Refusal::Downward);
+    }
+    if has_mode_fault(catalogue, bindings, c) {
+        return Some(Refusal::WrongMode);
+    }
+    let answer = def.answer(bindings, c);
+    if is_denied(answer) {
+        return Some(Refusal::Denied(named_rule(answer)));
+    }
+    if forces_a_change_apart(catalogue, def, answer, c) {
+        return Some(Refusal::ForcedMode(named_rule(answer)));
+    }
+    if is_install(c.op) && bindings.len() >= setup.live() as usize {
+        return Some(Refusal::TooMany);
+    }
+    None
+}

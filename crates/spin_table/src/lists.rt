@@ -1,0 +1,113 @@
+//! The live bindings of one event, and the plan by which they run.
+
+ghost use Rattle.std.specs.Prelude.{◌≡◌, ◌≤◌, ◌+◌, ◌++◌, ℕ, List, All, IfOk, OnOk, MatchResult, length};
+ghost use Rattle.std.specs.Option.{option_copied, option_to_list};
+ghost use Rattle.spin_place.specs.Orders.{AreDistinct};
+ghost use Rattle.spin_place.specs.Precedence.{numbers_of, IsTheOrder, HasLawfulOrder};
+ghost use Rattle.spin_plan.specs.Next.{IsGuard};
+ghost use Rattle.spin_objects.specs.Units.{guards_of};
+ghost use Rattle.spin_table.specs.Orders.{arranged, IsOrderFault};
+ghost use Rattle.spin_table.specs.Steps.{OnRefused};
+
+use crate::changes::{Bindings, copy_binding};
+use crate::live::find_binding;
+use crate::refusal::{Refusal, StepFault};
+use crate::setup::Setup;
+use spin_place::{Binding, OrderFault, order};
+use spin_plan::Plan;
+use spin_values::{NoMemory, Numbers, Sequence, Steps};
+use std::alloc::Global;
+use std::marker::Model;
+use std::sync::ledger::Ledger;
+
+/// The live bindings of one event in rising order of number, and their plan. Contracts see the bindings.
+#[derive(Drop)]
+pub(crate) struct EventLists {
+    bindings: Bindings,
+    plan: Plan,
+}
+
+impl Model for EventLists {
+    ghost use Rattle.std.specs.Prelude.{List, ℕ, ◌≡◌};
+    ghost use Rattle.spin_place.specs.declared.binding.Binding.{Binding};
+    ghost use Rattle.spin_place.specs.Precedence.{IsTheOrder};
+    ghost use Rattle.spin_table.specs.Orders.{arranged};
+
+    ghost Value = { List Binding };
+
+    ghost view = { λ l. l.bindings };
+
+    ghost invariant = { λ l. (ns : List ℕ) → IsTheOrder l.bindings ns → l.plan ≡ arranged l.bindings ns };
+}
+
+// Adds the binding, if there is one.
+fn push_found(alloc: Global, list: &mut Bindings, found: Option<&Binding>) -> Result<(), NoMemory>
+    ensures { OnOk result (list.new ≡ list.old ++ option_to_list (option_copied found.entry)) }
+{
+    match found {
+        None => Ok(()),
+        Some(binding) => list.push(copy_binding(alloc, binding)?),
+    }
+}
+
+// The bindings of these numbers, in the order of the numbers.
+fn arrange(alloc: Global, bindings: &[Binding], numbers: &[u16]) -> Result<Bindings, NoMemory>
+    ensures { IfOk result (λ list. list ≡ arranged bindings.now numbers.now) }
+{
+    let mut list = Sequence::new(alloc);
+    for number in numbers {
+        push_found(alloc, &mut list, find_binding(bindings, *number))?;
+    }
+    Ok(list)
+}
+
+// The order of the bindings, or a cycle where none is lawful.
+fn order_of(alloc: Global, bindings: &[Binding]) -> Result<Numbers, StepFault>
+    requires { AreDistinct (numbers_of bindings.now) }
+    ensures { MatchResult result (λ ns. IsTheOrder bindings.now ns) (IsOrderFault bindings.now) }
+{
+    match order(alloc, bindings) {
+        Ok(numbers) => Ok(numbers),
+        Err(OrderFault::Conflict(cycle)) => Err(StepFault::Refused(Refusal::Conflict(cycle))),
+        Err(OrderFault::NoMemory) => Err(StepFault::NoMemory),
+    }
+}
+
+impl EventLists {
+    /// The lists of these bindings, or a cycle where no order of them is lawful. It ticks at most once per binding,
+    /// and not at all where there is a cycle.
+    pub(crate) fn make<L: Ledger>(
+        alloc: Global,
+        setup: &Setup,
+        bindings: Bindings,
+        steps: &mut Steps<L>,
+    ) -> Result<EventLists, StepFault>
+        requires distinct { AreDistinct (numbers_of bindings) }
+        requires few { length bindings ≤ 64 }
+        requires own { All (λ b. IsGuard (length (guards_of setup.now.catalogue)) b.own_guard) bindings }
+        requires imposed { All (λ b. All (IsGuard (length (guards_of setup.now.catalogue))) b.imposed) bindings }
+        ensures made { MatchResult result (λ made. (made ≡ bindings) × HasLawfulOrder bindings) (IsOrderFault bindings) }
+        ensures ticks { steps.new ≤ steps.old + length bindings }
+        ensures refused { OnRefused result (steps.new ≡ steps.old) }
+    {
+        let numbers = match order_of(alloc, bindings.as_slice()) {
+            Ok(numbers) => numbers,
+            Err(fault) => return Err(fault),
+        };
+        let list = arrange(alloc, bindings.as_slice(), numbers.as_slice())?;
+        let plan = Plan::compile(alloc, list.as_slice(), setup.catalogue(), steps)?;
+        Ok(EventLists { bindings, plan })
+    }
+
+    pub(crate) fn bindings(&self) -> &[Binding]
+        ensures { result.now ≡ self.now }
+    {
+        self.bindings.as_slice()
+    }
+
+    pub(crate) fn plan(&self) -> &Plan
+        ensures { (ns : List ℕ) → IsTheOrder self.now ns → result.now ≡ arranged self.now ns }
+    {
+        &self.plan
+    }
+}

@@ -1,0 +1,284 @@
+//! Versions: states that never change, of which a command makes the next.
+
+ghost use Rattle.std.specs.Prelude.{◌≡◌, ◌≤◌, ◌<◌, ◌+◌, ℕ, List, [], map, IsTrue, IfOk, Some, None, MatchResult, length, slice_get, slice_set, IsSomeAnd};
+ghost use Rattle.spin_word.specs.Commands.{is_command};
+ghost use Rattle.spin_place.specs.Precedence.{IsTheOrder, HasLawfulOrder};
+ghost use Rattle.spin_policy.specs.Verdicts.{first_refusal};
+ghost use Rattle.spin_table.specs.Refusals.{refusals_at};
+ghost use Rattle.spin_table.specs.Steps as specs;
+ghost use Rattle.spin_table.specs.Steps.{event_after, OnRefused};
+ghost use Rattle.spin_table.specs.Orders.{arranged, IsChangeFault};
+ghost use Rattle.spin_table.specs.Soundness.{IsSound, IsSoundEvent};
+ghost use Rattle.spin_table.specs.SetupOf.{data_of};
+ghost use Rattle.spin_table.specs.States.{first_state, start_of};
+ghost use Rattle.std.specs.Arc.{arc_value};
+
+use crate::changes::{Bindings, bindings_after};
+use crate::event::EventDef;
+use crate::judging::refusal;
+use crate::lists::EventLists;
+use crate::refusal::{Refusal, StepFault};
+use crate::setup::Setup;
+use spin_code::Sincere;
+use spin_objects::Catalogue;
+use spin_place::Binding;
+use spin_plan::Plan;
+use spin_values::{NoMemory, Sequence, Steps};
+use spin_word::{Command, Op};
+use std::alloc::Global;
+use std::marker::{Brand, Model};
+use std::sync::Arc;
+use std::sync::ledger::{Blank, Ledger};
+
+/// The lists of one event, shared with the versions in which they are the same, and its default.
+#[derive(Drop)]
+pub(crate) struct EventSlot {
+    default: u16,
+    lists: Arc<EventLists>,
+}
+
+impl Model for EventSlot {
+    ghost use Rattle.std.specs.Arc.{arc_value};
+    ghost use Rattle.spin_table.specs.States.{EventState};
+
+    ghost Value = { EventState };
+
+    ghost view = { λ s. record { bindings = arc_value s.lists; default = s.default } };
+}
+
+/// The place, and the bindings and the default of each event. Contracts see the state.
+#[derive(Drop)]
+pub struct Version {
+    place: u16,
+    events: Sequence<EventSlot>,
+}
+
+impl Model for Version {
+    ghost use Rattle.spin_table.specs.States.{State};
+
+    ghost Value = { State };
+
+    ghost view = { λ v. record { place = v.place; events = v.events } };
+}
+
+// The default after the command.
+fn default_after(c: &Command, default: u16) -> u16
+    ensures { result ≡ specs.default_after c.now c.now.op default }
+{
+    match c.op {
+        Op::Default => c.handler,
+        Op::NoDefault => 0,
+        _ => default,
+    }
+}
+
+impl EventSlot {
+    // The bindings after the command, an installed one with the number of the next place.
+    fn bindings_after(
+        &self,
+        alloc: Global,
+        def: &EventDef,
+        place: u16,
+        c: &Command,
+    ) -> Result<Bindings, NoMemory>
+        requires room { place < 4096 }
+        requires few { length self.now.bindings ≤ 64 }
+        ensures { IfOk result (λ after. after ≡ (event_after def.now (place + 1) c.now self.now).bindings) }
+    {
+        let bindings = self.lists.bindings();
+        let verdict = def.answer(bindings, c);
+        bindings_after(alloc, def.rules(), verdict, place + 1, c, bindings)
+    }
+
+    /// The slot after a command to which no refusal but a conflict applies. An installed binding has the number of
+    /// the next place.
+    fn after<L: Ledger>(
+        &self,
+        alloc: Global,
+        setup: &Setup,
+        def: &EventDef,
+        place: u16,
+        c: &Command,
+        steps: &mut Steps<L>,
+    ) -> Result<EventSlot, StepFault>
+        requires room { place < 4096 }
+        requires event { slice_get (data_of setup.now).events c.now.event ≡ Some def.now }
+        requires sound { IsSoundEvent (data_of setup.now) place c.now.event def.now self.now }
+        requires passed { first_refusal (refusals_at (data_of setup.now) def.now self.now.bindings c.now) ≡ None }
+        ensures change { MatchResult result (λ next. (next ≡ event_after def.now (place + 1) c.now self.now) × HasLawfulOrder next.bindings) (IsChangeFault def.now (place + 1) c.now self.now) }
+        ensures ticks { steps.new ≤ steps.old + length (event_after def.now (place + 1) c.now self.now).bindings }
+        ensures refused { OnRefused result (steps.new ≡ steps.old) }
+    {
+        let bindings = self.bindings_after(alloc, def, place, c)?;
+        let lists = match EventLists::make(alloc, setup, bindings, steps) {
+            Ok(lists) => lists,
+            Err(fault) => return Err(fault),
+        };
+        Ok(EventSlot {
+            default: default_after(c, self.default),
+            lists: Arc::new(alloc, lists)?,
+        })
+    }
+
+    /// One more owner of the lists, with this default.
+    fn with_default(&self, default: u16) -> Result<EventSlot, NoMemory>
+        ensures { IfOk result (λ slot. slot ≡ record { bindings = self.now.bindings; default = default }) }
+    {
+        Ok(EventSlot {
+            default,
+            lists: Arc::try_clone(&self.lists)?,
+        })
+    }
+}
+
+// One more owner of the lists of each event.
+fn share(alloc: Global, slots: &[EventSlot]) -> Result<Sequence<EventSlot>, NoMemory>
+    ensures { IfOk result (λ shared. shared ≡ slots.now) }
+{
+    let mut shared = Sequence::new(alloc);
+    for slot in slots {
+        shared.push(slot.with_default(slot.default)?)?;
+    }
+    Ok(shared)
+}
+
+// The lists of an event without bindings.
+fn empty_lists<L: Ledger>(
+    alloc: Global,
+    setup: &Setup,
+    blank: Blank,
+) -> Result<EventLists, NoMemory>
+    requires name { blank.name ≡ L.name }
+    requires parts { blank.parts ≡ L.parts }
+    requires some { 0 < L.parts }
+    ensures { IfOk result (λ lists. lists ≡ []) }
+{
+    let mut steps = Steps::<L>::new(blank);
+    match EventLists::make(alloc, setup, Sequence::new(alloc), &mut steps) {
+        Ok(lists) => Ok(lists),
+        Err(_) => Err(NoMemory),
+    }
+}
+
+// The slots of the events at the start, which share these empty lists.
+fn first_slots(
+    alloc: Global,
+    events: &[EventDef],
+    empty: &Arc<EventLists>,
+) -> Result<Sequence<EventSlot>, NoMemory>
+    requires { arc_value empty.now ≡ [] }
+    ensures { IfOk result (λ slots. slots ≡ map first_state events.now) }
+{
+    let mut slots = Sequence::new(alloc);
+    for event in events {
+        slots.push(EventSlot {
+            default: event.first_default,
+            lists: Arc::try_clone(empty)?,
+        })?;
+    }
+    Ok(slots)
+}
+
+impl Version {
+    /// The version at the start: no command was accepted, no binding is live, and each event has its first default.
+    pub fn start(alloc: Global, setup: &Setup) -> Result<Version, NoMemory>
+        ensures start { IfOk result (λ v. v ≡ start_of (data_of setup.now)) }
+        ensures sound { IfOk result (λ v. IsSound (data_of setup.now) v) }
+    {
+        let lists = empty_lists::<Brand>(alloc, setup, Blank::new(1))?;
+        let empty = Arc::new(alloc, lists)?;
+        let events = first_slots(alloc, setup.event_defs(), &empty)?;
+        Ok(Version { place: 0, events })
+    }
+
+    /// The number of commands that were accepted.
+    pub fn place(&self) -> u16
+        ensures { result ≡ self.now.place }
+    {
+        self.place
+    }
+
+    /// The live bindings of an event that is there, in rising order of number.
+    pub fn bindings(&self, event: u8) -> &[Binding]
+        requires { event < length self.now.events }
+        ensures { IsSomeAnd (slice_get self.now.events event) (λ e. result.now ≡ e.bindings) }
+    {
+        self.events.get(event as usize).lists.bindings()
+    }
+
+    /// The default of an event that is there, 0 being none.
+    pub fn default_of(&self, event: u8) -> u16
+        requires { event < length self.now.events }
+        ensures { IsSomeAnd (slice_get self.now.events event) (λ e. result ≡ e.default) }
+    {
+        self.events.get(event as usize).default
+    }
+
+    /// The plan of an event that is there: that of its bindings in the order in which they run.
+    pub fn plan(&self, event: u8) -> &Plan
+        requires { event < length self.now.events }
+        ensures { IsSomeAnd (slice_get self.now.events event) (λ e. (ns : List ℕ) → IsTheOrder e.bindings ns → result.now ≡ arranged e.bindings ns) }
+    {
+        self.events.get(event as usize).lists.plan()
+    }
+}
+
+impl Version {
+    // The next version, in which this slot is the event's.
+    fn with_event(&self, alloc: Global, event: u8, slot: EventSlot) -> Result<Version, NoMemory>
+        requires there { event < length self.now.events }
+        requires room { self.now.place < 4096 }
+        ensures { IfOk result (λ v. v ≡ record { place = self.now.place + 1; events = slice_set self.now.events event slot }) }
+    {
+        let mut events = share(alloc, self.events.as_slice())?;
+        events.replace(event as usize, slot);
+        Ok(Version {
+            place: self.place + 1,
+            events,
+        })
+    }
+
+    /// The version after the command, or why there is none. This one stays as it is.
+    ///
+    /// A refusal comes exactly where it applies and none before it does, in the order of their numbers, but for the
+    /// twelfth, which comes between the ninth and the tenth. An accepted command raises the place by one and changes
+    /// one thing beside: an install adds a binding under the new place as its number, a remove takes the target out,
+    /// a replace gives it another handler and other guards, and a default or a no-default sets the default.
+    ///
+    /// The command's event gets lists made anew; those of all other events are shared. It ticks at most once per
+    /// live binding that the event has in the new version, not at all where the command is refused, and at most 64
+    /// times where there is no memory. It takes time linear in the event's plan, and quadratic in its bindings.
+    pub fn after<L: Ledger>(
+        &self,
+        alloc: Global,
+        setup: &Setup,
+        c: &Command,
+        steps: &mut Steps<L>,
+    ) -> Result<Version, StepFault>
+        requires sincere { ⟦<Catalogue as Sincere>⟧.sincere setup.now.catalogue }
+        requires valid { IsTrue (is_command c.now) }
+        requires room { self.now.place < 4096 }
+        requires sound { IsSound (data_of setup.now) self.now }
+        ensures answer { specs.IsAnswer (data_of setup.now) self.now c.now result }
+        ensures sound { IfOk result (λ v. IsSound (data_of setup.now) v) }
+        ensures ok { IfOk result (λ v. steps.new ≤ steps.old + length (specs.bindings_at v c.now.event)) }
+        ensures refused { OnRefused result (steps.new ≡ steps.old) }
+        ensures no_more { steps.new ≤ steps.old + 64 }
+    {
+        if c.event >= setup.events() {
+            return Err(StepFault::Refused(Refusal::UnknownEvent));
+        }
+        let def = setup.event(c.event);
+        let slot = self.events.get(c.event as usize);
+        match refusal(setup, def, slot.lists.bindings(), c) {
+            Some(refusal) => Err(StepFault::Refused(refusal)),
+            None => {
+                let changed = match slot.after(alloc, setup, def, self.place, c, steps) {
+                    Ok(changed) => changed,
+                    Err(fault) => return Err(fault),
+                };
+                Ok(self.with_event(alloc, c.event, changed)?)
+            }
+        }
+    }
+}
