@@ -4,4 +4,7 @@ pub mod Exactly
 pub mod Histories
 pub mod Joining
 pub mod Numbers
+pub mod Plain
+pub mod Raising
 pub mod Splits
+pub mod Thin

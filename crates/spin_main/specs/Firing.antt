@@ -1,8 +1,6 @@
 -- What a deed answers: the steps and the answer of a raise.
-use Rattle.std.specs.Prelude.{ℕ, false, zero, suc, List, [], ◌∷◌, flat_map}
+use Rattle.std.specs.Prelude.{ℕ, false, List, [], ◌∷◌, Option, Some, map, flat_map, slice_get}
 use Rattle.spin_values.specs.declared.values.Value.{Value}
-use Rattle.spin_code.specs.declared.expr.Expr.{Expr}
-use Rattle.spin_code.specs.declared.act.ActStep.TheVariants.{Result}
 use Rattle.spin_code.specs.declared.merge.Merge.TheVariants.{Last}
 use Rattle.spin_objects.specs.declared.item.Item.{Item}
 use Rattle.spin_objects.specs.declared.item.Item.TheVariants as item
@@ -13,17 +11,21 @@ use Rattle.spin_main.specs.declared.deed.Step.{Step}
 use Rattle.spin_main.specs.declared.deed.Step.TheVariants as step
 use Rattle.spin_main.specs.declared.deed.Reply.{Reply}
 use Rattle.spin_main.specs.declared.deed.Reply.TheVariants.{Ran}
-use Rattle.spin_main.specs.State.{State, EventState}
+use Rattle.spin_table.specs.declared.event.EventDef.{EventDef}
+use Rattle.spin_table.specs.Setups.{SetupData}
+use Rattle.spin_table.specs.States.{State, EventState}
 
--- the units of a script: one handler, whose act gives this result, and no guard
-abbrev pub units_for : Expr → Units
-units_for result = record { acts = record { steps = Result result ∷ [] } ∷ []; tests = [] }
+-- the acts and tests of a setup
+abbrev pub units_in : SetupData → Units
+units_in d = record { acts = map (λ h. h.act) d.handlers; tests = map (λ g. g.test) d.guards }
 
--- an event as a raise finds it: the last result stands
-abbrev pub bound_at : List EventState → ℕ → Bound
-bound_at [] event = bound_of [] Last 0
-bound_at (first ∷ events) zero = bound_of first.live Last first.default
-bound_at (first ∷ events) (suc event) = bound_at events event
+abbrev pub bound_if : Option EventDef → Option EventState → Bound
+bound_if (Some e) (Some t) = bound_of t.bindings e.merge t.default
+bound_if e t = bound_of [] Last 0
+
+-- an event as a raise finds it. All bindings of a script of the thin form go anywhere, so they run in rising order of number
+abbrev pub bound_at : SetupData → State → ℕ → Bound
+bound_at d state event = bound_if (slice_get d.events event) (slice_get state.events event)
 
 -- the steps that an item of the outcome is told by; a script's handler gives its result and no other item
 abbrev pub steps_of : ℕ → Item → List Step
@@ -42,5 +44,5 @@ reply_along units event args bound =
     Ran (answer_of bound.merge firings) (trace_of event (flat_map items_by firings))
 
 -- what a deed answers at a state
-abbrev pub reply_of : Units → State → Deed → Reply
-reply_of units state (Raise event args) = reply_along units event args (bound_at state.events event)
+abbrev pub reply_of : SetupData → State → Deed → Reply
+reply_of d state (Raise event args) = reply_along (units_in d) event args (bound_at d state event)

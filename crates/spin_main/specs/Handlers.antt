@@ -1,12 +1,11 @@
--- The one handler of a script, and the bindings of it.
-use Rattle.std.specs.Prelude.{◌≡◌, true, false, [], ◌∷◌}
+-- The one handler of a script.
+use Rattle.std.specs.Prelude.{true, false, [], ◌∷◌}
 use Rattle.spin_values.specs.declared.types.Kind.TheVariants.{Word}
 use Rattle.spin_values.specs.declared.types.EventType.{EventType}
 use Rattle.spin_code.specs.declared.expr.Expr.{Expr}
 use Rattle.spin_code.specs.declared.act.ActStep.TheVariants.{Result}
 use Rattle.spin_objects.specs.declared.unit.Body.{Body}
 use Rattle.spin_objects.specs.declared.unit.Body.TheVariants.{Coded}
-use Rattle.spin_place.specs.declared.binding.Binding.{Binding}
 
 -- one word, and a result
 abbrev pub word_to_word : EventType
@@ -15,7 +14,3 @@ word_to_word = record { params = record { kind = Word; var = false } ∷ []; giv
 -- for events of that signature, it gives this result
 abbrev pub handler_for : Expr → Body
 handler_for result = Coded word_to_word (record { steps = Result result ∷ [] })
-
--- a binding of handler 1, which has no guard
-abbrev pub IsUnguarded : Binding → Type 0
-IsUnguarded b = (b.handler ≡ 1) × (b.own_guard ≡ 0) × (b.imposed ≡ [])

@@ -4,5 +4,6 @@ pub mod History
 pub mod Laws
 pub mod Report
 pub mod Script
+pub mod Setup
 pub mod State
 pub mod Statuses

@@ -1,46 +1,27 @@
--- The state of the plain dispatcher, and what an accepted command makes of it.
-use Rattle.std.specs.Prelude.{◌≡◌, ℕ, zero, suc, ◌+◌, List, [], ◌∷◌, ◌++◌}
-use Rattle.spin_word.specs.declared.command.Op.TheVariants.{Install}
-use Rattle.spin_word.specs.declared.command.Command.{Command}
+-- The states of a script of the thin form.
+use Rattle.std.specs.Prelude.{◌≡◌, ◌≤◌, List, [], ◌∷◌, length, All}
+use Rattle.spin_word.specs.declared.command.Place.TheVariants.{Free}
+use Rattle.spin_code.specs.declared.expr.Expr.{Expr}
 use Rattle.spin_place.specs.declared.binding.Binding.{Binding}
+use Rattle.spin_table.specs.Setups.{SetupData}
+use Rattle.spin_table.specs.States.{State}
+use Rattle.spin_table.specs.Steps.{no_numbers}
+use Rattle.spin_main.specs.Setup.{setup_for}
 
--- an event's live bindings in rising order of number, and its default handler, 0 being none
-pub record EventState : Type 0 where
-  pub live : List Binding
-  pub default : ℕ
+-- a binding of handler 1 that has no guard and goes anywhere
+pub record IsPlain (b : Binding) : Type 0 where
+  pub handler : b.handler ≡ 1
+  pub own_guard : b.own_guard ≡ 0
+  pub imposed : b.imposed ≡ []
+  pub place : b.place ≡ Free
+  pub before : b.before ≡ no_numbers
+  pub after : b.after ≡ no_numbers
 
--- how many commands were accepted, and the state of each event
-pub record State : Type 0 where
-  pub place : ℕ
-  pub events : List EventState
-
--- one event, without bindings and without a default
-abbrev pub start : State
-start = record { place = 0; events = record { live = []; default = 0 } ∷ [] }
-
--- the binding that an install makes: of this number, as the command asks, and without imposed guards
-abbrev pub binding_by : ℕ → Command → Binding
-binding_by number command = record {
-  number = number;
-  requester = command.requester;
-  handler = command.handler;
-  own_guard = command.guard;
-  imposed = [];
-  place = command.place;
-  before = command.before;
-  after = command.after;
-  mode = command.mode;
-}
-
--- the events with one more binding of this one
-abbrev pub with_binding : List EventState → ℕ → Binding → List EventState
-with_binding [] event binding = []
-with_binding (first ∷ events) zero binding = record { live = first.live ++ binding ∷ []; default = first.default } ∷ events
-with_binding (first ∷ events) (suc event) binding = first ∷ with_binding events event binding
-
--- An accepted install adds a binding, whose number is the new place. Scripts of the thin form have no other command.
-abbrev pub Accepts : State → Command → State → Type 0
-Accepts state command next =
-    let place = state.place + 1 in
-    (command.op ≡ Install)
-    × (next ≡ record { place = place; events = with_binding state.events command.event (binding_by place command) })
+-- a setup of the thin form, and a state of it that has plain bindings alone
+pub record IsThin (d : SetupData) (s : State) : Type 0 where
+  pub result : Expr
+  pub setup : d ≡ setup_for result
+  pub bindings : List Binding
+  pub events : s.events ≡ record { bindings = bindings; default = 0 } ∷ []
+  pub plain : All IsPlain bindings
+  pub few : length bindings ≤ s.place

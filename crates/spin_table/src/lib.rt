@@ -17,6 +17,8 @@ mod lists;
 mod live;
 pub mod refusal;
 pub mod setup;
+#[cfg(test)]
+mod tests;
 mod units;
 pub mod version;
 
