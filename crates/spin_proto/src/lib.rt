@@ -10,6 +10,8 @@ pub mod deed;
 pub mod jobs;
 pub mod reply;
 mod rising;
+#[cfg(test)]
+mod tests;
 mod walk;
 pub mod whole;
 
