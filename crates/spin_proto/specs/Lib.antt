@@ -1,0 +1,3 @@
+pub mod Whole
+pub mod Replies
+pub mod Walks
