@@ -2,7 +2,7 @@
 use Rattle.std.specs.Prelude.{ℕ, Bool, not, ◌==◌, if◌then◌else◌, List, [], ◌∷◌, ◌++◌, map, filter, Option, Some, None, decimal, codes}
 use Rattle.std.specs.List.{flat_map, enumerate_from}
 use Rattle.spin_report.specs.declared.entry.Entry.{Entry}
-use Rattle.spin_report.specs.Words.{line_of, text_of}
+use Rattle.spin_report.specs.Words.{Word, line_of, text_of}
 use Rattle.spin_report.specs.Lines.{JobSeen, entry_line, job_line}
 
 -- an endpoint that is retired, and whether one stood under its name
@@ -34,21 +34,32 @@ pub record HistorySeen : Type 0 where
 abbrev pub first_line : List ℕ
 first_line = codes "report 1"
 
+abbrev pub retire_words : Retired → List Word
+retire_words r = codes "retire" ∷ decimal r.endpoint ∷ (if r.stood then codes "ok" else codes "unknown") ∷ []
+
 abbrev pub retire_line : Retired → List ℕ
-retire_line r =
-    line_of (codes "retire" ∷ decimal r.endpoint ∷ (if r.stood then codes "ok" else codes "unknown") ∷ [])
+retire_line r = line_of (retire_words r)
 
 -- a segment's number, and the log's length at its start
+abbrev pub segment_words : ℕ → ℕ → List Word
+segment_words number start = codes "segment" ∷ decimal number ∷ codes "at" ∷ decimal start ∷ []
+
 abbrev pub segment_line : ℕ → ℕ → List ℕ
-segment_line number start = line_of (codes "segment" ∷ decimal number ∷ codes "at" ∷ decimal start ∷ [])
+segment_line number start = line_of (segment_words number start)
 
 -- an endpoint's number, and how many sends to it were lost
-abbrev pub lost_line : ℕ × ℕ → List ℕ
-lost_line lost = line_of (codes "lost" ∷ decimal lost.0 ∷ decimal lost.1 ∷ [])
+abbrev pub lost_words : ℕ × ℕ → List Word
+lost_words lost = codes "lost" ∷ decimal lost.0 ∷ decimal lost.1 ∷ []
 
--- of each endpoint to which sends were lost, by number
+abbrev pub lost_line : ℕ × ℕ → List ℕ
+lost_line lost = line_of (lost_words lost)
+
+-- the endpoints to which sends were lost, by number, each with how many
+abbrev pub losses : List ℕ → List (ℕ × ℕ)
+losses counts = filter (λ lost. not (lost.1 == 0)) (enumerate_from 0 counts)
+
 abbrev pub lost_lines : List ℕ → List (List ℕ)
-lost_lines counts = map lost_line (filter (λ lost. not (lost.1 == 0)) (enumerate_from 0 counts))
+lost_lines counts = map lost_line (losses counts)
 
 -- the lines of the segment of that number
 abbrev pub segment_lines : ℕ → SegmentSeen → List (List ℕ)
@@ -59,21 +70,18 @@ segment_lines number s =
     ++ map job_line s.jobs
     ++ lost_lines s.lost
 
--- the log's length, and what became of a capture
+-- what became of a capture
+abbrev pub capture_words : Option CaptureSeen → List Word
+capture_words None = []
+capture_words (Some c) =
+    codes "records" ∷ decimal c.records ∷ codes "used" ∷ decimal c.used ∷ codes "cut" ∷ decimal c.cut ∷ []
+
+-- the log's length at the end, and what became of a capture
+abbrev pub end_words : ℕ → Option CaptureSeen → List Word
+end_words length capture = codes "end" ∷ decimal length ∷ capture_words capture
+
 abbrev pub end_line : ℕ → Option CaptureSeen → List ℕ
-end_line length None = line_of (codes "end" ∷ decimal length ∷ [])
-end_line length (Some c) =
-    line_of (
-    codes "end"
-    ∷ decimal length
-    ∷ codes "records"
-    ∷ decimal c.records
-    ∷ codes "used"
-    ∷ decimal c.used
-    ∷ codes "cut"
-    ∷ decimal c.cut
-    ∷ []
-    )
+end_line length capture = line_of (end_words length capture)
 
 -- the lines of a history's report; segments are numbered from 0
 abbrev pub report_lines : HistorySeen → List (List ℕ)

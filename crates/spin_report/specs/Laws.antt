@@ -2,12 +2,10 @@
 use Rattle.std.specs.Prelude.{◌≡◌, ◌<◌, ◌^◌, ℕ, Bool, false, ◌&&◌, nat_le, List, [], ◌∷◌, map, filter, All}
 use Rattle.spin_table.specs.Setups.{SetupData}
 use Rattle.spin_table.specs.States.{State}
-use Rattle.spin_table.specs.declared.refusal.Verdicted.{Verdicted}
-use Rattle.spin_table.specs.declared.refusal.Verdicted.TheVariants as verdicted
 use Rattle.spin_report.specs.declared.entry.What.{What}
 use Rattle.spin_report.specs.declared.entry.What.TheVariants as what
 use Rattle.spin_report.specs.declared.entry.Entry.{Entry}
-use Rattle.spin_report.specs.Verdicts.{refusal_numbers}
+use Rattle.spin_report.specs.Verdicts.{verdict_numbers}
 use Rattle.spin_report.specs.Lines.{entry_line}
 use Rattle.spin_report.specs.Histories.{HistorySeen, report_lines, report_text, entries_of}
 use Rattle.spin_report.specs.Asked.{Numbered, AreApart, IsHistory}
@@ -20,10 +18,9 @@ begins_with_digit (b ∷ bs) = nat_le 48 b && nat_le b 57
 abbrev pub DigitsTellEntries : Type 0
 DigitsTellEntries = (h : HistorySeen) → filter begins_with_digit (report_lines h) ≡ map entry_line (entries_of h)
 
--- the numbers that a verdict names
-abbrev pub verdict_numbers : What → List ℕ
-verdict_numbers (what.Command command (verdicted.Refused r)) = refusal_numbers r
-verdict_numbers w = []
+abbrev pub numbers_named : What → List ℕ
+numbers_named (what.Command command verdict) = verdict_numbers verdict
+numbers_named (what.Deed deed reply) = []
 
 -- The numbers of an entry and of its verdict have at most 64 bits.
 pub record HasNumbers (entry : Entry) : Type 0 where
@@ -31,7 +28,7 @@ pub record HasNumbers (entry : Entry) : Type 0 where
   pub lane : entry.lane < 2 ^ 64
   pub line : entry.line < 2 ^ 64
   pub part : entry.part < 2 ^ 64
-  pub verdict : All (λ n. n < 2 ^ 64) (verdict_numbers entry.what)
+  pub verdict : All (λ n. n < 2 ^ 64) (numbers_named entry.what)
 
 -- No two histories that answer the same, numbered by line and part, have one report.
 abbrev pub ReportTells : Type 0

@@ -1,5 +1,5 @@
 -- The lines of entries and of jobs, without their line feeds.
-use Rattle.std.specs.Prelude.{ℕ, ◌==◌, if◌then◌else◌, List, [], ◌∷◌, ◌++◌, decimal, codes}
+use Rattle.std.specs.Prelude.{ℕ, ◌==◌, if◌then◌else◌, List, ◌∷◌, ◌++◌, decimal, codes}
 use Rattle.spin_proto.specs.declared.deed.Deed.{Deed}
 use Rattle.spin_proto.specs.declared.deed.Deed.TheVariants as deed
 use Rattle.spin_proto.specs.declared.deed.Job.{Job}

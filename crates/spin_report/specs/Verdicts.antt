@@ -50,6 +50,11 @@ refusal_numbers (refusal.Conflict cycle) = cycle
 refusal_numbers (refusal.ForcedMode rule) = rule ∷ []
 refusal_numbers r = []
 
+-- the numbers that a verdict names
+abbrev pub verdict_numbers : Verdicted → List ℕ
+verdict_numbers verdicted.Accepted = []
+verdict_numbers (verdicted.Refused r) = refusal_numbers r
+
 abbrev pub refusal_words : Refusal → List Word
 refusal_words r = decimal (refusal_number r) ∷ refusal_name r ∷ map decimal (refusal_numbers r)
 

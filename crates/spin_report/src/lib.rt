@@ -2,14 +2,17 @@
 //!
 //! - [`entry`] is an entry of a history: where it stands, what was asked, and what it answered;
 //! - `putting` writes words and numbers, `verdict` what became of a command, and `reply` what a deed or a job came to;
-//! - [`text`] appends whole lines.
+//! - [`text`] appends whole lines;
+//! - [`law`] says that a report tells one history from all others.
 #![tactic(auto)]
 
 pub mod entry;
+pub mod law;
 mod putting;
 mod reply;
 pub mod text;
 mod verdict;
 
 pub use entry::{Entries, Entry, What};
+pub use law::report_tells;
 pub use text::{entry_text, job_text};
