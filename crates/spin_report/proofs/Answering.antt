@@ -14,8 +14,9 @@ use Rattle.spin_table.specs.Refusals.{refusal_of}
 use Rattle.spin_table.specs.Steps.{ChangesTo, IsStep}
 use Rattle.spin_raise.specs.Firing.{Bound, bound_of}
 use Rattle.spin_proto.specs.declared.deed.Deed.{Deed}
+use Rattle.spin_proto.specs.declared.deed.JobCall.{JobCall}
 use Rattle.spin_proto.specs.declared.reply.Reply.{Reply}
-use Rattle.spin_proto.specs.Replies.{deed_reply, units_in, types_in, IsBound, AreBounds, IsDeedReply}
+use Rattle.spin_proto.specs.Replies.{deed_reply, job_reply, units_in, types_in, IsBound, AreBounds, IsDeedReply, IsJobReply}
 
 one_bound : (e : EventDef) (t : EventState) (b c : Bound) → IsBound e t b → IsBound e t c → b ≡ c
 one_bound e t b c h k =
@@ -40,6 +41,12 @@ pub one_reply : (d : SetupData) (s : State) (asked : Deed) (a b : Reply) → IsD
 one_reply d s asked a b h k =
     let same = one_bounds d.events s.events h.0 k.0 h.1 k.1 in
     h.2 ∙ ap (λ bounds. deed_reply (units_in d) bounds (types_in d) asked) same ∙ sym k.2
+
+-- and so has the call of a job
+pub one_job_reply : (d : SetupData) (s : State) (call : JobCall) (a b : Reply) → IsJobReply d s call a → IsJobReply d s call b → a ≡ b
+one_job_reply d s call a b h k =
+    let same = one_bounds d.events s.events h.0 k.0 h.1 k.1 in
+    h.2 ∙ ap (λ bounds. job_reply (units_in d) bounds call) same ∙ sym k.2
 
 -- a command with its verdict leads to one state
 pub one_next : (d : SetupData) (s : State) (c : Command) (v : Verdicted) (a b : State) → IsStep d s c v a → IsStep d s c v b → a ≡ b

@@ -1,5 +1,6 @@
 pub mod Plain
 pub mod ReportLines
 pub mod Told
+pub mod Segments
 pub mod Answering
 pub mod Shows

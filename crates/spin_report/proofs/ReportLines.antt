@@ -148,7 +148,7 @@ segment_are_lines p =
     let jobs = each_append IsLine (map retire_line s.retired ++ segment_line n s.start ∷ [] ++ map entry_line s.entries) (map job_line s.jobs) entries (each_map IsLine job_line job_is_line s.jobs) in
     each_append IsLine (map retire_line s.retired ++ segment_line n s.start ∷ [] ++ map entry_line s.entries ++ map job_line s.jobs) (lost_lines s.lost) jobs (each_map IsLine lost_line lost_is_line (losses s.lost))
 
-abbrev lines_at : ℕ × SegmentSeen → List (List ℕ)
+abbrev pub lines_at : ℕ × SegmentSeen → List (List ℕ)
 lines_at p = segment_lines p.0 p.1
 
 pub report_are_lines : (h : HistorySeen) → AllByRecursion IsLine (report_lines h)
@@ -160,11 +160,11 @@ report_are_lines h = (
 
 -- ---- just the lines of entries begin with a digit
 
-none_pass : {A X : Type 0} (p : X → Bool) (f : A → X) → ((a : A) → p (f a) ≡ false) → (ss : List A) → filter p (map f ss) ≡ []
+pub none_pass : {A X : Type 0} (p : X → Bool) (f : A → X) → ((a : A) → p (f a) ≡ false) → (ss : List A) → filter p (map f ss) ≡ []
 none_pass p f all [] = refl
 none_pass p f all (a ∷ ss) = rw (all a) (none_pass p f all ss)
 
-all_pass : {A X : Type 0} (p : X → Bool) (f : A → X) → ((a : A) → p (f a) ≡ true) → (ss : List A) → filter p (map f ss) ≡ map f ss
+pub all_pass : {A X : Type 0} (p : X → Bool) (f : A → X) → ((a : A) → p (f a) ≡ true) → (ss : List A) → filter p (map f ss) ≡ map f ss
 all_pass {X = X} p f all [] = refl
 all_pass {X = X} p f all (a ∷ ss) = rw (all a) (ap (λ (xs : List X). f a ∷ xs) (all_pass p f all ss))
 
@@ -175,11 +175,11 @@ begins : (w more : List ℕ) → AllByRecursion IsDigit w → 0 < length w → b
 begins [] more h some = absurd (omega arith)
 begins (b ∷ bs) more h some = grind (arith, nat_tests, h.0.0, h.0.1)
 
-entry_begins : (e : Entry) → begins_with_digit (entry_line e) ≡ true
+pub entry_begins : (e : Entry) → begins_with_digit (entry_line e) ≡ true
 entry_begins e = begins (decimal e.place) _ (decimal_digits e.place) (decimal_some e.place)
 
-segment_entries : (p : ℕ × SegmentSeen) → filter begins_with_digit (segment_lines p.0 p.1) ≡ map entry_line p.1.entries
-segment_entries p =
+digits_of_segment : (p : ℕ × SegmentSeen) → filter begins_with_digit (segment_lines p.0 p.1) ≡ map entry_line p.1.entries
+digits_of_segment p =
     let s = p.1 in
     only_third begins_with_digit (map retire_line s.retired) (segment_line p.0 s.start ∷ []) (map entry_line s.entries) (map job_line s.jobs) (lost_lines s.lost)
     (none_pass begins_with_digit retire_line (λ r. refl) s.retired) refl (all_pass begins_with_digit entry_line entry_begins s.entries)
@@ -190,7 +190,7 @@ all_entries n [] = refl
 all_entries n (s ∷ ss) =
     let rest = all_entries (n + 1) ss in
     filter-append begins_with_digit (lines_at (n, s)) (flat_map lines_at (enumerate_from (n + 1) ss))
-    ∙ (λ i. segment_entries (n, s) i ++ rest i)
+    ∙ (λ i. digits_of_segment (n, s) i ++ rest i)
     ∙ sym (map-append entry_line s.entries (flat_map (λ (t : SegmentSeen). t.entries) ss))
 
 -- the lines that begin with a digit are those of the entries

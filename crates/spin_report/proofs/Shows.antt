@@ -1,5 +1,5 @@
 -- A report shows one history alone.
-use Rattle.std.proofs.Common.{◌≡◌, ◌<◌, ◌^◌, ℕ, List, [], ◌∷◌, map, length, get_or, refl, sym, ap, subst, ◌∙◌, arith}
+use Rattle.std.proofs.Common.{◌≡◌, ◌<◌, ◌^◌, ℕ, ◌+◌, List, [], ◌∷◌, ◌++◌, map, length, get_or, refl, sym, ap, subst, ◌∙◌, arith}
 use Rattle.std.specs.Prelude.{All, Contains, IsPermutation, filter}
 use Rattle.std.proofs.lemmas.List.{get_or-map, length-map}
 use Rattle.std.proofs.lemmas.List.Elements.{All-head, All-tail}
@@ -7,20 +7,23 @@ use Rattle.std.proofs.lemmas.List.Sorted.{Contains-permutation}
 use Rattle.spin_table.specs.Setups.{SetupData}
 use Rattle.spin_table.specs.States.{State}
 use Rattle.spin_proto.specs.declared.deed.Deed.{Deed}
+use Rattle.spin_proto.specs.declared.deed.JobCall.{JobCall}
 use Rattle.spin_proto.specs.Replies.{IsDeedReply}
 use Rattle.spin_report.specs.declared.entry.What.{What}
 use Rattle.spin_report.specs.declared.entry.What.TheVariants as what
 use Rattle.spin_report.specs.declared.entry.Entry.{Entry}
 use Rattle.spin_report.specs.Words.{Word}
-use Rattle.spin_report.specs.Lines.{what_words, entry_line}
+use Rattle.spin_report.specs.Lines.{what_words, entry_line, JobSeen}
 use Rattle.spin_report.specs.Histories.{HistorySeen, report_lines, report_text, entries_of}
 use Rattle.spin_report.specs.Legal.{Answers, IsLegal}
+use Rattle.spin_report.specs.Jobs.{calls_of, job_of, AreJobsFrom, AreJobs}
 use Rattle.spin_report.specs.Asked.{Numbered, asked_by, asked_of, AreApart}
 use Rattle.spin_report.specs.Laws.{begins_with_digit, numbers_named, HasNumbers, ReportTells}
 use Rattle.spin_report.proofs.Plain.{same_lines}
 use Rattle.spin_report.proofs.ReportLines.{report_are_lines, digits_tell}
 use Rattle.spin_report.proofs.Told.{SameHead, same_head, same_verdict}
-use Rattle.spin_report.proofs.Answering.{one_reply, one_next}
+use Rattle.spin_report.proofs.Segments.{same_segments}
+use Rattle.spin_report.proofs.Answering.{one_reply, one_job_reply, one_next}
 
 abbrev rest : List Word → List Word
 rest [] = []
@@ -44,6 +47,21 @@ same_next : (d : SetupData) (state one two : State) (w : What) → Answers d sta
 same_next d state one two (what.Command c x) a b = one_next d state c x one two a b
 same_next d state one two (what.Deed f r) a b = a.1 ∙ sym b.1
 
+same_jobs_from : (d : SetupData) (state : State) (entry : Entry) (n : ℕ) (calls : List JobCall) (js ks : List JobSeen) → AreJobsFrom d state entry n calls js → AreJobsFrom d state entry n calls ks → js ≡ ks
+same_jobs_from d state entry n [] js ks h k = h ∙ sym k
+same_jobs_from d state entry n (call ∷ calls) js ks h k =
+    let reply = one_job_reply d state call h.0 k.0 h.2 k.2 in
+    let others = same_jobs_from d state entry (n + 1) calls h.1 k.1 h.4 k.4 in
+    h.3 ∙ (λ i. job_of entry n (reply i) ∷ others i) ∙ sym k.3
+
+pub one_list_of_jobs : (d : SetupData) (state : State) (entries : List Entry) (js ks : List JobSeen) → AreJobs d state entries js → AreJobs d state entries ks → js ≡ ks
+one_list_of_jobs d state [] js ks h k = h ∙ sym k
+one_list_of_jobs d state (entry ∷ entries) js ks h k =
+    let next : h.0 ≡ k.0 = same_next d state h.0 k.0 entry.what h.3.0 k.3.0 in
+    let own = same_jobs_from d k.0 entry 0 (calls_of entry.what) h.1 k.1 (subst (λ s. AreJobsFrom d s entry 0 (calls_of entry.what) h.1) next h.4) k.4 in
+    let others = one_list_of_jobs d k.0 entries h.2 k.2 (subst (λ s. AreJobs d s entries h.2) next h.5) k.5 in
+    h.6 ∙ (λ i. own i ++ others i) ∙ sym k.6
+
 -- what each entry answers is among what was asked
 all_asked : (asked : List Numbered) (entries : List Entry) → IsPermutation (map asked_of entries) asked → All (λ (e : Entry). Contains asked (asked_of e)) entries
 all_asked asked entries once = λ j d lt.
@@ -52,7 +70,7 @@ all_asked asked entries once = λ j d lt.
     let found : Contains (map asked_of entries) (asked_of e) = (j, here, get_or-map asked_of entries j d (asked_of e) lt) in
     Contains-permutation (map asked_of entries) asked (asked_of e) once found
 
-same_entries : (d : SetupData) (asked : List Numbered) → AreApart asked → (xs ys : List Entry) (state one two : State) → IsLegal d state xs one → IsLegal d state ys two → All (λ (e : Entry). Contains asked (asked_of e)) xs → All (λ (e : Entry). Contains asked (asked_of e)) ys → All HasNumbers xs → All HasNumbers ys → map entry_line xs ≡ map entry_line ys → xs ≡ ys
+pub same_entries : (d : SetupData) (asked : List Numbered) → AreApart asked → (xs ys : List Entry) (state one two : State) → IsLegal d state xs one → IsLegal d state ys two → All (λ (e : Entry). Contains asked (asked_of e)) xs → All (λ (e : Entry). Contains asked (asked_of e)) ys → All HasNumbers xs → All HasNumbers ys → map entry_line xs ≡ map entry_line ys → xs ≡ ys
 same_entries d asked apart [] [] state one two p q a b h k same = refl
 same_entries d asked apart [] (y ∷ ys) state one two p q a b h k same = absurd (cc (same))
 same_entries d asked apart (x ∷ xs) [] state one two p q a b h k same = absurd (cc (same))
@@ -70,14 +88,18 @@ same_entries d asked apart (x ∷ xs) (y ∷ ys) state one two p q a b h k same 
     (All-tail (λ (e : Entry). Contains asked (asked_of e)) x xs a) (All-tail (λ (e : Entry). Contains asked (asked_of e)) y ys b) (All-tail HasNumbers x xs h) (All-tail HasNumbers y ys k) lines in
     λ i. entry i ∷ others i
 
--- one text has one list of entries' lines
-pub same_entry_lines : (h k : HistorySeen) → report_text h ≡ report_text k → map entry_line (entries_of h) ≡ map entry_line (entries_of k)
-same_entry_lines h k same =
-    let lines = same_lines (report_lines h) (report_lines k) (report_are_lines h) (report_are_lines k) same in
-    sym (digits_tell h) ∙ ap (filter begins_with_digit) lines ∙ digits_tell k
+-- reports of one text have the same lines
+pub same_report : (h k : HistorySeen) → report_text h ≡ report_text k → report_lines h ≡ report_lines k
+same_report h k same = same_lines (report_lines h) (report_lines k) (report_are_lines h) (report_are_lines k) same
 
--- histories of one text are one
+-- and so the same lines of entries
+pub same_entry_lines : (h k : HistorySeen) → report_lines h ≡ report_lines k → map entry_line (entries_of h) ≡ map entry_line (entries_of k)
+same_entry_lines h k lines = sym (digits_tell h) ∙ ap (filter begins_with_digit) lines ∙ digits_tell k
+
+-- histories of one report are one
 pub law : ReportTells
 law d start asked h k apart one two numbers more same =
+    let lines = same_report h k same in
+    same_segments h k lines (
     same_entries d asked apart (entries_of h) (entries_of k) start one.last two.last one.legal two.legal
-    (all_asked asked (entries_of h) one.once) (all_asked asked (entries_of k) two.once) numbers more (same_entry_lines h k same)
+    (all_asked asked (entries_of h) one.once) (all_asked asked (entries_of k) two.once) numbers more (same_entry_lines h k lines))

@@ -6,8 +6,9 @@ use Rattle.spin_report.specs.declared.entry.What.{What}
 use Rattle.spin_report.specs.declared.entry.What.TheVariants as what
 use Rattle.spin_report.specs.declared.entry.Entry.{Entry}
 use Rattle.spin_report.specs.Verdicts.{verdict_numbers}
-use Rattle.spin_report.specs.Lines.{entry_line}
+use Rattle.spin_report.specs.Lines.{JobSeen, entry_line}
 use Rattle.spin_report.specs.Histories.{HistorySeen, report_lines, report_text, entries_of}
+use Rattle.spin_report.specs.Jobs.{AreJobs}
 use Rattle.spin_report.specs.Asked.{Numbered, AreApart, IsHistory}
 
 abbrev pub begins_with_digit : List ℕ → Bool
@@ -30,10 +31,21 @@ pub record HasNumbers (entry : Entry) : Type 0 where
   pub part : entry.part < 2 ^ 64
   pub verdict : All (λ n. n < 2 ^ 64) (numbers_named entry.what)
 
--- No two histories that answer the same, numbered by line and part, have one report.
+-- the entries of each segment
+abbrev pub segment_entries : HistorySeen → List (List Entry)
+segment_entries h = map (λ s. s.entries) h.segments
+
+-- No two histories that answer the same, numbered by line and part, have one report: each segment of one has the
+-- entries of the other's.
 abbrev pub ReportTells : Type 0
 ReportTells =
     (d : SetupData) (start : State) (asked : List Numbered) (h k : HistorySeen) → AreApart asked
     → IsHistory d start asked (entries_of h) → IsHistory d start asked (entries_of k)
     → All HasNumbers (entries_of h) → All HasNumbers (entries_of k)
-    → report_text h ≡ report_text k → entries_of h ≡ entries_of k
+    → report_text h ≡ report_text k → segment_entries h ≡ segment_entries k
+
+-- Legal entries have one list of jobs with replies.
+abbrev pub JobsFollow : Type 0
+JobsFollow =
+    (d : SetupData) (start : State) (entries : List Entry) (js ks : List JobSeen)
+    → AreJobs d start entries js → AreJobs d start entries ks → js ≡ ks

@@ -16,3 +16,6 @@ mod verdict;
 pub use entry::{Entries, Entry, What};
 pub use law::report_tells;
 pub use text::{entry_text, job_text};
+
+#[cfg(test)]
+mod tests;
