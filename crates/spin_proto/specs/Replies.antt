@@ -1,5 +1,5 @@
 -- What deeds and jobs come to on a version.
-use Rattle.std.specs.Prelude.{ℕ, suc, ◌≡◌, ◌<◌, Bool, true, false, if◌then◌else◌, IsTrue, List, [], ◌∷◌, map, drop, length, slice_get}
+use Rattle.std.specs.Prelude.{ℕ, ◌≡◌, ◌<◌, Bool, true, false, if◌then◌else◌, IsTrue, List, [], ◌∷◌, map, length, slice_get}
 use Rattle.std.specs.Option.{option_map_or}
 use Rattle.std.specs.Cmp.Lexicographic.{pointwise}
 use Rattle.spin_values.specs.declared.types.EventType.{EventType}
@@ -20,7 +20,7 @@ use Rattle.spin_proto.specs.declared.deed.JobCall.{JobCall}
 use Rattle.spin_proto.specs.declared.deed.JobCall.TheVariants as call
 use Rattle.spin_proto.specs.declared.reply.Reply.{Reply}
 use Rattle.spin_proto.specs.declared.reply.Reply.TheVariants as reply
-use Rattle.spin_proto.specs.Whole.{raised, reply_of, job_of}
+use Rattle.spin_proto.specs.Whole.{raised, raised_after, reply_of, job_of}
 
 -- the arguments have the number and kinds of the parameters
 abbrev pub are_fit : EventType → List Value → Bool
@@ -45,7 +45,7 @@ handler_at bounds event number =
 abbrev pub job_reply : Units → List Bound → JobCall → Reply
 job_reply u bounds (call.Whole event args) = reply_of 4096 (raised true u bounds 0 event args)
 job_reply u bounds (call.Binding event number args) =
-    reply_of 4096 (job_of u event number (handler_at bounds event number) (raised true u (drop (suc event) bounds) (suc event)) args)
+    reply_of 4096 (job_of u event number (handler_at bounds event number) (raised_after true u bounds event) args)
 
 -- the acts and tests of a setup
 abbrev pub units_in : SetupData → Units

@@ -1,5 +1,5 @@
 -- A raise with its raises upwards: what it answers, and the steps that it takes.
-use Rattle.std.specs.Prelude.{ℕ, suc, ◌==◌, nat_lt, Bool, true, false, if◌then◌else◌, List, [], ◌∷◌, ◌++◌, map, count_by, Option, Some, None}
+use Rattle.std.specs.Prelude.{ℕ, suc, ◌==◌, nat_lt, Bool, true, false, if◌then◌else◌, List, [], ◌∷◌, ◌++◌, map, drop, count_by, Option, Some, None}
 use Rattle.std.specs.List.{flat_map}
 use Rattle.spin_values.specs.declared.values.Value.{Value}
 use Rattle.spin_objects.specs.declared.item.Item.{Item}
@@ -10,6 +10,7 @@ use Rattle.spin_raise.specs.declared.answer.Answer.TheVariants as answer
 use Rattle.spin_raise.specs.Firing.{Units, Bound, steps_at, items_by, fired, answer_of}
 use Rattle.spin_proto.specs.declared.deed.JobCall.{JobCall}
 use Rattle.spin_proto.specs.declared.deed.JobCall.TheVariants as call
+use Rattle.spin_proto.specs.declared.walk.Upward.{Upward}
 use Rattle.spin_proto.specs.declared.reply.Step.{Step}
 use Rattle.spin_proto.specs.declared.reply.Step.TheVariants as step
 use Rattle.spin_proto.specs.declared.reply.Reply.{Reply}
@@ -43,11 +44,6 @@ pub record Raised : Type 0 where
   pub answer : Answer
   pub marks : List Mark
 
--- a raise upwards: the event and its arguments
-pub record Upwards : Type 0 where
-  pub event : ℕ
-  pub args : List Value
-
 -- what was given at an event, but for raises upwards
 abbrev pub marks_at : ℕ → Item → List Mark
 marks_at event (item.Ran number) = Plain (step.Run event number) ∷ []
@@ -58,15 +54,15 @@ marks_at event (item.Dropped fault) = Plain (step.Dropped fault) ∷ []
 marks_at event (item.Job number args) = Queued event number args ∷ []
 
 -- the raise upwards that an item is, if it is one
-abbrev pub up_of : Item → List Upwards
+abbrev pub up_of : Item → List Upward
 up_of (item.Up to args) = record { event = to; args = args } ∷ []
 up_of i = []
 
-abbrev pub ups_of : List Item → List Upwards
+abbrev pub ups_of : List Item → List Upward
 ups_of given = flat_map up_of given
 
 -- a raise upwards: its own steps between its beginning and its end, which tells its answer
-abbrev pub marks_up : (ℕ → List Value → Raised) → Upwards → List Mark
+abbrev pub marks_up : (ℕ → List Value → Raised) → Upward → List Mark
 marks_up raise up = Plain (step.Up up.event) ∷ (raise up.event up.args).marks ++ Plain (step.Back (raise up.event up.args).answer) ∷ []
 
 -- of a firing: what it gave, and then each of its raises upwards in order
@@ -87,6 +83,10 @@ raised apart u (b ∷ later) from event args =
     if from == event
     then raised_with apart u event b (raised apart u later (suc from)) args
     else raised apart u later (suc from) event args
+
+-- a raise of an event after this one
+abbrev pub raised_after : Bool → Units → List Bound → ℕ → ℕ → List Value → Raised
+raised_after apart u bounds event = raised apart u (drop (suc event) bounds) (suc event)
 
 -- the reply where so many handlers may start
 abbrev pub reply_of : ℕ → Raised → Reply

@@ -1,11 +1,11 @@
-mod Arranged
-mod ImposedFit
-mod Keeping
-mod LawfulOrders
-mod Numbered
-mod Passing
-mod Positions
-mod Sound
-mod Starting
-mod Stepping
-mod Types
+pub mod Arranged
+pub mod ImposedFit
+pub mod Keeping
+pub mod LawfulOrders
+pub mod Numbered
+pub mod Passing
+pub mod Positions
+pub mod Sound
+pub mod Starting
+pub mod Stepping
+pub mod Types

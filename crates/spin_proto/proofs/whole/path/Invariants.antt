@@ -1,0 +1,4 @@
+use Rattle.spin_proto.proofs.whole.path.Given as goal
+
+abbrev pub ghosts-raise_whole : goal.ghosts-raise_whole
+ghosts-raise_whole a = record { name = a.blank.name; parts = a.blank.parts }

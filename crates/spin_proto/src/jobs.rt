@@ -1,0 +1,138 @@
+//! What the call of a job comes to on its version.
+
+ghost use Rattle.std.specs.Prelude.{◌≡◌, ◌<◌, [], length, IfOk};
+ghost use Rattle.std.specs.Option.{option_copied, option_map_or};
+ghost use Rattle.spin_table.specs.SetupOf.{data_of};
+ghost use Rattle.spin_table.specs.States.{binding_of};
+ghost use Rattle.spin_table.specs.Soundness.{IsSound};
+ghost use Rattle.spin_proto.specs.Replies.{units_in, job_reply, IsJobReply, BelongsTo, calls_left};
+ghost use Rattle.spin_proto.specs.Whole.{job_answer};
+ghost use Rattle.spin_proto.specs.Walks.{OnBounds};
+
+use crate::deed::JobCall;
+use crate::reply::Reply;
+use crate::rising::follow;
+use crate::walk::Walk;
+use crate::whole::raise_whole;
+use spin_code::Sincere;
+use spin_objects::Catalogue;
+use spin_place::Binding;
+use spin_raise::{Answer, run_handler};
+use spin_table::{Setup, Version};
+use spin_values::{Args, NoMemory, Sequence, Steps};
+use std::alloc::Global;
+use std::marker::Brand;
+use std::sync::ledger::{Blank, Ledger};
+
+/// The binding of that number.
+fn find_binding(bindings: &[Binding], number: u16) -> Option<&Binding>
+    ensures { option_copied result ≡ binding_of bindings.now number }
+{
+    bindings.iter().find(|binding| binding.number == number)
+}
+
+/// The handler of the binding of that number, 0 where there is none.
+fn handler_of(bindings: &[Binding], number: u16) -> u16
+    ensures { result ≡ option_map_or (λ b. b.handler) (binding_of bindings.now number) 0 }
+{
+    match find_binding(bindings, number) {
+        Some(binding) => binding.handler,
+        None => 0,
+    }
+}
+
+fn answer_of_job(word: Option<u64>) -> Answer
+    ensures { result ≡ job_answer word }
+{
+    match word {
+        Some(word) => Answer::Value(word),
+        None => Answer::Done,
+    }
+}
+
+/// Does the handler of a live binding, its guards untested, with its raises upwards.
+fn binding_job<L: Ledger>(
+    alloc: Global,
+    version: &Version,
+    setup: &Setup,
+    event: u8,
+    number: u16,
+    mut args: Args,
+    blank: Blank,
+) -> Result<Reply, NoMemory>
+    requires sound { IsSound (data_of setup.now) version.now }
+    requires sincere { ⟦<Catalogue as Sincere>⟧.sincere setup.now.catalogue }
+    requires belongs { BelongsTo version.now (JobCall.Binding event number args) }
+    requires name { blank.name ≡ L.name }
+    requires parts { blank.parts ≡ L.parts }
+    requires some { 0 < L.parts }
+    ensures { IfOk result (λ reply. OnBounds (data_of setup.now) version.now (λ bounds. reply ≡ job_reply (units_in (data_of setup.now)) bounds (JobCall.Binding event number args))) }
+{
+    let cat = setup.catalogue();
+    let handler = handler_of(version.bindings(event), number);
+    let mut given = Sequence::new(alloc);
+    let word = run_handler(alloc, cat, handler, number, &mut args, &mut given)?;
+    let mut steps = Steps::<L>::new(blank);
+    let mut walk = Walk::new(alloc);
+    if !follow(
+        alloc, version, setup, true, event, given, &mut steps, &mut walk,
+    )? {
+        return Ok(Reply::Spent);
+    }
+    let Walk { trace, jobs, .. } = walk;
+    Ok(Reply::Ran {
+        answer: answer_of_job(word),
+        trace,
+        jobs,
+    })
+}
+
+/// What the call of a job comes to on the version that left it.
+///
+/// A whole raise is done as [`path`](crate::path) does it, but that asynchronous bindings run in place and their
+/// results aren't merged. Of a binding the handler is run, with no guard tested again, and then its raises upwards
+/// likewise; the answer is its result, or done. The answer is [`Reply::Ran`] without jobs, or [`Reply::Spent`] exactly
+/// where more than [`MAX_RUNS`] handlers would start.
+///
+/// The state of the version is sound for the setup, the catalogue's objects do what they were handed in with, and the
+/// call's event is there, as is its binding: so it is of each call that a reply on this version leaves. It is linear
+/// in what the handlers do and give and in the guards that are tested.
+///
+/// [`MAX_RUNS`]: crate::MAX_RUNS
+pub fn job_path(
+    alloc: Global,
+    version: &Version,
+    setup: &Setup,
+    call: &JobCall,
+) -> Result<Reply, NoMemory>
+    requires sound { IsSound (data_of setup.now) version.now }
+    requires sincere { ⟦<Catalogue as Sincere>⟧.sincere setup.now.catalogue }
+    requires belongs { BelongsTo version.now call.now }
+    ensures reply { IfOk result (λ reply. IsJobReply (data_of setup.now) version.now call.now reply) }
+    ensures calls { IfOk result (λ reply. calls_left reply ≡ []) }
+{
+    match call {
+        JobCall::Whole { event, args } => raise_whole::<Brand>(
+            alloc,
+            version,
+            setup,
+            true,
+            *event,
+            args.copy()?,
+            Blank::new(1),
+        ),
+        JobCall::Binding {
+            event,
+            number,
+            args,
+        } => binding_job::<Brand>(
+            alloc,
+            version,
+            setup,
+            *event,
+            *number,
+            args.copy()?,
+            Blank::new(1),
+        ),
+    }
+}

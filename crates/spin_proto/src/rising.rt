@@ -1,0 +1,152 @@
+//! A raise with its raises upwards, depth first.
+
+ghost use Rattle.std.specs.Prelude.{◌≡◌, ◌+◌, ◌<◌, ◌++◌, [], ◌∷◌, length, OnOk, IfOk, Some};
+ghost use Rattle.std.specs.List.{flat_map};
+ghost use Rattle.spin_table.specs.SetupOf.{data_of};
+ghost use Rattle.spin_table.specs.Soundness.{IsSound};
+ghost use Rattle.spin_proto.specs.Replies.{units_in};
+ghost use Rattle.spin_proto.specs.Whole.{marks_at, marks_of, up_of, ups_of, raised, raised_after};
+ghost use Rattle.spin_proto.specs.Walks.{OnBounds, Spends, Comes, Notes, UpsRise};
+
+use crate::reply::Step;
+use crate::walk::{Upward, Walk};
+use spin_code::Sincere;
+use spin_objects::{Catalogue, Item, Outcome};
+use spin_raise::{Answer, Progress, Stepped, step};
+use spin_table::{Setup, Version};
+use spin_values::{Args, NoMemory, Sequence, Steps};
+use std::alloc::Global;
+use std::collections::VecDeque;
+use std::sync::ledger::Ledger;
+
+/// Notes one item, and keeps a raise upwards for later. False where too many handlers start.
+fn note_item(
+    walk: &mut Walk,
+    event: u8,
+    item: Item,
+    ups: &mut Sequence<Upward>,
+) -> Result<bool, NoMemory>
+    ensures walk { IfOk result (λ on. Spends on (marks_at event item) walk.old walk.new) }
+    ensures ups { OnOk result (ups.new ≡ ups.old ++ up_of item) }
+{
+    match item {
+        Item::Ran(number) => walk.start(event, number),
+        Item::Result(word) => {
+            walk.note(Step::Result(word))?;
+            Ok(true)
+        }
+        Item::Send { endpoint, bytes } => {
+            walk.note(Step::Send { endpoint, bytes })?;
+            Ok(true)
+        }
+        Item::Up { event, args } => {
+            ups.push(Upward { event, args })?;
+            Ok(true)
+        }
+        Item::Dropped(fault) => {
+            walk.note(Step::Dropped(fault))?;
+            Ok(true)
+        }
+        Item::Job { number, args } => walk.queue(event, number, args),
+    }
+}
+
+/// Notes what a firing gave, and answers its raises upwards. `None` where too many handlers start.
+fn note_items(
+    alloc: Global,
+    walk: &mut Walk,
+    event: u8,
+    given: Outcome,
+) -> Result<Option<Sequence<Upward>>, NoMemory>
+    ensures { IfOk result (λ ups. Notes ups event given walk.old walk.new) }
+{
+    let mut ups = Sequence::new(alloc);
+    let mut queue = VecDeque::from(given.into_vec());
+    while let Some(item) = queue.pop_front() {
+        if !note_item(walk, event, item, &mut ups)? {
+            return Ok(None);
+        }
+    }
+    Ok(Some(ups))
+}
+
+/// Notes what a firing gave at an event, and does its raises upwards. False where too many handlers start.
+#[cycle(whole)]
+pub(crate) fn follow<L: Ledger>(
+    alloc: Global,
+    version: &Version,
+    setup: &Setup,
+    apart: bool,
+    event: u8,
+    given: Outcome,
+    steps: &mut Steps<L>,
+    walk: &mut Walk,
+) -> Result<bool, NoMemory>
+    requires sound { IsSound (data_of setup.now) version.now }
+    requires sincere { ⟦<Catalogue as Sincere>⟧.sincere setup.now.catalogue }
+    requires rise { UpsRise (length version.now.events) event (ups_of given) }
+    ensures { IfOk result (λ on. OnBounds (data_of setup.now) version.now (λ bounds. Spends on (marks_of event (raised_after apart (units_in (data_of setup.now)) bounds event) given) walk.old walk.new)) }
+{
+    let Some(ups) = note_items(alloc, walk, event, given)? else {
+        return Ok(false);
+    };
+    let mut queue = VecDeque::from(ups.into_vec());
+    while let Some(up) = queue.pop_front() {
+        let Upward { event: to, args } = up;
+        walk.note(Step::Up(to))?;
+        match raise_event(alloc, version, setup, apart, to, args, steps, walk)? {
+            None => return Ok(false),
+            Some(answer) => walk.note(Step::Back(answer))?,
+        }
+    }
+    Ok(true)
+}
+
+/// Does a raise of an event that is there, with its raises upwards. `None` where too many handlers start.
+#[cycle(whole)]
+pub(crate) fn raise_event<L: Ledger>(
+    alloc: Global,
+    version: &Version,
+    setup: &Setup,
+    apart: bool,
+    event: u8,
+    mut args: Args,
+    steps: &mut Steps<L>,
+    walk: &mut Walk,
+) -> Result<Option<Answer>, NoMemory>
+    requires sound { IsSound (data_of setup.now) version.now }
+    requires sincere { ⟦<Catalogue as Sincere>⟧.sincere setup.now.catalogue }
+    requires there { event < length version.now.events }
+    ensures { IfOk result (λ answer. OnBounds (data_of setup.now) version.now (λ bounds. Comes answer (raised apart (units_in (data_of setup.now)) bounds 0 event args) walk.old walk.new)) }
+{
+    let cat = setup.catalogue();
+    let def = setup.event(event);
+    let plan = version.plan(event);
+    let default = version.default_of(event);
+    let mut progress = Progress::start();
+    'turns: loop {
+        let room = walk.left > 0;
+        let mut given = Sequence::new(alloc);
+        match step(
+            alloc,
+            plan,
+            &def.merge,
+            default,
+            cat,
+            apart,
+            room,
+            &mut progress,
+            &mut args,
+            &mut given,
+            steps,
+        )? {
+            Stepped::End => return Ok(Some(progress.answer)),
+            Stepped::Full => return Ok(None),
+            Stepped::Ran => {
+                if !follow(alloc, version, setup, apart, event, given, steps, walk)? {
+                    return Ok(None);
+                }
+            }
+        }
+    }
+}

@@ -1,0 +1,112 @@
+//! What a deed comes to on a version.
+
+ghost use Rattle.std.specs.Prelude.{◌≡◌, ◌<◌, [], length, IfOk, MatchOption};
+ghost use Rattle.std.specs.List.{All};
+ghost use Rattle.spin_table.specs.SetupOf.{data_of};
+ghost use Rattle.spin_table.specs.Soundness.{IsSound};
+ghost use Rattle.spin_proto.specs.Replies.{units_in, types_in, reply_if_fit, IsDeedReply, BelongsTo, calls_left};
+ghost use Rattle.spin_proto.specs.Whole.{raised, reply_of};
+ghost use Rattle.spin_proto.specs.Walks.{OnBounds};
+
+use crate::deed::{Deed, JobCall};
+use crate::reply::Reply;
+use crate::rising::raise_event;
+use crate::walk::Walk;
+use spin_code::Sincere;
+use spin_objects::Catalogue;
+use spin_table::{Setup, Version};
+use spin_values::{Args, NoMemory, Steps, fits};
+use std::alloc::Global;
+use std::marker::Brand;
+use std::sync::ledger::{Blank, Ledger};
+
+/// Does a raise of an event that is there with a counter of its own.
+pub(crate) fn raise_whole<L: Ledger>(
+    alloc: Global,
+    version: &Version,
+    setup: &Setup,
+    apart: bool,
+    event: u8,
+    args: Args,
+    blank: Blank,
+) -> Result<Reply, NoMemory>
+    requires sound { IsSound (data_of setup.now) version.now }
+    requires sincere { ⟦<Catalogue as Sincere>⟧.sincere setup.now.catalogue }
+    requires there { event < length version.now.events }
+    requires name { blank.name ≡ L.name }
+    requires parts { blank.parts ≡ L.parts }
+    requires some { 0 < L.parts }
+    ensures { IfOk result (λ reply. OnBounds (data_of setup.now) version.now (λ bounds. reply ≡ reply_of 4096 (raised apart (units_in (data_of setup.now)) bounds 0 event args))) }
+{
+    let mut steps = Steps::<L>::new(blank);
+    let mut walk = Walk::new(alloc);
+    match raise_event(
+        alloc, version, setup, apart, event, args, &mut steps, &mut walk,
+    )? {
+        None => Ok(Reply::Spent),
+        Some(answer) => {
+            let Walk { trace, jobs, .. } = walk;
+            Ok(Reply::Ran {
+                answer,
+                trace,
+                jobs,
+            })
+        }
+    }
+}
+
+/// Why a deed isn't done, if it isn't.
+fn refusal(setup: &Setup, event: u8, args: &Args) -> Option<Reply>
+    ensures { MatchOption result ((event < length (data_of setup.now).events) × ((answer : Reply) → reply_if_fit (types_in (data_of setup.now)) event args.now answer ≡ answer)) (λ refused. ((answer : Reply) → reply_if_fit (types_in (data_of setup.now)) event args.now answer ≡ refused) × (calls_left refused ≡ [])) }
+{
+    if event >= setup.events() {
+        return Some(Reply::UnknownEvent);
+    }
+    if !fits(args, &setup.event(event).sig) {
+        return Some(Reply::WrongArgs);
+    }
+    None
+}
+
+/// What a deed comes to on this version.
+///
+/// [`Reply::UnknownEvent`] comes exactly where the event isn't there, and [`Reply::WrongArgs`] exactly where it is and
+/// the arguments haven't the number and kinds of its parameters. A deed to which neither applies is left to a job, if
+/// it asks for that: the answer is [`Reply::Queued`]. Else the event is raised. After each of its handlers, and before
+/// the next is looked for, the raises upwards of that handler are done in order, depth first, on the same version, so
+/// that no command comes between. [`Reply::Spent`] comes exactly where more than [`MAX_RUNS`] handlers would start,
+/// jobs counting as one each; then nothing of what was done is left. Else the answer is [`Reply::Ran`], with the call
+/// of a job for each asynchronous binding that was reached.
+///
+/// The state of the version is sound for the setup, and the catalogue's objects do what they were handed in with. It
+/// is linear in what the handlers do and give and in the guards that are tested, and at most 64 raises are nested.
+///
+/// [`MAX_RUNS`]: crate::MAX_RUNS
+pub fn path(alloc: Global, version: &Version, setup: &Setup, deed: &Deed) -> Result<Reply, NoMemory>
+    requires sound { IsSound (data_of setup.now) version.now }
+    requires sincere { ⟦<Catalogue as Sincere>⟧.sincere setup.now.catalogue }
+    ensures reply { IfOk result (λ reply. IsDeedReply (data_of setup.now) version.now deed.now reply) }
+    ensures calls { IfOk result (λ reply. All (BelongsTo version.now) (calls_left reply)) }
+{
+    match deed {
+        Deed::Raise { event, args } => match refusal(setup, *event, args) {
+            Some(refused) => Ok(refused),
+            None => raise_whole::<Brand>(
+                alloc,
+                version,
+                setup,
+                false,
+                *event,
+                args.copy()?,
+                Blank::new(1),
+            ),
+        },
+        Deed::Later { event, args } => match refusal(setup, *event, args) {
+            Some(refused) => Ok(refused),
+            None => Ok(Reply::Queued(JobCall::Whole {
+                event: *event,
+                args: args.copy()?,
+            })),
+        },
+    }
+}
