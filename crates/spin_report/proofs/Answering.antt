@@ -1,51 +1,30 @@
 -- What was asked at a state has one answer and one next state, but for the cycle that a conflict names.
-use Rattle.std.proofs.Common.{◌≡◌, List, [], ◌∷◌, refl, sym, ap, ◌∙◌}
+use Rattle.std.proofs.Common.{◌≡◌, sym, ap, ◌∙◌}
 use Rattle.std.specs.Prelude.{Option, Some, None, MatchOption}
 use Rattle.spin_word.specs.declared.command.Command.{Command}
-use Rattle.spin_place.proofs.Laws.{IsTheOrder-unique}
-use Rattle.spin_table.specs.declared.event.EventDef.{EventDef}
 use Rattle.spin_table.specs.declared.refusal.Refusal.{Refusal}
 use Rattle.spin_table.specs.declared.refusal.Verdicted.{Verdicted}
 use Rattle.spin_table.specs.declared.refusal.Verdicted.TheVariants as verdicted
 use Rattle.spin_table.specs.Setups.{SetupData}
-use Rattle.spin_table.specs.States.{State, EventState}
-use Rattle.spin_table.specs.Orders.{arranged}
+use Rattle.spin_table.specs.States.{State}
 use Rattle.spin_table.specs.Refusals.{refusal_of}
 use Rattle.spin_table.specs.Steps.{ChangesTo, IsStep}
-use Rattle.spin_raise.specs.Firing.{Bound, bound_of}
 use Rattle.spin_proto.specs.declared.deed.Deed.{Deed}
 use Rattle.spin_proto.specs.declared.deed.JobCall.{JobCall}
 use Rattle.spin_proto.specs.declared.reply.Reply.{Reply}
-use Rattle.spin_proto.specs.Replies.{deed_reply, job_reply, units_in, types_in, IsBound, AreBounds, IsDeedReply, IsJobReply}
-
-one_bound : (e : EventDef) (t : EventState) (b c : Bound) → IsBound e t b → IsBound e t c → b ≡ c
-one_bound e t b c h k =
-    let same = IsTheOrder-unique t.bindings h.0 k.0 h.1 k.1 in
-    h.2 ∙ ap (λ ns. bound_of (arranged t.bindings ns) e.merge t.default) same ∙ sym k.2
-
-one_bounds : (es : List EventDef) (ts : List EventState) (bs cs : List Bound) → AreBounds es ts bs → AreBounds es ts cs → bs ≡ cs
-one_bounds [] [] [] [] h k = refl
-one_bounds [] [] (b ∷ bs) cs h k = absurd h
-one_bounds [] [] [] (c ∷ cs) h k = absurd k
-one_bounds [] (t ∷ ts) bs cs h k = absurd h
-one_bounds (e ∷ es) [] bs cs h k = absurd h
-one_bounds (e ∷ es) (t ∷ ts) [] cs h k = absurd h
-one_bounds (e ∷ es) (t ∷ ts) (b ∷ bs) [] h k = absurd k
-one_bounds (e ∷ es) (t ∷ ts) (b ∷ bs) (c ∷ cs) h k =
-    let first = one_bound e t b c h.0 k.0 in
-    let more = one_bounds es ts bs cs h.1 k.1 in
-    λ i. first i ∷ more i
+use Rattle.spin_proto.proofs.Bounds.{bounds_unique}
+use Rattle.spin_proto.specs.Replies.{deed_reply, job_reply, units_in, types_in, IsDeedReply, IsJobReply}
 
 -- a deed has one reply at a state
 pub one_reply : (d : SetupData) (s : State) (asked : Deed) (a b : Reply) → IsDeedReply d s asked a → IsDeedReply d s asked b → a ≡ b
 one_reply d s asked a b h k =
-    let same = one_bounds d.events s.events h.0 k.0 h.1 k.1 in
+    let same = bounds_unique d.events s.events h.0 k.0 h.1 k.1 in
     h.2 ∙ ap (λ bounds. deed_reply (units_in d) bounds (types_in d) asked) same ∙ sym k.2
 
 -- and so has the call of a job
 pub one_job_reply : (d : SetupData) (s : State) (call : JobCall) (a b : Reply) → IsJobReply d s call a → IsJobReply d s call b → a ≡ b
 one_job_reply d s call a b h k =
-    let same = one_bounds d.events s.events h.0 k.0 h.1 k.1 in
+    let same = bounds_unique d.events s.events h.0 k.0 h.1 k.1 in
     h.2 ∙ ap (λ bounds. job_reply (units_in d) bounds call) same ∙ sym k.2
 
 -- a command with its verdict leads to one state

@@ -4,3 +4,4 @@ pub mod Told
 pub mod Segments
 pub mod Answering
 pub mod Shows
+pub mod ByLanes

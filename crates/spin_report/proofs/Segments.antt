@@ -1,6 +1,6 @@
 -- A report tells which entries each segment has.
-use Rattle.std.proofs.Common.{◌≡◌, ◌<◌, ℕ, ◌+◌, Bool, true, false, eqb, cond, List, [], ◌∷◌, ◌++◌, map, length, take, drop, refl, sym, ap, subst, ◌∙◌, append_assoc, arith}
-use Rattle.std.specs.Prelude.{◌==◌, ◌&&◌, nat_le, filter, Some, None}
+use Rattle.std.proofs.Common.{◌≡◌, ℕ, ◌+◌, Bool, true, false, eqb, List, [], ◌∷◌, ◌++◌, map, length, take, drop, refl, sym, ap, ◌∙◌, append_assoc, arith}
+use Rattle.std.specs.Prelude.{filter}
 use Rattle.std.specs.List.{AllByRecursion, slice_split, flat_map, enumerate_from}
 use Rattle.std.proofs.Math.Seq.{take-append_seam, drop-append_seam}
 use Rattle.std.proofs.lemmas.Bool.Decides.{nat_tests}
@@ -8,7 +8,7 @@ use Rattle.std.proofs.lemmas.List.{append-nil, length-map}
 use Rattle.std.proofs.lemmas.List.Elements.{filter-append, All-from_recursion}
 use Rattle.std.proofs.lemmas.List.Splits.{slice_split_at, slice_split_none}
 use Rattle.spin_report.specs.Lines.{entry_line, job_line}
-use Rattle.spin_report.specs.Histories.{SegmentSeen, HistorySeen, first_line, retire_line, segment_line, lost_line, losses, lost_lines, segment_lines, end_line, report_lines, entries_of}
+use Rattle.spin_report.specs.Histories.{SegmentSeen, HistorySeen, first_line, retire_line, segment_line, lost_line, losses, lost_lines, end_line, report_lines, entries_of}
 use Rattle.spin_report.specs.Laws.{begins_with_digit, segment_entries}
 use Rattle.spin_report.proofs.Plain.{each_append, each_map}
 use Rattle.spin_report.proofs.ReportLines.{lines_at, none_pass, all_pass, entry_begins}

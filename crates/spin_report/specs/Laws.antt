@@ -1,5 +1,5 @@
 -- What a report tells.
-use Rattle.std.specs.Prelude.{◌≡◌, ◌<◌, ◌^◌, ℕ, Bool, false, ◌&&◌, nat_le, List, [], ◌∷◌, map, filter, All}
+use Rattle.std.specs.Prelude.{◌≡◌, ◌<◌, ◌^◌, ℕ, Bool, false, ◌&&◌, ◌==◌, nat_le, List, [], ◌∷◌, map, filter, All, IsPermutation}
 use Rattle.spin_table.specs.Setups.{SetupData}
 use Rattle.spin_table.specs.States.{State}
 use Rattle.spin_report.specs.declared.entry.What.{What}
@@ -9,7 +9,7 @@ use Rattle.spin_report.specs.Verdicts.{verdict_numbers}
 use Rattle.spin_report.specs.Lines.{JobSeen, entry_line}
 use Rattle.spin_report.specs.Histories.{HistorySeen, report_lines, report_text, entries_of}
 use Rattle.spin_report.specs.Jobs.{AreJobs}
-use Rattle.spin_report.specs.Asked.{Numbered, AreApart, IsHistory}
+use Rattle.spin_report.specs.Asked.{Numbered, asked_of, AreApart, IsHistory}
 
 abbrev pub begins_with_digit : List ℕ → Bool
 begins_with_digit [] = false
@@ -49,3 +49,11 @@ abbrev pub JobsFollow : Type 0
 JobsFollow =
     (d : SetupData) (start : State) (entries : List Entry) (js ks : List JobSeen)
     → AreJobs d start entries js → AreJobs d start entries ks → js ≡ ks
+
+-- Entries that answer, lane by lane and in its order, what each lane asks, answer each of what is asked once.
+abbrev pub LanesAnswer : Type 0
+LanesAnswer =
+    (lanes : ℕ) (asked : List Numbered) (entries : List Entry)
+    → All (λ n. n.lane < lanes) asked → All (λ e. e.lane < lanes) entries
+    → ((k : ℕ) → k < lanes → map asked_of (filter (λ e. e.lane == k) entries) ≡ filter (λ n. n.lane == k) asked)
+    → IsPermutation (map asked_of entries) asked
