@@ -1,0 +1,59 @@
+-- What a report tells.
+use Rattle.std.specs.Prelude.{◌≡◌, ◌<◌, ◌^◌, ℕ, Bool, false, ◌&&◌, ◌==◌, nat_le, List, [], ◌∷◌, map, filter, All, IsPermutation}
+use Rattle.spin_table.specs.Setups.{SetupData}
+use Rattle.spin_table.specs.States.{State}
+use Rattle.spin_report.specs.declared.entry.What.{What}
+use Rattle.spin_report.specs.declared.entry.What.TheVariants as what
+use Rattle.spin_report.specs.declared.entry.Entry.{Entry}
+use Rattle.spin_report.specs.Verdicts.{verdict_numbers}
+use Rattle.spin_report.specs.Lines.{JobSeen, entry_line}
+use Rattle.spin_report.specs.Histories.{HistorySeen, report_lines, report_text, entries_of}
+use Rattle.spin_report.specs.Jobs.{AreJobs}
+use Rattle.spin_report.specs.Asked.{Numbered, asked_of, AreApart, IsHistory}
+
+abbrev pub begins_with_digit : List ℕ → Bool
+begins_with_digit [] = false
+begins_with_digit (b ∷ bs) = nat_le 48 b && nat_le b 57
+
+-- The lines that begin with a digit are just those of the entries, in order.
+abbrev pub DigitsTellEntries : Type 0
+DigitsTellEntries = (h : HistorySeen) → filter begins_with_digit (report_lines h) ≡ map entry_line (entries_of h)
+
+abbrev pub numbers_named : What → List ℕ
+numbers_named (what.Command command verdict) = verdict_numbers verdict
+numbers_named (what.Deed deed reply) = []
+
+-- The numbers of an entry and of its verdict have at most 64 bits.
+pub record HasNumbers (entry : Entry) : Type 0 where
+  pub place : entry.place < 2 ^ 64
+  pub lane : entry.lane < 2 ^ 64
+  pub line : entry.line < 2 ^ 64
+  pub part : entry.part < 2 ^ 64
+  pub verdict : All (λ n. n < 2 ^ 64) (numbers_named entry.what)
+
+-- the entries of each segment
+abbrev pub segment_entries : HistorySeen → List (List Entry)
+segment_entries h = map (λ s. s.entries) h.segments
+
+-- No two histories that answer the same, numbered by line and part, have one report: each segment of one has the
+-- entries of the other's.
+abbrev pub ReportTells : Type 0
+ReportTells =
+    (d : SetupData) (start : State) (asked : List Numbered) (h k : HistorySeen) → AreApart asked
+    → IsHistory d start asked (entries_of h) → IsHistory d start asked (entries_of k)
+    → All HasNumbers (entries_of h) → All HasNumbers (entries_of k)
+    → report_text h ≡ report_text k → segment_entries h ≡ segment_entries k
+
+-- Legal entries have one list of jobs with replies.
+abbrev pub JobsFollow : Type 0
+JobsFollow =
+    (d : SetupData) (start : State) (entries : List Entry) (js ks : List JobSeen)
+    → AreJobs d start entries js → AreJobs d start entries ks → js ≡ ks
+
+-- Entries that answer, lane by lane and in its order, what each lane asks, answer each of what is asked once.
+abbrev pub LanesAnswer : Type 0
+LanesAnswer =
+    (lanes : ℕ) (asked : List Numbered) (entries : List Entry)
+    → All (λ n. n.lane < lanes) asked → All (λ e. e.lane < lanes) entries
+    → ((k : ℕ) → k < lanes → map asked_of (filter (λ e. e.lane == k) entries) ≡ filter (λ n. n.lane == k) asked)
+    → IsPermutation (map asked_of entries) asked

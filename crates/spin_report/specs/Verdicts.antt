@@ -1,0 +1,63 @@
+-- The words of a command and of what became of it.
+use Rattle.std.specs.Prelude.{ℕ, List, [], ◌∷◌, map, decimal, codes}
+use Rattle.spin_word.specs.declared.command.Op.{Op}
+use Rattle.spin_word.specs.declared.command.Op.TheVariants as op
+use Rattle.spin_table.specs.declared.refusal.Refusal.{Refusal}
+use Rattle.spin_table.specs.declared.refusal.Refusal.TheVariants as refusal
+use Rattle.spin_table.specs.declared.refusal.Verdicted.{Verdicted}
+use Rattle.spin_table.specs.declared.refusal.Verdicted.TheVariants as verdicted
+use Rattle.spin_report.specs.Words.{Word}
+
+abbrev pub op_word : Op → Word
+op_word op.Install = codes "install"
+op_word op.Remove = codes "remove"
+op_word op.Replace = codes "replace"
+op_word op.Default = codes "default"
+op_word op.NoDefault = codes "nodefault"
+
+abbrev pub refusal_number : Refusal → ℕ
+refusal_number refusal.UnknownEvent = 1
+refusal_number refusal.UnknownModule = 2
+refusal_number refusal.UnknownHandler = 3
+refusal_number refusal.UnknownGuard = 4
+refusal_number refusal.UnknownBinding = 5
+refusal_number refusal.WrongType = 6
+refusal_number refusal.Downward = 7
+refusal_number refusal.WrongMode = 8
+refusal_number (refusal.Denied rule) = 9
+refusal_number refusal.TooMany = 10
+refusal_number (refusal.Conflict cycle) = 11
+refusal_number (refusal.ForcedMode rule) = 12
+
+abbrev pub refusal_name : Refusal → Word
+refusal_name refusal.UnknownEvent = codes "unknown_event"
+refusal_name refusal.UnknownModule = codes "unknown_module"
+refusal_name refusal.UnknownHandler = codes "unknown_handler"
+refusal_name refusal.UnknownGuard = codes "unknown_guard"
+refusal_name refusal.UnknownBinding = codes "unknown_binding"
+refusal_name refusal.WrongType = codes "wrong_type"
+refusal_name refusal.Downward = codes "downward"
+refusal_name refusal.WrongMode = codes "wrong_mode"
+refusal_name (refusal.Denied rule) = codes "denied"
+refusal_name refusal.TooMany = codes "too_many"
+refusal_name (refusal.Conflict cycle) = codes "conflict"
+refusal_name (refusal.ForcedMode rule) = codes "forced_mode"
+
+-- the rule that a refusal names, or the numbers of its cycle
+abbrev pub refusal_numbers : Refusal → List ℕ
+refusal_numbers (refusal.Denied rule) = rule ∷ []
+refusal_numbers (refusal.Conflict cycle) = cycle
+refusal_numbers (refusal.ForcedMode rule) = rule ∷ []
+refusal_numbers r = []
+
+-- the numbers that a verdict names
+abbrev pub verdict_numbers : Verdicted → List ℕ
+verdict_numbers verdicted.Accepted = []
+verdict_numbers (verdicted.Refused r) = refusal_numbers r
+
+abbrev pub refusal_words : Refusal → List Word
+refusal_words r = decimal (refusal_number r) ∷ refusal_name r ∷ map decimal (refusal_numbers r)
+
+abbrev pub verdict_words : Verdicted → List Word
+verdict_words verdicted.Accepted = codes "ok" ∷ []
+verdict_words (verdicted.Refused r) = codes "refused" ∷ refusal_words r

@@ -1,0 +1,33 @@
+//! Entries of a history: what was asked, by which lane and line, and what it answered.
+
+use spin_proto::{Deed, Reply};
+use spin_table::Verdicted;
+use spin_values::Sequence;
+use spin_word::Command;
+
+/// What was asked, and its answer.
+#[derive(PartialEq, Drop, Debug)]
+pub enum What {
+    /// A command, and what became of it.
+    Command(Command, Verdicted),
+    /// A deed, and what it came to.
+    Deed(Deed, Reply),
+}
+
+/// One entry of a history.
+#[derive(PartialEq, Drop, Debug)]
+pub struct Entry {
+    /// The place: how many commands were accepted up to here, this one included.
+    pub place: u16,
+    /// The lane that asked, counted from 0.
+    pub lane: u8,
+    /// The line of the script, counted from 1.
+    pub line: u32,
+    /// Which part of a line of packets it is, counted from 1; 0 for every other line.
+    pub part: u32,
+    /// What was asked, and its answer.
+    pub what: What,
+}
+
+/// Entries in the order of the history.
+pub type Entries = Sequence<Entry>;

@@ -1,0 +1,15 @@
+//! What a report tells of a history.
+
+ghost use Rattle.spin_report.specs.Laws.{DigitsTellEntries, JobsFollow, LanesAnswer, ReportTells};
+
+/// The law of the report: the lines that begin with a digit are just those of the entries, in order. Of two legal
+/// histories, each of which answers the same commands and deeds once, numbered by line and part, the entries are equal
+/// where the texts of the reports are, segment by segment. And which jobs they have, and what these come to, follows
+/// from the entries. To answer each once it is enough that each lane answers what it asks, in its order.
+/// It does nothing.
+pub fn report_tells()
+    ensures digits { DigitsTellEntries }
+    ensures histories { ReportTells }
+    ensures jobs { JobsFollow }
+    ensures lanes { LanesAnswer }
+{}

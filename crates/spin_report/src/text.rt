@@ -1,0 +1,93 @@
+//! Whole lines.
+
+ghost use Rattle.std.specs.Prelude.{◌≡◌, ◌++◌, ◌∷◌, [], OnOk, OnErr};
+ghost use Rattle.spin_report.specs.Words.{spaced, line_of, ended};
+ghost use Rattle.spin_report.specs.Lines.{line_word, what_words, entry_words, job_words, entry_line, job_line, job_seen};
+
+use crate::entry::{Entry, What};
+use crate::putting::{put_digits, put_number, put_word};
+use crate::reply::put_reply;
+use crate::verdict::{op_word, put_verdict};
+use spin_proto::{Deed, Job, Reply};
+use spin_values::{NoMemory, Octets};
+
+/// Appends the number of a line, and of its part where it is a line of packets.
+fn put_line_word(out: &mut Octets, line: u32, part: u32) -> Result<(), NoMemory>
+    ensures { OnOk result (out.new ≡ out.old ++ spaced (line_word line part ∷ [])) }
+{
+    put_number(out, u64::from(line))?;
+    if part != 0 {
+        out.push(b'.')?;
+        put_digits(out, u64::from(part))?;
+    }
+    Ok(())
+}
+
+fn put_what(out: &mut Octets, part: u32, what: &What) -> Result<(), NoMemory>
+    ensures { OnOk result (out.new ≡ out.old ++ spaced (what_words part what.now)) }
+{
+    match what {
+        What::Command(command, verdict) => {
+            put_word(out, op_word(command.op))?;
+            put_verdict(out, verdict)
+        }
+        What::Deed(Deed::Later { .. }, reply) => {
+            put_word(out, b"later")?;
+            put_reply(out, reply)
+        }
+        What::Deed(Deed::Raise { .. }, reply) => {
+            if part == 0 {
+                put_word(out, b"raise")?;
+            } else {
+                put_word(out, b"packet")?;
+            }
+            put_reply(out, reply)
+        }
+    }
+}
+
+fn put_entry(out: &mut Octets, entry: &Entry) -> Result<(), NoMemory>
+    ensures { OnOk result (out.new ≡ out.old ++ entry_line entry.now) }
+{
+    put_digits(out, u64::from(entry.place))?;
+    put_number(out, u64::from(entry.lane))?;
+    put_line_word(out, entry.line, entry.part)?;
+    put_what(out, entry.part, &entry.what)
+}
+
+fn put_job(out: &mut Octets, job: &Job, reply: &Reply) -> Result<(), NoMemory>
+    ensures { OnOk result (out.new ≡ out.old ++ job_line (job_seen job.now reply.now)) }
+{
+    out.extend_from_slice(b"job")?;
+    put_number(out, u64::from(job.place))?;
+    put_number(out, u64::from(job.lane))?;
+    put_line_word(out, job.line, job.part)?;
+    put_number(out, u64::from(job.index))?;
+    put_reply(out, reply)
+}
+
+/// Appends the line of an entry: its place, its lane, its line, what was asked and what that came to. The line of a
+/// part of a packet line is followed by a dot and the part. After want of memory `out` is unchanged.
+/// It takes time linear in the line's length and in the steps of the entry's reply.
+pub fn entry_text(entry: &Entry, out: &mut Octets) -> Result<(), NoMemory>
+    ensures ok { OnOk result (out.new ≡ out.old ++ ended (entry_line entry.now)) }
+    ensures err { OnErr result (out.new ≡ out.old) }
+{
+    let mut line = Octets::new(out.allocator());
+    put_entry(&mut line, entry)?;
+    line.push(b'\n')?;
+    out.append(&mut line)
+}
+
+/// Appends the line of a job with its reply: the place, the lane and the line of the entry that left it, which of the
+/// entry's jobs it is, and what it came to. After want of memory `out` is unchanged.
+/// It takes time linear in the line's length and in the steps of the reply.
+pub fn job_text(job: &Job, reply: &Reply, out: &mut Octets) -> Result<(), NoMemory>
+    ensures ok { OnOk result (out.new ≡ out.old ++ ended (job_line (job_seen job.now reply.now))) }
+    ensures err { OnErr result (out.new ≡ out.old) }
+{
+    let mut line = Octets::new(out.allocator());
+    put_job(&mut line, job, reply)?;
+    line.push(b'\n')?;
+    out.append(&mut line)
+}

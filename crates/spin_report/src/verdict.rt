@@ -1,0 +1,85 @@
+//! The words of a command and of what became of it.
+
+ghost use Rattle.std.specs.Prelude.{◌≡◌, ◌++◌, OnOk};
+ghost use Rattle.spin_report.specs.Words.{spaced};
+ghost use Rattle.spin_report.specs.Verdicts.{op_word, refusal_number, refusal_name, refusal_words, verdict_words};
+
+use crate::putting::{put_number, put_numbers, put_word};
+use spin_table::{Refusal, Verdicted};
+use spin_values::{NoMemory, Octets};
+use spin_word::Op;
+
+pub(crate) fn op_word(op: Op) -> &'static [u8]
+    ensures { result.now ≡ op_word op }
+{
+    match op {
+        Op::Install => b"install",
+        Op::Remove => b"remove",
+        Op::Replace => b"replace",
+        Op::Default => b"default",
+        Op::NoDefault => b"nodefault",
+    }
+}
+
+fn refusal_number(refusal: &Refusal) -> u8
+    ensures { result ≡ refusal_number refusal.now }
+{
+    match refusal {
+        Refusal::UnknownEvent => 1,
+        Refusal::UnknownModule => 2,
+        Refusal::UnknownHandler => 3,
+        Refusal::UnknownGuard => 4,
+        Refusal::UnknownBinding => 5,
+        Refusal::WrongType => 6,
+        Refusal::Downward => 7,
+        Refusal::WrongMode => 8,
+        Refusal::Denied(_) => 9,
+        Refusal::TooMany => 10,
+        Refusal::Conflict(_) => 11,
+        Refusal::ForcedMode(_) => 12,
+    }
+}
+
+fn refusal_name(refusal: &Refusal) -> &'static [u8]
+    ensures { result.now ≡ refusal_name refusal.now }
+{
+    match refusal {
+        Refusal::UnknownEvent => b"unknown_event",
+        Refusal::UnknownModule => b"unknown_module",
+        Refusal::UnknownHandler => b"unknown_handler",
+        Refusal::UnknownGuard => b"unknown_guard",
+        Refusal::UnknownBinding => b"unknown_binding",
+        Refusal::WrongType => b"wrong_type",
+        Refusal::Downward => b"downward",
+        Refusal::WrongMode => b"wrong_mode",
+        Refusal::Denied(_) => b"denied",
+        Refusal::TooMany => b"too_many",
+        Refusal::Conflict(_) => b"conflict",
+        Refusal::ForcedMode(_) => b"forced_mode",
+    }
+}
+
+fn put_refusal(out: &mut Octets, refusal: &Refusal) -> Result<(), NoMemory>
+    ensures { OnOk result (out.new ≡ out.old ++ spaced (refusal_words refusal.now)) }
+{
+    put_number(out, u64::from(refusal_number(refusal)))?;
+    put_word(out, refusal_name(refusal))?;
+    match refusal {
+        Refusal::Denied(rule) | Refusal::ForcedMode(rule) => put_number(out, u64::from(*rule)),
+        Refusal::Conflict(cycle) => put_numbers(out, cycle.as_slice()),
+        _ => Ok(()),
+    }
+}
+
+/// Appends what became of a command.
+pub(crate) fn put_verdict(out: &mut Octets, verdict: &Verdicted) -> Result<(), NoMemory>
+    ensures { OnOk result (out.new ≡ out.old ++ spaced (verdict_words verdict.now)) }
+{
+    match verdict {
+        Verdicted::Accepted => put_word(out, b"ok"),
+        Verdicted::Refused(refusal) => {
+            put_word(out, b"refused")?;
+            put_refusal(out, refusal)
+        }
+    }
+}
