@@ -1,0 +1,14 @@
+pub mod Blanks
+pub mod LineEnds
+pub mod Numerals
+pub mod Parts
+pub mod Numbers
+pub mod Regrown
+pub mod Joined
+pub mod Kept
+pub mod Once
+pub mod Single
+pub mod Valid
+pub mod Alike
+pub mod Signatures
+pub mod Respelled

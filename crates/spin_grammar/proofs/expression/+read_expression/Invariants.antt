@@ -1,0 +1,4 @@
+use Rattle.spin_grammar.proofs.expression.+read_expression.Given as goal
+
+abbrev pub decreases-read_expression : goal.decreases-read_expression
+decreases-read_expression l = l.limit

@@ -1,0 +1,5 @@
+use Rattle.spin_grammar.proofs.Single.{one_line}
+use Rattle.spin_grammar.proofs.laws.lines_are_one.Goals as goal
+
+pub returns : goal.returns
+returns c = one_line

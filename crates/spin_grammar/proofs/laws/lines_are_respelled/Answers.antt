@@ -1,0 +1,5 @@
+use Rattle.spin_grammar.proofs.Respelled.{line_respelled}
+use Rattle.spin_grammar.proofs.laws.lines_are_respelled.Goals as goal
+
+pub returns : goal.returns
+returns c = line_respelled

@@ -1,0 +1,254 @@
+-- What may stand at each place of a line: the tables of the script's format.
+use Rattle.std.specs.Prelude.{ℕ, zero, suc, ◌+◌, ◌-◌, Bool, true, false, ◌&&◌, List, [], ◌∷◌, ◌++◌, length, replicate, Option, Some, None, Result, Ok, Err, nat_le, ◌==◌, if◌then◌else◌, slice_index, codes, drop}
+use Rattle.std.specs.List.{list_all}
+use Rattle.std.specs.Str.{bytes_eq}
+use Rattle.spin_values.specs.declared.types.EventType.{EventType}
+use Rattle.spin_grammar.specs.declared.cause.Cause.{Cause}
+use Rattle.spin_grammar.specs.declared.cause.Cause.TheVariants as cause
+use Rattle.spin_grammar.specs.Spelling.{number, within, greatest, begins_with_digit, is_name, signature, guard_signature, hex_bytes}
+
+-- What a word says.
+pub data Atom : Type 0 where
+  -- one of the format's own words
+  Fixed : List ℕ → Atom
+  Numeral : ℕ → Atom
+  -- one of a0 to a7
+  Argument : ℕ → Atom
+  Called : List ℕ → Atom
+  Typed : EventType → Atom
+  Blob : List ℕ → Atom
+
+-- What is wanted at a place.
+pub data Want : Type 0 where
+  -- a number from low to high
+  Number : (low high : ℕ) → Want
+  Name : Want
+  Signature : Want
+  -- `native` and a name, or a signature and then steps or a test
+  HandlerBody : Want
+  GuardBody : Want
+  Expression : Want
+  Test : Want
+  Part : Want
+  -- any number of steps, and then the line's end
+  Steps : Want
+  LayerKind : Want
+  -- last, or fold with an expression
+  Merge : Want
+  Op : Want
+  -- a handler's number, or `any`
+  HandlerOrAny : Want
+  Own : Want
+  -- what a rule decides, in a script of this version
+  Effect : (version : ℕ) → Want
+  ForcedPlace : Want
+  ForcedMode : Want
+  -- the deed of a lane, in a script of this version
+  Deed : (version : ℕ) → Want
+  -- the place of a binding, which may be before or after another
+  Spot : Want
+  -- free, first or last
+  Place : Want
+  Mode : Want
+  -- up to so many numbers or bytes, and then the line's end
+  Values : ℕ → Want
+  -- a number from low to high, and then so many of what is wanted
+  Counted : (low high : ℕ) → Want → Want
+  -- up to four numbers of bindings, each greater than the one before it, behind their count
+  Bindings : Want
+  -- the number of a binding from low on, and so many behind it
+  Rising : (low more : ℕ) → Want
+  -- just this word
+  Exactly : List ℕ → Want
+
+-- ---- what each word is followed by
+
+abbrev pub Choices : Type 0
+Choices = List (List ℕ × List Want)
+
+abbrev pub expressions : Choices
+expressions =
+    (codes "f", Number 0 7 ∷ Number 0 65535 ∷ Number 0 255 ∷ [])
+    ∷ (codes "+", Expression ∷ Expression ∷ [])
+    ∷ (codes "&", Expression ∷ Expression ∷ [])
+    ∷ (codes "|", Expression ∷ Expression ∷ [])
+    ∷ []
+
+abbrev pub tests : Choices
+tests =
+    (codes "true", [])
+    ∷ (codes "==", Expression ∷ Expression ∷ [])
+    ∷ (codes "!=", Expression ∷ Expression ∷ [])
+    ∷ (codes "<", Expression ∷ Expression ∷ [])
+    ∷ (codes "<=", Expression ∷ Expression ∷ [])
+    ∷ (codes "has", Number 0 7 ∷ Number 0 65535 ∷ [])
+    ∷ (codes "not", Test ∷ [])
+    ∷ (codes "all", Test ∷ Test ∷ [])
+    ∷ (codes "any", Test ∷ Test ∷ [])
+    ∷ []
+
+abbrev pub parts : Choices
+parts = (codes "w", Expression ∷ []) ∷ (codes "b", Number 0 7 ∷ Number 0 65535 ∷ []) ∷ []
+
+-- behind a step more steps may follow
+abbrev pub steps : Choices
+steps =
+    (codes "set", Number 0 7 ∷ Expression ∷ Steps ∷ [])
+    ∷ (codes "send", Number 0 63 ∷ Number 0 7 ∷ Number 0 65535 ∷ Steps ∷ [])
+    ∷ (codes "result", Expression ∷ Steps ∷ [])
+    ∷ (codes "up", Number 0 63 ∷ Counted 0 8 Part ∷ Steps ∷ [])
+    ∷ (codes "layer", LayerKind ∷ Number 0 63 ∷ Steps ∷ [])
+    ∷ []
+
+abbrev pub layers : Choices
+layers = (codes "ipv4", []) ∷ (codes "udp", []) ∷ []
+
+abbrev pub merges : Choices
+merges = (codes "last", []) ∷ (codes "fold", Expression ∷ []) ∷ []
+
+abbrev pub ops : Choices
+ops = (codes "install", []) ∷ (codes "remove", []) ∷ (codes "replace", []) ∷ (codes "default", []) ∷ (codes "nodefault", []) ∷ (codes "any", []) ∷ []
+
+abbrev pub owns : Choices
+owns = (codes "own", []) ∷ (codes "all", []) ∷ []
+
+-- what a rule may force came with version 2
+abbrev pub effects : ℕ → Choices
+effects version =
+    (codes "allow", [])
+    ∷ (codes "deny", [])
+    ∷ (codes "quota", Number 0 1000 ∷ [])
+    ∷ (codes "impose", Counted 1 4 (Number 1 1023) ∷ [])
+    ∷ (if nat_le 2 version then (codes "force", Counted 0 4 (Number 1 1023) ∷ ForcedPlace ∷ ForcedMode ∷ []) ∷ [] else [])
+
+abbrev pub forced_places : Choices
+forced_places = (codes "keep", []) ∷ (codes "first", []) ∷ (codes "last", []) ∷ []
+
+abbrev pub forced_modes : Choices
+forced_modes = (codes "keep", []) ∷ (codes "async", []) ∷ []
+
+abbrev pub spots : Choices
+spots = (codes "free", []) ∷ (codes "first", []) ∷ (codes "last", []) ∷ (codes "before", Number 0 1023 ∷ []) ∷ (codes "after", Number 0 1023 ∷ []) ∷ []
+
+abbrev pub places : Choices
+places = (codes "free", []) ∷ (codes "first", []) ∷ (codes "last", []) ∷ []
+
+abbrev pub modes : Choices
+modes = (codes "plain", []) ∷ (codes "filter", []) ∷ (codes "async", []) ∷ []
+
+-- where a new binding goes: version 3 names up to four bindings before which and up to four after which it goes
+abbrev pub spot_wants : ℕ → List Want
+spot_wants version =
+    if version == 3 then Place ∷ Exactly (codes "before") ∷ Bindings ∷ Exactly (codes "after") ∷ Bindings ∷ [] else Spot ∷ []
+
+-- the greatest binding that may be named as a target
+abbrev pub last_target : ℕ → ℕ
+last_target version = if version == 3 then 4096 else 1023
+
+abbrev pub deeds : ℕ → Choices
+deeds version =
+    (codes "install", Number 0 63 ∷ Number 0 255 ∷ Number 0 1023 ∷ Number 0 1023 ∷ (spot_wants version ++ Mode ∷ []))
+    ∷ (codes "remove", Number 0 63 ∷ Number 0 255 ∷ Number 0 (last_target version) ∷ [])
+    ∷ (codes "replace", Number 0 63 ∷ Number 0 255 ∷ Number 0 (last_target version) ∷ Number 0 1023 ∷ Number 0 1023 ∷ [])
+    ∷ (codes "default", Number 0 63 ∷ Number 0 255 ∷ Number 0 1023 ∷ [])
+    ∷ (codes "nodefault", Number 0 63 ∷ Number 0 255 ∷ [])
+    ∷ (codes "raise", Number 0 63 ∷ Values 8 ∷ [])
+    ∷ (codes "later", Number 0 63 ∷ Values 8 ∷ [])
+    ∷ (codes "packet", Number 0 63 ∷ Number 1 65536 ∷ [])
+    ∷ []
+
+-- ---- one word at its place
+
+abbrev pub Step : Type 0
+Step = Result (Atom × List Want) Cause
+
+abbrev pub as_number : Option ℕ → List Want → Step
+as_number None more = Err cause.Number
+as_number (Some n) more = Ok (Numeral n, more)
+
+-- one of the fixed words, and what it is followed by
+abbrev pub chosen : List ℕ → Choices → Step
+chosen w [] = Err cause.Word
+chosen w (c ∷ cs) = if bytes_eq w c.0 then Ok (Fixed w, c.1) else chosen w cs
+
+abbrev pub is_argument : List ℕ → Bool
+is_argument w = length w == 2 && (slice_index w 0 == 97 && (nat_le 48 (slice_index w 1) && nat_le (slice_index w 1) 55))
+
+abbrev pub as_signature : Option EventType → List Want → Step
+as_signature None more = Err cause.Signature
+as_signature (Some sig) more = Ok (Typed sig, more)
+
+abbrev pub as_blob : Option (List ℕ) → List Want → Step
+as_blob None more = Err cause.Bytes
+as_blob (Some bytes) more = Ok (Blob bytes, more)
+
+abbrev pub as_count : Option ℕ → Want → Step
+as_count None want = Err cause.Number
+as_count (Some n) want = Ok (Numeral n, replicate n want)
+
+-- so many numbers of bindings, from low on
+abbrev pub rising : ℕ → ℕ → List Want
+rising low zero = []
+rising low (suc more) = Rising low more ∷ []
+
+abbrev pub as_rising : Option ℕ → Step
+as_rising None = Err cause.Number
+as_rising (Some n) = Ok (Numeral n, rising 0 n)
+
+abbrev pub as_rise : Option ℕ → ℕ → Step
+as_rise None more = Err cause.Number
+as_rise (Some n) more = Ok (Numeral n, rising (n + 1) more)
+
+unfoldable pub accepts : Want → List ℕ → Step
+accepts (Number low high) w = as_number (within low high (number w)) []
+accepts Name w = if is_name w then Ok (Called w, []) else Err cause.Name
+accepts Signature w = as_signature (signature w) []
+accepts HandlerBody w = if bytes_eq w (codes "native") then Ok (Fixed w, Name ∷ []) else as_signature (signature w) (Steps ∷ [])
+accepts GuardBody w = if bytes_eq w (codes "native") then Ok (Fixed w, Name ∷ []) else as_signature (guard_signature w) (Test ∷ [])
+accepts Expression w =
+    if begins_with_digit w then as_number (within 0 greatest (number w)) []
+    else (if is_argument w then Ok (Argument (slice_index w 1 - 48), []) else chosen w expressions)
+accepts Test w = chosen w tests
+accepts Part w = chosen w parts
+accepts Steps w = chosen w steps
+accepts LayerKind w = chosen w layers
+accepts Merge w = chosen w merges
+accepts Op w = chosen w ops
+accepts HandlerOrAny w =
+    if begins_with_digit w then as_number (within 1 1023 (number w)) [] else chosen w ((codes "any", []) ∷ [])
+accepts Own w = chosen w owns
+accepts (Effect version) w = chosen w (effects version)
+accepts ForcedPlace w = chosen w forced_places
+accepts ForcedMode w = chosen w forced_modes
+accepts (Deed version) w = chosen w (deeds version)
+accepts Spot w = chosen w spots
+accepts Place w = chosen w places
+accepts Mode w = chosen w modes
+accepts (Values zero) w = Err cause.End
+accepts (Values (suc k)) w =
+    if slice_index w 0 == 120 then as_blob (hex_bytes (drop 1 w)) (Values k ∷ []) else as_number (within 0 greatest (number w)) (Values k ∷ [])
+accepts (Counted low high want) w = as_count (within low high (number w)) want
+accepts Bindings w = as_rising (within 0 4 (number w))
+accepts (Rising low more) w = as_rise (within low 4096 (number w)) more
+accepts (Exactly word) w = chosen w ((word, []) ∷ [])
+
+-- ---- a whole line
+
+-- the line may end where this is wanted
+abbrev pub may_end : Want → Bool
+may_end Steps = true
+may_end (Values k) = true
+may_end _ = false
+
+abbrev pub Reading : Type 0
+Reading = Result (List Atom) Cause
+
+abbrev pub then_read : List Atom → Reading → Reading
+then_read front (Ok back) = Ok (front ++ back)
+then_read front (Err c) = Err c
+
+-- The words are read from left to right, each at the place of the first thing that is still wanted.
+unfoldable pub reads : List Want → List (List ℕ) → Reading
+reads wants [] = if list_all may_end wants then Ok [] else Err cause.End
+reads [] (w ∷ ws) = Err cause.End
+reads (want ∷ wants) (w ∷ ws) = elim (accepts want w) [ Err c ↦ Err c | Ok p ↦ then_read (p.0 ∷ []) (reads (p.1 ++ wants) ws) ]

@@ -1,0 +1,128 @@
+-- What each line says, the words behind its first, and what is wanted there.
+use Rattle.std.specs.Prelude.{◌≡◌, ◌≤◌, ℕ, false, List, [], ◌∷◌, codes, Result, Ok, Err}
+use Rattle.std.specs.List.{list_any}
+use Rattle.spin_values.specs.declared.types.EventType.{EventType}
+use Rattle.spin_code.specs.declared.test.Test.{Test}
+use Rattle.spin_code.specs.declared.act.ActStep.{ActStep}
+use Rattle.spin_code.specs.declared.merge.Merge.{Merge}
+use Rattle.spin_code.specs.Size.{test_depth, is_step_deep}
+use Rattle.spin_policy.specs.declared.rule.Rule.{Rule}
+use Rattle.spin_policy.specs.Verdicts.{has_wrong_guards}
+use Rattle.spin_grammar.specs.declared.cause.Cause.{Cause}
+use Rattle.spin_grammar.specs.declared.fault.Fault.{Fault}
+use Rattle.spin_grammar.specs.declared.fault.Fault.TheVariants as fault
+use Rattle.spin_grammar.specs.declared.kind.Kind.{Kind}
+use Rattle.spin_grammar.specs.declared.kind.Kind.TheVariants as kind
+use Rattle.spin_grammar.specs.declared.line.Said.{Said}
+use Rattle.spin_grammar.specs.declared.line.Said.TheVariants as said
+use Rattle.spin_grammar.specs.Grammar as grammar
+use Rattle.spin_grammar.specs.Grammar.{Atom, Fixed, Numeral, Called, Typed, Want, Number, reads}
+use Rattle.spin_grammar.specs.Forms.{Task, steps_form, test_form, merge_form, rule_form, task_form}
+use Rattle.spin_grammar.specs.Reading.{Takes, Fails, IsWithin, IsKept, is_merge_deep}
+use Rattle.spin_grammar.specs.Tasks.{IsTask, IsValidTask}
+
+-- what a line says
+pub data Line : Type 0 where
+  Modules : ℕ → Line
+  Event : (event owner : ℕ) → EventType → Merge → Line
+  Endpoint : ℕ → List ℕ → Line
+  Handler : ℕ → EventType → List ActStep → Line
+  NativeHandler : ℕ → List ℕ → Line
+  Guard : ℕ → EventType → Test → Line
+  NativeGuard : ℕ → List ℕ → Line
+  -- a rule of an event's policy
+  Rules : ℕ → Rule → Line
+  Authoriser : ℕ → List ℕ → Line
+  Default : (event handler : ℕ) → Line
+  Lane : ℕ → Task → Line
+  Barrier : Line
+  Retire : ℕ → Line
+
+-- the words behind a line's first
+abbrev pub form : Line → List Atom
+form (Modules n) = Numeral n ∷ []
+form (Event e owner sig m) = Numeral e ∷ Numeral owner ∷ Typed sig ∷ merge_form m
+form (Endpoint p name) = Numeral p ∷ Called name ∷ []
+form (Handler h sig steps) = Numeral h ∷ Typed sig ∷ steps_form steps
+form (NativeHandler h name) = Numeral h ∷ Fixed (codes "native") ∷ Called name ∷ []
+form (Guard g sig t) = Numeral g ∷ Typed sig ∷ test_form t
+form (NativeGuard g name) = Numeral g ∷ Fixed (codes "native") ∷ Called name ∷ []
+form (Rules e r) = Numeral e ∷ rule_form r
+form (Authoriser e name) = Numeral e ∷ Called name ∷ []
+form (Default e h) = Numeral e ∷ Numeral h ∷ []
+form (Lane l t) = Numeral l ∷ task_form t
+form Barrier = []
+form (Retire p) = Numeral p ∷ []
+
+abbrev pub kind_of : Line → Kind
+kind_of (Modules n) = kind.Modules
+kind_of (Event e owner sig m) = kind.Event
+kind_of (Endpoint p name) = kind.Endpoint
+kind_of (Handler h sig steps) = kind.Handler
+kind_of (NativeHandler h name) = kind.Handler
+kind_of (Guard g sig t) = kind.Guard
+kind_of (NativeGuard g name) = kind.Guard
+kind_of (Rules e r) = kind.Rule
+kind_of (Authoriser e name) = kind.Authoriser
+kind_of (Default e h) = kind.Default
+kind_of (Lane l t) = kind.Lane
+kind_of Barrier = kind.Barrier
+kind_of (Retire p) = kind.Retire
+
+-- what is wanted behind the first word of a line, in a script of this version
+abbrev pub wanted : ℕ → Kind → List Want
+wanted version kind.Modules = Number 1 256 ∷ []
+wanted version kind.Event = Number 0 63 ∷ Number 0 255 ∷ grammar.Signature ∷ grammar.Merge ∷ []
+wanted version kind.Endpoint = Number 0 63 ∷ grammar.Name ∷ []
+wanted version kind.Handler = Number 1 1023 ∷ grammar.HandlerBody ∷ []
+wanted version kind.Guard = Number 1 1023 ∷ grammar.GuardBody ∷ []
+wanted version kind.Rule = Number 0 63 ∷ Number 0 255 ∷ Number 0 255 ∷ grammar.Op ∷ grammar.HandlerOrAny ∷ grammar.Own ∷ grammar.Effect version ∷ []
+wanted version kind.Authoriser = Number 0 63 ∷ grammar.Name ∷ []
+wanted version kind.Default = Number 0 63 ∷ Number 1 1023 ∷ []
+wanted version kind.Lane = Number 0 255 ∷ grammar.Deed version ∷ []
+wanted version kind.Barrier = []
+wanted version kind.Retire = Number 0 63 ∷ []
+
+-- The words behind a line's first say this, in a script of this version.
+pub record Spells (version : ℕ) (k : Kind) (ws : List (List ℕ)) (l : Line) : Type 0 where
+  pub kind : kind_of l ≡ k
+  pub words : reads (wanted version k) ws ≡ Ok (form l)
+
+-- What was read of a line stands for what the line says: it is that, but for what is too deep, which wasn't kept.
+abbrev pub Stands : Said → Line → Type 0
+Stands (said.Modules n) l = l ≡ Modules n
+Stands (said.Event e owner sig o) l = (m : Merge) × (l ≡ Event e owner sig m) × IsKept is_merge_deep o m
+Stands (said.Endpoint p name) l = l ≡ Endpoint p name
+Stands (said.Handler h sig o) l = (steps : List ActStep) × (l ≡ Handler h sig steps) × IsKept (list_any is_step_deep) o steps
+Stands (said.NativeHandler h name) l = l ≡ NativeHandler h name
+Stands (said.Guard g sig o) l = (t : Test) × (l ≡ Guard g sig t) × IsWithin test_depth 8 o t
+Stands (said.NativeGuard g name) l = l ≡ NativeGuard g name
+Stands (said.Rule e r) l = l ≡ Rules e r
+Stands (said.Authoriser e name) l = l ≡ Authoriser e name
+Stands (said.Default e h) l = l ≡ Default e h
+Stands (said.Lane lane task) l = (t : Task) × (l ≡ Lane lane t) × IsTask lane task t
+Stands said.Barrier l = l ≡ Barrier
+Stands (said.Retire p) l = l ≡ Retire p
+
+-- the front of old says a line of this kind, for which what was read stands
+abbrev pub GivesFront : ℕ → Kind → Result Said Fault → List (List ℕ) → List (List ℕ) → Type 0
+GivesFront version k (Ok s) old new = (l : Line) × (kind_of l ≡ k) × Takes (wanted version k) (form l) old new × Stands s l
+GivesFront version k (Err f) old new = Fails (wanted version k) f old
+
+-- all words say a line of this kind, for which what was read stands, or this is the cause why they don't
+abbrev pub GivesLine : ℕ → Kind → List (List ℕ) → Result Said Fault → Type 0
+GivesLine version k ws (Ok s) = (l : Line) × Spells version k ws l × Stands s l
+GivesLine version k ws (Err f) = (c : Cause) → f ≡ fault.Bad c → reads (wanted version k) ws ≡ Err c
+
+-- what a line declares has the number of such a thing, and what it asks for is valid
+abbrev pub IsInRange : Said → Type 0
+IsInRange (said.Modules n) = (1 ≤ n) × (n ≤ 256)
+IsInRange (said.Event e owner sig o) = e ≤ 63
+IsInRange (said.Endpoint p name) = p ≤ 63
+IsInRange (said.Handler h sig o) = h ≤ 1023
+IsInRange (said.NativeHandler h name) = h ≤ 1023
+IsInRange (said.Guard g sig o) = g ≤ 1023
+IsInRange (said.NativeGuard g name) = g ≤ 1023
+IsInRange (said.Rule e r) = has_wrong_guards r.effect ≡ false
+IsInRange (said.Lane lane task) = IsValidTask lane task
+IsInRange s = Unit {0}

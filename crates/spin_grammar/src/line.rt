@@ -1,0 +1,280 @@
+//! Lines, by their kinds: what the words behind the first say.
+
+ghost use Rattle.std.specs.Prelude.{◌≡◌, ◌<◌, ◌^◌, [], ℕ, length, Ok, Err, IfOk, MatchResult};
+ghost use Rattle.spin_grammar.specs.Grammar.{reads};
+ghost use Rattle.spin_grammar.specs.Lines.{GivesFront, GivesLine, IsInRange};
+ghost use Rattle.spin_grammar.specs.declared.kind.Kind.TheVariants as kind;
+
+use crate::act::{read_merge, read_steps};
+use crate::cause::Cause;
+use crate::fault::Fault;
+use crate::kind::Kind;
+use crate::leaves::number_from;
+use crate::names::{guard_body, handler_body, read_name, read_signature};
+use crate::rule::read_rule;
+use crate::task::{Task, read_task};
+use crate::test::read_test;
+use crate::words::Words;
+use spin_code::{MAX_DEPTH, Merge, Steplist, Test};
+use spin_policy::Rule;
+use spin_values::{EventType, Text};
+use std::alloc::Global;
+
+/// What a line says. What is too deep to be kept is `None`.
+#[derive(Drop)]
+pub enum Said {
+    /// The number of modules.
+    Modules(u16),
+    /// An event.
+    Event {
+        /// Its number.
+        number: u8,
+        /// Its owner.
+        owner: u8,
+        /// Its signature.
+        sig: EventType,
+        /// Its merge, if that isn't too deep.
+        merge: Option<Merge>,
+    },
+    /// An endpoint.
+    Endpoint {
+        /// Its number.
+        number: u8,
+        /// Its name.
+        name: Text,
+    },
+    /// A handler.
+    Handler {
+        /// Its number.
+        number: u16,
+        /// Its signature.
+        sig: EventType,
+        /// Its steps, if none is too deep.
+        steps: Option<Steplist>,
+    },
+    /// A native handler.
+    NativeHandler {
+        /// Its number.
+        number: u16,
+        /// The native's name.
+        name: Text,
+    },
+    /// A guard.
+    Guard {
+        /// Its number.
+        number: u16,
+        /// Its signature.
+        sig: EventType,
+        /// Its test, if that isn't too deep.
+        test: Option<Test>,
+    },
+    /// A native guard.
+    NativeGuard {
+        /// Its number.
+        number: u16,
+        /// The native's name.
+        name: Text,
+    },
+    /// The next rule of an event's policy.
+    Rule {
+        /// The event.
+        event: u8,
+        /// The rule.
+        rule: Rule,
+    },
+    /// A native authoriser of an event.
+    Authoriser {
+        /// The event.
+        event: u8,
+        /// The native's name.
+        name: Text,
+    },
+    /// An event's first default.
+    Default {
+        /// The event.
+        event: u8,
+        /// The handler.
+        handler: u16,
+    },
+    /// A deed of a lane.
+    Lane {
+        /// The lane.
+        lane: u8,
+        /// The deed.
+        task: Task,
+    },
+    /// The end of a segment.
+    Barrier,
+    /// An endpoint that is retired, by number.
+    Retire(u8),
+}
+
+#[tactic(auto, using(crate::proofs::Parts::failing))]
+fn modules_line(words: &mut Words) -> Result<Said, Fault>
+    ensures gives { (version : ℕ) → GivesFront version kind.Modules result words.old words.new }
+    ensures ranges { IfOk result IsInRange }
+{
+    Ok(Said::Modules(number_from(words, 1, 256)? as u16))
+}
+
+#[tactic(auto, using(crate::proofs::Parts::failing))]
+fn event_line(alloc: Global, words: &mut Words) -> Result<Said, Fault>
+    requires { length words.old < 2 ^ 31 }
+    ensures gives { (version : ℕ) → GivesFront version kind.Event result words.old words.new }
+    ensures ranges { IfOk result IsInRange }
+{
+    let number = number_from(words, 0, 63)? as u8;
+    let owner = number_from(words, 0, 255)? as u8;
+    let sig = read_signature(alloc, words)?;
+    let merge = read_merge(alloc, words)?;
+    Ok(Said::Event {
+        number,
+        owner,
+        sig,
+        merge,
+    })
+}
+
+#[tactic(auto, using(crate::proofs::Parts::failing))]
+fn endpoint_line(alloc: Global, words: &mut Words) -> Result<Said, Fault>
+    ensures gives { (version : ℕ) → GivesFront version kind.Endpoint result words.old words.new }
+    ensures ranges { IfOk result IsInRange }
+{
+    let number = number_from(words, 0, 63)? as u8;
+    let name = read_name(alloc, words)?;
+    Ok(Said::Endpoint { number, name })
+}
+
+#[tactic(auto, using(crate::proofs::Parts::failing))]
+fn handler_line(alloc: Global, words: &mut Words) -> Result<Said, Fault>
+    requires { length words.old < 2 ^ 31 }
+    ensures gives { (version : ℕ) → GivesFront version kind.Handler result words.old words.new }
+    ensures ranges { IfOk result IsInRange }
+{
+    let number = number_from(words, 1, 1023)? as u16;
+    match handler_body(alloc, words)? {
+        None => {
+            let name = read_name(alloc, words)?;
+            Ok(Said::NativeHandler { number, name })
+        }
+        Some(sig) => {
+            let steps = read_steps(alloc, words)?;
+            Ok(Said::Handler { number, sig, steps })
+        }
+    }
+}
+
+#[tactic(auto, using(crate::proofs::Parts::failing))]
+fn guard_line(alloc: Global, words: &mut Words) -> Result<Said, Fault>
+    requires { length words.old < 2 ^ 31 }
+    ensures gives { (version : ℕ) → GivesFront version kind.Guard result words.old words.new }
+    ensures ranges { IfOk result IsInRange }
+{
+    let number = number_from(words, 1, 1023)? as u16;
+    match guard_body(alloc, words)? {
+        None => {
+            let name = read_name(alloc, words)?;
+            Ok(Said::NativeGuard { number, name })
+        }
+        Some(sig) => {
+            let test = read_test(alloc, words, MAX_DEPTH)?;
+            Ok(Said::Guard { number, sig, test })
+        }
+    }
+}
+
+#[tactic(auto, using(crate::proofs::Parts::failing))]
+fn rule_line(alloc: Global, words: &mut Words, version: u8) -> Result<Said, Fault>
+    ensures gives { GivesFront version kind.Rule result words.old words.new }
+    ensures ranges { IfOk result IsInRange }
+{
+    let event = number_from(words, 0, 63)? as u8;
+    let rule = read_rule(alloc, words, version)?;
+    Ok(Said::Rule { event, rule })
+}
+
+#[tactic(auto, using(crate::proofs::Parts::failing))]
+fn authoriser_line(alloc: Global, words: &mut Words) -> Result<Said, Fault>
+    ensures gives { (version : ℕ) → GivesFront version kind.Authoriser result words.old words.new }
+    ensures ranges { IfOk result IsInRange }
+{
+    let event = number_from(words, 0, 63)? as u8;
+    let name = read_name(alloc, words)?;
+    Ok(Said::Authoriser { event, name })
+}
+
+#[tactic(auto, using(crate::proofs::Parts::failing))]
+fn default_line(words: &mut Words) -> Result<Said, Fault>
+    ensures gives { (version : ℕ) → GivesFront version kind.Default result words.old words.new }
+    ensures ranges { IfOk result IsInRange }
+{
+    let event = number_from(words, 0, 63)? as u8;
+    let handler = number_from(words, 1, 1023)? as u16;
+    Ok(Said::Default { event, handler })
+}
+
+#[tactic(auto, using(crate::proofs::Parts::failing))]
+fn lane_line(alloc: Global, words: &mut Words, version: u8) -> Result<Said, Fault>
+    ensures gives { GivesFront version kind.Lane result words.old words.new }
+    ensures ranges { IfOk result IsInRange }
+{
+    let lane = number_from(words, 0, 255)? as u8;
+    let task = read_task(alloc, words, version, lane)?;
+    Ok(Said::Lane { lane, task })
+}
+
+#[tactic(auto, using(crate::proofs::Parts::failing))]
+fn retire_line(words: &mut Words) -> Result<Said, Fault>
+    ensures gives { (version : ℕ) → GivesFront version kind.Retire result words.old words.new }
+    ensures ranges { IfOk result IsInRange }
+{
+    Ok(Said::Retire(number_from(words, 0, 63)? as u8))
+}
+
+/// Reads a line of this kind up to what it has to say.
+fn read_front(alloc: Global, words: &mut Words, version: u8, kind: Kind) -> Result<Said, Fault>
+    requires { length words.old < 2 ^ 31 }
+    ensures gives { GivesFront version kind result words.old words.new }
+    ensures ranges { IfOk result IsInRange }
+{
+    match kind {
+        Kind::Modules => modules_line(words),
+        Kind::Event => event_line(alloc, words),
+        Kind::Endpoint => endpoint_line(alloc, words),
+        Kind::Handler => handler_line(alloc, words),
+        Kind::Guard => guard_line(alloc, words),
+        Kind::Rule => rule_line(alloc, words, version),
+        Kind::Authoriser => authoriser_line(alloc, words),
+        Kind::Default => default_line(words),
+        Kind::Lane => lane_line(alloc, words, version),
+        Kind::Barrier => Ok(Said::Barrier),
+        Kind::Retire => retire_line(words),
+    }
+}
+
+/// The end of a line.
+#[tactic(auto, unfolding(crate::specs::Grammar::reads))]
+fn finish(words: &mut Words) -> Result<(), Cause>
+    ensures { MatchResult result (λ _. reads [] words.old ≡ Ok []) (λ c. reads [] words.old ≡ Err c) }
+{
+    match words.next() {
+        None => Ok(()),
+        Some(_) => Err(Cause::End),
+    }
+}
+
+/// Reads the words behind the first of a line of this kind, in a script of this version.
+///
+/// The refusal is the cause of the first word that can't stand at its place, or of the line's end. It takes time
+/// and memory linear in the line, and no stack that grows with it.
+pub fn read_line(alloc: Global, words: &mut Words, version: u8, kind: Kind) -> Result<Said, Fault>
+    requires { length words.old < 2 ^ 31 }
+    ensures gives { GivesLine version kind words.old result }
+    ensures ranges { IfOk result IsInRange }
+{
+    let said = read_front(alloc, words, version, kind)?;
+    match finish(words) {
+        Ok(()) => Ok(said),
+        Err(cause) => Err(Fault::Bad(cause)),
+    }
+}
