@@ -18,10 +18,11 @@ loop-binding-preserved c =
     let i = c.loop-binding.binding-index in
     let x = c.binding-item.result in
     let lt = c.loop-binding-test.true in
-    let said = c.if-not-is_there.ensures in
-    (more (IsHandler c.args.handlers) bs i x lt c.binding-item.is (said.handler refl) c.loop-binding.invariant.0,
-     more (λ b. IsGuard c.args.guards b.own_guard) bs i x lt c.binding-item.is (said.own refl) c.loop-binding.invariant.1,
-     more (λ b. All (IsGuard c.args.guards) b.imposed) bs i x lt c.binding-item.is (said.imposed refl) c.loop-binding.invariant.2)
+    let said = c.if-not-is_there.ensures in (
+      more (IsHandler c.args.handlers) bs i x lt c.binding-item.is (said.handler refl) c.loop-binding.invariant.0,
+      more (λ b. IsGuard c.args.guards b.own_guard) bs i x lt c.binding-item.is (said.own refl) c.loop-binding.invariant.1,
+      more (λ b. All (IsGuard c.args.guards) b.imposed) bs i x lt c.binding-item.is (said.imposed refl) c.loop-binding.invariant.2,
+    )
 
 pub returns-clause-handlers : goal.returns-clause-handlers
 returns-clause-handlers c = λ t.
