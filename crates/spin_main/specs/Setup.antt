@@ -12,12 +12,13 @@ use Rattle.spin_main.specs.Handlers.{word_to_word, handler_for}
 abbrev pub the_event : EventDef
 the_event = record { sig = word_to_word; owner = 0; merge = Last; first_default = 0; authority = Rules [] }
 
--- one module, one event with at most 32 live bindings, the handler that gives this result, and no guard
+-- one module, one event with at most 32 live bindings, the handler that gives this result, no guard and no native authoriser
 abbrev pub setup_for : Expr → SetupData
 setup_for result = record {
   modules = 1;
   live = 32;
   events = the_event ∷ [];
-  handlers = unit_of_body (handler_for result) ∷ [];
+  handlers = unit_of_body [] (handler_for result) ∷ [];
   guards = [];
+  policies = [];
 }

@@ -1,7 +1,7 @@
 //! Runs a script over versions of the dispatcher's state.
 
 ghost use Rattle.std.specs.Prelude.{◌≡◌, ◌<◌, ◌≤◌, ◌+◌, [], ◌∷◌, cond, IfOk};
-ghost use Rattle.spin_objects.specs.Units.{handlers_of, guards_of, unit_of_body};
+ghost use Rattle.spin_objects.specs.Units.{handlers_of, guards_of, policies_of, unit_of_body};
 ghost use Rattle.spin_table.specs.SetupOf.{data_of};
 ghost use Rattle.spin_table.specs.Soundness.{IsSound};
 ghost use Rattle.spin_table.specs.declared.refusal.Verdicted.TheVariants as verdicted;
@@ -19,7 +19,7 @@ use crate::deed::{Deed, Reply, Step, Trace};
 use crate::entry::{Entries, Entry, Verdicted, What};
 use crate::script::{Line, Script, Work};
 use spin_code::{Act, ActStep, Expr, Merge, Sincere, Steplist};
-use spin_objects::{Body, Catalogue, CatalogueFault, Item, Outcome};
+use spin_objects::{Body, Catalogue, CatalogueFault, Item, Natives, Outcome};
 use spin_plan::Plan;
 use spin_policy::Policy;
 use spin_table::{Authority, EventDef, EventList, Setup, StepFault, Version};
@@ -69,11 +69,12 @@ fn handler_of(alloc: Global, act: &Expr) -> Result<Body, NoMemory>
 /// The catalogue of the one handler, which gives this result. The check doesn't refuse it.
 fn catalogue_of(alloc: Global, act: &Expr) -> Result<Catalogue, NoMemory>
     requires { IsResult act.now }
-    ensures handlers { IfOk result (λ cat. handlers_of cat ≡ unit_of_body (handler_for act.now) ∷ []) }
+    ensures handlers { IfOk result (λ cat. handlers_of cat ≡ unit_of_body [] (handler_for act.now) ∷ []) }
     ensures guards { IfOk result (λ cat. guards_of cat ≡ []) }
+    ensures policies { IfOk result (λ cat. policies_of cat.natives ≡ []) }
     ensures sincere { IfOk result (λ cat. ⟦<Catalogue as Sincere>⟧.sincere cat) }
 {
-    let mut cat = Catalogue::new(alloc);
+    let mut cat = Catalogue::new(alloc, Natives::new(alloc));
     match cat.add_handler(handler_of(alloc, act)?) {
         Ok(_) => Ok(cat),
         Err(CatalogueFault::NoMemory) => Err(NoMemory),

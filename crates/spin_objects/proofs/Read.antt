@@ -1,7 +1,29 @@
--- Reading a list that was mapped twice.
-use Rattle.std.proofs.Common.{◌≡◌, ℕ, List, map, Some, slice_get, refl}
+-- Reading a list that was mapped, and finding in it.
+use Rattle.std.proofs.Common.{◌≡◌, ℕ, ◌+◌, Bool, not, cond, List, [], ◌∷◌, map, length, refl, sym, ap, ◌∙◌}
+use Rattle.std.specs.Prelude.{Some, None, slice_get, nat_lt, position}
+use Rattle.std.specs.List.{position_or_len}
+use Rattle.std.proofs.lemmas.List.{length-map}
 use Rattle.std.proofs.lemmas.Option.{slice_get-map}
 
 pub read_mapped : {A B C : Type 0} (f : A → B) (g : B → C) (xs : List A) (k : ℕ) (x : A)
     → slice_get xs k ≡ Some x → slice_get (map g (map f xs)) k ≡ Some (g (f x))
 read_mapped f g xs k x there = rw (slice_get-map g (map f xs) k, slice_get-map f xs k, there) refl
+
+position_or_len_mapped : {A B : Type 0} (p : B → Bool) (f : A → B) (xs : List A) → position_or_len p (map f xs) ≡ position_or_len (λ x. p (f x)) xs
+position_or_len_mapped p f [] = refl
+position_or_len_mapped p f (x ∷ xs) = ap (λ n. cond (not (p (f x))) (1 + n) 0) (position_or_len_mapped p f xs)
+
+position_mapped : {A B : Type 0} (p : B → Bool) (f : A → B) (xs : List A) → position p (map f xs) ≡ position (λ x. p (f x)) xs
+position_mapped p f xs =
+    ap (λ n. cond (nat_lt n (length (map f xs))) (Some n) None) (position_or_len_mapped p f xs)
+    ∙ ap (λ n. cond (nat_lt (position_or_len (λ x. p (f x)) xs) n) (Some (position_or_len (λ x. p (f x)) xs)) None) (length-map xs f)
+
+-- the first place of a list that was mapped twice
+position_mapped_twice : {A B C : Type 0} (p : C → Bool) (f : A → B) (g : B → C) (xs : List A)
+    → position p (map g (map f xs)) ≡ position (λ x. p (g (f x))) xs
+position_mapped_twice p f g xs = position_mapped p g (map f xs) ∙ position_mapped (λ y. p (g y)) f xs
+
+-- the first place of a list that was mapped twice, found in an equal list
+pub found_mapped : {A B C : Type 0} (p : C → Bool) (f : A → B) (g : B → C) (xs ys : List A) → ys ≡ xs
+    → position (λ x. p (g (f x))) ys ≡ position p (map g (map f xs))
+found_mapped p f g xs ys same = ap (position (λ x. p (g (f x)))) same ∙ sym (position_mapped_twice p f g xs)

@@ -1,4 +1,5 @@
 pub mod Adding
 pub mod Doing
 pub mod Layers
+pub mod There
 pub mod Units

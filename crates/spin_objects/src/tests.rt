@@ -1,6 +1,8 @@
 //! Acts done on arguments, packets that layer steps read, and a catalogue that refuses and runs.
 
-use crate::{Body, Catalogue, CatalogueFault, Check, Item, Outcome, run_act};
+mod natives;
+
+use crate::{Body, Catalogue, CatalogueFault, Check, Item, Natives, Outcome, run_act};
 use spin_code::{Act, ActFault, ActStep, Expr, Guards, Layer, Part, Parts, Steplist, Test};
 use spin_headers::HeaderFault;
 use spin_values::{Args, EventType, Kind, NoMemory, Octets, Param, Params, Value};
@@ -164,7 +166,7 @@ fn handler(alloc: Global, step: ActStep) -> Result<Body, NoMemory> {
 #[test]
 fn catalogues(rt: HostRuntime) -> Result<(), Fail> {
     let alloc = rt.alloc();
-    let mut catalogue = Catalogue::new(alloc);
+    let mut catalogue = Catalogue::new(alloc, Natives::new(alloc));
     let up = ActStep::Up {
         event: 1,
         parts: Parts::new(alloc),

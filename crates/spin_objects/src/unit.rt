@@ -12,6 +12,8 @@ use thiserror::Error;
 pub enum Body {
     /// It does this act, for events of this signature.
     Coded(EventType, Act),
+    /// It is the native handler of this index.
+    Native(u16),
 }
 
 /// What a guard is.
@@ -19,77 +21,72 @@ pub enum Body {
 pub enum Check {
     /// It asks this test, of events of these parameters.
     Coded(EventType, Test),
+    /// It is the native guard of this index.
+    Native(u16),
 }
 
 impl Body {
-    ghost use Rattle.spin_objects.specs.Units.{unit_of_body};
+    ghost use Rattle.spin_objects.specs.Units.{native_of_body};
     ghost use Rattle.spin_objects.specs.Adding.{handler_refusal};
 
-    /// The act that it does.
-    pub(crate) fn act(&self) -> &Act
-        ensures { result.now ≡ (unit_of_body self.now).act }
+    /// The index of the native that it is.
+    pub(crate) fn native(&self) -> Option<u16>
+        ensures { result ≡ native_of_body self.now }
     {
         match self {
-            Body::Coded(_, act) => act,
+            Body::Coded(..) => None,
+            Body::Native(native) => Some(*native),
         }
     }
 
-    /// The signature of its events.
-    pub(crate) fn sig(&self) -> &EventType
-        ensures { result.now ≡ (unit_of_body self.now).sig }
+    /// The first refusal of it, where there are so many natives and handlers.
+    pub(crate) fn refusal(&self, natives: u16, count: usize) -> Option<CatalogueFault>
+        ensures { result ≡ handler_refusal self.now natives count }
     {
         match self {
-            Body::Coded(sig, _) => sig,
+            Body::Coded(sig, act) => refusal(check_act(act, sig), count),
+            Body::Native(native) => native_refusal(*native, natives, count),
         }
-    }
-
-    /// The first refusal of it, where so many handlers are there.
-    pub(crate) fn refusal(&self, count: usize) -> Option<CatalogueFault>
-        ensures { result ≡ handler_refusal (unit_of_body self.now) count }
-    {
-        refusal(check_act(self.act(), self.sig()), count)
     }
 }
 
 impl Check {
-    ghost use Rattle.spin_objects.specs.Units.{unit_of_check};
+    ghost use Rattle.spin_objects.specs.Units.{native_of_check};
     ghost use Rattle.spin_objects.specs.Adding.{guard_refusal};
 
-    /// The test that it asks.
-    pub(crate) fn test(&self) -> &Test
-        ensures { result.now ≡ (unit_of_check self.now).test }
+    /// The index of the native that it is.
+    pub(crate) fn native(&self) -> Option<u16>
+        ensures { result ≡ native_of_check self.now }
     {
         match self {
-            Check::Coded(_, test) => test,
+            Check::Coded(..) => None,
+            Check::Native(native) => Some(*native),
         }
     }
 
-    /// The signature of the events that it is asked of.
-    pub(crate) fn sig(&self) -> &EventType
-        ensures { result.now ≡ (unit_of_check self.now).sig }
+    /// The first refusal of it, where there are so many natives and guards.
+    pub(crate) fn refusal(&self, natives: u16, count: usize) -> Option<CatalogueFault>
+        ensures { result ≡ guard_refusal self.now natives count }
     {
         match self {
-            Check::Coded(sig, _) => sig,
+            Check::Coded(sig, test) => refusal(check_test(test, sig), count),
+            Check::Native(native) => native_refusal(*native, natives, count),
         }
-    }
-
-    /// The first refusal of it, where so many guards are there.
-    pub(crate) fn refusal(&self, count: usize) -> Option<CatalogueFault>
-        ensures { result ≡ guard_refusal (unit_of_check self.now) count }
-    {
-        refusal(check_test(self.test(), self.sig()), count)
     }
 }
 
 /// Why a handler or a guard is refused. The first of these, in this order, that applies is answered.
 #[derive(Debug, Clone, Copy, PartialEq, Eq, Error)]
 pub enum CatalogueFault {
-    /// The act or the test has this fault.
+    /// The coded act or test has this fault.
     #[error("the act or test is refused: {0}")]
     Bad(ActFault),
     /// There are [`MAX_UNITS`] of its kind.
     #[error("1023 of the kind are there")]
     TooMany,
+    /// There is no native of this index.
+    #[error("there is no such native")]
+    NoNative,
     /// There was no memory for it.
     #[error("out of memory")]
     NoMemory,
@@ -107,4 +104,17 @@ fn refusal(checked: Result<(), ActFault>, count: usize) -> Option<CatalogueFault
         Ok(()) if count < MAX_UNITS => None,
         Ok(()) => Some(CatalogueFault::TooMany),
     }
+}
+
+/// The first refusal of the native of an index, where there are so many natives and so many of its kind.
+fn native_refusal(native: u16, natives: u16, count: usize) -> Option<CatalogueFault>
+    ensures { result ≡ specs.native_refusal native natives count }
+{
+    if count >= MAX_UNITS {
+        return Some(CatalogueFault::TooMany);
+    }
+    if native >= natives {
+        return Some(CatalogueFault::NoNative);
+    }
+    None
 }

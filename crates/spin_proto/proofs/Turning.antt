@@ -1,9 +1,10 @@
 -- Turns of the loops of a raise, by what is done and what is to come.
-use Rattle.std.proofs.Common.{◌≡◌, ℕ, zero, suc, ◌+◌, ◌<◌, ◌≤◌, ◌==◌, Bool, true, false, cond, List, [], ◌∷◌, ◌++◌, drop, fold, sym, ap, subst, ◌∙◌, append_assoc, arith, Option, Some, None, unwrap_or, nat_lt}
+use Rattle.std.proofs.Common.{◌≡◌, ℕ, zero, suc, ◌+◌, ◌<◌, ◌≤◌, ◌==◌, Bool, true, false, cond, List, [], ◌∷◌, ◌++◌, drop, length, fold, refl, sym, ap, subst, ◌∙◌, append_assoc, arith, Option, Some, None, unwrap_or, nat_lt}
 use Rattle.std.specs.Prelude.{slice_get}
 use Rattle.std.specs.List.{flat_map}
 use Rattle.std.proofs.lemmas.Bool.Decides.{nat_tests}
 use Rattle.std.proofs.Math.Seq.{drop-nil}
+use Rattle.std.proofs.lemmas.List.{append-nil}
 use Rattle.spin_values.specs.declared.values.Value.{Value}
 use Rattle.spin_code.specs.declared.merge.Merge.{Merge}
 use Rattle.spin_objects.specs.declared.item.Item.{Item}
@@ -20,7 +21,7 @@ use Rattle.spin_proto.specs.declared.walk.Walk.{Walk}
 use Rattle.spin_proto.specs.declared.walk.Upward.{Upward}
 use Rattle.spin_proto.specs.declared.reply.Step.TheVariants as step
 use Rattle.spin_proto.specs.Whole.{Mark, Raised, Plain, marks_at, marks_up, marks_of, raised, raised_with, raised_after, starts, ups_of}
-use Rattle.spin_proto.specs.Walks.{Gained, Comes, UpsRise}
+use Rattle.spin_proto.specs.Walks.{Gained, Comes, Notes, UpsRise}
 use Rattle.spin_proto.proofs.Owes.{Owes, owes_all, owes_on, owes_spent, owes_none, starts-append}
 use Rattle.spin_proto.proofs.Climbs.{Serves, FiringsRise, fired_rises}
 
@@ -107,6 +108,25 @@ follow_spent apart u bs count event all up items rest w_0 w w_1 w_2 e rise o wen
     let rises = subst Q e rise in
     up_spent all (flat_map (marks_up later) rest) up.event (later up.event up.args) w_0 w w_1 w_2 (subst P e o) went (subst R (raised_up apart u bs event up.event up.args rises.0) comes)
 
+-- what a firing gave was noted, and then its raises upwards were done
+noted : (event : ℕ) (raise : ℕ → List Value → Raised) (given : List Item) (ups : List Upward) (w_0 w : Walk) → Notes (Some ups) event given w_0 w → Owes (marks_of event raise given) (flat_map (marks_up raise) ups ++ []) w_0 w
+noted event raise given ups w_0 w (e, g) =
+    let all = marks_of event raise given in
+    let P : List Upward → Type 0 = λ us. Owes all (flat_map (marks_up raise) us) w_0 w in
+    let Q : List Mark → Type 0 = λ ms. Owes all ms w_0 w in
+    subst Q (sym (append-nil (flat_map (marks_up raise) ups))) (subst P (sym e) (owes_on all (flat_map (marks_at event) given) (flat_map (marks_up raise) (ups_of given)) w_0 w_0 w (owes_all all w_0) g))
+
+pub follow_done : (event : ℕ) (raise : ℕ → List Value → Raised) (given : List Item) (ups : List Upward) (w_0 w w' : Walk) → Notes (Some ups) event given w_0 w → Owes (flat_map (marks_up raise) ups) [] w w' → Gained (marks_of event raise given) w_0 w'
+follow_done event raise given ups w_0 w w' n o =
+    let all = marks_of event raise given in
+    owes_none all w_0 w' (owes_on all (flat_map (marks_up raise) ups) [] w_0 w w' (noted event raise given ups w_0 w n) (owes_none (flat_map (marks_up raise) ups) w w' o))
+
+pub follow_short : (event : ℕ) (raise : ℕ → List Value → Raised) (given : List Item) (ups : List Upward) (w_0 w : Walk) → Notes (Some ups) event given w_0 w → w.left < starts (flat_map (marks_up raise) ups) → w_0.left < starts (marks_of event raise given)
+follow_short event raise given ups w_0 w n h = owes_spent (marks_of event raise given) (flat_map (marks_up raise) ups) [] w_0 w (noted event raise given ups w_0 w n) h
+
+pub notes_short : (event : ℕ) (raise : ℕ → List Value → Raised) (given : List Item) (left : ℕ) → left < starts (flat_map (marks_at event) given) → left < starts (marks_of event raise given)
+notes_short event raise given left h = omega (arith, h, starts-append (flat_map (marks_at event) given) (flat_map (marks_up raise) (ups_of given)))
+
 -- one firing
 pub turn_on : (N : List Item → List Mark) (m : Merge) (room : Bool) (all : List Mark) (rest rest' : List Firing) (out : List Item) (a a' : Answer) (args args' : List Value) (w_0 w w' : Walk) → IsStep m room stepped.Ran rest rest' [] out a a' args args' → Owes all (flat_map (λ f. N (items_by f)) rest) w_0 w → Gained (N out) w w' → Owes all (flat_map (λ f. N (items_by f)) rest') w_0 w'
 turn_on N m room all [] rest' out a a' args args' w_0 w w' s o g = absurd s
@@ -132,6 +152,36 @@ turn_rises count event m room (f ∷ fs) rest' out out' a a' args args' (r, e, i
 pub turn_ups : (count event : ℕ) (m : Merge) (room : Bool) (rest rest' : List Firing) (out : List Item) (a a' : Answer) (args args' : List Value) → IsStep m room stepped.Ran rest rest' [] out a a' args args' → FiringsRise count event rest → UpsRise count event (ups_of out)
 turn_ups count event m room [] rest' out a a' args args' s h = absurd s
 turn_ups count event m room (f ∷ fs) rest' out a a' args args' (r, e, i) h = let P : List Item → Type 0 = λ out. UpsRise count event (ups_of out) in subst P (sym i.items) h.0
+
+pub turn_shorter : (m : Merge) (room : Bool) (rest rest' : List Firing) (out out' : List Item) (a a' : Answer) (args args' : List Value) → IsStep m room stepped.Ran rest rest' out out' a a' args args' → length rest' < length rest
+turn_shorter m room [] rest' out out' a a' args args' s = absurd s
+turn_shorter m room (f ∷ fs) rest' out out' a a' args args' (r, e, i) = omega (arith, ap length e)
+
+-- the raises upwards of a firing wait in a queue
+pub turn_waits : (count event : ℕ) (m : Merge) (room : Bool) (rest rest' : List Firing) (out : List Item) (a a' : Answer) (args args' : List Value) (items ups : List Upward) → IsStep m room stepped.Ran rest rest' [] out a a' args args' → FiringsRise count event rest → items ≡ ups → ups ≡ ups_of out → UpsRise count event items
+turn_waits count event m room rest rest' out a a' args args' items ups s h e e' =
+    let P : List Upward → Type 0 = λ us. UpsRise count event us in
+    subst P (sym (e ∙ e')) (turn_ups count event m room rest rest' out a a' args args' s h)
+
+pub nothing_waits : (items rest : List Upward) → items ≡ rest → rest ≡ drop 1 items → items ≡ []
+nothing_waits [] rest e f = refl
+nothing_waits (x ∷ xs) rest e f = absurd (omega (arith, ap length (e ∙ f)))
+
+-- one firing, whose items have more starts than were left
+pub turn_unnoted : (event : ℕ) (raise : ℕ → List Value → Raised) (m : Merge) (room : Bool) (all : List Mark) (rest rest' : List Firing) (out : List Item) (a a' : Answer) (args args' : List Value) (w_0 w : Walk) → IsStep m room stepped.Ran rest rest' [] out a a' args args' → Owes all (flat_map (λ f. marks_of event raise (items_by f)) rest) w_0 w → w.left < starts (flat_map (marks_at event) out) → w_0.left < starts all
+turn_unnoted event raise m room all rest rest' out a a' args args' w_0 w s o h =
+    turn_spent (marks_of event raise) m room all rest rest' out a a' args args' w_0 w s o (notes_short event raise out w.left h)
+
+-- one firing, whose raises upwards have
+pub turn_short : (event : ℕ) (raise : ℕ → List Value → Raised) (m : Merge) (room : Bool) (all : List Mark) (rest rest' : List Firing) (out : List Item) (a a' : Answer) (args args' : List Value) (items ups : List Upward) (w_0 w w_1 : Walk) → IsStep m room stepped.Ran rest rest' [] out a a' args args' → Owes all (flat_map (λ f. marks_of event raise (items_by f)) rest) w_0 w → items ≡ ups → Notes (Some ups) event out w w_1 → w_1.left < starts (flat_map (marks_up raise) items) → w_0.left < starts all
+turn_short event raise m room all rest rest' out a a' args args' items ups w_0 w w_1 s o e n h =
+    turn_spent (marks_of event raise) m room all rest rest' out a a' args args' w_0 w s o (follow_short event raise out items w w_1 (e ∙ n.0, n.1) h)
+
+-- one firing, whose raises upwards were done
+pub turn_over : (event : ℕ) (raise : ℕ → List Value → Raised) (m : Merge) (room : Bool) (all : List Mark) (rest rest' : List Firing) (out : List Item) (a a' : Answer) (args args' : List Value) (items ups left : List Upward) (w_0 w w_1 w_2 : Walk) → IsStep m room stepped.Ran rest rest' [] out a a' args args' → Owes all (flat_map (λ f. marks_of event raise (items_by f)) rest) w_0 w → items ≡ ups → Notes (Some ups) event out w w_1 → left ≡ [] → Owes (flat_map (marks_up raise) items) (flat_map (marks_up raise) left) w_1 w_2 → Owes all (flat_map (λ f. marks_of event raise (items_by f)) rest') w_0 w_2
+turn_over event raise m room all rest rest' out a a' args args' items ups left w_0 w w_1 w_2 s o e n none done =
+    let P : List Upward → Type 0 = λ us. Owes (flat_map (marks_up raise) items) (flat_map (marks_up raise) us) w_1 w_2 in
+    turn_on (marks_of event raise) m room all rest rest' out a a' args args' w_0 w w_2 s o (follow_done event raise out items w w_1 w_2 (e ∙ n.0, n.1) (subst P none done))
 
 none_left : (left n : ℕ) → nat_lt 0 left ≡ false → 0 < n → left < n
 none_left left n e h = grind (arith, nat_tests)

@@ -7,20 +7,22 @@ ghost use Rattle.spin_table.specs.States.{binding_of};
 ghost use Rattle.spin_table.specs.Soundness.{IsSound};
 ghost use Rattle.spin_proto.specs.Replies.{units_in, job_reply, IsJobReply, BelongsTo, calls_left};
 ghost use Rattle.spin_proto.specs.Whole.{job_answer};
-ghost use Rattle.spin_proto.specs.Walks.{OnBounds};
+ghost use Rattle.spin_proto.specs.Whole.{marks_of, raised_after, ups_of};
+ghost use Rattle.spin_proto.specs.Walks.{OnBounds, Spends, UpsRise};
 
 use crate::deed::JobCall;
-use crate::reply::Reply;
-use crate::rising::follow;
-use crate::walk::Walk;
+use crate::reply::{Reply, Step};
+use crate::rising::{note_items, raise_event};
+use crate::walk::{Upward, Walk};
 use crate::whole::raise_whole;
 use spin_code::Sincere;
-use spin_objects::Catalogue;
+use spin_objects::{Catalogue, Outcome};
 use spin_place::Binding;
 use spin_raise::{Answer, run_handler};
 use spin_table::{Setup, Version};
 use spin_values::{Args, NoMemory, Sequence, Steps};
 use std::alloc::Global;
+use std::collections::VecDeque;
 use std::marker::Brand;
 use std::sync::ledger::{Blank, Ledger};
 
@@ -48,6 +50,37 @@ fn answer_of_job(word: Option<u64>) -> Answer
         Some(word) => Answer::Value(word),
         None => Answer::Done,
     }
+}
+
+/// Notes what a firing gave at an event, and does its raises upwards. False where too many handlers start.
+fn follow<L: Ledger>(
+    alloc: Global,
+    version: &Version,
+    setup: &Setup,
+    apart: bool,
+    event: u8,
+    given: Outcome,
+    steps: &mut Steps<L>,
+    walk: &mut Walk,
+) -> Result<bool, NoMemory>
+    requires sound { IsSound (data_of setup.now) version.now }
+    requires sincere { ⟦<Catalogue as Sincere>⟧.sincere setup.now.catalogue }
+    requires rise { UpsRise (length version.now.events) event (ups_of given) }
+    ensures { IfOk result (λ on. OnBounds (data_of setup.now) version.now (λ bounds. Spends on (marks_of event (raised_after apart (units_in (data_of setup.now)) bounds event) given) walk.old walk.new)) }
+{
+    let Some(ups) = note_items(alloc, walk, event, given)? else {
+        return Ok(false);
+    };
+    let mut queue = VecDeque::from(ups.into_vec());
+    while let Some(up) = queue.pop_front() {
+        let Upward { event: to, args } = up;
+        walk.note(Step::Up(to))?;
+        match raise_event(alloc, version, setup, apart, to, args, steps, walk)? {
+            None => return Ok(false),
+            Some(answer) => walk.note(Step::Back(answer))?,
+        }
+    }
+    Ok(true)
 }
 
 /// Does the handler of a live binding, its guards untested, with its raises upwards.

@@ -52,7 +52,7 @@ fn note_item(
 }
 
 /// Notes what a firing gave, and answers its raises upwards. `None` where too many handlers start.
-fn note_items(
+pub(crate) fn note_items(
     alloc: Global,
     walk: &mut Walk,
     event: u8,
@@ -70,40 +70,10 @@ fn note_items(
     Ok(Some(ups))
 }
 
-/// Notes what a firing gave at an event, and does its raises upwards. False where too many handlers start.
-#[cycle(whole)]
-pub(crate) fn follow<L: Ledger>(
-    alloc: Global,
-    version: &Version,
-    setup: &Setup,
-    apart: bool,
-    event: u8,
-    given: Outcome,
-    steps: &mut Steps<L>,
-    walk: &mut Walk,
-) -> Result<bool, NoMemory>
-    requires sound { IsSound (data_of setup.now) version.now }
-    requires sincere { ⟦<Catalogue as Sincere>⟧.sincere setup.now.catalogue }
-    requires rise { UpsRise (length version.now.events) event (ups_of given) }
-    ensures { IfOk result (λ on. OnBounds (data_of setup.now) version.now (λ bounds. Spends on (marks_of event (raised_after apart (units_in (data_of setup.now)) bounds event) given) walk.old walk.new)) }
-{
-    let Some(ups) = note_items(alloc, walk, event, given)? else {
-        return Ok(false);
-    };
-    let mut queue = VecDeque::from(ups.into_vec());
-    while let Some(up) = queue.pop_front() {
-        let Upward { event: to, args } = up;
-        walk.note(Step::Up(to))?;
-        match raise_event(alloc, version, setup, apart, to, args, steps, walk)? {
-            None => return Ok(false),
-            Some(answer) => walk.note(Step::Back(answer))?,
-        }
-    }
-    Ok(true)
-}
-
 /// Does a raise of an event that is there, with its raises upwards. `None` where too many handlers start.
-#[cycle(whole)]
+///
+/// It calls itself, and no other function does with it: functions that call one another in a ring may not be lent
+/// boxed objects. So the raises upwards of a firing are done here, and for a job once more in `jobs`.
 pub(crate) fn raise_event<L: Ledger>(
     alloc: Global,
     version: &Version,
@@ -143,8 +113,17 @@ pub(crate) fn raise_event<L: Ledger>(
             Stepped::End => return Ok(Some(progress.answer)),
             Stepped::Full => return Ok(None),
             Stepped::Ran => {
-                if !follow(alloc, version, setup, apart, event, given, steps, walk)? {
+                let Some(ups) = note_items(alloc, walk, event, given)? else {
                     return Ok(None);
+                };
+                let mut queue = VecDeque::from(ups.into_vec());
+                while let Some(up) = queue.pop_front() {
+                    let Upward { event: to, args } = up;
+                    walk.note(Step::Up(to))?;
+                    match raise_event(alloc, version, setup, apart, to, args, steps, walk)? {
+                        None => return Ok(None),
+                        Some(answer) => walk.note(Step::Back(answer))?,
+                    }
                 }
             }
         }

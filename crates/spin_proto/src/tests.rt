@@ -1,12 +1,16 @@
 //! Deeds and jobs on the versions of small setups.
 
+mod natives;
+
 ghost use Rattle.std.specs.Prelude.{◌≡◌, ◌<◌, IfOk};
+ghost use Rattle.std.specs.List.{All};
+ghost use Rattle.spin_proto.specs.Replies.{BelongsTo};
 ghost use Rattle.spin_table.specs.SetupOf.{data_of};
 ghost use Rattle.spin_table.specs.Soundness.{IsSound};
 
 use crate::{Deed, JobCall, JobCalls, Reply, Step, Trace, job_path, path};
 use spin_code::{Act, ActStep, Expr, Merge, Parts, Sincere, Steplist};
-use spin_objects::{Body, Catalogue};
+use spin_objects::{Body, Catalogue, Natives};
 use spin_policy::Policy;
 use spin_raise::Answer;
 use spin_table::{Authority, EventDef, EventList, Setup, StepFault, Version};
@@ -138,15 +142,19 @@ fn act(alloc: Global, ups: u8, up: u8, word: Option<u64>) -> Result<Act, NoMemor
     Ok(Act { steps })
 }
 
-/// Handlers for events without parameters.
-fn handlers(alloc: Global, acts: Vec<Act>) -> Result<Catalogue, Fail>
+fn no_handlers(alloc: Global) -> Catalogue
+    ensures { ⟦<Catalogue as Sincere>⟧.sincere result }
+{
+    Catalogue::new(alloc, Natives::new(alloc))
+}
+
+/// The handlers, and one more for events without parameters.
+fn with_handler(alloc: Global, mut handlers: Catalogue, act: Act) -> Result<Catalogue, Fail>
+    requires { ⟦<Catalogue as Sincere>⟧.sincere handlers }
     ensures { IfOk result (λ c. ⟦<Catalogue as Sincere>⟧.sincere c) }
 {
-    let mut catalogue = Catalogue::new(alloc);
-    for act in acts {
-        catalogue.add_handler(Body::Coded(bare(alloc), act))?;
-    }
-    Ok(catalogue)
+    handlers.add_handler(Body::Coded(bare(alloc), act))?;
+    Ok(handlers)
 }
 
 /// What the raise of an event without parameters comes to.
@@ -172,18 +180,25 @@ fn ran(reply: Reply) -> Result<(Answer, Trace, JobCalls), Fail> {
     }
 }
 
+/// What the first of the jobs comes to.
+fn first_of(alloc: Global, world: &World, jobs: &JobCalls) -> Result<Reply, Fail>
+    requires sincere { ⟦<Catalogue as Sincere>⟧.sincere world.now.setup.catalogue }
+    requires sound { IsSound (data_of world.now.setup) world.now.version }
+    requires belong { All (BelongsTo world.now.version) jobs.now }
+{
+    if jobs.is_empty() {
+        return Err(Fail::new("no job was left"));
+    }
+    Ok(job_path(alloc, &world.version, &world.setup, jobs.get(0))?)
+}
+
 /// What the first job comes to that a deed leaves.
 fn first_job(alloc: Global, world: &World, deed: &Deed) -> Result<Reply, Fail>
     requires sincere { ⟦<Catalogue as Sincere>⟧.sincere world.now.setup.catalogue }
     requires sound { IsSound (data_of world.now.setup) world.now.version }
 {
     match path(alloc, &world.version, &world.setup, deed)? {
-        Reply::Ran { jobs, .. } => {
-            if jobs.is_empty() {
-                return Err(Fail::new("no job was left"));
-            }
-            Ok(job_path(alloc, &world.version, &world.setup, jobs.get(0))?)
-        }
+        Reply::Ran { jobs, .. } => first_of(alloc, world, &jobs),
         Reply::Queued(call) => Ok(job_path(alloc, &world.version, &world.setup, &call)?),
         _ => Err(Fail::new("no job was left")),
     }
@@ -194,21 +209,16 @@ fn three_events(alloc: Global, ups: u8) -> Result<World, Fail>
     ensures sincere { IfOk result (λ w. ⟦<Catalogue as Sincere>⟧.sincere w.setup.catalogue) }
     ensures sound { IfOk result (λ w. IsSound (data_of w.setup) w.version) }
 {
-    let mut acts = Vec::new(alloc);
-    acts.push(act(alloc, ups, 1, None)?)?;
-    acts.push(act(alloc, 64, 2, None)?)?;
-    acts.push(act(alloc, 0, 0, None)?)?;
+    let handlers = no_handlers(alloc);
+    let handlers = with_handler(alloc, handlers, act(alloc, ups, 1, None)?)?;
+    let handlers = with_handler(alloc, handlers, act(alloc, 64, 2, None)?)?;
+    let handlers = with_handler(alloc, handlers, act(alloc, 0, 0, None)?)?;
     let installs = [
         command(Op::Install, 0, 1, Mode::Plain),
         command(Op::Install, 1, 2, Mode::Plain),
         command(Op::Install, 2, 3, Mode::Plain),
     ];
-    build_world(
-        alloc,
-        bare_events(alloc, 3, 0)?,
-        handlers(alloc, acts)?,
-        &installs,
-    )
+    build_world(alloc, bare_events(alloc, 3, 0)?, handlers, &installs)
 }
 
 #[test]
@@ -241,20 +251,15 @@ fn up_to_nothing(alloc: Global) -> Result<World, Fail>
     ensures sincere { IfOk result (λ w. ⟦<Catalogue as Sincere>⟧.sincere w.setup.catalogue) }
     ensures sound { IfOk result (λ w. IsSound (data_of w.setup) w.version) }
 {
-    let mut acts = Vec::new(alloc);
-    acts.push(act(alloc, 0, 0, None)?)?;
-    acts.push(act(alloc, 1, 1, None)?)?;
+    let handlers = no_handlers(alloc);
+    let handlers = with_handler(alloc, handlers, act(alloc, 0, 0, None)?)?;
+    let handlers = with_handler(alloc, handlers, act(alloc, 1, 1, None)?)?;
     let installs = [
         command(Op::Install, 0, 1, Mode::Plain),
         command(Op::Install, 0, 2, Mode::Plain),
         command(Op::Install, 0, 1, Mode::Plain),
     ];
-    build_world(
-        alloc,
-        bare_events(alloc, 2, 0)?,
-        handlers(alloc, acts)?,
-        &installs,
-    )
+    build_world(alloc, bare_events(alloc, 2, 0)?, handlers, &installs)
 }
 
 fn run(event: u8, number: u16) -> Step {
@@ -283,20 +288,15 @@ fn default_up(alloc: Global) -> Result<World, Fail>
     ensures sincere { IfOk result (λ w. ⟦<Catalogue as Sincere>⟧.sincere w.setup.catalogue) }
     ensures sound { IfOk result (λ w. IsSound (data_of w.setup) w.version) }
 {
-    let mut acts = Vec::new(alloc);
-    acts.push(act(alloc, 1, 1, None)?)?;
-    acts.push(act(alloc, 0, 0, Some(7))?)?;
-    acts.push(act(alloc, 0, 0, Some(5))?)?;
+    let handlers = no_handlers(alloc);
+    let handlers = with_handler(alloc, handlers, act(alloc, 1, 1, None)?)?;
+    let handlers = with_handler(alloc, handlers, act(alloc, 0, 0, Some(7))?)?;
+    let handlers = with_handler(alloc, handlers, act(alloc, 0, 0, Some(5))?)?;
     let installs = [
         command(Op::Install, 1, 3, Mode::Plain),
         command(Op::Install, 1, 2, Mode::Async),
     ];
-    build_world(
-        alloc,
-        bare_events(alloc, 2, 1)?,
-        handlers(alloc, acts)?,
-        &installs,
-    )
+    build_world(alloc, bare_events(alloc, 2, 1)?, handlers, &installs)
 }
 
 #[test]
@@ -353,12 +353,11 @@ fn in_a_job_all_runs_in_place(rt: HostRuntime) -> Result<(), Fail> {
 #[test]
 fn a_job_is_done_on_its_own_version(rt: HostRuntime) -> Result<(), Fail> {
     let alloc = rt.alloc();
-    let mut acts = Vec::new(alloc);
-    acts.push(act(alloc, 0, 0, Some(1))?)?;
-    acts.push(act(alloc, 0, 0, Some(2))?)?;
-    let catalogue = handlers(alloc, acts)?;
+    let handlers = no_handlers(alloc);
+    let handlers = with_handler(alloc, handlers, act(alloc, 0, 0, Some(1))?)?;
+    let handlers = with_handler(alloc, handlers, act(alloc, 0, 0, Some(2))?)?;
     let installs = [command(Op::Install, 0, 1, Mode::Plain)];
-    let old = build_world(alloc, bare_events(alloc, 1, 0)?, catalogue, &installs)?;
+    let old = build_world(alloc, bare_events(alloc, 1, 0)?, handlers, &installs)?;
     let mut replace = command(Op::Replace, 0, 2, Mode::Plain);
     replace.target = 1;
     let new = after::<Brand>(alloc, &old.setup, &old.version, &replace, Blank::new(1))?;
@@ -394,7 +393,7 @@ fn bytes_world(alloc: Global) -> Result<World, Fail>
         arg: 0,
         from: 1,
     })?;
-    let mut catalogue = Catalogue::new(alloc);
+    let mut catalogue = Catalogue::new(alloc, Natives::new(alloc));
     catalogue.add_handler(Body::Coded(of_bytes(alloc)?, Act { steps }))?;
     let mut events = EventList::new(alloc);
     events.push(event(alloc, of_bytes(alloc)?, 0))?;

@@ -26,7 +26,7 @@ pub record Units : Type 0 where
   pub acts : List Act
   pub tests : List Test
 
-abbrev pub units_of : Catalogue → Units
+abbrev pub units_of : {A C E : Type 0} {B : A → Type 0} {D : C → Type 0} {F : E → Type 0} → Catalogue A C E B D F → Units
 units_of c = record { acts = acts_of c; tests = tests_of c }
 
 -- an event as a raise finds it: its bindings in order, how results are merged, and its default, 0 being none

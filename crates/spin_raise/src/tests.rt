@@ -8,7 +8,7 @@ ghost use Rattle.spin_raise.specs.Firing.{IsHandler};
 
 use crate::{Answer, raise};
 use spin_code::{Act, ActStep, Cmp, Expr, Guards, Merge, Sincere, Steplist, Test};
-use spin_objects::{Body, Catalogue, CatalogueFault, Check, Item, Outcome};
+use spin_objects::{Body, Catalogue, CatalogueFault, Check, Item, Natives, Outcome};
 use spin_place::Binding;
 use spin_plan::Plan;
 use spin_values::{Args, EventType, Kind, NoMemory, Numbers, Param, Params, Steps, Value};
@@ -48,8 +48,10 @@ fn set_to_seven() -> ActStep {
 
 /// Handler 1 sets the argument to 7, 2 gives the argument, 3 the greatest word, 4 gives 1, and 5 gives nothing.
 /// Guard 1 asks whether the argument is 7.
-fn catalogue(alloc: Global) -> Result<Catalogue, Fail> {
-    let mut catalogue = Catalogue::new(alloc);
+fn catalogue(alloc: Global) -> Result<Catalogue, Fail>
+    ensures { IfOk result (λ c. ⟦<Catalogue as Sincere>⟧.sincere c) }
+{
+    let mut catalogue = Catalogue::new(alloc, Natives::new(alloc));
     let set = handler(alloc, set_to_seven())?;
     catalogue.add_handler(set)?;
     let argument = handler(alloc, ActStep::Result(Expr::Arg(0)))?;

@@ -2,7 +2,7 @@
 
 use crate::{Entry, What, entry_text, job_text};
 use spin_headers::HeaderFault;
-use spin_objects::Catalogue;
+use spin_objects::{Catalogue, Natives};
 use spin_proto::{Deed, Job, JobCall, JobCalls, Reply, Step, Trace};
 use spin_raise::Answer;
 use spin_table::{EventList, Refusal, Setup, Verdicted, Version};
@@ -298,7 +298,12 @@ fn deeds_without_a_trace(rt: HostRuntime) -> Result<(), Fail> {
 #[test]
 fn jobs(rt: HostRuntime) -> Result<(), Fail> {
     let alloc = rt.alloc();
-    let setup = Setup::build(1, 32, EventList::new(alloc), Catalogue::new(alloc))?;
+    let setup = Setup::build(
+        1,
+        32,
+        EventList::new(alloc),
+        Catalogue::new(alloc, Natives::new(alloc)),
+    )?;
     let version = Arc::new(alloc, Version::start(alloc, &setup)?)?;
     let mut job = Job {
         version,

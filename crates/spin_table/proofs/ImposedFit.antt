@@ -1,5 +1,5 @@
 -- The guards that a sound setup's rules impose serve their event.
-use Rattle.std.proofs.Common.{◌≡◌, ℕ, zero, suc, ◌-◌, ◌<◌, ◌≤◌, ◌==◌, Bool, true, false, not, cond, List, [], ◌∷◌, length, get_or, refl, sym, ap, ◌∙◌, inl, inr, arith}
+use Rattle.std.proofs.Common.{◌≡◌, ℕ, zero, suc, ◌-◌, ◌<◌, ◌≤◌, ◌==◌, Bool, true, false, not, ◌&&◌, cond, List, [], ◌∷◌, length, get_or, refl, sym, ap, ◌∙◌, inl, inr, arith}
 use Rattle.std.specs.Prelude.{slice_get, Option, None, Some, position, is_none, nat_lt, if◌then◌else◌}
 use Rattle.std.specs.List.{list_all, position_or_len}
 use Rattle.std.specs.Option.{option_map, option_map_or}
@@ -16,7 +16,7 @@ use Rattle.spin_objects.specs.Units.{GuardUnit}
 use Rattle.spin_table.specs.declared.event.EventDef.{EventDef}
 use Rattle.spin_table.specs.declared.fault.SetupFault.{SetupFault}
 use Rattle.spin_table.specs.declared.fault.SetupFault.TheVariants as fault
-use Rattle.spin_table.specs.Setups.{SetupData, rules_of}
+use Rattle.spin_table.specs.Setups.{SetupData, rules_of, has_authority}
 use Rattle.spin_table.specs.Units.{is_fit_guard}
 use Rattle.spin_table.specs.Faults.{first_fault, faults_of, IsSoundSetup, is_fit_rule, has_bad_policy}
 
@@ -77,15 +77,24 @@ pub unmapped : {A B : Type 0} (f : A → B) (o : Option A) → option_map f o �
 unmapped f None e = refl
 unmapped f (Some x) e = cc
 
+policy_of_setup : (d : SetupData) (event : ℕ) (e : EventDef) → IsSoundSetup d → slice_get d.events event ≡ Some e
+    → (has_authority d.policies e.authority ≡ true) × (list_all (is_fit_rule d.guards e) (rules_of d.policies e.authority) ≡ true)
+policy_of_setup d event e sound read =
+    let fifth : option_map (λ at. fault.BadPolicy at) (position (has_bad_policy d.policies d.guards) d.events) ≡ None = no_faults (faults_of d) sound 5 in
+    let policy : position (has_bad_policy d.policies d.guards) d.events ≡ None = unmapped (λ at. fault.BadPolicy at) (position (has_bad_policy d.policies d.guards) d.events) fifth in
+    let good : has_bad_policy d.policies d.guards e ≡ false = position-fails (has_bad_policy d.policies d.guards) d.events event e policy read in
+    both (has_authority d.policies e.authority) (list_all (is_fit_rule d.guards e) (rules_of d.policies e.authority)) good
+  where
+    both : (a b : Bool) → not (a && b) ≡ false → (a ≡ true) × (b ≡ true)
+    both true true e = (refl, refl)
+    both true false e = cc
+    both false b e = cc
+
+-- the rules of an event are given, or its native authoriser is there
+pub authority_of_setup : (d : SetupData) (event : ℕ) (e : EventDef) → IsSoundSetup d → slice_get d.events event ≡ Some e → has_authority d.policies e.authority ≡ true
+authority_of_setup d event e sound read = (policy_of_setup d event e sound read).0
+
 -- what a rule of an event imposes serves the event
 pub imposed_of_setup : (d : SetupData) (event : ℕ) (e : EventDef) (v : Verdict) → IsSoundSetup d → slice_get d.events event ≡ Some e
-    → list_all (is_fit_guard d.guards e) (imposed_guards (rules_of e.authority) v) ≡ true
-imposed_of_setup d event e v sound read =
-    let fifth : option_map (λ at. fault.BadPolicy at) (position (has_bad_policy d.guards) d.events) ≡ None = no_faults (faults_of d) sound 5 in
-    let policy : position (has_bad_policy d.guards) d.events ≡ None = unmapped (λ at. fault.BadPolicy at) (position (has_bad_policy d.guards) d.events) fifth in
-    let good : has_bad_policy d.guards e ≡ false = position-fails (has_bad_policy d.guards) d.events event e policy read in
-    imposed_fit d.guards e (rules_of e.authority) (opposite (list_all (is_fit_rule d.guards e) (rules_of e.authority)) good) v
-  where
-    opposite : (b : Bool) → not b ≡ false → b ≡ true
-    opposite true e = refl
-    opposite false e = cc
+    → list_all (is_fit_guard d.guards e) (imposed_guards (rules_of d.policies e.authority) v) ≡ true
+imposed_of_setup d event e v sound read = imposed_fit d.guards e (rules_of d.policies e.authority) (policy_of_setup d event e sound read).1 v

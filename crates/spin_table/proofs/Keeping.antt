@@ -157,19 +157,19 @@ AreImposedFit d e guards = list_all (is_fit_guard d.guards e) guards ≡ true
 
 -- a binding that may be replaced serves the event afterwards too
 fit_replaced : (d : SetupData) (e : EventDef) (bs : List Binding) (c : Command) → c.op ≡ op.Replace → Passes d e bs c
-    → AreImposedFit d e (imposed_guards (rules_of e.authority) (answer_to e bs c)) → AreDistinct (numbers_of bs)
+    → AreImposedFit d e (imposed_guards (rules_of d.policies e.authority) (answer_to d.policies e bs c)) → AreDistinct (numbers_of bs)
     → All (λ b. IsTrue (is_fit_binding d c.event e b)) bs → (b : Binding) → Contains bs b
-    → IsTrue (is_fit_binding d c.event e (replaced_at (rules_of e.authority) (answer_to e bs c) c b))
+    → IsTrue (is_fit_binding d c.event e (replaced_at (rules_of d.policies e.authority) (answer_to d.policies e bs c) c b))
 fit_replaced d e bs c is p imposed distinct fit b within = choose (b.number == c.target) refl
   where
-    choose : (t : Bool) → (b.number == c.target) ≡ t → IsTrue (is_fit_binding d c.event e (if t then replaced (rules_of e.authority) (answer_to e bs c) c b else b))
+    choose : (t : Bool) → (b.number == c.target) ≡ t → IsTrue (is_fit_binding d c.event e (if t then replaced (rules_of d.policies e.authority) (answer_to d.policies e bs c) c b else b))
     choose false at = All-contains (λ b. IsTrue (is_fit_binding d c.event e b)) bs b fit within
     choose true at =
         let target : c.target ≡ b.number = sym (eqb-true b.number c.target at) in
         let found : binding_of bs c.target ≡ Some b = ap (binding_of bs) target ∙ found_is bs b distinct within in
         let mode : mode_of bs c c.op ≡ b.mode = ap (mode_of bs c) is ∙ ap (λ o. option_map_or (λ (b : Binding). b.mode) o mode.Plain) found in
         let handler = fit_handler d e bs c b.mode p (ap handler_is_used is) (subst (λ m. of_handler d.handlers c (λ h. has_wrong_mode m h.act) ≡ false) mode p.mode) in
-        all_three (is_fit_handler d.handlers c.event e b.mode c.handler) (is_fit_own_guard d.guards e c.guard) (list_all (is_fit_guard d.guards e) (imposed_guards (rules_of e.authority) (answer_to e bs c))) handler (fit_guard d e bs c p (ap guard_is_used is)) imposed
+        all_three (is_fit_handler d.handlers c.event e b.mode c.handler) (is_fit_own_guard d.guards e c.guard) (list_all (is_fit_guard d.guards e) (imposed_guards (rules_of d.policies e.authority) (answer_to d.policies e bs c))) handler (fit_guard d e bs c p (ap guard_is_used is)) imposed
 
 pub number-replaced : (rules : List Rule) (v : Verdict) (c : Command) (b : Binding) → (replaced_at rules v c b).number ≡ b.number
 number-replaced rules v c b = choose (b.number == c.target)
@@ -180,15 +180,15 @@ number-replaced rules v c b = choose (b.number == c.target)
 
 -- what a command leaves of sound bindings is sound
 pub AreSound-after : (d : SetupData) (place : ℕ) (e : EventDef) (bs : List Binding) (c : Command) (o : Op) → c.op ≡ o
-    → Passes d e bs c → AreImposedFit d e (imposed_guards (rules_of e.authority) (answer_to e bs c))
-    → AreSound d place c.event e bs → AreSound d (place + 1) c.event e (bindings_after (rules_of e.authority) (answer_to e bs c) (place + 1) c o bs)
+    → Passes d e bs c → AreImposedFit d e (imposed_guards (rules_of d.policies e.authority) (answer_to d.policies e bs c))
+    → AreSound d place c.event e bs → AreSound d (place + 1) c.event e (bindings_after (rules_of d.policies e.authority) (answer_to d.policies e bs c) (place + 1) c o bs)
 AreSound-after d place e bs c op.Install is p imposed s =
     let room : length bs < d.live = grind (arith, p.room, ap is_install is) in
-    let fit = all_three (is_fit_handler d.handlers c.event e (mode_under (forces_apart (rules_of e.authority) (answer_to e bs c)) c.mode) c.handler) (is_fit_own_guard d.guards e c.guard) (list_all (is_fit_guard d.guards e) (imposed_guards (rules_of e.authority) (answer_to e bs c))) (fit_installed d e bs c (forces_apart (rules_of e.authority) (answer_to e bs c)) p is refl) (fit_guard d e bs c p (ap guard_is_used is)) imposed in
-    AreSound-push d place c.event e bs (installed (rules_of e.authority) (answer_to e bs c) (place + 1) c) refl room fit s
+    let fit = all_three (is_fit_handler d.handlers c.event e (mode_under (forces_apart (rules_of d.policies e.authority) (answer_to d.policies e bs c)) c.mode) c.handler) (is_fit_own_guard d.guards e c.guard) (list_all (is_fit_guard d.guards e) (imposed_guards (rules_of d.policies e.authority) (answer_to d.policies e bs c))) (fit_installed d e bs c (forces_apart (rules_of d.policies e.authority) (answer_to d.policies e bs c)) p is refl) (fit_guard d e bs c p (ap guard_is_used is)) imposed in
+    AreSound-push d place c.event e bs (installed (rules_of d.policies e.authority) (answer_to d.policies e bs c) (place + 1) c) refl room fit s
 AreSound-after d place e bs c op.Remove is p imposed s = AreSound-filter d place c.event e bs (λ n. not (n == c.target)) s
 AreSound-after d place e bs c op.Replace is p imposed s =
-    AreSound-map d place c.event e bs (replaced_at (rules_of e.authority) (answer_to e bs c) c) (number-replaced (rules_of e.authority) (answer_to e bs c) c)
+    AreSound-map d place c.event e bs (replaced_at (rules_of d.policies e.authority) (answer_to d.policies e bs c) c) (number-replaced (rules_of d.policies e.authority) (answer_to d.policies e bs c) c)
     (fit_replaced d e bs c is p imposed (distinct-from_rising (numbers_of bs) s.rising) s.fit) s
 AreSound-after d place e bs c op.Default is p imposed s = AreSound-later d place c.event e bs s
 AreSound-after d place e bs c op.NoDefault is p imposed s = AreSound-later d place c.event e bs s

@@ -1,3 +1,4 @@
+pub mod Alls
 pub mod Arranged
 pub mod ImposedFit
 pub mod Keeping
@@ -5,6 +6,7 @@ pub mod LawfulOrders
 pub mod Numbered
 pub mod Passing
 pub mod Positions
+pub mod Refusing
 pub mod Sound
 pub mod Starting
 pub mod Stepping

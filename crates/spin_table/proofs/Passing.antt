@@ -36,7 +36,7 @@ pub record Passes (d : SetupData) (e : EventDef) (bs : List Binding) (c : Comman
   pub kinds : of_guard d.guards c (λ g. not (same_parameter_kinds g.sig e.sig)) ≡ false
   pub upward : of_handler d.handlers c (λ h. raises_down c.event h.act) ≡ false
   pub mode : of_handler d.handlers c (λ h. has_wrong_mode (mode_of bs c c.op) h.act) ≡ false
-  pub apart : forces_a_change_apart d.handlers e bs c ≡ false
+  pub apart : forces_a_change_apart d.policies d.handlers e bs c ≡ false
   pub room : is_full d.live bs c ≡ false
 
 neither : (a b : Bool) → (a || b) ≡ false → (a ≡ false) × (b ≡ false)
@@ -92,7 +92,7 @@ harmless true (Some u) e = ap (λ b. b && true) e
 
 -- the handler of an install serves the event in the mode that it gets
 pub fit_installed : (d : SetupData) (e : EventDef) (bs : List Binding) (c : Command) (apart : Bool) → Passes d e bs c → c.op ≡ op.Install
-    → forces_apart (rules_of e.authority) (answer_to e bs c) ≡ apart → is_fit_handler d.handlers c.event e (mode_under apart c.mode) c.handler ≡ true
+    → forces_apart (rules_of d.policies e.authority) (answer_to d.policies e bs c) ≡ apart → is_fit_handler d.handlers c.event e (mode_under apart c.mode) c.handler ≡ true
 fit_installed d e bs c false p is forced =
     fit_handler d e bs c c.mode p (ap handler_is_used is) (subst (λ m. of_handler d.handlers c (λ h. has_wrong_mode m h.act) ≡ false) (ap (mode_of bs c) is) p.mode)
 fit_installed d e bs c true p is forced =

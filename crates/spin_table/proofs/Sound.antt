@@ -41,9 +41,9 @@ AreSound-from d place event e s sound = record {
 -- so are those that a command leaves to which no refusal but a conflict applies
 pub AreSound-step : (d : SetupData) (place : ℕ) (e : EventDef) (s : EventState) (c : Command) → IsSoundSetup d → slice_get d.events c.event ≡ Some e
     → IsSoundEvent d place c.event e s → first_refusal (refusals_at d e s.bindings c) ≡ None
-    → AreSound d (place + 1) c.event e (event_after e (place + 1) c s).bindings
+    → AreSound d (place + 1) c.event e (event_after d.policies e (place + 1) c s).bindings
 AreSound-step d place e s c setup read sound none =
-    AreSound-after d place e s.bindings c c.op refl (passes d e s.bindings c none) (imposed_of_setup d c.event e (answer_to e s.bindings c) setup read) (AreSound-from d place c.event e s sound)
+    AreSound-after d place e s.bindings c c.op refl (passes d e s.bindings c none) (imposed_of_setup d c.event e (answer_to d.policies e s.bindings c) setup read) (AreSound-from d place c.event e s sound)
 
 fit_default_after : (d : SetupData) (e : EventDef) (bs : List Binding) (c : Command) (default : ℕ) (o : Op) → c.op ≡ o → Passes d e bs c
     → IsTrue (is_fit_default d.handlers c.event e default) → IsTrue (is_fit_default d.handlers c.event e (default_after c o default))
@@ -61,7 +61,7 @@ fit_default_after d e bs c default op.Replace is p fit = fit
 -- the event's state after a command is sound, if its bindings have an order
 pub IsSoundEvent-step : (d : SetupData) (place : ℕ) (e : EventDef) (s : EventState) (c : Command) → IsSoundSetup d → slice_get d.events c.event ≡ Some e
     → IsSoundEvent d place c.event e s → first_refusal (refusals_at d e s.bindings c) ≡ None
-    → HasLawfulOrder (event_after e (place + 1) c s).bindings → IsSoundEvent d (place + 1) c.event e (event_after e (place + 1) c s)
+    → HasLawfulOrder (event_after d.policies e (place + 1) c s).bindings → IsSoundEvent d (place + 1) c.event e (event_after d.policies e (place + 1) c s)
 IsSoundEvent-step d place e s c setup read sound none orderly =
     let bindings = AreSound-step d place e s c setup read sound none in
     record {

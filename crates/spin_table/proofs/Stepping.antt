@@ -46,12 +46,12 @@ module _ (d : SetupData) (s : State) (c : Command) (e : EventDef) (t : EventStat
   known : refusal_of d s c ≡ first_refusal (refusals_at d e t.bindings c)
   known = ap (λ o. refusal_on d c o (slice_get s.events c.event)) read_e ∙ ap (λ o. refusal_on d c (Some e) o) read_t
 
-  events : events_after (s.place + 1) c (slice_get d.events c.event) (slice_get s.events c.event) s.events ≡ slice_set s.events c.event (event_after e (s.place + 1) c t)
-  events = ap (λ o. events_after (s.place + 1) c o (slice_get s.events c.event) s.events) read_e ∙ ap (λ o. events_after (s.place + 1) c (Some e) o s.events) read_t
+  events : events_after d.policies (s.place + 1) c (slice_get d.events c.event) (slice_get s.events c.event) s.events ≡ slice_set s.events c.event (event_after d.policies e (s.place + 1) c t)
+  events = ap (λ o. events_after d.policies (s.place + 1) c o (slice_get s.events c.event) s.events) read_e ∙ ap (λ o. events_after d.policies (s.place + 1) c (Some e) o s.events) read_t
 
-  next_bindings : bindings_at (state_after d c s) c.event ≡ (event_after e (s.place + 1) c t).bindings
+  next_bindings : bindings_at (state_after d c s) c.event ≡ (event_after d.policies e (s.place + 1) c t).bindings
   next_bindings =
-      ap (λ es. bindings_if (slice_get es c.event)) events ∙ ap bindings_if (slice_get-set_same s.events c.event (event_after e (s.place + 1) c t) (slice_get_within s.events c.event t read_t))
+      ap (λ es. bindings_if (slice_get es c.event)) events ∙ ap bindings_if (slice_get-set_same s.events c.event (event_after d.policies e (s.place + 1) c t) (slice_get_within s.events c.event t read_t))
 
   pub refused : (r : Refusal) → first_refusal (refusals_at d e t.bindings c) ≡ Some r → IsStep d s c (verdicted.Refused r) s
   refused r first =
@@ -60,14 +60,14 @@ module _ (d : SetupData) (s : State) (c : Command) (e : EventDef) (t : EventStat
   passed : (P : Type 0) (Q : Refusal → Type 0) → first_refusal (refusals_at d e t.bindings c) ≡ None → P → MatchOption (refusal_of d s c) P Q
   passed P Q none p = subst (λ o. MatchOption o P Q) (sym (known ∙ none)) p
 
-  pub conflict : (r : Refusal) → first_refusal (refusals_at d e t.bindings c) ≡ None → IsConflict c.op (event_after e (s.place + 1) c t).bindings r
+  pub conflict : (r : Refusal) → first_refusal (refusals_at d e t.bindings c) ≡ None → IsConflict c.op (event_after d.policies e (s.place + 1) c t).bindings r
       → IsStep d s c (verdicted.Refused r) s
   conflict r none is = passed _ _ none (refl, subst (λ bs. IsConflict c.op bs r) (sym next_bindings) is)
 
-  pub accepted : (next : EventState) → first_refusal (refusals_at d e t.bindings c) ≡ None → next ≡ event_after e (s.place + 1) c t → IsOrderly c.op next.bindings
+  pub accepted : (next : EventState) → first_refusal (refusals_at d e t.bindings c) ≡ None → next ≡ event_after d.policies e (s.place + 1) c t → IsOrderly c.op next.bindings
       → IsStep d s c verdicted.Accepted (record { place = s.place + 1; events = slice_set s.events c.event next })
   accepted next none is orderly =
-      let same : slice_set s.events c.event next ≡ events_after (s.place + 1) c (slice_get d.events c.event) (slice_get s.events c.event) s.events = ap (slice_set s.events c.event) is ∙ sym events in
+      let same : slice_set s.events c.event next ≡ events_after d.policies (s.place + 1) c (slice_get d.events c.event) (slice_get s.events c.event) s.events = ap (slice_set s.events c.event) is ∙ sym events in
       let state : record { place = s.place + 1; events = slice_set s.events c.event next } ≡ state_after d c s = ap (λ (es : List EventState). record { place = s.place + 1; events = es }) same in
       let bindings : next.bindings ≡ bindings_at (state_after d c s) c.event = ap (λ (x : EventState). x.bindings) is ∙ sym next_bindings in
       passed _ _ none (state, subst (λ bs. IsOrderly c.op bs) bindings orderly)
@@ -85,19 +85,19 @@ IsOldOr ns new n = Contains ns n ⊎ (n ≡ new)
 all_old : (ns : List ℕ) (new : ℕ) → All (IsOldOr ns new) ns
 all_old ns new = λ k d l. inl (k, l, get_or_default ns k (get_or ns k d) d l)
 
-numbers_after : (e : EventDef) (t : EventState) (c : Command) (new : ℕ) (o : Op)
-    → All (IsOldOr (numbers_of t.bindings) new) (numbers_of (bindings_after (rules_of e.authority) (answer_to e t.bindings c) new c o t.bindings))
-numbers_after e t c new op.Install =
+numbers_after : (d : SetupData) (e : EventDef) (t : EventState) (c : Command) (new : ℕ) (o : Op)
+    → All (IsOldOr (numbers_of t.bindings) new) (numbers_of (bindings_after (rules_of d.policies e.authority) (answer_to d.policies e t.bindings c) new c o t.bindings))
+numbers_after d e t c new op.Install =
     subst (λ ns. All (IsOldOr (numbers_of t.bindings) new) ns) (sym (map-append (λ (b : Binding). b.number) t.bindings _))
     (All-push (IsOldOr (numbers_of t.bindings) new) (numbers_of t.bindings) new (all_old (numbers_of t.bindings) new) (inr refl))
-numbers_after e t c new op.Remove =
+numbers_after d e t c new op.Remove =
     subst (λ ns. All (IsOldOr (numbers_of t.bindings) new) ns) (sym (map-filter (λ (b : Binding). b.number) (λ n. not (n == c.target)) t.bindings))
     (All-filter (λ n. not (n == c.target)) (IsOldOr (numbers_of t.bindings) new) (numbers_of t.bindings) (all_old (numbers_of t.bindings) new))
-numbers_after e t c new op.Replace =
-    subst (λ ns. All (IsOldOr (numbers_of t.bindings) new) ns) (sym (numbers-map (replaced_at (rules_of e.authority) (answer_to e t.bindings c) c) (number-replaced (rules_of e.authority) (answer_to e t.bindings c) c) t.bindings))
+numbers_after d e t c new op.Replace =
+    subst (λ ns. All (IsOldOr (numbers_of t.bindings) new) ns) (sym (numbers-map (replaced_at (rules_of d.policies e.authority) (answer_to d.policies e t.bindings c) c) (number-replaced (rules_of d.policies e.authority) (answer_to d.policies e t.bindings c) c) t.bindings))
     (all_old (numbers_of t.bindings) new)
-numbers_after e t c new op.Default = all_old (numbers_of t.bindings) new
-numbers_after e t c new op.NoDefault = all_old (numbers_of t.bindings) new
+numbers_after d e t c new op.Default = all_old (numbers_of t.bindings) new
+numbers_after d e t c new op.NoDefault = all_old (numbers_of t.bindings) new
 
 -- a later place leaves an event sound
 later_event : (d : SetupData) (place event : ℕ) (e : EventDef) (t : EventState) → IsSoundEvent d place event e t → IsSoundEvent d (place + 1) event e t
@@ -133,7 +133,7 @@ event_there d s event t same read =
 module _ (d : SetupData) (s : State) (c : Command) (e : EventDef) (t next : EventState)
     (setup : IsSoundSetup d) (sound : IsSound d s)
     (read_e : slice_get d.events c.event ≡ Some e) (read_t : slice_get s.events c.event ≡ Some t)
-    (none : first_refusal (refusals_at d e t.bindings c) ≡ None) (is : next ≡ event_after e (s.place + 1) c t) (orderly : HasLawfulOrder next.bindings) where
+    (none : first_refusal (refusals_at d e t.bindings c) ≡ None) (is : next ≡ event_after d.policies e (s.place + 1) c t) (orderly : HasLawfulOrder next.bindings) where
   abbrev pub after : State
   after = record { place = s.place + 1; events = slice_set s.events c.event next }
 
@@ -157,7 +157,7 @@ module _ (d : SetupData) (s : State) (c : Command) (e : EventDef) (t next : Even
       → Contains (numbers_of next.bindings) number → ⊥
   stays_apart event number u other read within here =
       let numbers : All (IsOldOr (numbers_of t.bindings) (s.place + 1)) (numbers_of next.bindings) =
-      subst (λ (x : EventState). All (IsOldOr (numbers_of t.bindings) (s.place + 1)) (numbers_of x.bindings)) (sym is) (numbers_after e t c (s.place + 1) c.op) in
+      subst (λ (x : EventState). All (IsOldOr (numbers_of t.bindings) (s.place + 1)) (numbers_of x.bindings)) (sym is) (numbers_after d e t c (s.place + 1) c.op) in
       elim (All-contains (IsOldOr (numbers_of t.bindings) (s.place + 1)) (numbers_of next.bindings) number numbers here) [
         | inl old ↦ other (sound.apart event c.event number (is_number_at s event number u read within) (is_number_at s c.event number t read_t old))
         | inr new ↦
@@ -218,42 +218,42 @@ alike rules v c = record {
     choose false false b b' = refl
 
 -- an order of the bindings after a command other than an install
-pub orderly_after : (e : EventDef) (t : EventState) (c : Command) (new : ℕ) (o : Op) → (o ≡ op.Install → ⊥) → HasLawfulOrder t.bindings
-    → HasLawfulOrder (bindings_after (rules_of e.authority) (answer_to e t.bindings c) new c o t.bindings)
-orderly_after e t c new op.Install other orderly = absurd (other refl)
-orderly_after e t c new op.Remove other orderly = HasLawfulOrder-filter (λ n. not (n == c.target)) t.bindings orderly
-orderly_after e t c new op.Replace other orderly =
-    HasLawfulOrder-map (replaced_at (rules_of e.authority) (answer_to e t.bindings c) c) (alike (rules_of e.authority) (answer_to e t.bindings c) c) t.bindings orderly
-orderly_after e t c new op.Default other orderly = orderly
-orderly_after e t c new op.NoDefault other orderly = orderly
+pub orderly_after : (d : SetupData) (e : EventDef) (t : EventState) (c : Command) (new : ℕ) (o : Op) → (o ≡ op.Install → ⊥) → HasLawfulOrder t.bindings
+    → HasLawfulOrder (bindings_after (rules_of d.policies e.authority) (answer_to d.policies e t.bindings c) new c o t.bindings)
+orderly_after d e t c new op.Install other orderly = absurd (other refl)
+orderly_after d e t c new op.Remove other orderly = HasLawfulOrder-filter (λ n. not (n == c.target)) t.bindings orderly
+orderly_after d e t c new op.Replace other orderly =
+    HasLawfulOrder-map (replaced_at (rules_of d.policies e.authority) (answer_to d.policies e t.bindings c) c) (alike (rules_of d.policies e.authority) (answer_to d.policies e t.bindings c) c) t.bindings orderly
+orderly_after d e t c new op.Default other orderly = orderly
+orderly_after d e t c new op.NoDefault other orderly = orderly
 
 -- a cycle is a conflict, since only an install can leave bindings without an order
-conflict_at : (e : EventDef) (t : EventState) (c : Command) (new : ℕ) (ns : List ℕ) (o : Op) → HasLawfulOrder t.bindings
-    → IsCycle (bindings_after (rules_of e.authority) (answer_to e t.bindings c) new c o t.bindings) ns
-    → (HasLawfulOrder (bindings_after (rules_of e.authority) (answer_to e t.bindings c) new c o t.bindings) → ⊥)
-    → IsConflict o (bindings_after (rules_of e.authority) (answer_to e t.bindings c) new c o t.bindings) (refusal.Conflict ns)
-conflict_at e t c new ns op.Install orderly cycle none = cycle
-conflict_at e t c new ns op.Remove orderly cycle none = absurd (none (orderly_after e t c new op.Remove (λ q. cc) orderly))
-conflict_at e t c new ns op.Replace orderly cycle none = absurd (none (orderly_after e t c new op.Replace (λ q. cc) orderly))
-conflict_at e t c new ns op.Default orderly cycle none = absurd (none (orderly_after e t c new op.Default (λ q. cc) orderly))
-conflict_at e t c new ns op.NoDefault orderly cycle none = absurd (none (orderly_after e t c new op.NoDefault (λ q. cc) orderly))
+conflict_at : (d : SetupData) (e : EventDef) (t : EventState) (c : Command) (new : ℕ) (ns : List ℕ) (o : Op) → HasLawfulOrder t.bindings
+    → IsCycle (bindings_after (rules_of d.policies e.authority) (answer_to d.policies e t.bindings c) new c o t.bindings) ns
+    → (HasLawfulOrder (bindings_after (rules_of d.policies e.authority) (answer_to d.policies e t.bindings c) new c o t.bindings) → ⊥)
+    → IsConflict o (bindings_after (rules_of d.policies e.authority) (answer_to d.policies e t.bindings c) new c o t.bindings) (refusal.Conflict ns)
+conflict_at d e t c new ns op.Install orderly cycle none = cycle
+conflict_at d e t c new ns op.Remove orderly cycle none = absurd (none (orderly_after d e t c new op.Remove (λ q. cc) orderly))
+conflict_at d e t c new ns op.Replace orderly cycle none = absurd (none (orderly_after d e t c new op.Replace (λ q. cc) orderly))
+conflict_at d e t c new ns op.Default orderly cycle none = absurd (none (orderly_after d e t c new op.Default (λ q. cc) orderly))
+conflict_at d e t c new ns op.NoDefault orderly cycle none = absurd (none (orderly_after d e t c new op.NoDefault (λ q. cc) orderly))
 
 -- so is what comes of the search for an order
-pub change_fault : (e : EventDef) (t : EventState) (c : Command) (new : ℕ) (f : StepFault) → HasLawfulOrder t.bindings
-    → IsOrderFault (event_after e new c t).bindings f → IsChangeFault e new c t f
-change_fault e t c new fault.NoMemory orderly h = tt
-change_fault e t c new (fault.Refused (refusal.Conflict ns)) orderly h = conflict_at e t c new ns c.op orderly h.0 h.1
-change_fault e t c new (fault.Refused refusal.UnknownEvent) orderly h = absurd h
-change_fault e t c new (fault.Refused refusal.UnknownModule) orderly h = absurd h
-change_fault e t c new (fault.Refused refusal.UnknownHandler) orderly h = absurd h
-change_fault e t c new (fault.Refused refusal.UnknownGuard) orderly h = absurd h
-change_fault e t c new (fault.Refused refusal.UnknownBinding) orderly h = absurd h
-change_fault e t c new (fault.Refused refusal.WrongType) orderly h = absurd h
-change_fault e t c new (fault.Refused refusal.Downward) orderly h = absurd h
-change_fault e t c new (fault.Refused refusal.WrongMode) orderly h = absurd h
-change_fault e t c new (fault.Refused (refusal.Denied rule)) orderly h = absurd h
-change_fault e t c new (fault.Refused refusal.TooMany) orderly h = absurd h
-change_fault e t c new (fault.Refused (refusal.ForcedMode rule)) orderly h = absurd h
+pub change_fault : (d : SetupData) (e : EventDef) (t : EventState) (c : Command) (new : ℕ) (f : StepFault) → HasLawfulOrder t.bindings
+    → IsOrderFault (event_after d.policies e new c t).bindings f → IsChangeFault d.policies e new c t f
+change_fault d e t c new fault.NoMemory orderly h = tt
+change_fault d e t c new (fault.Refused (refusal.Conflict ns)) orderly h = conflict_at d e t c new ns c.op orderly h.0 h.1
+change_fault d e t c new (fault.Refused refusal.UnknownEvent) orderly h = absurd h
+change_fault d e t c new (fault.Refused refusal.UnknownModule) orderly h = absurd h
+change_fault d e t c new (fault.Refused refusal.UnknownHandler) orderly h = absurd h
+change_fault d e t c new (fault.Refused refusal.UnknownGuard) orderly h = absurd h
+change_fault d e t c new (fault.Refused refusal.UnknownBinding) orderly h = absurd h
+change_fault d e t c new (fault.Refused refusal.WrongType) orderly h = absurd h
+change_fault d e t c new (fault.Refused refusal.Downward) orderly h = absurd h
+change_fault d e t c new (fault.Refused refusal.WrongMode) orderly h = absurd h
+change_fault d e t c new (fault.Refused (refusal.Denied rule)) orderly h = absurd h
+change_fault d e t c new (fault.Refused refusal.TooMany) orderly h = absurd h
+change_fault d e t c new (fault.Refused (refusal.ForcedMode rule)) orderly h = absurd h
 
 -- an order is all that an install asks beside
 pub orderly_for : (o : Op) (bs : List Binding) → HasLawfulOrder bs → IsOrderly o bs
@@ -266,6 +266,6 @@ orderly_for op.NoDefault bs h = tt
 -- a fault of the change is the answer to the command
 pub answer_of_fault : (d : SetupData) (s : State) (c : Command) (e : EventDef) (t : EventState)
     → slice_get d.events c.event ≡ Some e → slice_get s.events c.event ≡ Some t → first_refusal (refusals_at d e t.bindings c) ≡ None
-    → (f : StepFault) → IsChangeFault e (s.place + 1) c t f → IsAnswer d s c (Err f)
+    → (f : StepFault) → IsChangeFault d.policies e (s.place + 1) c t f → IsAnswer d s c (Err f)
 answer_of_fault d s c e t read_e read_t none (fault.Refused r) h = conflict d s c e t read_e read_t r none h
 answer_of_fault d s c e t read_e read_t none fault.NoMemory h = tt

@@ -21,7 +21,7 @@ use Rattle.spin_objects.specs.Units.{HandlerUnit, GuardUnit}
 use Rattle.spin_table.specs.declared.event.EventDef.{EventDef}
 use Rattle.spin_table.specs.declared.fault.SetupFault.{SetupFault}
 use Rattle.spin_table.specs.declared.fault.SetupFault.TheVariants as fault
-use Rattle.spin_table.specs.Setups.{SetupData, rules_of}
+use Rattle.spin_table.specs.Setups.{SetupData, rules_of, has_authority}
 use Rattle.spin_table.specs.Units.{is_fit_guard, is_fit_default}
 
 -- a number of modules, of live bindings, or of events that is out of its range
@@ -77,8 +77,10 @@ has_bad_default handlers numbered = not (is_fit_default handlers numbered.0 numb
 abbrev pub is_fit_rule : List GuardUnit → EventDef → Rule → Bool
 is_fit_rule guards e rule = list_all (is_fit_guard guards e) (effect_guards rule.effect)
 
-abbrev pub has_bad_policy : List GuardUnit → EventDef → Bool
-has_bad_policy guards e = not (list_all (is_fit_rule guards e) (rules_of e.authority))
+-- the native authoriser isn't there, or a guard that the rules impose isn't there or asks of other parameters
+abbrev pub has_bad_policy : List (List Rule) → List GuardUnit → EventDef → Bool
+has_bad_policy policies guards e =
+    not (has_authority policies e.authority && list_all (is_fit_rule guards e) (rules_of policies e.authority))
 
 -- the first of these faults
 abbrev pub first_fault : List (Option SetupFault) → Option SetupFault
@@ -94,7 +96,7 @@ faults_of d =
     ∷ option_map (λ at. fault.BadMerge at) (position has_bad_merge d.events)
     ∷ option_map (λ at. fault.BadUp (at + 1)) (position (raises_amiss d.events) d.handlers)
     ∷ option_map (λ at. fault.BadDefault at) (position (has_bad_default d.handlers) (enumerate_from 0 d.events))
-    ∷ option_map (λ at. fault.BadPolicy at) (position (has_bad_policy d.guards) d.events)
+    ∷ option_map (λ at. fault.BadPolicy at) (position (has_bad_policy d.policies d.guards) d.events)
     ∷ []
 
 -- why no setup is made of this: the first fault that applies

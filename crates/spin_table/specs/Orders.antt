@@ -2,6 +2,7 @@
 use Rattle.std.specs.Prelude.{ℕ, List}
 use Rattle.std.specs.List.{filter_map}
 use Rattle.spin_word.specs.declared.command.Command.{Command}
+use Rattle.spin_policy.specs.declared.rule.Rule.{Rule}
 use Rattle.spin_place.specs.declared.binding.Binding.{Binding}
 use Rattle.spin_place.specs.Precedence.{IsCycle, HasLawfulOrder}
 use Rattle.spin_table.specs.declared.event.EventDef.{EventDef}
@@ -22,6 +23,6 @@ IsOrderFault bs (fault.Refused r) = ⊥
 IsOrderFault bs fault.NoMemory = Unit {0}
 
 -- a conflict among the bindings that the command would leave; want of memory comes at any time
-abbrev pub IsChangeFault : EventDef → ℕ → Command → EventState → StepFault → Type 0
-IsChangeFault e number c s (fault.Refused r) = IsConflict c.op (event_after e number c s).bindings r
-IsChangeFault e number c s fault.NoMemory = Unit {0}
+abbrev pub IsChangeFault : List (List Rule) → EventDef → ℕ → Command → EventState → StepFault → Type 0
+IsChangeFault policies e number c s (fault.Refused r) = IsConflict c.op (event_after policies e number c s).bindings r
+IsChangeFault policies e number c s fault.NoMemory = Unit {0}

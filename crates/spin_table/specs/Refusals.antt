@@ -1,5 +1,5 @@
 -- Why a command is refused: the first of these conditions that holds.
-use Rattle.std.specs.Prelude.{ℕ, Bool, false, not, ◌&&◌, ◌||◌, ◌==◌, nat_lt, nat_le, List, [], ◌∷◌, length, slice_get, Option, Some}
+use Rattle.std.specs.Prelude.{ℕ, Bool, false, not, ◌&&◌, ◌||◌, ◌==◌, nat_lt, nat_le, List, [], ◌∷◌, ◌++◌, length, slice_get, Option, Some}
 use Rattle.std.specs.List.{list_any}
 use Rattle.std.specs.Option.{option_map_or}
 use Rattle.spin_word.specs.declared.command.Mode.{Mode}
@@ -9,6 +9,7 @@ use Rattle.spin_word.specs.declared.command.Op.TheVariants as op
 use Rattle.spin_word.specs.declared.command.Command.{Command}
 use Rattle.spin_word.specs.Commands.{no_number, target_is_used, guard_is_used, handler_is_used}
 use Rattle.spin_policy.specs.Verdicts.{is_install, first_refusal}
+use Rattle.spin_policy.specs.declared.rule.Rule.{Rule}
 use Rattle.spin_policy.specs.Imposed.{forces_apart}
 use Rattle.spin_place.specs.declared.binding.Binding.{Binding}
 use Rattle.spin_table.specs.declared.event.EventDef.{EventDef}
@@ -68,34 +69,45 @@ abbrev pub has_mode_fault : List HandlerUnit → List Binding → Command → Bo
 has_mode_fault handlers bs c = of_handler handlers c (λ h. has_wrong_mode (mode_of bs c c.op) h.act)
 
 -- 9: the owner denies it
-abbrev pub is_denied_by : EventDef → List Binding → Command → Bool
-is_denied_by e bs c = is_denied (answer_to e bs c)
+abbrev pub is_denied_by : List (List Rule) → EventDef → List Binding → Command → Bool
+is_denied_by policies e bs c = is_denied (answer_to policies e bs c)
 
 -- 12: the owner would have a handler run asynchronously that changes an argument
-abbrev pub forces_a_change_apart : List HandlerUnit → EventDef → List Binding → Command → Bool
-forces_a_change_apart handlers e bs c =
+abbrev pub forces_a_change_apart : List (List Rule) → List HandlerUnit → EventDef → List Binding → Command → Bool
+forces_a_change_apart policies handlers e bs c =
     is_install c.op
-    && forces_apart (rules_of e.authority) (answer_to e bs c)
+    && forces_apart (rules_of policies e.authority) (answer_to policies e bs c)
     && of_handler handlers c (λ h. sets_argument h.act)
 
 -- 10: an install where the event has as many bindings as it may have
 abbrev pub is_full : ℕ → List Binding → Command → Bool
 is_full live bs c = is_install c.op && nat_le live (length bs)
 
--- the refusals of a command on this event, with these bindings, but for a conflict; a denied command names the rule
+-- the refusals that come of what the command names, on this event with these bindings
+abbrev pub unit_refusals : List HandlerUnit → List GuardUnit → EventDef → List Binding → Command → List (Bool × Refusal)
+unit_refusals handlers guards e bs c =
+    (lacks_handler handlers c, refusal.UnknownHandler)
+    ∷ (lacks_guard guards c, refusal.UnknownGuard)
+    ∷ (lacks_binding bs c, refusal.UnknownBinding)
+    ∷ (has_wrong_type handlers guards e c, refusal.WrongType)
+    ∷ (goes_down handlers c, refusal.Downward)
+    ∷ (has_mode_fault handlers bs c, refusal.WrongMode)
+    ∷ []
+
+-- the refusals that come of the owner's answer and of the limit of bindings; a denied command names the rule
+abbrev pub owner_refusals : SetupData → EventDef → List Binding → Command → List (Bool × Refusal)
+owner_refusals d e bs c =
+    (is_denied_by d.policies e bs c, refusal.Denied (named_rule (answer_to d.policies e bs c)))
+    ∷ (forces_a_change_apart d.policies d.handlers e bs c, refusal.ForcedMode (named_rule (answer_to d.policies e bs c)))
+    ∷ (is_full d.live bs c, refusal.TooMany)
+    ∷ []
+
+-- all refusals of a command in their order, but for a conflict
 abbrev pub refusals_at : SetupData → EventDef → List Binding → Command → List (Bool × Refusal)
 refusals_at d e bs c =
     (nat_le d.modules c.requester, refusal.UnknownModule)
-    ∷ (lacks_handler d.handlers c, refusal.UnknownHandler)
-    ∷ (lacks_guard d.guards c, refusal.UnknownGuard)
-    ∷ (lacks_binding bs c, refusal.UnknownBinding)
-    ∷ (has_wrong_type d.handlers d.guards e c, refusal.WrongType)
-    ∷ (goes_down d.handlers c, refusal.Downward)
-    ∷ (has_mode_fault d.handlers bs c, refusal.WrongMode)
-    ∷ (is_denied_by e bs c, refusal.Denied (named_rule (answer_to e bs c)))
-    ∷ (forces_a_change_apart d.handlers e bs c, refusal.ForcedMode (named_rule (answer_to e bs c)))
-    ∷ (is_full d.live bs c, refusal.TooMany)
-    ∷ []
+    ∷ unit_refusals d.handlers d.guards e bs c
+    ++ owner_refusals d e bs c
 
 abbrev pub refusal_on : SetupData → Command → Option EventDef → Option EventState → Option Refusal
 refusal_on d c (Some e) (Some s) = first_refusal (refusals_at d e s.bindings c)

@@ -1,24 +1,35 @@
 -- What a setup says, as plain data.
-use Rattle.std.specs.Prelude.{ℕ, ◌-◌, ◌==◌, if◌then◌else◌, List, Option, None, slice_get}
+use Rattle.std.specs.Prelude.{ℕ, ◌-◌, ◌==◌, Bool, true, nat_lt, if◌then◌else◌, List, [], length, Option, None, Some, slice_get}
 use Rattle.spin_objects.specs.Units.{HandlerUnit, GuardUnit}
 use Rattle.spin_policy.specs.declared.rule.Rule.{Rule}
 use Rattle.spin_table.specs.declared.event.EventDef.{EventDef}
 use Rattle.spin_table.specs.declared.event.Authority.{Authority}
 use Rattle.spin_table.specs.declared.event.Authority.TheVariants as authority
 
--- the number of modules, the greatest number of live bindings of an event, the events, and the handlers and guards,
--- both unit_of from 1
+-- the number of modules, the greatest number of live bindings of an event, the events, the handlers and guards, both
+-- numbered from 1, and the policies of the native authorisers, which have indexes from 0
 pub record SetupData : Type 0 where
   pub modules : ℕ
   pub live : ℕ
   pub events : List EventDef
   pub handlers : List HandlerUnit
   pub guards : List GuardUnit
+  pub policies : List (List Rule)
 
 -- what has that number, the first having number 1
 abbrev pub unit_of : {X : Type 0} → List X → ℕ → Option X
 unit_of units number = if number == 0 then None else slice_get units (number - 1)
 
--- the rules by which the event's owner answers
-abbrev pub rules_of : Authority → List Rule
-rules_of (authority.Rules rules) = rules
+abbrev pub rules_if : Option (List Rule) → List Rule
+rules_if None = []
+rules_if (Some rules) = rules
+
+-- the rules by which the event's owner answers: a native authoriser's are its policy, none where there is no such one
+abbrev pub rules_of : List (List Rule) → Authority → List Rule
+rules_of policies (authority.Rules rules) = rules
+rules_of policies (authority.Native native) = rules_if (slice_get policies native)
+
+-- the rules are given, or the native authoriser is there
+abbrev pub has_authority : List (List Rule) → Authority → Bool
+has_authority policies (authority.Rules rules) = true
+has_authority policies (authority.Native native) = nat_lt native (length policies)

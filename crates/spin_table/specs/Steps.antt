@@ -82,22 +82,22 @@ default_after c op.NoDefault default = 0
 default_after c o default = default
 
 -- the event after a command under that place
-abbrev pub event_after : EventDef → ℕ → Command → EventState → EventState
-event_after e place c s = record {
-  bindings = bindings_after (rules_of e.authority) (answer_to e s.bindings c) place c c.op s.bindings;
+abbrev pub event_after : List (List Rule) → EventDef → ℕ → Command → EventState → EventState
+event_after policies e place c s = record {
+  bindings = bindings_after (rules_of policies e.authority) (answer_to policies e s.bindings c) place c c.op s.bindings;
   default = default_after c c.op s.default;
 }
 
 -- the command's event is changed, and no other
-abbrev pub events_after : ℕ → Command → Option EventDef → Option EventState → List EventState → List EventState
-events_after place c (Some e) (Some s) events = slice_set events c.event (event_after e place c s)
-events_after place c _ _ events = events
+abbrev pub events_after : List (List Rule) → ℕ → Command → Option EventDef → Option EventState → List EventState → List EventState
+events_after policies place c (Some e) (Some s) events = slice_set events c.event (event_after policies e place c s)
+events_after policies place c _ _ events = events
 
 -- the state after a command that is accepted: the place is one greater, and one thing else is changed
 abbrev pub state_after : SetupData → Command → State → State
 state_after d c s = record {
   place = s.place + 1;
-  events = events_after (s.place + 1) c (slice_get d.events c.event) (slice_get s.events c.event) s.events;
+  events = events_after d.policies (s.place + 1) c (slice_get d.events c.event) (slice_get s.events c.event) s.events;
 }
 
 abbrev pub bindings_if : Option EventState → List Binding

@@ -5,6 +5,7 @@ use Rattle.spin_word.specs.Commands.{target_is_used}
 use Rattle.spin_word.specs.declared.command.Command.{Command}
 use Rattle.spin_place.specs.declared.binding.Binding.{Binding}
 use Rattle.spin_policy.specs.declared.rule.Request.{Request}
+use Rattle.spin_policy.specs.declared.rule.Rule.{Rule}
 use Rattle.spin_policy.specs.declared.rule.Verdict.{Verdict}
 use Rattle.spin_policy.specs.declared.rule.Verdict.TheVariants as verdict
 use Rattle.spin_policy.specs.Verdicts.{verdict_of}
@@ -23,8 +24,9 @@ request_of bs c = record {
 }
 
 -- the owner is allowed, and others get the answer of the owner's rules
-abbrev pub answer_to : EventDef → List Binding → Command → Verdict
-answer_to e bs c = if c.requester == e.owner then verdict.Allow else verdict_of (rules_of e.authority) (request_of bs c)
+abbrev pub answer_to : List (List Rule) → EventDef → List Binding → Command → Verdict
+answer_to policies e bs c =
+    if c.requester == e.owner then verdict.Allow else verdict_of (rules_of policies e.authority) (request_of bs c)
 
 abbrev pub is_denied : Verdict → Bool
 is_denied (verdict.Deny rule) = true

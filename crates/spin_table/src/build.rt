@@ -5,8 +5,8 @@ ghost use Rattle.std.specs.Option.{option_map_or};
 ghost use Rattle.std.specs.List.{list_all, enumerate_from};
 ghost use Rattle.spin_values.specs.Kinds.{kinds_of};
 ghost use Rattle.spin_code.specs.Uses.{is_of_kind};
-ghost use Rattle.spin_objects.specs.Units.{handlers_of, guards_of};
-ghost use Rattle.spin_table.specs.Setups.{rules_of};
+ghost use Rattle.spin_objects.specs.Units.{handlers_of, guards_of, policies_of};
+ghost use Rattle.spin_table.specs.Setups.{rules_of, has_authority};
 ghost use Rattle.spin_table.specs.Catalogues.{data_from};
 ghost use Rattle.spin_table.specs.Units as units;
 ghost use Rattle.spin_table.specs.Faults as specs;
@@ -149,7 +149,8 @@ fn is_step_fit(events: &[EventDef], step: &ActStep) -> bool
     }
 }
 
-fn raises_fit(events: &[EventDef], act: &Act) -> bool
+/// Whether what the act raises is there, and takes what it gets.
+pub fn raises_fit(events: &[EventDef], act: &Act) -> bool
     ensures { result ≡ list_all (specs.is_step_fit events.now) act.now.steps }
 {
     act.steps
@@ -194,40 +195,57 @@ pub(crate) fn bad_default(events: &[EventDef], catalogue: &Catalogue) -> Option<
 fn are_fit(catalogue: &Catalogue, event: &EventDef, guards: &[u16]) -> bool
     ensures { result ≡ list_all (units.is_fit_guard (guards_of catalogue.now) event.now) guards.now }
 {
-    guards
-        .iter()
-        .all(|guard| is_fit_guard(catalogue, event, *guard))
+    for guard in guards {
+        if !is_fit_guard(catalogue, event, *guard) {
+            return false;
+        }
+    }
+    true
 }
 
-fn is_fit_rule(catalogue: &Catalogue, event: &EventDef, rule: &Rule) -> bool
+/// Whether the guards that the rule imposes are there, and ask of the event's parameters.
+pub fn is_fit_rule(catalogue: &Catalogue, event: &EventDef, rule: &Rule) -> bool
     ensures { result ≡ specs.is_fit_rule (guards_of catalogue.now) event.now rule.now }
 {
     are_fit(catalogue, event, rule.effect.guards())
 }
 
-fn are_rules_fit(catalogue: &Catalogue, event: &EventDef) -> bool
-    ensures { result ≡ list_all (specs.is_fit_rule (guards_of catalogue.now) event.now) (rules_of event.now.authority) }
+/// Whether the guards that the rules impose are there, and ask of the event's parameters.
+pub fn are_all_fit(catalogue: &Catalogue, event: &EventDef, rules: &[Rule]) -> bool
+    ensures { result ≡ list_all (specs.is_fit_rule (guards_of catalogue.now) event.now) rules.now }
 {
-    event
-        .rules()
-        .as_slice()
-        .iter()
-        .all(|rule| is_fit_rule(catalogue, event, rule))
+    for rule in rules {
+        if !is_fit_rule(catalogue, event, rule) {
+            return false;
+        }
+    }
+    true
+}
+
+fn are_rules_fit(catalogue: &Catalogue, event: &EventDef) -> bool
+    requires there { IsTrue (has_authority (policies_of catalogue.now.natives) event.now.authority) }
+    ensures { result ≡ list_all (specs.is_fit_rule (guards_of catalogue.now) event.now) (rules_of (policies_of catalogue.now.natives) event.now.authority) }
+{
+    let rules = event.rules(catalogue.natives());
+    are_all_fit(catalogue, event, rules.as_slice())
 }
 
 fn has_bad_policy(catalogue: &Catalogue, event: &EventDef) -> bool
-    ensures { result ≡ specs.has_bad_policy (guards_of catalogue.now) event.now }
+    ensures { result ≡ specs.has_bad_policy (policies_of catalogue.now.natives) (guards_of catalogue.now) event.now }
 {
-    !are_rules_fit(catalogue, event)
+    !(event.has_authority(catalogue.natives()) && are_rules_fit(catalogue, event))
 }
 
-/// The first event whose rules impose a guard that can't serve it.
+/// The first event whose native authoriser isn't there, or whose rules impose a guard that can't serve it.
 pub(crate) fn bad_policy(events: &[EventDef], catalogue: &Catalogue) -> Option<usize>
-    ensures { result ≡ position (specs.has_bad_policy (guards_of catalogue.now)) events.now }
+    ensures { result ≡ position (specs.has_bad_policy (policies_of catalogue.now.natives) (guards_of catalogue.now)) events.now }
 {
-    events
-        .iter()
-        .position(|event| has_bad_policy(catalogue, event))
+    for (at, event) in events.iter().enumerate() {
+        if has_bad_policy(catalogue, event) {
+            return Some(at);
+        }
+    }
+    None
 }
 
 /// The first fault of a setup with these parts.

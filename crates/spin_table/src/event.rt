@@ -9,6 +9,8 @@ use spin_values::{EventType, Sequence};
 pub enum Authority {
     /// Rules, of which the first that matches decides.
     Rules(Policy),
+    /// The native authoriser of this index, which answers by the policy that it was handed in with.
+    Native(u16),
 }
 
 /// An event of a setup.

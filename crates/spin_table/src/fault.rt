@@ -20,7 +20,7 @@ pub enum SetupFault {
     /// The first default of this event can't serve it.
     #[error("event {0} has a wrong default")]
     BadDefault(u8),
-    /// A rule of this event imposes a guard that can't serve it.
+    /// The native authoriser of this event isn't there, or a rule of it imposes a guard that can't serve it.
     #[error("event {0} has a wrong policy")]
     BadPolicy(u8),
 }

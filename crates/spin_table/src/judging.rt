@@ -1,11 +1,11 @@
 //! Whether a command is refused.
 
-ghost use Rattle.std.specs.Prelude.{◌≡◌, ◌≤◌, ◌&&◌, not, length};
+ghost use Rattle.std.specs.Prelude.{◌≡◌, ◌≤◌, ◌&&◌, IsTrue, not, length};
 ghost use Rattle.spin_word.specs.Commands.{target_is_used, guard_is_used, handler_is_used};
-ghost use Rattle.spin_policy.specs.Verdicts.{is_install, first_refusal};
-ghost use Rattle.spin_objects.specs.Units.{handlers_of, guards_of};
+ghost use Rattle.spin_policy.specs.Verdicts.{is_install, first_refusal, verdict_of};
+ghost use Rattle.spin_objects.specs.Units.{handlers_of, guards_of, policies_of};
 ghost use Rattle.spin_policy.specs.Imposed.{forces_apart};
-ghost use Rattle.spin_table.specs.Setups.{rules_of};
+ghost use Rattle.spin_table.specs.Setups.{rules_of, has_authority};
 ghost use Rattle.spin_table.specs.Units as units;
 ghost use Rattle.spin_table.specs.Verdicts as verdicts;
 ghost use Rattle.spin_table.specs.Refusals as specs;
@@ -19,8 +19,8 @@ use crate::units::{
     find_guard, find_handler, has_parameter_kinds, has_signature, has_wrong_mode, raises_down,
     sets_argument,
 };
-use spin_code::Guards;
-use spin_objects::Catalogue;
+use spin_code::{Guards, Sincere};
+use spin_objects::{Catalogue, NativeKind, Natives};
 use spin_place::Binding;
 use spin_policy::{Policy, Request, Verdict, judge};
 use spin_word::{Command, Mode, Op};
@@ -166,25 +166,68 @@ fn request_of(bindings: &[Binding], c: &Command) -> Request
 }
 
 impl EventDef {
-    /// The rules by which the owner answers.
-    pub(crate) fn rules(&self) -> &Policy
-        ensures { result.now ≡ rules_of self.now.authority }
+    /// Whether its rules are given, or its native authoriser is there.
+    pub(crate) fn has_authority(&self, natives: &Natives) -> bool
+        ensures { result ≡ has_authority (policies_of natives.now) self.now.authority }
     {
         match &self.authority {
-            Authority::Rules(policy) => policy,
+            Authority::Rules(_) => true,
+            Authority::Native(native) => *native < natives.count(NativeKind::Authoriser),
         }
     }
 
-    /// What the owner answers to a command of its own or of another module.
-    pub(crate) fn answer(&self, bindings: &[Binding], c: &Command) -> Verdict
-        requires few { length bindings.now ≤ 64 }
-        ensures { result ≡ verdicts.answer_to self.now bindings.now c.now }
+    /// The rules by which the owner answers, or its native authoriser.
+    pub(crate) fn rules<'a>(&'a self, natives: &'a Natives) -> &'a Policy
+        requires there { IsTrue (has_authority (policies_of natives.now) self.now.authority) }
+        ensures { result.now ≡ rules_of (policies_of natives.now) self.now.authority }
     {
-        if c.requester == self.owner {
-            return Verdict::Allow;
+        match &self.authority {
+            Authority::Rules(policy) => policy,
+            Authority::Native(native) => natives.policy_of(*native),
         }
-        judge(self.rules(), &request_of(bindings, c))
     }
+
+    // What the owner's rules or its native authoriser, which is asked itself, answer to a request.
+    fn judge(&self, natives: &Natives, request: &Request) -> Verdict
+        requires there { IsTrue (has_authority (policies_of natives.now) self.now.authority) }
+        requires sincere { ⟦<Natives as Sincere>⟧.sincere natives.now }
+        ensures { result ≡ verdict_of (rules_of (policies_of natives.now) self.now.authority) request.now }
+    {
+        match &self.authority {
+            Authority::Rules(policy) => judge(policy, request),
+            Authority::Native(native) => natives.judge(*native, request),
+        }
+    }
+}
+
+/// The rules by which the event's owner answers, or its native authoriser.
+pub(crate) fn rules<'a>(setup: &'a Setup, def: &'a EventDef) -> &'a Policy
+    requires there { IsTrue (has_authority (data_of setup.now).policies def.now.authority) }
+    ensures { result.now ≡ rules_of (data_of setup.now).policies def.now.authority }
+{
+    def.rules(setup.catalogue().natives())
+}
+
+// What the event's owner, or its native authoriser, answers to a request.
+fn judged(setup: &Setup, def: &EventDef, request: &Request) -> Verdict
+    requires there { IsTrue (has_authority (data_of setup.now).policies def.now.authority) }
+    requires sincere { ⟦<Catalogue as Sincere>⟧.sincere setup.now.catalogue }
+    ensures { result ≡ verdict_of (rules_of (data_of setup.now).policies def.now.authority) request.now }
+{
+    def.judge(setup.catalogue().natives(), request)
+}
+
+/// What the event's owner answers to a command of its own or of another module.
+pub(crate) fn answer(setup: &Setup, def: &EventDef, bindings: &[Binding], c: &Command) -> Verdict
+    requires few { length bindings.now ≤ 64 }
+    requires there { IsTrue (has_authority (data_of setup.now).policies def.now.authority) }
+    requires sincere { ⟦<Catalogue as Sincere>⟧.sincere setup.now.catalogue }
+    ensures { result ≡ verdicts.answer_to (data_of setup.now).policies def.now bindings.now c.now }
+{
+    if c.requester == def.owner {
+        return Verdict::Allow;
+    }
+    judged(setup, def, &request_of(bindings, c))
 }
 
 // The rule that a verdict names, 0 being none.
@@ -203,31 +246,24 @@ fn is_denied(verdict: Verdict) -> bool
     matches!(verdict, Verdict::Deny(_))
 }
 
-fn forces_a_change_apart(
-    catalogue: &Catalogue,
-    def: &EventDef,
-    answer: Verdict,
-    c: &Command,
-) -> bool
-    ensures { result ≡ (is_install c.now.op && forces_apart (rules_of def.now.authority) answer && specs.of_handler (handlers_of catalogue.now) c.now (λ h. units.sets_argument h.act)) }
+fn forces_a_change_apart(setup: &Setup, def: &EventDef, answer: Verdict, c: &Command) -> bool
+    requires there { IsTrue (has_authority (data_of setup.now).policies def.now.authority) }
+    ensures { result ≡ (is_install c.now.op && forces_apart (rules_of (data_of setup.now).policies def.now.authority) answer && specs.of_handler (data_of setup.now).handlers c.now (λ h. units.sets_argument h.act)) }
 {
-    is_install(c.op) && def.rules().runs_apart(answer) && changes_an_argument(catalogue, c)
+    is_install(c.op)
+        && rules(setup, def).runs_apart(answer)
+        && changes_an_argument(setup.catalogue(), c)
 }
 
-/// The first refusal of a command on an event with these bindings that applies, but for a conflict.
-pub(crate) fn refusal(
-    setup: &Setup,
+// The first refusal that comes of what the command names.
+fn unit_refusal(
+    catalogue: &Catalogue,
     def: &EventDef,
     bindings: &[Binding],
     c: &Command,
 ) -> Option<Refusal>
-    requires few { length bindings.now ≤ 64 }
-    ensures { result ≡ first_refusal (specs.refusals_at (data_of setup.now) def.now bindings.now c.now) }
+    ensures { result ≡ first_refusal (specs.unit_refusals (handlers_of catalogue.now) (guards_of catalogue.now) def.now bindings.now c.now) }
 {
-    let catalogue = setup.catalogue();
-    if u16::from(c.requester) >= setup.modules() {
-        return Some(Refusal::UnknownModule);
-    }
     if lacks_handler(catalogue, c) {
         return Some(Refusal::UnknownHandler);
     }
@@ -246,15 +282,51 @@ pub(crate) fn refusal(
     if has_mode_fault(catalogue, bindings, c) {
         return Some(Refusal::WrongMode);
     }
-    let answer = def.answer(bindings, c);
+    None
+}
+
+// The first refusal that comes of the owner's answer and of the limit of bindings.
+fn owner_refusal(
+    setup: &Setup,
+    def: &EventDef,
+    bindings: &[Binding],
+    c: &Command,
+) -> Option<Refusal>
+    requires few { length bindings.now ≤ 64 }
+    requires there { IsTrue (has_authority (data_of setup.now).policies def.now.authority) }
+    requires sincere { ⟦<Catalogue as Sincere>⟧.sincere setup.now.catalogue }
+    ensures { result ≡ first_refusal (specs.owner_refusals (data_of setup.now) def.now bindings.now c.now) }
+{
+    let answer = answer(setup, def, bindings, c);
     if is_denied(answer) {
         return Some(Refusal::Denied(named_rule(answer)));
     }
-    if forces_a_change_apart(catalogue, def, answer, c) {
+    if forces_a_change_apart(setup, def, answer, c) {
         return Some(Refusal::ForcedMode(named_rule(answer)));
     }
     if is_install(c.op) && bindings.len() >= setup.live() as usize {
         return Some(Refusal::TooMany);
     }
     None
+}
+
+/// The first refusal of a command on an event with these bindings that applies, but for a conflict.
+pub(crate) fn refusal(
+    setup: &Setup,
+    def: &EventDef,
+    bindings: &[Binding],
+    c: &Command,
+) -> Option<Refusal>
+    requires few { length bindings.now ≤ 64 }
+    requires there { IsTrue (has_authority (data_of setup.now).policies def.now.authority) }
+    requires sincere { ⟦<Catalogue as Sincere>⟧.sincere setup.now.catalogue }
+    ensures { result ≡ first_refusal (specs.refusals_at (data_of setup.now) def.now bindings.now c.now) }
+{
+    if u16::from(c.requester) >= setup.modules() {
+        return Some(Refusal::UnknownModule);
+    }
+    match unit_refusal(setup.catalogue(), def, bindings, c) {
+        Some(refusal) => Some(refusal),
+        None => owner_refusal(setup, def, bindings, c),
+    }
 }

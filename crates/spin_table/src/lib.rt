@@ -8,7 +8,7 @@
 //! - [`version`] is a state that never changes, of which a command makes the next.
 #![tactic(auto)]
 
-mod build;
+pub mod build;
 mod changes;
 pub mod event;
 pub mod fault;
@@ -19,7 +19,7 @@ pub mod refusal;
 pub mod setup;
 #[cfg(test)]
 mod tests;
-mod units;
+pub mod units;
 pub mod version;
 
 pub use event::{Authority, EventDef, EventList};

@@ -3,6 +3,7 @@
 mod commands;
 mod counting;
 mod judged;
+mod natives;
 mod parts;
 mod setups;
 mod stepping;

@@ -94,7 +94,7 @@ pub(crate) fn find_guard(catalogue: &Catalogue, number: u16) -> Option<&EventTyp
 }
 
 /// Whether a handler of that number is there and serves the event in this mode.
-pub(crate) fn is_fit_handler(
+pub fn is_fit_handler(
     catalogue: &Catalogue,
     event: u8,
     def: &EventDef,
@@ -110,7 +110,7 @@ pub(crate) fn is_fit_handler(
 }
 
 /// Whether a guard of that number is there and asks of the event's parameters.
-pub(crate) fn is_fit_guard(catalogue: &Catalogue, def: &EventDef, guard: u16) -> bool
+pub fn is_fit_guard(catalogue: &Catalogue, def: &EventDef, guard: u16) -> bool
     ensures { result ≡ specs.is_fit_guard (guards_of catalogue.now) def.now guard }
 {
     match find_guard(catalogue, guard) {

@@ -4,6 +4,7 @@ ghost use Rattle.std.specs.Prelude.{◌≡◌, ◌≤◌, ◌<◌, ◌+◌, ℕ,
 ghost use Rattle.spin_word.specs.Commands.{is_command};
 ghost use Rattle.spin_place.specs.Precedence.{IsTheOrder, HasLawfulOrder};
 ghost use Rattle.spin_policy.specs.Verdicts.{first_refusal};
+ghost use Rattle.spin_table.specs.Setups.{has_authority};
 ghost use Rattle.spin_table.specs.Refusals.{refusals_at};
 ghost use Rattle.spin_table.specs.Steps as specs;
 ghost use Rattle.spin_table.specs.Steps.{event_after, OnRefused};
@@ -15,7 +16,7 @@ ghost use Rattle.std.specs.Arc.{arc_value};
 
 use crate::changes::{Bindings, bindings_after};
 use crate::event::EventDef;
-use crate::judging::refusal;
+use crate::judging::{answer, refusal, rules};
 use crate::lists::EventLists;
 use crate::refusal::{Refusal, StepFault};
 use crate::setup::Setup;
@@ -77,17 +78,20 @@ impl EventSlot {
     fn bindings_after(
         &self,
         alloc: Global,
+        setup: &Setup,
         def: &EventDef,
         place: u16,
         c: &Command,
     ) -> Result<Bindings, NoMemory>
         requires room { place < 4096 }
         requires few { length self.now.bindings ≤ 64 }
-        ensures { IfOk result (λ after. after ≡ (event_after def.now (place + 1) c.now self.now).bindings) }
+        requires there { IsTrue (has_authority (data_of setup.now).policies def.now.authority) }
+        requires sincere { ⟦<Catalogue as Sincere>⟧.sincere setup.now.catalogue }
+        ensures { IfOk result (λ after. after ≡ (event_after (data_of setup.now).policies def.now (place + 1) c.now self.now).bindings) }
     {
         let bindings = self.lists.bindings();
-        let verdict = def.answer(bindings, c);
-        bindings_after(alloc, def.rules(), verdict, place + 1, c, bindings)
+        let verdict = answer(setup, def, bindings, c);
+        bindings_after(alloc, rules(setup, def), verdict, place + 1, c, bindings)
     }
 
     /// The slot after a command to which no refusal but a conflict applies. An installed binding has the number of
@@ -101,15 +105,16 @@ impl EventSlot {
         c: &Command,
         steps: &mut Steps<L>,
     ) -> Result<EventSlot, StepFault>
+        requires sincere { ⟦<Catalogue as Sincere>⟧.sincere setup.now.catalogue }
         requires room { place < 4096 }
         requires event { slice_get (data_of setup.now).events c.now.event ≡ Some def.now }
         requires sound { IsSoundEvent (data_of setup.now) place c.now.event def.now self.now }
         requires passed { first_refusal (refusals_at (data_of setup.now) def.now self.now.bindings c.now) ≡ None }
-        ensures change { MatchResult result (λ next. (next ≡ event_after def.now (place + 1) c.now self.now) × HasLawfulOrder next.bindings) (IsChangeFault def.now (place + 1) c.now self.now) }
-        ensures ticks { steps.new ≤ steps.old + length (event_after def.now (place + 1) c.now self.now).bindings }
+        ensures change { MatchResult result (λ next. (next ≡ event_after (data_of setup.now).policies def.now (place + 1) c.now self.now) × HasLawfulOrder next.bindings) (IsChangeFault (data_of setup.now).policies def.now (place + 1) c.now self.now) }
+        ensures ticks { steps.new ≤ steps.old + length (event_after (data_of setup.now).policies def.now (place + 1) c.now self.now).bindings }
         ensures refused { OnRefused result (steps.new ≡ steps.old) }
     {
-        let bindings = self.bindings_after(alloc, def, place, c)?;
+        let bindings = self.bindings_after(alloc, setup, def, place, c)?;
         let lists = match EventLists::make(alloc, setup, bindings, steps) {
             Ok(lists) => lists,
             Err(fault) => return Err(fault),

@@ -4,7 +4,7 @@ ghost use Rattle.std.specs.Prelude.{IfOk};
 
 use crate::{Authority, EventDef};
 use spin_code::{Act, ActStep, Expr, Merge, Part, Parts, Sincere, Steplist, Test};
-use spin_objects::{Body, Catalogue, CatalogueFault, Check};
+use spin_objects::{Body, Catalogue, CatalogueFault, Check, Natives};
 use spin_policy::{Effect, OpMatch, Policy, PolicyFault, Rule};
 use spin_values::{EventType, Kind, MAX_PARAMS, NoMemory, Numbers, Param, Params};
 use std::alloc::Global;
@@ -68,7 +68,7 @@ pub(super) fn always(alloc: Global, letters: &[u8]) -> Result<Check, NoMemory> {
 pub(super) fn empty(alloc: Global) -> Catalogue
     ensures { ⟦<Catalogue as Sincere>⟧.sincere result }
 {
-    Catalogue::new(alloc)
+    Catalogue::new(alloc, Natives::new(alloc))
 }
 
 /// The catalogue with one more handler.

@@ -27,7 +27,7 @@ fn units(alloc: Global) -> Result<Catalogue, Fail>
 }
 
 /// Why there is no setup of these events and handlers.
-fn fault_of(
+pub(super) fn fault_of(
     modules: u16,
     live: u16,
     events: Vec<EventDef>,

@@ -14,6 +14,7 @@ use spin_policy::{Effect, Forced, OpMatch, Policy, Rule};
 use spin_values::Numbers;
 use spin_word::{Mode, Place};
 use std::alloc::Global;
+use std::process::Abort;
 use std::test::Fail;
 
 /// One event without parameters, and one handler for it. The one module owns the event.
@@ -82,21 +83,14 @@ fn the_live_bindings_are_limited(rt: HostRuntime) -> Result<(), Fail> {
     Ok(())
 }
 
-#[test]
-fn a_quota_counts_own_live_bindings(rt: HostRuntime) -> Result<(), Fail> {
-    let alloc = rt.alloc();
-    let quota = Rule {
-        own_only: true,
-        ..rule(4, OpMatch::Any, Effect::Quota(2))
-    };
-    let only = event(sig(alloc, b"")?, policy(alloc, quota)?);
-    let events = EventList::from_vec(vec![in alloc; only]?);
-    let cat = with_handler(empty(alloc), idle(alloc, b"")?)?;
-    let setup = Setup::build(5, 32, events, cat)?;
+/// Module 4 is let have two bindings, and change only its own.
+pub(super) fn follow_a_quota(rt: &impl Abort, alloc: Global, setup: &Setup) -> Result<(), Fail>
+    requires { ⟦<Catalogue as Sincere>⟧.sincere setup.now.catalogue }
+{
     let version = after(
-        &rt,
+        rt,
         alloc,
-        &setup,
+        setup,
         &[
             accepted(install(0, 4, 1, 0), &[1]),
             accepted(install(0, 4, 1, 0), &[1, 2]),
@@ -108,6 +102,20 @@ fn a_quota_counts_own_live_bindings(rt: HostRuntime) -> Result<(), Fail> {
     )?;
     assert_eq!(rt; version.place(), 4);
     Ok(())
+}
+
+#[test]
+fn a_quota_counts_own_live_bindings(rt: HostRuntime) -> Result<(), Fail> {
+    let alloc = rt.alloc();
+    let quota = Rule {
+        own_only: true,
+        ..rule(4, OpMatch::Any, Effect::Quota(2))
+    };
+    let only = event(sig(alloc, b"")?, policy(alloc, quota)?);
+    let events = EventList::from_vec(vec![in alloc; only]?);
+    let cat = with_handler(empty(alloc), idle(alloc, b"")?)?;
+    let setup = Setup::build(5, 32, events, cat)?;
+    follow_a_quota(&rt, alloc, &setup)
 }
 
 #[test]

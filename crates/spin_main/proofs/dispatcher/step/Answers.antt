@@ -5,7 +5,7 @@ use Rattle.spin_main.proofs.dispatcher.step.Goals.{in-Command+in_ok-next-in-Comm
 use Rattle.spin_main.proofs.dispatcher.step.Goals as goal
 
 pub returns-clause-sound : goal.returns-clause-sound
-returns-clause-sound c =
+returns-clause-sound g c =
     let d = data_of c.args.setup.now in
     elim c.match-line.branch [
       | in-Command+in_ok-next-in-Command w ↦ subst (λ p. IsSound d p.0) (sym w.next-is) w.in_ok-next-in-Command.ensures.sound

@@ -3,7 +3,7 @@ use Rattle.spin_objects.specs.declared.item.Item.{Item}
 use Rattle.spin_objects.specs.declared.item.Item.TheVariants as item
 use Rattle.spin_objects.specs.Doing.{items_of, last_result}
 use Rattle.spin_objects.specs.Units.{acts_of}
-use Rattle.spin_raise.specs.Firing.{steps_at}
+use Rattle.spin_raise.specs.Firing.{steps_at, units_of}
 use Rattle.spin_table.specs.SetupOf.{data_of}
 use Rattle.spin_proto.specs.declared.reply.Reply.TheVariants as reply
 use Rattle.spin_proto.specs.Whole.{marks_of, raised_after, reply_of, job_of, job_answer, starts, ups_of}
@@ -34,7 +34,7 @@ follow-requires-clause-rise g c =
     let job = job_found d s a.event a.number handler c.bindings.result.now a.setup.now.sound c.requires.sound c.requires.belongs c.bindings.ensures c.handler_of-handler.ensures in
     let steps = steps_at (units_in d) handler in
     let given : c.run_handler.new.out ≡ item.Ran a.number ∷ items_of steps a.args =
-    (rw c.catalogue-cat.ensures at c.in_ok-word.ensures.out) ∙ ap (λ o. o ++ item.Ran a.number ∷ items_of steps a.args) c.new-given.ensures in
+    (subst (λ cat. c.run_handler.new.out ≡ c.new-given.result ++ item.Ran a.number ∷ items_of (steps_at (units_of cat) handler) a.args) c.catalogue-cat.ensures c.in_ok-word.ensures.out) ∙ ap (λ o. o ++ item.Ran a.number ∷ items_of steps a.args) c.new-given.ensures in
     let rises = items_rise (length d.events) a.event steps a.args job.fits.rises in
     subst (λ n. UpsRise n a.event (ups_of c.run_handler.new.out)) (sym c.requires.sound.events)
     (subst (λ (given : List Item). UpsRise (length d.events) a.event (ups_of given)) (sym given) rises)
@@ -49,7 +49,7 @@ returns-then-not-branch g c = λ bounds are.
     let job = job_found d s a.event a.number handler c.bindings.result.now a.setup.now.sound c.requires.sound c.requires.belongs c.bindings.ensures c.handler_of-handler.ensures in
     let steps = steps_at u handler in
     let given : c.run_handler.new.out ≡ item.Ran a.number ∷ items_of steps a.args =
-    (rw c.catalogue-cat.ensures at c.in_ok-word.ensures.out) ∙ ap (λ o. o ++ item.Ran a.number ∷ items_of steps a.args) c.new-given.ensures in
+    (subst (λ cat. c.run_handler.new.out ≡ c.new-given.result ++ item.Ran a.number ∷ items_of (steps_at (units_of cat) handler) a.args) c.catalogue-cat.ensures c.in_ok-word.ensures.out) ∙ ap (λ o. o ++ item.Ran a.number ∷ items_of steps a.args) c.new-given.ensures in
     let raise = raised_after true u bounds a.event in
     let followed = rw c.if-not-branch.true at c.in_ok-follow.ensures in
     let many : c.new-walk.result.left < starts (marks_of a.event raise c.run_handler.new.out) = followed bounds are in
@@ -68,12 +68,13 @@ returns g c = λ bounds are.
     let job = job_found d s a.event a.number handler c.bindings.result.now a.setup.now.sound c.requires.sound c.requires.belongs c.bindings.ensures c.handler_of-handler.ensures in
     let steps = steps_at u handler in
     let given : c.run_handler.new.out ≡ item.Ran a.number ∷ items_of steps a.args =
-    (rw c.catalogue-cat.ensures at c.in_ok-word.ensures.out) ∙ ap (λ o. o ++ item.Ran a.number ∷ items_of steps a.args) c.new-given.ensures in
+    (subst (λ cat. c.run_handler.new.out ≡ c.new-given.result ++ item.Ran a.number ∷ items_of (steps_at (units_of cat) handler) a.args) c.catalogue-cat.ensures c.in_ok-word.ensures.out) ∙ ap (λ o. o ++ item.Ran a.number ∷ items_of steps a.args) c.new-given.ensures in
     let raise = raised_after true u bounds a.event in
     let followed = rw c.if-not-branch.false at c.in_ok-follow.ensures in
     let went : Gained (marks_of a.event raise c.run_handler.new.out) c.new-walk.result c.follow.new.walk = followed bounds are in
     let gained = subst (λ (given : List Item). Gained (marks_of a.event raise given) c.new-walk.result c.follow.new.walk) given went in
-    let word : c.in_ok-word.word ≡ last_result (items_of steps a.args) = rw c.catalogue-cat.ensures at c.in_ok-word.ensures.result in
+    let word : c.in_ok-word.word ≡ last_result (items_of steps a.args) =
+    subst (λ cat. c.in_ok-word.word ≡ last_result (items_of (steps_at (units_of cat) handler) a.args)) c.catalogue-cat.ensures c.in_ok-word.ensures.result in
     let answered : c.answer_of_job.result ≡ job_answer (last_result (items_of steps a.args)) = c.answer_of_job.ensures ∙ ap job_answer word in
     let r = job_of u a.event a.number handler raise a.args in
     subst (λ h. reply.Ran c.answer_of_job.result c.follow.new.walk.trace c.follow.new.walk.jobs ≡ reply_of 4096 (job_of u a.event a.number h raise a.args)) (job.found bounds are)

@@ -7,7 +7,7 @@ use Rattle.spin_proto.proofs.Replying.{ok_map, job_done, no_calls_of}
 use Rattle.spin_proto.proofs.jobs.job_path.Goals as goal
 
 pub returns-in_ok-copy-in-Whole-clause-reply : goal.returns-in_ok-copy-in-Whole-clause-reply
-returns-in_ok-copy-in-Whole-clause-reply c =
+returns-in_ok-copy-in-Whole-clause-reply g c =
     let d = data_of c.args.setup.now in
     let s = c.args.version.now in
     let copy = c.in_ok-copy-in-Whole.field-0 in
@@ -17,7 +17,7 @@ returns-in_ok-copy-in-Whole-clause-reply c =
     c.raise_whole.ensures
 
 pub returns-in_ok-copy-in-Whole-clause-calls : goal.returns-in_ok-copy-in-Whole-clause-calls
-returns-in_ok-copy-in-Whole-clause-calls c =
+returns-in_ok-copy-in-Whole-clause-calls g c =
     let d = data_of c.args.setup.now in
     let s = c.args.version.now in
     let made = call.Whole c.in-Whole.event c.in_ok-copy-in-Whole.field-0 in
@@ -26,7 +26,7 @@ returns-in_ok-copy-in-Whole-clause-calls c =
     c.raise_whole.ensures
 
 pub returns-in_ok-copy-in-Binding-clause-reply : goal.returns-in_ok-copy-in-Binding-clause-reply
-returns-in_ok-copy-in-Binding-clause-reply c =
+returns-in_ok-copy-in-Binding-clause-reply g c =
     let d = data_of c.args.setup.now in
     let s = c.args.version.now in
     let copy = c.in_ok-copy-in-Binding.field-0 in
@@ -36,7 +36,7 @@ returns-in_ok-copy-in-Binding-clause-reply c =
     c.binding_job.ensures
 
 pub returns-in_ok-copy-in-Binding-clause-calls : goal.returns-in_ok-copy-in-Binding-clause-calls
-returns-in_ok-copy-in-Binding-clause-calls c =
+returns-in_ok-copy-in-Binding-clause-calls g c =
     let d = data_of c.args.setup.now in
     let s = c.args.version.now in
     let made = call.Binding c.in-Binding.event c.in-Binding.number c.in_ok-copy-in-Binding.field-0 in

@@ -10,21 +10,21 @@ use Rattle.spin_proto.proofs.Replying.{ok_map, deed_refused, deed_done, deed_cal
 use Rattle.spin_proto.proofs.whole.path.Goals as goal
 
 pub returns-in-Some-clause-reply : goal.returns-in-Some-clause-reply
-returns-in-Some-clause-reply c =
+returns-in-Some-clause-reply g c =
     let d = data_of c.args.setup.now in
     let e = c.in-Raise.event in
     deed_refused d c.args.version.now c.requires.sound c.args.deed.now (deed.Raise e c.in-Raise.args) e c.in-Raise.args c.in-Some.refused c.in-Raise.is
     (λ bounds. c.in-Some.ensures.0 (reply_of 4096 (raised false (units_in d) bounds 0 e c.in-Raise.args)))
 
 pub returns-in-Some-refusal-clause-reply : goal.returns-in-Some-refusal-clause-reply
-returns-in-Some-refusal-clause-reply c =
+returns-in-Some-refusal-clause-reply g c =
     let d = data_of c.args.setup.now in
     let e = c.in-Later.event in
     deed_refused d c.args.version.now c.requires.sound c.args.deed.now (deed.Later e c.in-Later.args) e c.in-Later.args c.in-Some-refusal.refused c.in-Later.is
     (λ bounds. c.in-Some-refusal.ensures.0 (reply.Queued (call.Whole e c.in-Later.args)))
 
 pub returns-in_ok-copy-in-None-clause-reply : goal.returns-in_ok-copy-in-None-clause-reply
-returns-in_ok-copy-in-None-clause-reply c =
+returns-in_ok-copy-in-None-clause-reply g c =
     let d = data_of c.args.setup.now in
     let s = c.args.version.now in
     ok_map c.raise_whole.result (IsOfRaise d s c.requires.sound c.in-Raise.event c.in_ok-copy-in-None.field-0) (IsDeedReply d s c.args.deed.now)
@@ -32,7 +32,7 @@ returns-in_ok-copy-in-None-clause-reply c =
     c.raise_whole.ensures
 
 pub returns-in_ok-copy-in-None-clause-calls : goal.returns-in_ok-copy-in-None-clause-calls
-returns-in_ok-copy-in-None-clause-calls c =
+returns-in_ok-copy-in-None-clause-calls g c =
     let d = data_of c.args.setup.now in
     let s = c.args.version.now in
     ok_map c.raise_whole.result (IsOfRaise d s c.requires.sound c.in-Raise.event c.in_ok-copy-in-None.field-0) (λ answer. All (BelongsTo s) (calls_left answer))
@@ -40,6 +40,6 @@ returns-in_ok-copy-in-None-clause-calls c =
     c.raise_whole.ensures
 
 pub returns-in_ok-copy-in-None-refusal-clause-reply : goal.returns-in_ok-copy-in-None-refusal-clause-reply
-returns-in_ok-copy-in-None-refusal-clause-reply c =
+returns-in_ok-copy-in-None-refusal-clause-reply g c =
     let d = data_of c.args.setup.now in
     deed_left d c.args.version.now c.requires.sound c.args.deed.now c.in-Later.event c.in-Later.args c.in_ok-copy-in-None-refusal.field-0 c.in-Later.is c.in_ok-copy-in-None-refusal.ensures c.in-None-refusal.ensures.1

@@ -6,12 +6,12 @@ use Rattle.spin_proto.proofs.Served.{fit_answers}
 use Rattle.spin_proto.proofs.whole.refusal.Goals as goal
 
 pub returns-then-not-fits : goal.returns-then-not-fits
-returns-then-not-fits c =
+returns-then-not-fits g c =
     let d = data_of c.args.setup.now in
     ((λ answer. fit_answers d c.args.event c.event.result.now c.args.args.now c.fits.result answer c.event.ensures c.fits.ensures ∙ ap (λ t. cond t answer reply.WrongArgs) c.if-not-fits.true), refl)
 
 pub returns : goal.returns
-returns c =
+returns g c =
     let d = data_of c.args.setup.now in (
       slice_get_within d.events c.args.event c.event.result.now c.event.ensures,
       λ answer. fit_answers d c.args.event c.event.result.now c.args.args.now c.fits.result answer c.event.ensures c.fits.ensures ∙ ap (λ t. cond t answer reply.WrongArgs) c.if-not-fits.false,

@@ -8,7 +8,7 @@ use Rattle.spin_table.proofs.Positions.{position-none, position-at, enumerated}
 use Rattle.spin_table.proofs.build.bad_default.Goals as goal
 
 pub returns-then-has_bad_default : goal.returns-then-has_bad_default
-returns-then-has_bad_default c =
+returns-then-has_bad_default g c =
     let events = c.args.events.now in
     let at = c.loop-at.at in
     let inside : at < length (enumerate_from 0 events) = omega (arith, length-enumerate_from 0 events) in
@@ -19,7 +19,7 @@ returns-then-has_bad_default c =
     }
 
 pub loop-at-preserved : goal.loop-at-preserved
-loop-at-preserved c =
+loop-at-preserved g c =
     let events = c.args.events.now in
     let at = c.loop-at.at in
     let inside : at < length (enumerate_from 0 events) = omega (arith, length-enumerate_from 0 events) in
@@ -28,6 +28,6 @@ loop-at-preserved c =
     (at_read (enumerate_from 0 events) (λ p. bad p ≡ false) at (at, c.index-events-at.result) inside (sym (enumerated events at _ (omega arith) (sym c.index-events-at.is))) (sym c.has_bad_default.ensures ∙ c.if-has_bad_default.false))
 
 pub returns-clause-default : goal.returns-clause-default
-returns-clause-default c =
+returns-clause-default g c =
     let events = c.args.events.now in
     sym (position-none (has_bad_default (handlers_of c.args.catalogue.now)) (enumerate_from 0 events) (λ k d l m. c.loop-at.invariant k d l (omega (arith, length-enumerate_from 0 events))))

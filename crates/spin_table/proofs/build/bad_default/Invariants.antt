@@ -6,4 +6,4 @@ use Rattle.spin_table.proofs.build.bad_default.Given as goal
 
 -- none of the events so far has a bad default
 abbrev pub invariant-loop-at : goal.invariant-loop-at
-invariant-loop-at l = AllWithin (λ p. has_bad_default (handlers_of l.catalogue) p ≡ false) (enumerate_from 0 l.events) 0 l.at
+invariant-loop-at g l = AllWithin (λ p. has_bad_default (handlers_of l.catalogue) p ≡ false) (enumerate_from 0 l.events) 0 l.at

@@ -9,7 +9,7 @@ use Rattle.spin_table.proofs.Positions.{position-none, position-at}
 use Rattle.spin_table.proofs.build.bad_up.Goals as goal
 
 pub returns-then-not-raises_fit : goal.returns-then-not-raises_fit
-returns-then-not-raises_fit c =
+returns-then-not-raises_fit g c =
     let units = handlers_of c.args.catalogue.now in
     let at = c.loop-at.at in
     let same : at + 1 - 1 ≡ at = omega arith in
@@ -19,7 +19,7 @@ returns-then-not-raises_fit c =
     sym (position-at (raises_amiss c.args.events.now) units at unit.0 unit.1 unit.2 amiss c.loop-at.invariant)
 
 pub loop-at-preserved : goal.loop-at-preserved
-loop-at-preserved c =
+loop-at-preserved g c =
     let units = handlers_of c.args.catalogue.now in
     let at = c.loop-at.at in
     let same : at + 1 - 1 ≡ at = omega arith in
@@ -29,6 +29,6 @@ loop-at-preserved c =
     AllWithin-more (λ h. raises_amiss c.args.events.now h ≡ false) units 0 at c.loop-at.invariant (at_read units (λ h. raises_amiss c.args.events.now h ≡ false) at unit.0 unit.1 (sym unit.2) fit)
 
 pub returns : goal.returns
-returns c =
+returns g c =
     let units = handlers_of c.args.catalogue.now in
     sym (position-none (raises_amiss c.args.events.now) units (λ k d l m. c.loop-at.invariant k d l (omega (arith, c.handlers-at-end.ensures))))

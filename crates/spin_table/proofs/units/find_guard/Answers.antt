@@ -5,7 +5,7 @@ use Rattle.spin_table.proofs.Numbered.{unit_of-at, guard_at}
 use Rattle.spin_table.proofs.units.find_guard.Goals as goal
 
 pub returns : goal.returns
-returns c =
+returns g c =
     let units = guards_of c.args.catalogue.now in
     let number = c.args.number in
     ap (option_map (λ (g : GuardUnit). g.sig)) (unit_of-at units number (λ e. omega arith)) ∙ guard_at units (number - 1) _ c.guard_type.ensures

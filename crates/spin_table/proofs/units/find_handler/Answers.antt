@@ -4,7 +4,7 @@ use Rattle.spin_table.proofs.Numbered.{unit_of-at, handler_at}
 use Rattle.spin_table.proofs.units.find_handler.Goals as goal
 
 pub returns : goal.returns
-returns c =
+returns g c =
     let units = handlers_of c.args.catalogue.now in
     let number = c.args.number in
     unit_of-at units number (λ e. omega arith) ∙ handler_at units (number - 1) _ _ c.type_of.ensures c.act_of.ensures

@@ -1,0 +1,17 @@
+use Rattle.std.proofs.Common.{◌≡◌, List}
+use Rattle.spin_policy.specs.declared.rule.Rule.{Rule}
+use Rattle.spin_objects.specs.Units.{Named, HandlerUnit, GuardUnit, known_handler, known_guard, known_authoriser}
+use Rattle.spin_objects.proofs.Read.{read_mapped}
+use Rattle.spin_objects.proofs.natives.Natives.name_of.Goals as goal
+
+pub returns-in-Handler : goal.returns-in-Handler
+returns-in-Handler g c =
+    rw c.in-Handler.is (read_mapped known_handler (λ (n : Named HandlerUnit). n.name) c.args.self.now.handlers c.args.native c.get.result.now c.get.ensures)
+
+pub returns-in-Guard : goal.returns-in-Guard
+returns-in-Guard g c =
+    rw c.in-Guard.is (read_mapped known_guard (λ (n : Named GuardUnit). n.name) c.args.self.now.guards c.args.native c.get-in-Guard.result.now c.get-in-Guard.ensures)
+
+pub returns-in-Authoriser : goal.returns-in-Authoriser
+returns-in-Authoriser g c =
+    rw c.in-Authoriser.is (read_mapped known_authoriser (λ (n : Named (List Rule)). n.name) c.args.self.now.authorisers c.args.native c.get-in-Authoriser.result.now c.get-in-Authoriser.ensures)
