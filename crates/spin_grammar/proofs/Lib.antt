@@ -12,3 +12,4 @@ pub mod Valid
 pub mod Alike
 pub mod Signatures
 pub mod Respelled
+pub mod Printed

@@ -6,7 +6,7 @@ use Rattle.std.specs.Char.{digit_value}
 use Rattle.std.specs.Str.Parse.{digits_value, AllDigits}
 use Rattle.std.proofs.lemmas.Bool.Decides.{nat_tests}
 use Rattle.std.proofs.lemmas.Bool.{lt-ltb}
-use Rattle.std.proofs.lemmas.Fmt.{digits_decimal, digits_value-decimal, decimal_nonempty}
+use Rattle.std.proofs.lemmas.Fmt.{digits_decimal, digits_value-decimal, decimal_nonempty, decimal_digit}
 use Rattle.std.proofs.lemmas.Str.Parse.{IsNumeralModel, numerals_by_value, tells_digits, digit_at, digit_from_value}
 use Rattle.spin_grammar.specs.declared.cause.Cause.TheVariants as cause
 use Rattle.std.proofs.lemmas.List.Folds.{list_all-append}
@@ -21,7 +21,7 @@ use Rattle.spin_grammar.proofs.Signatures.{one_of, signature_again, guard_signat
 
 -- ---- numbers
 
-own : IsNumeralModel (AllDigits 10) (digits_value 10)
+pub own : IsNumeralModel (AllDigits 10) (digits_value 10)
 own = numerals_by_value _ tells_digits
 
 all_digits : (ds : List ℕ) → AllDigits 10 ds → list_all (is_digit 10) ds ≡ true
@@ -86,24 +86,34 @@ is_small low high n w h e = (within_again low high n (number w) h e).0
 
 -- ---- one word at its place
 
-both : (a b : Bool) → (a && b) ≡ true → a ≡ true
+pub both : (a b : Bool) → (a && b) ≡ true → a ≡ true
 both true b e = refl
 both false b e = absurd cc
 
-second : (a b : Bool) → (a && b) ≡ true → b ≡ true
+pub second : (a b : Bool) → (a && b) ≡ true → b ≡ true
 second true b e = e
 second false b e = absurd cc
 
+-- neither a blank nor the end of a line
+abbrev pub is_printed : ℕ → Bool
+is_printed b = leb 33 b && leb b 126
+
+-- a word has some of these
+abbrev pub is_word : List ℕ → Bool
+is_word w = leb 1 (length w) && list_all is_printed w
+
+-- numbers that are wanted have 64 bits, and the one word that is wanted is a word
 abbrev pub is_bounded : Want → Bool
 is_bounded (Number low high) = leb high greatest
 is_bounded (Counted low high want) = leb high greatest && is_bounded want
+is_bounded (Exactly word) = is_word word
 is_bounded want = true
 
-ok_same : (p q : Atom × List Want) → ◌≡◌ {A = Step} (Ok p) (Ok q) → p ≡ q
+pub ok_same : (p q : Atom × List Want) → ◌≡◌ {A = Step} (Ok p) (Ok q) → p ≡ q
 ok_same p q e = cc
 
 -- one of several fixed words
-chosen_word : (w : List ℕ) (cs : Choices) (p : Atom × List Want) → chosen w cs ≡ Ok p → p.0 ≡ Fixed w
+pub chosen_word : (w : List ℕ) (cs : Choices) (p : Atom × List Want) → chosen w cs ≡ Ok p → p.0 ≡ Fixed w
 chosen_word w [] p e = absurd cc
 chosen_word w (c ∷ cs) p e =
     elim (one_of (bytes_eq w c.0) (Ok (Fixed w, c.1)) (chosen w cs) (Ok p) e) [
@@ -118,31 +128,31 @@ itself want w p same e = rw same e
 fixed : (want : Want) (w : List ℕ) (cs : Choices) (p : Atom × List Want) → accepts want w ≡ Ok p → chosen w cs ≡ Ok p → accepts want (spell p.0) ≡ Ok p
 fixed want w cs p e c = itself want w p (ap spell (chosen_word w cs p c)) e
 
-by_number : (o : Option ℕ) (next : List Want) (p : Atom × List Want) → as_number o next ≡ Ok p → (n : ℕ) × (o ≡ Some n) × ((Numeral n, next) ≡ p)
+pub by_number : (o : Option ℕ) (next : List Want) (p : Atom × List Want) → as_number o next ≡ Ok p → (n : ℕ) × (o ≡ Some n) × ((Numeral n, next) ≡ p)
 by_number None next p e = absurd cc
 by_number (Some n) next p e = (n, refl, ok_same (Numeral n, next) p e)
 
-by_count : (o : Option ℕ) (want : Want) (p : Atom × List Want) → as_count o want ≡ Ok p → (n : ℕ) × (o ≡ Some n) × ((Numeral n, replicate n want) ≡ p)
+pub by_count : (o : Option ℕ) (want : Want) (p : Atom × List Want) → as_count o want ≡ Ok p → (n : ℕ) × (o ≡ Some n) × ((Numeral n, replicate n want) ≡ p)
 by_count None want p e = absurd cc
 by_count (Some n) want p e = (n, refl, ok_same (Numeral n, replicate n want) p e)
 
-by_rising : (o : Option ℕ) (p : Atom × List Want) → as_rising o ≡ Ok p → (n : ℕ) × (o ≡ Some n) × ((Numeral n, rising 0 n) ≡ p)
+pub by_rising : (o : Option ℕ) (p : Atom × List Want) → as_rising o ≡ Ok p → (n : ℕ) × (o ≡ Some n) × ((Numeral n, rising 0 n) ≡ p)
 by_rising None p e = absurd cc
 by_rising (Some n) p e = (n, refl, ok_same (Numeral n, rising 0 n) p e)
 
-by_rise : (o : Option ℕ) (more : ℕ) (p : Atom × List Want) → as_rise o more ≡ Ok p → (n : ℕ) × (o ≡ Some n) × ((Numeral n, rising (n + 1) more) ≡ p)
+pub by_rise : (o : Option ℕ) (more : ℕ) (p : Atom × List Want) → as_rise o more ≡ Ok p → (n : ℕ) × (o ≡ Some n) × ((Numeral n, rising (n + 1) more) ≡ p)
 by_rise None more p e = absurd cc
 by_rise (Some n) more p e = (n, refl, ok_same (Numeral n, rising (n + 1) more) p e)
 
-by_signature : (o : Option EventType) (next : List Want) (p : Atom × List Want) → as_signature o next ≡ Ok p → (sig : EventType) × (o ≡ Some sig) × ((Typed sig, next) ≡ p)
+pub by_signature : (o : Option EventType) (next : List Want) (p : Atom × List Want) → as_signature o next ≡ Ok p → (sig : EventType) × (o ≡ Some sig) × ((Typed sig, next) ≡ p)
 by_signature None next p e = absurd cc
 by_signature (Some sig) next p e = (sig, refl, ok_same (Typed sig, next) p e)
 
-by_blob : (o : Option (List ℕ)) (next : List Want) (p : Atom × List Want) → as_blob o next ≡ Ok p → (bs : List ℕ) × (o ≡ Some bs) × ((Blob bs, next) ≡ p)
+pub by_blob : (o : Option (List ℕ)) (next : List Want) (p : Atom × List Want) → as_blob o next ≡ Ok p → (bs : List ℕ) × (o ≡ Some bs) × ((Blob bs, next) ≡ p)
 by_blob None next p e = absurd cc
 by_blob (Some bs) next p e = (bs, refl, ok_same (Blob bs, next) p e)
 
-is_one : (high : ℕ) → leb high greatest ≡ true → high ≤ greatest
+pub is_one : (high : ℕ) → leb high greatest ≡ true → high ≤ greatest
 is_one high h = grind (arith, nat_tests, h)
 
 number_word : (low high : ℕ) (w : List ℕ) (p : Atom × List Want) → high ≤ greatest → accepts (Number low high) w ≡ Ok p → accepts (Number low high) (spell p.0) ≡ Ok p
@@ -169,15 +179,15 @@ rising_word low more w p e =
     let n = by_rise (within low 4096 (number w)) more p e in
     rw (← n.2) (rw (number_again low 4096 n.0 w (omega arith) n.1) refl)
 
-argument_back : (k : ℕ) → k ≤ 7 → accepts Expression (97 ∷ (48 + k) ∷ []) ≡ Ok (Argument k, [])
+argument_back : (k : ℕ) → k ≤ 7 → accepts Expression (97 ∷ decimal k) ≡ Ok (Argument k, [])
 unfolding accepts
 argument_back k h =
     let low : leb 48 (48 + k) ≡ true = grind (arith, nat_tests) in
     let high : leb (48 + k) 55 ≡ true = grind (arith, nat_tests) in
     let same : 48 + k - 48 ≡ k = omega arith in
-    rw (low, high, same) refl
+    rw (decimal_digit k (omega (arith, h)), low, high, same) refl
 
-small_argument : (w : List ℕ) → is_argument w ≡ true → slice_index w 1 - 48 ≤ 7
+pub small_argument : (w : List ℕ) → is_argument w ≡ true → slice_index w 1 - 48 ≤ 7
 small_argument w h = grind (arith, nat_tests, h)
 
 expression_digit : (w : List ℕ) (p : Atom × List Want) → as_number (within 0 greatest (number w)) [] ≡ Ok p → accepts Expression (spell p.0) ≡ Ok p
@@ -407,7 +417,7 @@ next_bounded (Exactly word) w p b e = chosen_bounded w ((word, []) ∷ []) p ref
 
 -- ---- a whole line
 
-abbrev stepped : Step → List Want → List (List ℕ) → Reading
+abbrev pub stepped : Step → List Want → List (List ℕ) → Reading
 stepped s wants ws = elim s [ Err c ↦ Err c | Ok p ↦ then_read (p.0 ∷ []) (reads (p.1 ++ wants) ws) ]
 
 after_word : (r : Reading) (a : Atom) (atoms : List Atom) → then_read (a ∷ []) r ≡ Ok atoms → (rest : List Atom) × (r ≡ Ok rest) × (a ∷ rest ≡ atoms)
@@ -415,11 +425,11 @@ after_word (Ok rest) a atoms e = (rest, refl, cc)
 after_word (Err c) a atoms e = absurd cc
 
 -- what the step gave, and the rest
-went : (s : Step) (wants : List Want) (ws : List (List ℕ)) (atoms : List Atom) → stepped s wants ws ≡ Ok atoms → (p : Atom × List Want) × (s ≡ Ok p) × (rest : List Atom) × (reads (p.1 ++ wants) ws ≡ Ok rest) × (p.0 ∷ rest ≡ atoms)
+pub went : (s : Step) (wants : List Want) (ws : List (List ℕ)) (atoms : List Atom) → stepped s wants ws ≡ Ok atoms → (p : Atom × List Want) × (s ≡ Ok p) × (rest : List Atom) × (reads (p.1 ++ wants) ws ≡ Ok rest) × (p.0 ∷ rest ≡ atoms)
 went (Err c) wants ws atoms e = absurd cc
 went (Ok p) wants ws atoms e = let a = after_word (reads (p.1 ++ wants) ws) p.0 atoms e in (p, refl, a.0, a.1, a.2)
 
-over : (b : Bool) (atoms : List Atom) → cond b (Ok []) (Err cause.End) ≡ Ok atoms → [] ≡ atoms
+pub over : (b : Bool) (atoms : List Atom) → cond b (Ok []) (Err cause.End) ≡ Ok atoms → [] ≡ atoms
 over true atoms e = cc
 over false atoms e = absurd cc
 
@@ -436,7 +446,7 @@ respelled (want ∷ wants) (w ∷ ws) atoms b e =
     let ih = respelled (s.0.1 ++ wants) ws s.2 more s.3 in
     rw (← s.4) (rw (accepts_again want w s.0 this s.1, reads) (ap (λ (r : Reading). then_read (s.0.0 ∷ []) r) ih))
 
-wanted_bounded : (version : ℕ) (k : Kind) → list_all is_bounded (wanted version k) ≡ true
+pub wanted_bounded : (version : ℕ) (k : Kind) → list_all is_bounded (wanted version k) ≡ true
 wanted_bounded version kind.Modules = refl
 wanted_bounded version kind.Event = refl
 wanted_bounded version kind.Endpoint = refl

@@ -196,6 +196,13 @@ guard_typed w sig e =
       | inr h ↦ h.1
     ]
 
+-- the parameters of a guard are by value, and it gives no result
+pub plain_signature : (w : List ℕ) (sig : EventType) → guard_signature w ≡ Some sig → (sig.gives ≡ false) × IsMarked false sig.params
+plain_signature w sig e =
+    let t = typed false (params_of false w) sig (guard_typed w sig e) in
+    let h = params_of_word false w t.0 t.1 in
+    rw (← t.2) (refl, h.0)
+
 pub guard_signature_again : (w : List ℕ) (sig : EventType) → guard_signature w ≡ Some sig → guard_signature (signature_word sig) ≡ Some sig
 guard_signature_again w sig e =
     let t = typed false (params_of false w) sig (guard_typed w sig e) in
@@ -238,7 +245,7 @@ read_pair true true n None bs e = absurd cc
 read_pair true false n o bs e = absurd cc
 read_pair false d n o bs e = absurd cc
 
-are_bytes : (ds bs : List ℕ) → hex_bytes ds ≡ Some bs → AreBytes bs
+pub are_bytes : (ds bs : List ℕ) → hex_bytes ds ≡ Some bs → AreBytes bs
 are_bytes [] bs e = let same : [] ≡ bs = some_same [] bs e in rw (← same) tt
 are_bytes (a ∷ []) bs e = absurd cc
 are_bytes (a ∷ (b ∷ more)) bs e =

@@ -1,5 +1,5 @@
 -- The canonical words of what words say.
-use Rattle.std.specs.Prelude.{ℕ, ◌+◌, ◌/◌, ◌%◌, Bool, true, false, if◌then◌else◌, List, [], ◌∷◌, ◌++◌, map, decimal, codes}
+use Rattle.std.specs.Prelude.{ℕ, ◌/◌, ◌%◌, Bool, true, false, if◌then◌else◌, List, [], ◌∷◌, ◌++◌, map, decimal, codes}
 use Rattle.std.specs.List.{flat_map}
 use Rattle.std.specs.Char.{digit_char}
 use Rattle.spin_values.specs.declared.types.Kind.{Kind}
@@ -31,7 +31,7 @@ hex_digits bytes = flat_map (λ b. digit_char (b / 16) ∷ digit_char (b % 16) �
 abbrev pub spell : Atom → List ℕ
 spell (Fixed w) = w
 spell (Numeral n) = decimal n
-spell (Argument k) = 97 ∷ (48 + k) ∷ []
+spell (Argument k) = 97 ∷ decimal k
 spell (Called w) = w
 spell (Typed sig) = signature_word sig
 spell (Blob bytes) = 120 ∷ hex_digits bytes

@@ -1,10 +1,8 @@
-pub mod Bodies
+pub mod Alike
 pub mod Causes
 pub mod Exactly
-pub mod Histories
+pub mod Jobless
 pub mod Joining
-pub mod Numbers
-pub mod Plain
-pub mod Raising
-pub mod Splits
-pub mod Thin
+pub mod Laning
+pub mod Outcomes
+pub mod Runnable

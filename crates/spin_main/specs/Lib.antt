@@ -1,9 +1,5 @@
-pub mod Firing
-pub mod Handlers
-pub mod History
-pub mod Laws
-pub mod Report
-pub mod Script
-pub mod Setup
-pub mod State
+pub mod Lanes
+pub mod Objects
+pub mod Scripts
 pub mod Statuses
+pub mod Words

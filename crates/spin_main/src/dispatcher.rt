@@ -1,279 +1,196 @@
-//! Runs a script over versions of the dispatcher's state.
+//! The dispatcher of one lane: a version, which each accepted command replaces by the next.
 
-ghost use Rattle.std.specs.Prelude.{◌≡◌, ◌<◌, ◌≤◌, ◌+◌, [], ◌∷◌, cond, IfOk};
-ghost use Rattle.spin_objects.specs.Units.{handlers_of, guards_of, policies_of, unit_of_body};
+ghost use Rattle.std.specs.Prelude.{◌≡◌, ◌<◌, ◌≤◌, ◌+◌, ◌∷◌, [], IsTrue, IfOk, OnOk, OnErr};
+ghost use Rattle.spin_word.specs.Commands.{is_command};
 ghost use Rattle.spin_table.specs.SetupOf.{data_of};
 ghost use Rattle.spin_table.specs.Soundness.{IsSound};
-ghost use Rattle.spin_table.specs.declared.refusal.Verdicted.TheVariants as verdicted;
-ghost use Rattle.spin_table.specs.Steps as table;
-ghost use Rattle.spin_main.specs.Handlers.{word_to_word, handler_for};
-ghost use Rattle.spin_main.specs.Setup.{the_event, setup_for};
-ghost use Rattle.spin_main.specs.State.{IsThin};
-ghost use Rattle.spin_raise.specs.Firing.{units_of, bound_of, IsThere};
-ghost use Rattle.spin_main.specs.Firing.{reply_along, reply_of, trace_of};
-ghost use Rattle.spin_main.specs.History.{IsStep, IsHistory, deed_of, numbered};
-ghost use Rattle.spin_main.specs.Script.{the_install, IsWork, IsBody, IsResult, is_command};
-ghost use Rattle.spin_main.specs.declared.deed.Deed.TheVariants.{Raise};
+ghost use Rattle.spin_table.specs.States.{start_of};
+ghost use Rattle.spin_table.specs.Steps.{IsStep, IsAnswer};
+ghost use Rattle.spin_proto.specs.Replies.{IsDeedReply};
+ghost use Rattle.spin_report.specs.Legal.{Answers, IsNextEntry};
+ghost use Rattle.spin_report.specs.Asked.{asked_by, asked_of};
+ghost use Rattle.spin_main.specs.Lanes as lanes;
+ghost use Rattle.spin_main.specs.Lanes.{asked_at, commands_by, IsForOneLane};
 
-use crate::deed::{Deed, Reply, Step, Trace};
-use crate::entry::{Entries, Entry, Verdicted, What};
-use crate::script::{Line, Script, Work};
-use spin_code::{Act, ActStep, Expr, Merge, Sincere, Steplist};
-use spin_objects::{Body, Catalogue, CatalogueFault, Item, Natives, Outcome};
-use spin_plan::Plan;
-use spin_policy::Policy;
-use spin_table::{Authority, EventDef, EventList, Setup, StepFault, Version};
-use spin_values::{Args, EventType, Kind, NoMemory, Param, Params, Steps};
+use spin_code::Sincere;
+use spin_objects::Catalogue;
+use spin_proto::{Deed, Reply, path};
+use spin_report::{Entry, What};
+use spin_script::{Line, Work};
+use spin_table::{Setup, StepFault, Verdicted, Version};
+use spin_values::{NoMemory, Steps};
 use spin_word::Command;
 use std::alloc::Global;
-use std::marker::Brand;
+use std::marker::{Brand, Model};
 use std::sync::ledger::{Blank, Ledger};
 
-/// An equal result of the thin form.
-fn copy_of(act: &Expr) -> Expr
-    requires { IsResult act.now }
-    ensures { result ≡ act.now }
+/// An equal deed.
+fn copy_of(deed: &Deed) -> Result<Deed, NoMemory>
+    ensures { IfOk result (λ copy. copy ≡ deed.now) }
 {
-    match act {
-        Expr::Const(value) => Expr::Const(*value),
-        Expr::Arg(argument) => Expr::Arg(*argument),
-        _ => unreachable!(),
+    match deed {
+        Deed::Raise { event, args } => Ok(Deed::Raise {
+            event: *event,
+            args: args.copy()?,
+        }),
+        Deed::Later { event, args } => Ok(Deed::Later {
+            event: *event,
+            args: args.copy()?,
+        }),
     }
 }
 
-/// One word, and a result.
-fn word_to_word(alloc: Global) -> Result<EventType, NoMemory>
-    ensures { IfOk result (λ sig. sig ≡ word_to_word) }
-{
-    let mut params = Params::new(alloc);
-    params.push(Param {
-        kind: Kind::Word,
-        var: false,
-    })?;
-    Ok(EventType {
-        params,
-        gives: true,
-    })
-}
-
-/// The one handler: for events of one word and a result, it gives this result.
-fn handler_of(alloc: Global, act: &Expr) -> Result<Body, NoMemory>
-    requires { IsResult act.now }
-    ensures { IfOk result (λ body. body ≡ handler_for act.now) }
-{
-    let mut steps = Steplist::new(alloc);
-    steps.push(ActStep::Result(copy_of(act)))?;
-    Ok(Body::Coded(word_to_word(alloc)?, Act { steps }))
-}
-
-/// The catalogue of the one handler, which gives this result. The check doesn't refuse it.
-fn catalogue_of(alloc: Global, act: &Expr) -> Result<Catalogue, NoMemory>
-    requires { IsResult act.now }
-    ensures handlers { IfOk result (λ cat. handlers_of cat ≡ unit_of_body [] (handler_for act.now) ∷ []) }
-    ensures guards { IfOk result (λ cat. guards_of cat ≡ []) }
-    ensures policies { IfOk result (λ cat. policies_of cat.natives ≡ []) }
-    ensures sincere { IfOk result (λ cat. ⟦<Catalogue as Sincere>⟧.sincere cat) }
-{
-    let mut cat = Catalogue::new(alloc, Natives::new(alloc));
-    match cat.add_handler(handler_of(alloc, act)?) {
-        Ok(_) => Ok(cat),
-        Err(CatalogueFault::NoMemory) => Err(NoMemory),
-        Err(_) => unreachable!(),
-    }
-}
-
-/// The one event, which module 0 owns.
-fn event_of(alloc: Global) -> Result<EventDef, NoMemory>
-    ensures { IfOk result (λ event. event ≡ the_event) }
-{
-    Ok(EventDef {
-        sig: word_to_word(alloc)?,
-        owner: 0,
-        merge: Merge::Last,
-        first_default: 0,
-        authority: Authority::Rules(Policy::new(alloc)),
-    })
-}
-
-/// The setup of a script whose one handler gives this result. It has no fault.
-fn setup_of(alloc: Global, act: &Expr) -> Result<Setup, NoMemory>
-    requires { IsResult act.now }
-    ensures data { IfOk result (λ setup. data_of setup ≡ setup_for act.now) }
-    ensures sincere { IfOk result (λ setup. ⟦<Catalogue as Sincere>⟧.sincere setup.catalogue) }
-{
-    let mut events = EventList::new(alloc);
-    events.push(event_of(alloc)?)?;
-    match Setup::build(1, 32, events, catalogue_of(alloc, act)?) {
-        Ok(setup) => Ok(setup),
-        Err(_) => unreachable!(),
-    }
-}
-
-/// The steps of an outcome, in order.
-fn trace_of(alloc: Global, event: u8, items: &[Item]) -> Result<Trace, NoMemory>
-    ensures { IfOk result (λ trace. trace ≡ trace_of event items.now) }
-{
-    let mut trace = Trace::new(alloc);
-    for item in items {
-        match item {
-            Item::Ran(number) => trace.push(Step::Run {
-                event,
-                number: *number,
-            })?,
-            Item::Result(value) => trace.push(Step::Result(*value))?,
-            _ => {}
-        }
-    }
-    Ok(trace)
-}
-
-/// Raises an event along this plan, by this merge and this default.
-fn raise_along(
+/// The version after a command, with a counter for the making of its plan.
+fn counted_after<L: Ledger>(
     alloc: Global,
-    cat: &Catalogue,
-    event: u8,
-    args: &Args,
-    plan: &Plan,
-    merge: &Merge,
-    default: u16,
-) -> Result<Reply, NoMemory>
-    requires sincere { ⟦<Catalogue as Sincere>⟧.sincere cat.now }
-    requires there { IsThere (units_of cat.now) (bound_of plan.now merge.now default) }
-    ensures { IfOk result (λ reply. reply ≡ reply_along (units_of cat.now) event args.now (bound_of plan.now merge.now default)) }
-{
-    let mut left = args.copy()?;
-    let mut out = Outcome::new(alloc);
-    let answer = spin_raise::raise(alloc, plan, merge, default, cat, false, &mut left, &mut out)?;
-    let trace = trace_of(alloc, event, out.as_slice())?;
-    Ok(Reply::Ran { answer, trace })
-}
-
-/// Raises an event at a version: each live binding fires in order, and the last result stands.
-fn raise(
-    alloc: Global,
-    setup: &Setup,
     version: &Version,
-    event: u8,
-    args: &Args,
-) -> Result<Reply, NoMemory>
-    requires sincere { ⟦<Catalogue as Sincere>⟧.sincere setup.now.catalogue }
-    requires thin { IsThin (data_of setup.now) version.now }
-    requires sound { IsSound (data_of setup.now) version.now }
-    requires event { event ≡ 0 }
-    ensures { IfOk result (λ reply. reply ≡ reply_of (data_of setup.now) version.now (Raise event args.now)) }
-{
-    raise_along(
-        alloc,
-        setup.catalogue(),
-        event,
-        args,
-        version.plan(event),
-        &setup.event(event).merge,
-        version.default_of(event),
-    )
-}
-
-/// Does the one command of the thin form with a counter.
-fn command_counted<L: Ledger>(
-    alloc: Global,
     setup: &Setup,
-    version: &Version,
     command: &Command,
     blank: Blank,
-) -> Result<Version, NoMemory>
+) -> Result<Version, StepFault>
     requires sincere { ⟦<Catalogue as Sincere>⟧.sincere setup.now.catalogue }
-    requires thin { IsThin (data_of setup.now) version.now }
+    requires valid { IsTrue (is_command command.now) }
+    requires room { version.now.place < 4096 }
     requires sound { IsSound (data_of setup.now) version.now }
-    requires command { command.now ≡ the_install }
-    requires room { version.now.place < 32 }
     requires name { blank.name ≡ L.name }
     requires parts { blank.parts ≡ L.parts }
     requires some { 0 < L.parts }
-    ensures step { IfOk result (λ next. table.IsStep (data_of setup.now) version.now command.now verdicted.Accepted next) }
-    ensures thin { IfOk result (λ next. IsThin (data_of setup.now) next) }
+    ensures answer { IsAnswer (data_of setup.now) version.now command.now result }
     ensures sound { IfOk result (λ next. IsSound (data_of setup.now) next) }
 {
     let mut steps = Steps::<L>::new(blank);
-    match version.after(alloc, setup, command, &mut steps) {
-        Ok(next) => Ok(next),
-        Err(StepFault::NoMemory) => Err(NoMemory),
-        Err(StepFault::Refused(_)) => unreachable!(),
-    }
+    version.after(alloc, setup, command, &mut steps)
 }
 
-/// The version after the one command of the thin form, which is always accepted.
-fn command(
+/// The version after a command, or why there is none.
+fn after(
     alloc: Global,
-    setup: &Setup,
     version: &Version,
+    setup: &Setup,
     command: &Command,
-) -> Result<Version, NoMemory>
+) -> Result<Version, StepFault>
     requires sincere { ⟦<Catalogue as Sincere>⟧.sincere setup.now.catalogue }
-    requires thin { IsThin (data_of setup.now) version.now }
+    requires valid { IsTrue (is_command command.now) }
+    requires room { version.now.place < 4096 }
     requires sound { IsSound (data_of setup.now) version.now }
-    requires command { command.now ≡ the_install }
-    requires room { version.now.place < 32 }
-    ensures step { IfOk result (λ next. table.IsStep (data_of setup.now) version.now command.now verdicted.Accepted next) }
-    ensures thin { IfOk result (λ next. IsThin (data_of setup.now) next) }
+    ensures answer { IsAnswer (data_of setup.now) version.now command.now result }
     ensures sound { IfOk result (λ next. IsSound (data_of setup.now) next) }
 {
-    command_counted::<Brand>(alloc, setup, version, command, Blank::new(1))
+    counted_after::<Brand>(alloc, version, setup, command, Blank::new(1))
 }
 
-/// Does what a line asks for: the version after it, and its entry.
-pub fn step(
-    alloc: Global,
-    setup: &Setup,
+/// The version in force. Contracts see its state.
+#[derive(Drop)]
+pub struct Dispatcher {
     version: Version,
-    line: &Line,
-) -> Result<(Version, Entry), NoMemory>
-    requires sincere { ⟦<Catalogue as Sincere>⟧.sincere setup.now.catalogue }
-    requires thin { IsThin (data_of setup.now) version }
-    requires sound { IsSound (data_of setup.now) version }
-    requires work { IsWork line.now.work }
-    requires room { version.place + cond (is_command line.now.work) 1 0 ≤ 32 }
-    ensures step { IfOk result (λ done. IsStep (data_of setup.now) version done.1 done.0) }
-    ensures asked { IfOk result (λ done. deed_of done.1 ≡ numbered line.now) }
-    ensures place { IfOk result (λ done. done.0.place ≡ version.place + cond (is_command line.now.work) 1 0) }
-    ensures thin { IfOk result (λ done. IsThin (data_of setup.now) done.0) }
-    ensures sound { IfOk result (λ done. IsSound (data_of setup.now) done.0) }
-{
-    let (next, what) = match &line.work {
-        Work::Command(asked) => {
-            let next = command(alloc, setup, &version, asked)?;
-            (next, What::Command(*asked, Verdicted::Accepted))
-        }
-        Work::Deed(Deed::Raise { event, args }) => {
-            let event = *event;
-            let args = args.copy()?;
-            let reply = raise(alloc, setup, &version, event, &args)?;
-            (version, What::Deed(Deed::Raise { event, args }, reply))
-        }
-    };
-    let entry = Entry {
-        place: next.place(),
-        lane: line.lane,
-        line: line.number,
-        part: 0,
-        what,
-    };
-    Ok((next, entry))
 }
 
-/// The history of the script. It takes time linear in the steps of the history, and quadratic in the live bindings,
-/// of which there are at most 32, for each install.
-pub fn run_script(alloc: Global, script: &Script) -> Result<Entries, NoMemory>
-    requires body { IsBody script.now.lines }
-    requires result { IsResult script.now.result }
-    ensures { IfOk result (λ entries. IsHistory script.now entries) }
-{
-    let setup = setup_of(alloc, &script.result)?;
-    let mut version = Version::start(alloc, &setup)?;
-    let mut entries = Entries::new(alloc);
-    for line in script.lines.as_slice() {
-        let (next, entry) = step(alloc, &setup, version, line)?;
-        entries.push(entry)?;
-        version = next;
+impl Model for Dispatcher {
+    ghost use Rattle.spin_table.specs.States.{State};
+
+    ghost Value = { State };
+
+    ghost view = { λ d. d.version };
+}
+
+impl Dispatcher {
+    /// No command was accepted yet.
+    pub fn start(alloc: Global, setup: &Setup) -> Result<Dispatcher, NoMemory>
+        ensures start { IfOk result (λ d. d ≡ start_of (data_of setup.now)) }
+        ensures sound { IfOk result (λ d. IsSound (data_of setup.now) d) }
+    {
+        Ok(Dispatcher {
+            version: Version::start(alloc, setup)?,
+        })
     }
-    Ok(entries)
+
+    /// How many commands were accepted.
+    pub fn place(&self) -> u16
+        ensures { result ≡ self.now.place }
+    {
+        self.version.place()
+    }
+
+    /// Judges a command, and does it where it is accepted. After want of memory the state is as before.
+    pub fn command(
+        &mut self,
+        alloc: Global,
+        setup: &Setup,
+        command: &Command,
+    ) -> Result<Verdicted, NoMemory>
+        requires sincere { ⟦<Catalogue as Sincere>⟧.sincere setup.now.catalogue }
+        requires valid { IsTrue (is_command command.now) }
+        requires room { self.old.place < 4096 }
+        requires sound { IsSound (data_of setup.now) self.old }
+        ensures step { IfOk result (λ verdict. IsStep (data_of setup.now) self.old command.now verdict self.new) }
+        ensures sound { IsSound (data_of setup.now) self.new }
+        ensures place { OnOk result (self.new.place ≤ self.old.place + 1) }
+        ensures unchanged { OnErr result (self.new ≡ self.old) }
+    {
+        match after(alloc, &self.version, setup, command) {
+            Ok(next) => {
+                self.version = next;
+                Ok(Verdicted::Accepted)
+            }
+            Err(StepFault::Refused(refusal)) => Ok(Verdicted::Refused(refusal)),
+            Err(StepFault::NoMemory) => Err(NoMemory),
+        }
+    }
+
+    /// What a deed comes to in the state, which stays.
+    pub fn raise(&self, alloc: Global, setup: &Setup, deed: &Deed) -> Result<Reply, NoMemory>
+        requires sound { IsSound (data_of setup.now) self.now }
+        requires sincere { ⟦<Catalogue as Sincere>⟧.sincere setup.now.catalogue }
+        ensures { IfOk result (λ reply. IsDeedReply (data_of setup.now) self.now deed.now reply) }
+    {
+        path(alloc, &self.version, setup, deed)
+    }
+
+    /// Does what is asked, and answers what it came to. After want of memory the state is as before.
+    fn answer(&mut self, alloc: Global, setup: &Setup, work: &Work) -> Result<What, NoMemory>
+        requires sincere { ⟦<Catalogue as Sincere>⟧.sincere setup.now.catalogue }
+        requires work { IsForOneLane work.now }
+        requires room { self.old.place + commands_by work.now ≤ 4096 }
+        requires sound { IsSound (data_of setup.now) self.old }
+        ensures answers { IfOk result (λ what. Answers (data_of setup.now) self.old what self.new) }
+        ensures asked { IfOk result (λ what. lanes.asked_by work.now ≡ asked_by what ∷ []) }
+        ensures sound { IsSound (data_of setup.now) self.new }
+        ensures place { OnOk result (self.new.place ≤ self.old.place + commands_by work.now) }
+        ensures unchanged { OnErr result (self.new ≡ self.old) }
+    {
+        match work {
+            Work::Command(command) => {
+                let verdict = self.command(alloc, setup, command)?;
+                Ok(What::Command(*command, verdict))
+            }
+            Work::Deed(deed) => {
+                let asked = copy_of(deed)?;
+                let reply = self.raise(alloc, setup, deed)?;
+                Ok(What::Deed(asked, reply))
+            }
+            Work::Packet { .. } => unreachable!(),
+        }
+    }
+
+    /// Does what a line asks for, and answers its entry. After want of memory the state is as before.
+    pub fn step(&mut self, alloc: Global, setup: &Setup, line: &Line) -> Result<Entry, NoMemory>
+        requires sincere { ⟦<Catalogue as Sincere>⟧.sincere setup.now.catalogue }
+        requires work { IsForOneLane line.now.work }
+        requires room { self.old.place + commands_by line.now.work ≤ 4096 }
+        requires sound { IsSound (data_of setup.now) self.old }
+        ensures next { IfOk result (λ entry. IsNextEntry (data_of setup.now) self.old entry self.new) }
+        ensures asked { IfOk result (λ entry. asked_at line.now ≡ asked_of entry ∷ []) }
+        ensures sound { IsSound (data_of setup.now) self.new }
+        ensures place { OnOk result (self.new.place ≤ self.old.place + commands_by line.now.work) }
+        ensures unchanged { OnErr result (self.new ≡ self.old) }
+    {
+        let what = self.answer(alloc, setup, &line.work)?;
+        Ok(Entry {
+            place: self.place(),
+            lane: line.lane,
+            line: line.number,
+            part: 0,
+            what,
+        })
+    }
 }

@@ -1,8 +1,12 @@
 //! The ends of a run: their statuses, and the lines that are written at them.
 
-ghost use Rattle.std.specs.Prelude.{◌≡◌};
+ghost use Rattle.std.specs.Prelude.{◌≡◌, ◌≤◌, ◌+◌, ◌++◌, [], length, decimal, codes};
+ghost use Rattle.arrayvec.specs.ArrayVec.{array_vec_len};
+ghost use Rattle.spin_report.specs.Words.{ended};
 ghost use Rattle.spin_main.specs.Statuses.{number, stop_line, Tells};
 
+use arrayvec::ArrayVec;
+use itoa::Buffer;
 use spin_outside::{Sink, write_all};
 
 /// How the top call ends. Each end has a status, a line that is written at it, and a cause.
@@ -12,8 +16,13 @@ pub enum End {
     Whole,
     /// The words are those of no command.
     Usage,
-    /// The script was read and isn't in the form that is built.
-    Refused,
+    /// The script was read and is refused.
+    Refused {
+        /// The first bad line, counted from 1; 0 where it is the script as a whole.
+        line: u32,
+        /// The number of the cause.
+        cause: u8,
+    },
     /// The shelf failed at the script.
     ReadFault,
     /// The sink failed at the report.
@@ -24,6 +33,9 @@ pub enum End {
     NoMemory,
 }
 
+/// A stop line. It takes no memory.
+type StopLine = ArrayVec<u8, 128>;
+
 /// The exit status of an end.
 pub fn status_of(end: End) -> u8
     ensures { result ≡ number end }
@@ -31,7 +43,7 @@ pub fn status_of(end: End) -> u8
     match end {
         End::Whole => 0,
         End::Usage => 1,
-        End::Refused => 2,
+        End::Refused { .. } => 2,
         End::ReadFault => 4,
         End::WriteFault => 5,
         End::Absent => 6,
@@ -39,18 +51,58 @@ pub fn status_of(end: End) -> u8
     }
 }
 
+fn put(line: &mut StopLine, bytes: &[u8])
+    requires { array_vec_len line.old + length bytes.now ≤ 128 }
+    ensures bytes { line.new.items ≡ line.old.items ++ bytes.now }
+    ensures len { array_vec_len line.new ≡ array_vec_len line.old + length bytes.now }
+{
+    if let Err(_) = line.try_extend_from_slice(bytes) {
+        unreachable!()
+    }
+}
+
+fn put_number(line: &mut StopLine, number: u64)
+    requires { array_vec_len line.old + 40 ≤ 128 }
+    ensures bytes { line.new.items ≡ line.old.items ++ decimal number }
+    ensures len { array_vec_len line.new ≤ array_vec_len line.old + 40 }
+{
+    let mut buffer = Buffer::new();
+    put(line, buffer.format(number).as_bytes());
+}
+
+fn fixed_line(text: &[u8]) -> StopLine
+    requires { length text.now ≤ 128 }
+    ensures { result.items ≡ text.now }
+{
+    let mut line = StopLine::new();
+    put(&mut line, text);
+    line
+}
+
+fn refusal_line(number: u32, cause: u8) -> StopLine
+    ensures { result.items ≡ ended (codes "stop 2 line " ++ decimal number ++ codes " cause " ++ decimal cause) }
+{
+    let mut line = StopLine::new();
+    put(&mut line, b"stop 2 line ");
+    put_number(&mut line, u64::from(number));
+    put(&mut line, b" cause ");
+    put_number(&mut line, u64::from(cause));
+    put(&mut line, b"\n");
+    line
+}
+
 /// The line of an end, with its line feed; some have none.
-pub fn line_of(end: End) -> &'static [u8]
-    ensures { result.now ≡ stop_line end }
+fn line_of(end: End) -> StopLine
+    ensures { result.items ≡ stop_line end }
 {
     match end {
-        End::Whole => b"",
-        End::Usage => b"usage: spin run SCRIPT\n",
-        End::Refused => b"stop 2 line 0 cause 25\n",
-        End::ReadFault => b"stop 4 read script\n",
-        End::WriteFault => b"",
-        End::Absent => b"stop 6 script\n",
-        End::NoMemory => b"stop 7 memory\n",
+        End::Whole => StopLine::new(),
+        End::Usage => fixed_line(b"usage: spin run SCRIPT\n"),
+        End::Refused { line, cause } => refusal_line(line, cause),
+        End::ReadFault => fixed_line(b"stop 4 read script\n"),
+        End::WriteFault => StopLine::new(),
+        End::Absent => fixed_line(b"stop 6 script\n"),
+        End::NoMemory => fixed_line(b"stop 7 memory\n"),
     }
 }
 
@@ -59,6 +111,7 @@ pub fn stop<K: Sink>(out: &mut K, end: End) -> u8
     ensures status { result ≡ number end }
     ensures line { Tells (K.seen out.old) (K.seen out.new) (stop_line end) }
 {
-    let _ = write_all(out, line_of(end));
+    let line = line_of(end);
+    let _ = write_all(out, line.as_slice());
     status_of(end)
 }

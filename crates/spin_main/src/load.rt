@@ -4,11 +4,13 @@ ghost use Rattle.std.specs.Prelude.{◌≡◌, ◌<◌, ℕ, List, Some, length,
 ghost use Rattle.spin_outside.specs.Files.{content, IsLacking};
 ghost use Rattle.spin_main.specs.Statuses.{IsContent, LoadsByCount};
 
-use crate::reader::MAX_BYTES;
 use spin_outside::{FindFault, Shelf, TakeFault, read_up_to};
 use spin_values::{Octets, Text};
 use std::alloc::Global;
 use thiserror::Error;
+
+/// The most bytes of a script.
+pub const MAX_BYTES: u32 = 1_048_576;
 
 /// Why a script wasn't loaded.
 #[derive(Clone, Copy, Debug, PartialEq, Eq, Error)]

@@ -1,7 +1,7 @@
 //! The words of the command line.
 
 ghost use Rattle.std.specs.Prelude.{◌≡◌, ℕ, List, IfSome, IfNone, IsTrue, codes};
-ghost use Rattle.spin_main.specs.Script.{IsRun, IsPlainName};
+ghost use Rattle.spin_main.specs.Words.{IsRun, IsPlainName};
 
 use spin_values::Text;
 

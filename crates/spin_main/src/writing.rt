@@ -1,17 +1,25 @@
-//! The report of a script, written to a sink.
+//! The report of a lane, written to a sink.
 
-ghost use Rattle.std.specs.Prelude.{◌<◌, ℕ, length, take, MatchResult, OnOk, IsErrOf};
+ghost use Rattle.std.specs.Prelude.{◌≡◌, ◌<◌, ◌≤◌, ℕ, false, None, length, take, map, MatchResult, IfOk, OnOk, IsErrOf};
+ghost use Rattle.std.specs.List.{All};
 ghost use Rattle.std.specs.Io.KnownBytes.{Appends};
 ghost use Rattle.spin_outside.specs.Counts.{FailsByCount};
-ghost use Rattle.spin_main.specs.Script.{IsBody, IsResult};
-ghost use Rattle.spin_main.specs.Report.{ended, first_line, joined};
+ghost use Rattle.spin_table.specs.SetupOf.{data_of};
+ghost use Rattle.spin_report.specs.Words.{ended};
+ghost use Rattle.spin_report.specs.Lines.{entry_line};
+ghost use Rattle.spin_report.specs.Histories.{first_line, segment_line, end_line};
+ghost use Rattle.spin_main.specs.Scripts.{some_force_apart};
+ghost use Rattle.spin_main.specs.Lanes.{commands_in, IsForOneLane, later_lines, joined};
 ghost use Rattle.spin_main.specs.Statuses.{WritesReport, CutsReport, ReportsByCount};
 
-use crate::dispatcher::run_script;
-use crate::report::later_lines;
-use crate::script::Script;
+use crate::lane::run_lane;
+use spin_code::Sincere;
+use spin_objects::Catalogue;
 use spin_outside::{Failed, Sink, write_all};
-use spin_values::Octets;
+use spin_report::{Entry, end_text, entry_text, segment_text};
+use spin_script::Line;
+use spin_table::Setup;
+use spin_values::{NoMemory, Octets, Sequence};
 use std::alloc::Global;
 use thiserror::Error;
 
@@ -24,6 +32,46 @@ pub enum ReportFault {
     /// There was no memory for the report.
     #[error("out of memory")]
     NoMemory,
+}
+
+/// Lines of a report, each ended by its line feed.
+type TextLines = Sequence<Octets>;
+
+fn segment_line(alloc: Global) -> Result<Octets, NoMemory>
+    ensures { IfOk result (λ line. line ≡ ended (segment_line 0 0)) }
+{
+    let mut line = Octets::new(alloc);
+    segment_text(0, 0, &mut line)?;
+    Ok(line)
+}
+
+fn entry_line(alloc: Global, entry: &Entry) -> Result<Octets, NoMemory>
+    ensures { IfOk result (λ line. line ≡ ended (entry_line entry.now)) }
+{
+    let mut line = Octets::new(alloc);
+    entry_text(entry, &mut line)?;
+    Ok(line)
+}
+
+fn end_line(alloc: Global, length: u16) -> Result<Octets, NoMemory>
+    ensures { IfOk result (λ line. line ≡ ended (end_line length None)) }
+{
+    let mut line = Octets::new(alloc);
+    end_text(length, &mut line)?;
+    Ok(line)
+}
+
+/// The report's lines after the first.
+fn later_lines(alloc: Global, entries: &[Entry], end: u16) -> Result<TextLines, NoMemory>
+    ensures { IfOk result (λ lines. lines ≡ map ended (later_lines entries.now end)) }
+{
+    let mut lines = TextLines::new(alloc);
+    lines.push(segment_line(alloc)?)?;
+    for entry in entries {
+        lines.push(entry_line(alloc, entry)?)?;
+    }
+    lines.push(end_line(alloc, end)?)?;
+    Ok(lines)
 }
 
 /// Writes the lines, each by one call.
@@ -41,28 +89,35 @@ fn write_lines<K: Sink>(out: &mut K, lines: &[Octets]) -> Result<(), Failed>
     Ok(())
 }
 
-/// Runs the script and writes its report, each line by one call.
+/// Does the lines of a lane and writes the report, each line by one call.
 ///
-/// The first line is written before the script is run. So after want of memory it has been written, and no line
-/// after it.
-pub fn write_report<K: Sink>(alloc: Global, script: &Script, out: &mut K) -> Result<(), ReportFault>
-    requires body { IsBody script.now.lines }
-    requires result { IsResult script.now.result }
-    ensures whole { OnOk result (WritesReport script.now (K.seen out.old).told (K.seen out.new).told) }
-    ensures cut { IsErrOf result ReportFault.Failed → CutsReport script.now (K.seen out.old).told (K.seen out.new).told }
+/// The first line is written before the lane is run, and all others are made before the second is written. So after
+/// want of memory the first has been written, and no line after it. It takes time linear in the history's steps.
+pub fn write_report<K: Sink>(
+    alloc: Global,
+    setup: &Setup,
+    lines: &[Line],
+    out: &mut K,
+) -> Result<(), ReportFault>
+    requires sincere { ⟦<Catalogue as Sincere>⟧.sincere setup.now.catalogue }
+    requires works { All (λ line. IsForOneLane line.work) lines.now }
+    requires unforced { some_force_apart (data_of setup.now) ≡ false }
+    requires few { commands_in lines.now ≤ 4096 }
+    ensures whole { OnOk result (WritesReport (data_of setup.now) lines.now (K.seen out.old).told (K.seen out.new).told) }
+    ensures cut { IsErrOf result ReportFault.Failed → CutsReport (data_of setup.now) lines.now (K.seen out.old).told (K.seen out.new).told }
     ensures memory { IsErrOf result ReportFault.NoMemory → Appends (K.seen out.old).told (K.seen out.new).told (ended first_line) }
     ensures cause { ReportsByCount (K.seen out.old).faults (K.seen out.new).faults result }
 {
     if let Err(_) = write_all(out, b"report 1\n") {
         return Err(ReportFault::Failed);
     }
-    let Ok(entries) = run_script(alloc, script) else {
+    let Ok(history) = run_lane(alloc, setup, lines) else {
         return Err(ReportFault::NoMemory);
     };
-    let Ok(lines) = later_lines(alloc, entries.as_slice()) else {
+    let Ok(texts) = later_lines(alloc, history.entries.as_slice(), history.end) else {
         return Err(ReportFault::NoMemory);
     };
-    match write_lines(out, lines.as_slice()) {
+    match write_lines(out, texts.as_slice()) {
         Ok(()) => Ok(()),
         Err(_) => Err(ReportFault::Failed),
     }

@@ -15,7 +15,7 @@ mod verdict;
 
 pub use entry::{Entries, Entry, What};
 pub use law::report_tells;
-pub use text::{entry_text, job_text};
+pub use text::{end_text, entry_text, job_text, segment_text};
 
 #[cfg(test)]
 mod tests;

@@ -1,8 +1,9 @@
 //! Whole lines.
 
-ghost use Rattle.std.specs.Prelude.{◌≡◌, ◌++◌, ◌∷◌, [], OnOk, OnErr};
+ghost use Rattle.std.specs.Prelude.{◌≡◌, ◌++◌, ◌∷◌, [], None, OnOk, OnErr};
 ghost use Rattle.spin_report.specs.Words.{spaced, line_of, ended};
 ghost use Rattle.spin_report.specs.Lines.{line_word, what_words, entry_words, job_words, entry_line, job_line, job_seen};
+ghost use Rattle.spin_report.specs.Histories.{segment_line, end_line};
 
 use crate::entry::{Entry, What};
 use crate::putting::{put_digits, put_number, put_word};
@@ -64,6 +65,46 @@ fn put_job(out: &mut Octets, job: &Job, reply: &Reply) -> Result<(), NoMemory>
     put_line_word(out, job.line, job.part)?;
     put_number(out, u64::from(job.index))?;
     put_reply(out, reply)
+}
+
+fn put_segment(out: &mut Octets, number: u32, start: u16) -> Result<(), NoMemory>
+    ensures { OnOk result (out.new ≡ out.old ++ segment_line number start) }
+{
+    out.extend_from_slice(b"segment")?;
+    put_number(out, u64::from(number))?;
+    put_word(out, b"at")?;
+    put_number(out, u64::from(start))
+}
+
+fn put_end(out: &mut Octets, length: u16) -> Result<(), NoMemory>
+    ensures { OnOk result (out.new ≡ out.old ++ end_line length None) }
+{
+    out.extend_from_slice(b"end")?;
+    put_number(out, u64::from(length))
+}
+
+/// Appends the line that begins the entries of a segment: the segment's number, counted from 0, and how many commands
+/// were accepted before it. After want of memory `out` is unchanged.
+pub fn segment_text(number: u32, start: u16, out: &mut Octets) -> Result<(), NoMemory>
+    ensures ok { OnOk result (out.new ≡ out.old ++ ended (segment_line number start)) }
+    ensures err { OnErr result (out.new ≡ out.old) }
+{
+    let mut line = Octets::new(out.allocator());
+    put_segment(&mut line, number, start)?;
+    line.push(b'\n')?;
+    out.append(&mut line)
+}
+
+/// Appends the last line of the report of a run without a capture: how many commands were accepted in all. After want
+/// of memory `out` is unchanged.
+pub fn end_text(length: u16, out: &mut Octets) -> Result<(), NoMemory>
+    ensures ok { OnOk result (out.new ≡ out.old ++ ended (end_line length None)) }
+    ensures err { OnErr result (out.new ≡ out.old) }
+{
+    let mut line = Octets::new(out.allocator());
+    put_end(&mut line, length)?;
+    line.push(b'\n')?;
+    out.append(&mut line)
 }
 
 /// Appends the line of an entry: its place, its lane, its line, what was asked and what that came to. The line of a

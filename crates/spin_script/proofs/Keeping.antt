@@ -1,0 +1,101 @@
+-- A line that was read keeps the script so far sound.
+use Rattle.std.proofs.Common.{◌≡◌, ◌≤◌, ℕ, Bool, true, false, List, [], ◌∷◌, Option, Some, None, Result, Ok, Err, IfOk, refl, sym, ap, subst, ◌∙◌, arith}
+use Rattle.std.specs.Prelude.{◌==◌, if◌then◌else◌, slice_index, IsTrue}
+use Rattle.std.specs.List.{list_all}
+use Rattle.spin_word.specs.declared.command.Command.{Command}
+use Rattle.spin_word.specs.Commands.{is_command}
+use Rattle.spin_grammar.specs.declared.cause.Cause.TheVariants as cause
+use Rattle.spin_grammar.specs.declared.fault.Fault.{Fault}
+use Rattle.spin_grammar.specs.declared.kind.Kind.{Kind}
+use Rattle.spin_grammar.specs.declared.line.Said.{Said}
+use Rattle.spin_grammar.specs.declared.line.Said.TheVariants as said
+use Rattle.spin_grammar.specs.declared.task.Task as code
+use Rattle.spin_grammar.specs.declared.task.Task.TheVariants as task
+use Rattle.spin_grammar.specs.Forms.{Task, Install, Remove, Replace, Default, NoDefault, Raise, Later, Packet}
+use Rattle.spin_grammar.specs.Tasks.{IsTask, IsValidTask}
+use Rattle.spin_grammar.specs.Lines.{Line, Stands, GivesLine, IsInRange, kind_of}
+use Rattle.spin_grammar.specs.Words.{words}
+use Rattle.spin_script.specs.Sections.{first_words, look_up, is_out_of_order}
+use Rattle.spin_script.specs.States.{NativeData, State, work_of}
+use Rattle.spin_script.specs.Language.{Skipped, Says, is_allowed, version_of, first_head, kind_head, words_head, head}
+use Rattle.spin_script.specs.Reader.{AddsSaid}
+use Rattle.spin_script.specs.Soundness.{IsValidWork, IsSound}
+use Rattle.spin_script.proofs.Sound.{IsLineInRange, sound_after}
+
+-- ---- ranges
+
+valid_command : (c d : Command) (lane : ℕ) → (lane ≤ 15 → IsTrue (is_command c)) → c ≡ d → lane ≤ 7 → IsTrue (is_command d)
+valid_command c d lane valid same there = subst (λ (e : Command). IsTrue (is_command e)) same (valid (omega arith))
+
+valid_work : (lane : ℕ) (r : code.Task) (t : Task) → IsValidTask lane r → IsTask lane r t → lane ≤ 7 → IsValidWork (work_of lane t)
+valid_work lane (task.Command c) (Install e m h g s md) valid is there = valid_command c _ lane valid is there
+valid_work lane (task.Command c) (Remove e m n) valid is there = valid_command c _ lane valid is there
+valid_work lane (task.Command c) (Replace e m n h g) valid is there = valid_command c _ lane valid is there
+valid_work lane (task.Command c) (Default e m h) valid is there = valid_command c _ lane valid is there
+valid_work lane (task.Command c) (NoDefault e m) valid is there = valid_command c _ lane valid is there
+valid_work lane (task.Command c) (Raise e args) valid is there = tt
+valid_work lane (task.Command c) (Later e args) valid is there = tt
+valid_work lane (task.Command c) (Packet e k) valid is there = tt
+valid_work lane (task.Raise e args) t valid is there = subst (λ (u : Task). IsValidWork (work_of lane u)) (sym is) tt
+valid_work lane (task.Later e args) t valid is there = subst (λ (u : Task). IsValidWork (work_of lane u)) (sym is) tt
+valid_work lane (task.Packet e k) t valid is there = subst (λ (u : Task). IsValidWork (work_of lane u)) (sym is) tt
+
+line_in_range : (r : Said) (l : Line) → IsInRange r → Stands r l → IsLineInRange l
+line_in_range (said.Modules n) l range is = subst IsLineInRange (sym is) range
+line_in_range (said.Event e owner sig o) l range is = subst IsLineInRange (sym is.1) range
+line_in_range (said.Endpoint p name) l range is = subst IsLineInRange (sym is) tt
+line_in_range (said.Handler h sig o) l range is = subst IsLineInRange (sym is.1) tt
+line_in_range (said.NativeHandler h name) l range is = subst IsLineInRange (sym is) tt
+line_in_range (said.Guard g sig o) l range is = subst IsLineInRange (sym is.1) tt
+line_in_range (said.NativeGuard g name) l range is = subst IsLineInRange (sym is) tt
+line_in_range (said.Rule e r) l range is = subst IsLineInRange (sym is) tt
+line_in_range (said.Authoriser e name) l range is = subst IsLineInRange (sym is) tt
+line_in_range (said.Default e h) l range is = subst IsLineInRange (sym is) tt
+line_in_range (said.Lane lane r) l range is = subst IsLineInRange (sym is.1) (valid_work lane r is.0 range is.2)
+line_in_range said.Barrier l range is = subst IsLineInRange (sym is) tt
+line_in_range (said.Retire p) l range is = subst IsLineInRange (sym is) tt
+
+pub said_sound : {A : Type 0} (n : NativeData) (s : State) (number : ℕ) (k : Kind) (ws : List (List ℕ)) (what : Said) (r : Result A Fault) (t : State)
+    → GivesLine s.version k ws (Ok what) → IsInRange what → AddsSaid n s number what r t → is_out_of_order k s.section s.begins ≡ false
+    → IsSound n s → IfOk r (λ _. IsSound n t)
+said_sound n s number k ws what (Ok a) t gives range adds order x =
+    let added = adds gives.0 gives.2 in
+    let rises : is_out_of_order (kind_of gives.0) s.section s.begins ≡ false = ap (λ (j : Kind). is_out_of_order j s.section s.begins) gives.1.kind ∙ order in
+    subst (λ (u : State). IsSound n u) (sym added.1) (sound_after n s number gives.0 (line_in_range what gives.0 range gives.2) rises added.0 x)
+said_sound n s number k ws what (Err f) t gives range adds order x = tt
+
+-- the first line names a version
+pub begun_sound : (n : NativeData) (s : State) (version : ℕ) → IsSound n s → IsSound n (record s { version = version })
+begun_sound n s version x = record { declared = x.declared; ordered = x.ordered; asked = x.asked }
+
+-- ---- order
+
+ordered_says : (j k : Kind) (b : Bool) (ws vs : List (List ℕ)) → (if b then Err cause.Order else Ok (Says j ws)) ≡ Ok (Says k vs) → (b ≡ false) × (j ≡ k)
+ordered_says j k true ws vs e = cc
+ordered_says j k false ws vs e = (refl, cc)
+
+known_says : (s : State) (o : Option Kind) (k : Kind) (ws vs : List (List ℕ)) → kind_head s o ws ≡ Ok (Says k vs) → is_out_of_order k s.section s.begins ≡ false
+known_says s None k ws vs e = cc
+known_says s (Some j) k ws vs e =
+    let says = ordered_says j k (is_out_of_order j s.section s.begins) ws vs e in
+    ap (λ (i : Kind). is_out_of_order i s.section s.begins) (sym says.1) ∙ says.0
+
+first_says : (o : Option ℕ) (k : Kind) (vs : List (List ℕ)) → first_head o ≡ Ok (Says k vs) → ⊥
+first_says None k vs e = cc
+first_says (Some version) k vs e = cc
+
+words_say : (s : State) (skips begins : Bool) (o : Option ℕ) (j : Option Kind) (k : Kind) (ws vs : List (List ℕ))
+    → (if skips then Ok Skipped else (if begins then first_head o else kind_head s j ws)) ≡ Ok (Says k vs) → is_out_of_order k s.section s.begins ≡ false
+words_say s true begins o j k ws vs e = cc
+words_say s false true o j k ws vs e = absurd (first_says o k vs e)
+words_say s false false o j k ws vs e = known_says s j k ws vs e
+
+line_says : (s : State) (allowed : Bool) (ws : List (List ℕ)) (k : Kind) (vs : List (List ℕ)) → (if allowed then words_head s ws else Err cause.NotAscii) ≡ Ok (Says k vs) → is_out_of_order k s.section s.begins ≡ false
+line_says s false ws k vs e = cc
+line_says s true [] k vs e = cc
+line_says s true (w ∷ ws) k vs e = words_say s (slice_index w 0 == 35) (s.version == 0) (version_of (w ∷ ws)) (look_up w first_words) k ws vs e
+
+-- a line that says something stands in its section
+pub head_in_order : (s : State) (line : List ℕ) (k : Kind) (ws : List (List ℕ)) → head s line ≡ Ok (Says k ws) → is_out_of_order k s.section s.begins ≡ false
+unfolding head
+head_in_order s line k ws e = line_says s (list_all is_allowed line) (words line) k ws e

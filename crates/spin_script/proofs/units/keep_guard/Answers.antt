@@ -1,0 +1,16 @@
+use Rattle.std.proofs.Common.{ap}
+use Rattle.spin_objects.specs.Units.{native_handlers, native_guards}
+use Rattle.spin_script.proofs.Bodies.{check_added, same_bodies}
+use Rattle.spin_script.proofs.units.keep_guard.Goals as goal
+
+pub returns-in-Ok-clause-checks : goal.returns-in-Ok-clause-checks
+returns-in-Ok-clause-checks g c =
+    let old = c.args.catalogue.now in
+    let new = c.add_guard.new.self in
+    check_added (native_guards new.natives) (native_guards old.natives) old.checks new.checks c.args.check (ap native_guards c.in-Ok.ensures.natives) c.in-Ok.ensures.added c.in-Ok.ensures.as_native
+
+pub returns-in-Ok-clause-bodies : goal.returns-in-Ok-clause-bodies
+returns-in-Ok-clause-bodies g c =
+    let old = c.args.catalogue.now in
+    let new = c.add_guard.new.self in
+    same_bodies (native_handlers new.natives) (native_handlers old.natives) old.bodies new.bodies (ap native_handlers c.in-Ok.ensures.natives) c.in-Ok.ensures.handlers c.in-Ok.ensures.handler_natives

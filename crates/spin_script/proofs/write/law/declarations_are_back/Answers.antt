@@ -1,0 +1,5 @@
+use Rattle.spin_script.proofs.Declared.{declarations_back}
+use Rattle.spin_script.proofs.write.law.declarations_are_back.Goals as goal
+
+pub returns : goal.returns
+returns c = declarations_back

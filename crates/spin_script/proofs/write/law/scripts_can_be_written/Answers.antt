@@ -1,0 +1,5 @@
+use Rattle.spin_script.proofs.Rewritten.{rewritten}
+use Rattle.spin_script.proofs.write.law.scripts_can_be_written.Goals as goal
+
+pub returns : goal.returns
+returns c = rewritten

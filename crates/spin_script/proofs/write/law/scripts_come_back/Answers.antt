@@ -1,0 +1,5 @@
+use Rattle.spin_script.proofs.Back.{come_back}
+use Rattle.spin_script.proofs.write.law.scripts_come_back.Goals as goal
+
+pub returns : goal.returns
+returns c = come_back

@@ -1,0 +1,12 @@
+pub mod Sections
+pub mod States
+pub mod Checks
+pub mod Language
+pub mod Drafts
+pub mod Reader
+pub mod Scripts
+pub mod Soundness
+pub mod Laws
+pub mod Canonical
+pub mod RoundTrip
+pub mod Declaring

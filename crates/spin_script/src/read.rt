@@ -1,0 +1,239 @@
+//! Reading whole scripts.
+
+ghost use Rattle.std.specs.Prelude.{◌≡◌, false, ◌<◌, ◌≤◌, ◌^◌, ◌==◌, [], length, IfOk};
+ghost use Rattle.spin_script.specs.Sections.{is_out_of_order};
+ghost use Rattle.spin_script.specs.States.{start, natives_seen, most_live, script_in};
+ghost use Rattle.spin_script.specs.Drafts.{so_far};
+ghost use Rattle.spin_script.specs.Reader.{AddsSaid, GivesSaid, GivesState};
+ghost use Rattle.spin_script.specs.Scripts.{cause_number, script_seen, GivesDraft, GivesScript};
+ghost use Rattle.spin_script.specs.Soundness.{IsSound, AreValid, command_lines};
+ghost use Rattle.spin_grammar.specs.Lines.{Line, Stands, IsInRange};
+ghost use Rattle.spin_script.specs.Canonical.{canonical};
+ghost use Rattle.spin_script.specs.RoundTrip.{ComesBack};
+ghost use Rattle.spin_script.specs.Declaring.{Grows, IsDeclared};
+
+use crate::declare::{add_endpoint, add_event, add_modules};
+use crate::draft::Draft;
+use crate::head::{Found, find_head};
+use crate::lanes::{add_barrier, add_lane, add_retire};
+use crate::rules::{add_authoriser, add_default, add_rule};
+use crate::script::{Script, ScriptFault};
+use crate::units::{add_guard, add_handler, add_native_guard, add_native_handler};
+use spin_code::Sincere;
+use spin_grammar::breaks::Lines;
+use spin_grammar::kind::Kind;
+use spin_grammar::line::{Said, read_line};
+use spin_grammar::{Cause, Fault, Words};
+use spin_objects::{Catalogue, Natives};
+use spin_table::{EventList, Setup};
+use spin_values::NoMemory;
+use std::alloc::Global;
+
+/// The greatest length of a script in bytes.
+pub const MAX_BYTES: usize = 1_048_576;
+
+/// Adds a line that was read.
+fn add(
+    alloc: Global,
+    draft: &mut Draft,
+    catalogue: &mut Catalogue,
+    said: Said,
+    number: u32,
+) -> Result<(), Fault>
+    requires range { IsInRange said }
+    requires sincere { ⟦<Catalogue as Sincere>⟧.sincere catalogue.old }
+    ensures sincere { ⟦<Catalogue as Sincere>⟧.sincere catalogue.new }
+    ensures natives { catalogue.new.natives ≡ catalogue.old.natives }
+    ensures adds { AddsSaid (natives_seen catalogue.old.natives) (so_far draft.old catalogue.old) number said result (so_far draft.new catalogue.new) }
+    ensures grows { (l : Line) → Stands said l → Grows (natives_seen catalogue.old.natives) catalogue.old.bodies catalogue.old.checks l result catalogue.new.bodies catalogue.new.checks }
+{
+    match said {
+        Said::Modules(modules) => add_modules(draft, modules),
+        Said::Event {
+            number,
+            owner,
+            sig,
+            merge,
+        } => add_event(alloc, draft, number, owner, sig, merge),
+        Said::Endpoint { number, name } => add_endpoint(draft, number, name),
+        Said::Handler { number, sig, steps } => add_handler(draft, catalogue, number, sig, steps),
+        Said::NativeHandler { number, name } => add_native_handler(draft, catalogue, number, name),
+        Said::Guard { number, sig, test } => add_guard(draft, catalogue, number, sig, test),
+        Said::NativeGuard { number, name } => add_native_guard(draft, catalogue, number, name),
+        Said::Rule { event, rule } => add_rule(draft, catalogue, event, rule),
+        Said::Authoriser { event, name } => add_authoriser(draft, catalogue, event, name),
+        Said::Default { event, handler } => add_default(draft, catalogue, event, handler),
+        Said::Lane { lane, task } => add_lane(draft, number, lane, task),
+        Said::Barrier => add_barrier(alloc, draft),
+        Said::Retire(endpoint) => add_retire(draft, endpoint),
+    }
+}
+
+/// Reads the words of a line of this kind, and adds the line to the script so far.
+#[tactic(auto, using(crate::proofs::Whole::said_gives))]
+fn say(
+    alloc: Global,
+    draft: &mut Draft,
+    catalogue: &mut Catalogue,
+    words: &mut Words,
+    kind: Kind,
+    number: u32,
+) -> Result<(), Fault>
+    requires short { length words.old < 2 ^ 31 }
+    requires order { is_out_of_order kind draft.old.section draft.old.begins ≡ false }
+    requires begun { (draft.old.version == 0) ≡ false }
+    requires sound { IsSound (natives_seen catalogue.old.natives) (so_far draft.old catalogue.old) }
+    requires declared { IsDeclared (natives_seen catalogue.old.natives) (so_far draft.old catalogue.old) catalogue.old.bodies catalogue.old.checks }
+    requires sincere { ⟦<Catalogue as Sincere>⟧.sincere catalogue.old }
+    ensures sincere { ⟦<Catalogue as Sincere>⟧.sincere catalogue.new }
+    ensures natives { catalogue.new.natives ≡ catalogue.old.natives }
+    ensures sound { IfOk result (λ _. IsSound (natives_seen catalogue.old.natives) (so_far draft.new catalogue.new)) }
+    ensures declared { IfOk result (λ _. IsDeclared (natives_seen catalogue.old.natives) (so_far draft.new catalogue.new) catalogue.new.bodies catalogue.new.checks) }
+    ensures gives { GivesSaid (natives_seen catalogue.old.natives) (so_far draft.old catalogue.old) number kind words.old result (so_far draft.new catalogue.new) }
+{
+    let said = read_line(alloc, words, draft.version, kind)?;
+    add(alloc, draft, catalogue, said, number)
+}
+
+/// Reads a line, and adds it to the script so far.
+#[tactic(auto, using(crate::proofs::Whole::line_gives, crate::proofs::Keeping::begun_sound))]
+fn take_line(
+    alloc: Global,
+    draft: &mut Draft,
+    catalogue: &mut Catalogue,
+    line: &[u8],
+    number: u32,
+) -> Result<(), Fault>
+    requires short { length line.now < 2 ^ 30 }
+    requires sound { IsSound (natives_seen catalogue.old.natives) (so_far draft.old catalogue.old) }
+    requires declared { IsDeclared (natives_seen catalogue.old.natives) (so_far draft.old catalogue.old) catalogue.old.bodies catalogue.old.checks }
+    requires sincere { ⟦<Catalogue as Sincere>⟧.sincere catalogue.old }
+    ensures sincere { ⟦<Catalogue as Sincere>⟧.sincere catalogue.new }
+    ensures natives { catalogue.new.natives ≡ catalogue.old.natives }
+    ensures sound { IfOk result (λ _. IsSound (natives_seen catalogue.old.natives) (so_far draft.new catalogue.new)) }
+    ensures declared { IfOk result (λ _. IsDeclared (natives_seen catalogue.old.natives) (so_far draft.new catalogue.new) catalogue.new.bodies catalogue.new.checks) }
+    ensures gives { GivesState (natives_seen catalogue.old.natives) (so_far draft.old catalogue.old) number line.now result (so_far draft.new catalogue.new) }
+{
+    match find_head(draft, line) {
+        Err(cause) => Err(Fault::Bad(cause)),
+        Ok(Found::Skipped) => Ok(()),
+        Ok(Found::Begins(version)) => {
+            draft.version = version;
+            Ok(())
+        }
+        Ok(Found::Says(kind, mut words)) => {
+            say(alloc, draft, catalogue, &mut words, kind, number)
+        }
+    }
+}
+
+/// The number of a cause.
+fn cause_number(cause: Cause) -> u8
+    ensures { result ≡ cause_number cause }
+{
+    cause as u8
+}
+
+/// The refusal of a line.
+fn bad(line: u32, cause: Cause) -> ScriptFault
+    ensures { result ≡ ScriptFault.Bad line (cause_number cause) }
+{
+    ScriptFault::Bad {
+        line,
+        cause: cause_number(cause),
+    }
+}
+
+/// Reads all lines behind an empty draft.
+#[tactic(auto, using(crate::proofs::Whole::comes_on, crate::proofs::Whole::comes_bad, crate::proofs::Whole::comes_end, crate::proofs::Whole::is_script, crate::proofs::Declaring::start_declared))]
+fn read_lines(
+    alloc: Global,
+    text: &[u8],
+    draft: &mut Draft,
+    catalogue: &mut Catalogue,
+) -> Result<(), ScriptFault>
+    requires short { length text.now ≤ 1048576 }
+    requires start { so_far draft.old catalogue.old ≡ start }
+    requires bodies { catalogue.old.bodies ≡ [] }
+    requires checks { catalogue.old.checks ≡ [] }
+    requires sincere { ⟦<Catalogue as Sincere>⟧.sincere catalogue.old }
+    ensures sincere { ⟦<Catalogue as Sincere>⟧.sincere catalogue.new }
+    ensures natives { catalogue.new.natives ≡ catalogue.old.natives }
+    ensures sound { IfOk result (λ _. IsSound (natives_seen catalogue.old.natives) (so_far draft.new catalogue.new)) }
+    ensures declared { IfOk result (λ _. IsDeclared (natives_seen catalogue.old.natives) (so_far draft.new catalogue.new) catalogue.new.bodies catalogue.new.checks) }
+    ensures gives { GivesDraft (natives_seen catalogue.old.natives) text.now result (so_far draft.new catalogue.new) }
+{
+    let mut lines = Lines::new(text);
+    let mut number: u32 = 0;
+    while let Some(line) = lines.next() {
+        number += 1;
+        match take_line(alloc, draft, catalogue, line, number) {
+            Ok(()) => {}
+            Err(Fault::Bad(cause)) => return Err(bad(number, cause)),
+            Err(Fault::NoMemory) => return Err(ScriptFault::NoMemory),
+        }
+    }
+    Ok(())
+}
+
+/// The greatest number of live bindings of an event, in a script of this version.
+fn most_live(version: u8) -> u16
+    ensures { result ≡ most_live version }
+{
+    if version == 3 { 64 } else { 32 }
+}
+
+/// The script of a sound draft.
+fn build(draft: Draft, catalogue: Catalogue) -> Result<Script, NoMemory>
+    requires sound { IsSound (natives_seen catalogue.natives) (so_far draft catalogue) }
+    requires sincere { ⟦<Catalogue as Sincere>⟧.sincere catalogue }
+    ensures catalogue { IfOk result (λ s. s.setup.catalogue ≡ catalogue) }
+    ensures sincere { IfOk result (λ s. ⟦<Catalogue as Sincere>⟧.sincere s.setup.catalogue) }
+    ensures script { IfOk result (λ s. script_seen s ≡ script_in (natives_seen catalogue.natives) (so_far draft catalogue)) }
+{
+    let mut segments = draft.ended;
+    segments.push(draft.segment)?;
+    let live = most_live(draft.version);
+    let events = EventList::from_vec(draft.events);
+    match Setup::build(draft.modules, live, events, catalogue) {
+        Ok(setup) => Ok(Script {
+            setup,
+            version: draft.version,
+            endpoints: draft.endpoints,
+            lanes: draft.lanes,
+            segments,
+        }),
+        Err(_) => unreachable!(),
+    }
+}
+
+/// Reads a script, in which these natives may be named, or finds its first bad line and why it is bad.
+///
+/// [`ScriptFault::Bad`] comes exactly where the text isn't in the language: its line is the first that can't stand
+/// behind the lines before it, counted from 1, and its cause the number of the first [`Cause`] that applies there, or 0
+/// and 1 where the text is over [`MAX_BYTES`]. Of a script each command is valid, and at most 4,096 lines are commands.
+/// After a refusal the natives are dropped. It takes time and memory linear in the text, and no stack that grows with
+/// it.
+///
+/// What [`write_script`](crate::write_script) writes of the script is read again as that script, but for the numbers of
+/// its lines, unless it is over [`MAX_BYTES`].
+pub fn read_script(alloc: Global, text: &[u8], natives: Natives) -> Result<Script, ScriptFault>
+    requires sincere { ⟦<Natives as Sincere>⟧.sincere natives }
+    ensures script { GivesScript (natives_seen natives) text.now result }
+    ensures natives { IfOk result (λ s. s.setup.catalogue.natives ≡ natives) }
+    ensures sincere { IfOk result (λ s. ⟦<Catalogue as Sincere>⟧.sincere s.setup.catalogue) }
+    ensures valid { IfOk result (λ s. AreValid s.segments) }
+    ensures few { IfOk result (λ s. command_lines s.segments ≤ 4096) }
+    ensures back { IfOk result (λ s. ComesBack (natives_seen natives) (canonical s) (script_seen s)) }
+{
+    if text.len() > MAX_BYTES {
+        return Err(bad(0, Cause::TooLarge));
+    }
+    let mut draft = Draft::new(alloc);
+    let mut catalogue = Catalogue::new(alloc, natives);
+    read_lines(alloc, text, &mut draft, &mut catalogue)?;
+    if draft.version == 0 {
+        return Err(bad(1, Cause::Version));
+    }
+    Ok(build(draft, catalogue)?)
+}
