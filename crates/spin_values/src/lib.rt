@@ -7,15 +7,17 @@
 //! - [`no_memory`] is the one answer for want of memory.
 #![tactic(auto)]
 
-pub mod list;
-pub mod no_memory;
-pub mod steps;
+mod limits;
+mod list;
+mod no_memory;
+mod steps;
 #[cfg(test)]
 mod tests;
-pub mod text;
-pub mod types;
-pub mod values;
+mod text;
+mod types;
+mod values;
 
+pub use limits::limits_are_stated;
 pub use list::{Numbers, Octets, Sequence, Words};
 pub use no_memory::NoMemory;
 pub use steps::Steps;

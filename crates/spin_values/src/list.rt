@@ -1,10 +1,16 @@
 //! The list that every list type of the project is made of.
 
-ghost use Rattle.std.specs.Prelude.{◌≡◌, ◌==◌, ◌<◌, ◌++◌, [], ◌∷◌, length, slice_get, slice_set, Some, OnOk, OnErr, IfOk, MatchOption};
+ghost use Rattle.std.specs.Prelude.{◌≡◌, ◌==◌, ◌<◌, ◌^◌, ◌++◌, [], ◌∷◌, length, slice_get, slice_set, Some, OnOk, OnErr, IfOk, MatchOption};
+ghost use Rattle.std.specs.Iterator.Adapters.{IterYieldsInOrder, IterYieldsInReverse};
+ghost use Rattle.std.specs.Iterator.Runs.{EveryRun, ItemsMapTo, ItemsAre};
+ghost use Rattle.std.specs.Slice.Iter.{iter_rest, iter_steps};
+ghost use Rattle.std.specs.Vec.Iter.{into_iter_items, into_iter_len, into_iter_steps};
 
 use crate::no_memory::NoMemory;
 use std::alloc::Global;
 use std::marker::Model;
+use std::ops::DerefSlice;
+use std::{slice, vec};
 
 /// Bytes, as an event carries them.
 pub type Octets = Sequence<u8>;
@@ -98,6 +104,61 @@ impl<T> Sequence<T> {
     {
         self.items.as_slice()
     }
+
+    /// The items in order, one after another.
+    pub fn iter(&self) -> slice::Iter<'_, T>
+        ensures rest { iter_rest result ≡ self.now }
+        ensures len { length (iter_rest result) ≡ length self.now }
+        ensures bound { length (iter_rest result) < 2 ^ 64 }
+        ensures runs { IterYieldsInOrder T }
+        ensures runs_back { IterYieldsInReverse T }
+    {
+        self.items.iter()
+    }
+}
+
+impl<T> DerefSlice for Sequence<T> {
+    type Elem = T;
+
+    ghost deref_gives = { λ s shown. shown ≡ s };
+
+    fn deref(&self) -> &[T] {
+        self.as_slice()
+    }
+}
+
+impl<'a, T> IntoIterator for &'a Sequence<T> {
+    type Item = &'a T;
+
+    type IntoIter = slice::Iter<'a, T>;
+
+    ghost into_iter_gives = { λ s it.
+        (iter_rest it ≡ s.now)
+        × (length (iter_rest it) < 2 ^ 64)
+        × EveryRun (iter_steps {A = T}) (λ p. ItemsMapTo p (λ y. y.now) (iter_rest p.from)) };
+
+    fn into_iter(self) -> slice::Iter<'a, T> {
+        self.iter()
+    }
+}
+
+impl<T: Drop> IntoIterator for Sequence<T> {
+    type Item = T;
+
+    type IntoIter = vec::IntoIter<T, Global>;
+
+    ghost use Rattle.std.specs.declared.alloc.Global.{Global};
+
+    ghost into_iter_gives = { λ s it.
+        (into_iter_items it ≡ s)
+        × (into_iter_len it ≡ length s)
+        × (into_iter_len it < 2 ^ 64)
+        × EveryRun (into_iter_steps {X = T} {Z = Global})
+        (λ p. ItemsAre p (into_iter_items p.from)) };
+
+    fn into_iter(self) -> vec::IntoIter<T, Global> {
+        self.items.into_iter()
+    }
 }
 
 impl<T: Drop> Sequence<T> {
@@ -129,9 +190,11 @@ impl<T: Drop> Sequence<T> {
     }
 
     /// Takes the first item out; `None` exactly where the list is empty. It takes no memory, and moves the
-    /// rest to the front: so a long list is walked by `as_slice` or taken apart by `into_vec`.
+    /// rest to the front: so a long list is walked by `iter` or taken apart by `into_iter`.
     pub fn take_first(&mut self) -> Option<T>
-        ensures { MatchOption result ((self.old ≡ []) × (self.new ≡ [])) (λ first. self.old ≡ first ∷ self.new) }
+        ensures { MatchOption result
+            ((self.old ≡ []) × (self.new ≡ []))
+            (λ first. self.old ≡ first ∷ self.new) }
     {
         if self.items.is_empty() {
             return None;
@@ -153,7 +216,8 @@ impl<T: Clone> Sequence<T> {
     /// Adds equal items at the end, where a clone of an item is equal to it. After want of memory the list is
     /// unchanged.
     pub fn extend_from_slice(&mut self, items: &[T]) -> Result<(), NoMemory>
-        ensures ok { OnOk result (((x y : T) → T.is_clone x y → y ≡ x) → self.new ≡ self.old ++ items.now) }
+        ensures ok { OnOk result (
+            ((x y : T) → T.is_clone x y → y ≡ x) → self.new ≡ self.old ++ items.now) }
         ensures err { OnErr result (self.new ≡ self.old) }
     {
         self.items.extend_from_slice(items)?;
@@ -173,6 +237,6 @@ impl Sequence<u8> {
     pub fn copy(&self) -> Result<Self, NoMemory>
         ensures { IfOk result (λ copy. copy ≡ self.now) }
     {
-        Self::from_bytes(self.allocator(), self.as_slice())
+        Self::from_bytes(self.allocator(), self)
     }
 }

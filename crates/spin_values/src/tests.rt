@@ -2,12 +2,55 @@
 
 ghost use Rattle.std.specs.Prelude.{◌≡◌, ◌<◌};
 
-use crate::{
-    Args, EventType, Kind, NoMemory, Numbers, Octets, Param, Params, SetFault, Steps, Text, Texts,
-    Value, fits, same_kinds, same_type, set,
-};
+use crate::{Args, NoMemory, Numbers, Octets, SetFault, Steps, Text, Texts, Value, set};
 use std::marker::Brand;
 use std::sync::ledger::{Blank, Ledger};
+
+#[test]
+fn arguments(rt: HostRuntime) -> Result<(), NoMemory> {
+    let mut args = Args::new(rt.alloc());
+    args.push(Value::Word(7))?;
+    args.push(Value::Bytes(Octets::from_bytes(rt.alloc(), b"abc")?))?;
+    let copy = args.copy()?;
+    for (at, answer) in [
+        (0, Ok(())),
+        (1, Err(SetFault::WrongKind)),
+        (2, Err(SetFault::NoSuch)),
+    ] {
+        assert_eq!(rt; set(&mut args, at, 5), answer);
+    }
+    assert_ne!(rt; copy, args);
+    assert_eq!(rt; args.take_first(), Some(Value::Word(5)));
+    Ok(())
+}
+
+#[test]
+fn lists(rt: HostRuntime) -> Result<(), NoMemory> {
+    let mut numbers = Numbers::from_slice(rt.alloc(), &[3, 1])?;
+    let mut others = Numbers::new(rt.alloc());
+    others.push(4)?;
+    numbers.append(&mut others)?;
+    numbers.extend_from_slice(&[1, 5])?;
+    assert_eq!(rt; numbers.as_slice(), [3, 1, 4, 1, 5].as_slice());
+    assert_eq!(rt; numbers.iter().max(), Some(&5));
+    assert_eq!(rt; numbers.contains(&4), true);
+    Ok(())
+}
+
+#[test]
+fn texts(rt: HostRuntime) -> Result<(), NoMemory> {
+    let mut text = Text::new(rt.alloc());
+    text.push(b'a')?;
+    let mut texts = Texts::new(rt.alloc());
+    texts.push(text.copy()?)?;
+    texts.push(Text::from_bytes(rt.alloc(), b"bc")?)?;
+    let mut bytes = 0;
+    for text in texts {
+        bytes = text.len();
+    }
+    assert_eq!(rt; bytes, 2);
+    Ok(())
+}
 
 fn count_two<L: Ledger>(blank: Blank) -> u8
     requires name { blank.name ≡ L.name }
@@ -19,107 +62,6 @@ fn count_two<L: Ledger>(blank: Blank) -> u8
     steps.tick();
     steps.tick();
     2
-}
-
-#[test]
-fn lists(rt: HostRuntime) -> Result<(), NoMemory> {
-    let mut args = Args::new(rt.alloc());
-    args.push(Value::Word(7))?;
-    args.push(Value::Bytes(Octets::from_bytes(rt.alloc(), b"abc")?))?;
-    let copy = args.copy()?;
-    assert_eq!(rt; copy, args);
-    assert_eq!(rt; set(&mut args, 1, 5), Err(SetFault::WrongKind));
-    assert_eq!(rt; set(&mut args, 2, 5), Err(SetFault::NoSuch));
-    assert_eq!(rt; set(&mut args, 0, 5), Ok(()));
-    assert_ne!(rt; copy, args);
-    assert_eq!(rt; args.take_first(), Some(Value::Word(5)));
-    assert_eq!(rt; args.len(), 1);
-    let mut texts = Texts::new(rt.alloc());
-    texts.push(Text::from_bytes(rt.alloc(), b"x")?)?;
-    assert_eq!(rt; texts.len(), 1);
-    assert_eq!(rt; texts.get(0).as_slice(), b"x".as_slice());
-    Ok(())
-}
-
-#[test]
-fn lists_move_and_copy(rt: HostRuntime) -> Result<(), NoMemory> {
-    let mut numbers = Numbers::from_slice(rt.alloc(), &[3, 1])?;
-    let mut others = Numbers::new(rt.alloc());
-    assert!(rt; others.is_empty());
-    others.push(4)?;
-    numbers.append(&mut others)?;
-    assert!(rt; others.is_empty());
-    numbers.extend_from_slice(&[1, 5])?;
-    numbers.replace(0, 2);
-    assert_eq!(rt; numbers.as_slice(), [2, 1, 4, 1, 5].as_slice());
-    let again = Numbers::from_vec(numbers.into_vec());
-    assert_eq!(rt; again.len(), 5);
-    assert_eq!(rt; *again.get(2), 4);
-    Ok(())
-}
-
-#[test]
-fn texts_are_read_byte_by_byte(rt: HostRuntime) -> Result<(), NoMemory> {
-    let mut text = Text::new(rt.alloc());
-    assert_eq!(rt; text.take_first(), None);
-    text.push(b'a')?;
-    text.push(b'b')?;
-    let copy = text.copy()?;
-    assert_eq!(rt; text.take_first(), Some(b'a'));
-    assert_eq!(rt; text.len(), 1);
-    assert_eq!(rt; *copy.get(1), b'b');
-    assert!(rt; !copy.is_empty());
-    Ok(())
-}
-
-#[test]
-fn types(rt: HostRuntime) -> Result<(), NoMemory> {
-    let mut params = Params::new(rt.alloc());
-    params.push(Param {
-        kind: Kind::Word,
-        var: true,
-    })?;
-    let sig = EventType {
-        params,
-        gives: false,
-    };
-    let mut others = Params::new(rt.alloc());
-    others.push(Param {
-        kind: Kind::Word,
-        var: false,
-    })?;
-    let other = EventType {
-        params: others,
-        gives: false,
-    };
-    assert!(rt; same_kinds(&sig, &other));
-    assert!(rt; !same_type(&sig, &other));
-    assert!(rt; same_type(&sig, &sig));
-    let mut args = Args::new(rt.alloc());
-    assert!(rt; !fits(&args, &sig));
-    args.push(Value::Word(1))?;
-    assert!(rt; fits(&args, &sig));
-    let EventType {
-        mut params,
-        gives: _,
-    } = sig;
-    assert_eq!(rt;
-        params.as_slice(),
-        [Param {
-            kind: Kind::Word,
-            var: true
-        }]
-        .as_slice()
-    );
-    assert_eq!(rt;
-        params.take_first(),
-        Some(Param {
-            kind: Kind::Word,
-            var: true
-        })
-    );
-    assert_eq!(rt; params.len(), 0);
-    Ok(())
 }
 
 #[test]

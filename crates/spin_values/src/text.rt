@@ -93,7 +93,9 @@ impl Text {
 
     /// Takes the first byte out; `None` exactly where the text is empty. It takes no memory.
     pub fn take_first(&mut self) -> Option<u8>
-        ensures { MatchOption result ((self.old ≡ []) × (self.new ≡ [])) (λ first. self.old ≡ first ∷ self.new) }
+        ensures { MatchOption result
+            ((self.old ≡ []) × (self.new ≡ []))
+            (λ first. self.old ≡ first ∷ self.new) }
     {
         self.bytes.take_first()
     }

@@ -16,15 +16,6 @@ pub enum Kind {
     Bytes,
 }
 
-impl Kind {
-    /// Whether it is this kind.
-    pub fn is(self, other: Kind) -> bool
-        ensures { IsTrue result ↔ (self ≡ other) }
-    {
-        self == other
-    }
-}
-
 /// A parameter of an event.
 #[derive(Clone, Copy, PartialEq, Eq, Debug)]
 pub struct Param {
@@ -38,7 +29,7 @@ pub struct Param {
 pub const MAX_PARAMS: usize = 8;
 
 /// Parameters in order, at most [`MAX_PARAMS`]. Contracts see the list of them.
-#[derive(Drop)]
+#[derive(Drop, Debug)]
 pub struct Params {
     list: Sequence<Param>,
 }
@@ -46,12 +37,13 @@ pub struct Params {
 impl Model for Params {
     ghost use Rattle.std.specs.Prelude.{List, length, ◌≤◌};
     ghost use Rattle.spin_values.specs.declared.types.Param.{Param};
+    ghost use Rattle.spin_values.specs.declared.types.TheConstants.{MAX_PARAMS};
 
     ghost Value = { List Param };
 
     ghost view = { λ p. p.list };
 
-    ghost invariant = { λ p. length p.list ≤ 8 };
+    ghost invariant = { λ p. length p.list ≤ MAX_PARAMS };
 }
 
 impl Params {
@@ -99,14 +91,16 @@ impl Params {
 
     /// Takes the first parameter out; `None` exactly where there is none. It takes no memory.
     pub fn take_first(&mut self) -> Option<Param>
-        ensures { MatchOption result ((self.old ≡ []) × (self.new ≡ [])) (λ first. self.old ≡ first ∷ self.new) }
+        ensures { MatchOption result
+            ((self.old ≡ []) × (self.new ≡ []))
+            (λ first. self.old ≡ first ∷ self.new) }
     {
         self.list.take_first()
     }
 }
 
 /// The signature of an event: its parameters, and whether it gives a result.
-#[derive(Drop)]
+#[derive(Drop, Debug)]
 pub struct EventType {
     /// What the arguments have to be.
     pub params: Params,
@@ -129,7 +123,7 @@ pub fn same_kinds(a: &EventType, b: &EventType) -> bool
         return false;
     }
     for at in 0..a.params.len() {
-        if !a.params.get(at).kind.is(b.params.get(at).kind) {
+        if a.params.get(at).kind != b.params.get(at).kind {
             return false;
         }
     }

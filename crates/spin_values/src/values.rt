@@ -63,7 +63,7 @@ pub fn fits(args: &Args, sig: &EventType) -> bool
         return false;
     }
     for at in 0..args.len() {
-        if !args.get(at).kind().is(sig.params.get(at).kind) {
+        if args.get(at).kind() != sig.params.get(at).kind {
             return false;
         }
     }
@@ -87,7 +87,8 @@ pub enum SetFault {
 /// [`SetFault::WrongKind`] exactly where that argument is bytes; after either the arguments are unchanged.
 pub fn set(args: &mut Args, at: u8, value: u64) -> Result<(), SetFault>
     ensures no_such { (result ≡ Err SetFault.NoSuch) ↔ (length args.old ≤ at) }
-    ensures wrong_kind { (result ≡ Err SetFault.WrongKind) ↔ (kind_at args.old at ≡ Some Kind.Bytes) }
+    ensures wrong_kind { (result ≡ Err SetFault.WrongKind)
+        ↔ (kind_at args.old at ≡ Some Kind.Bytes) }
     ensures args { args.new ≡ with_word args.old at value }
 {
     let at = at as usize;

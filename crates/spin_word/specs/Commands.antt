@@ -8,6 +8,7 @@ use Rattle.spin_word.specs.declared.command.Place.TheVariants.{Free, First, Last
 use Rattle.spin_word.specs.declared.command.Mode.{Mode}
 use Rattle.spin_word.specs.declared.command.Mode.TheVariants.{Plain, Filter, Async}
 use Rattle.spin_word.specs.declared.command.Command.{Command}
+use Rattle.spin_word.specs.declared.command.TheConstants.{MAX_EVENTS, LANE_LIMIT, HANDLER_LIMIT, GUARD_LIMIT, MAX_PLACE, NO_BINDING, NO_BINDINGS}
 
 -- the numbers of ops, places and modes
 abbrev pub number_of_op : Op → ℕ
@@ -27,17 +28,16 @@ number_of_mode Plain = 0
 number_of_mode Filter = 1
 number_of_mode Async = 2
 
--- the greatest number of a binding, and what stands for none
-abbrev pub max_binding : ℕ
-max_binding = 4096
-
+-- what stands for no binding
 abbrev pub no_number : ℕ
-no_number = 65535
+no_number = NO_BINDING
 
 abbrev pub binding_or_none : ℕ → Bool
-binding_or_none n = nat_le n max_binding || (n == no_number)
+binding_or_none n = nat_le n MAX_PLACE || (n == no_number)
 
--- each number is greater than the one before it, or is none. Of numbers of bindings and none it says that they rise up to the first none, and that all are none from there on, since no number is greater than none
+-- each number is greater than the one before it, or is none. Of numbers of bindings and none it
+-- says that they rise up to the first none, and that all are none from there on, since no number is
+-- greater than none
 abbrev pub rises : List ℕ → Bool
 rises [] = true
 rises (n ∷ []) = true
@@ -75,16 +75,20 @@ place_is_used op = false
 -- each number lies in its range
 abbrev pub has_widths : Command → Bool
 has_widths c =
-    nat_lt c.event (2 ^ 6)
-    && nat_lt c.lane (2 ^ 4)
+    nat_lt c.event MAX_EVENTS
+    && nat_lt c.lane LANE_LIMIT
     && nat_lt c.requester (2 ^ 8)
-    && nat_lt c.handler (2 ^ 10)
-    && nat_lt c.guard (2 ^ 10)
-    && nat_le c.target max_binding
+    && nat_lt c.handler HANDLER_LIMIT
+    && nat_lt c.guard GUARD_LIMIT
+    && nat_le c.target MAX_PLACE
 
 -- it is free and plain, and names no other binding
 abbrev pub is_placeless : Command → Bool
-is_placeless c = (number_of_place c.place == 0) && (number_of_mode c.mode == 0) && all_none c.before && all_none c.after
+is_placeless c =
+    (number_of_place c.place == 0)
+    && (number_of_mode c.mode == 0)
+    && all_none c.before
+    && all_none c.after
 
 -- each field that the op doesn't use is empty
 abbrev pub leaves_unused : Command → Bool
@@ -96,4 +100,21 @@ leaves_unused c =
 
 -- the valid commands
 abbrev pub is_command : Command → Bool
-is_command c = has_widths c && bindings_or_none c.before && bindings_or_none c.after && leaves_unused c
+is_command c =
+    has_widths c && bindings_or_none c.before && bindings_or_none c.after && leaves_unused c
+
+-- the command that does this to an event, with each other field empty
+abbrev pub bare_command : Op → (lane event requester : ℕ) → Command
+bare_command op lane event requester = record {
+  op = op;
+  event = event;
+  lane = lane;
+  requester = requester;
+  handler = 0;
+  guard = 0;
+  place = Free;
+  before = NO_BINDINGS;
+  after = NO_BINDINGS;
+  target = 0;
+  mode = Plain;
+}

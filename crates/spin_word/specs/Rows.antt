@@ -9,7 +9,8 @@ abbrev pub quarters : List ℕ → ℕ
 quarters [] = 0
 quarters (n ∷ ns) = n + 2 ^ 16 * quarters ns
 
--- the row of a command: what is done in the first word, the target in the second, the bindings that it goes before and after in the others
+-- the row of a command: what is done in the first word, the target in the second, the bindings that
+-- it goes before and after in the others
 abbrev pub row_of : Command → Row
 row_of c = record {
   a =

@@ -1,7 +1,7 @@
 //! Commands: what a module asks to be changed in the bindings of an event.
 
 ghost use Rattle.std.specs.Prelude.{◌≡◌, ◌<◌, ◌||◌, ◌==◌, nat_lt};
-ghost use Rattle.spin_word.specs.Commands.{no_number, binding_or_none, bindings_or_none, all_none, has_widths, is_placeless, leaves_unused, is_command, target_is_used, guard_is_used, handler_is_used, place_is_used, number_of_op, number_of_place, number_of_mode};
+ghost use Rattle.spin_word.specs.Commands.{no_number, binding_or_none, bindings_or_none, all_none, has_widths, is_placeless, leaves_unused, is_command, target_is_used, guard_is_used, handler_is_used, place_is_used, number_of_op, number_of_place, number_of_mode, bare_command};
 
 /// What a command does. Every op uses the command's event, lane and requester, and each has its own number.
 #[derive(Clone, Copy, PartialEq, Eq, Debug)]
@@ -18,6 +18,43 @@ pub enum Op {
     NoDefault = 5,
 }
 
+impl Op {
+    /// Whether it uses the target.
+    pub fn uses_target(self) -> bool
+        ensures { result ≡ target_is_used self }
+    {
+        matches!(self, Op::Remove | Op::Replace)
+    }
+
+    /// Whether it uses the guard.
+    pub fn uses_guard(self) -> bool
+        ensures { result ≡ guard_is_used self }
+    {
+        matches!(self, Op::Install | Op::Replace)
+    }
+
+    /// Whether it uses the handler.
+    pub fn uses_handler(self) -> bool
+        ensures { result ≡ handler_is_used self }
+    {
+        matches!(self, Op::Install | Op::Replace | Op::Default)
+    }
+
+    /// Whether it uses place, before, after and mode.
+    pub fn uses_place(self) -> bool
+        ensures { result ≡ place_is_used self }
+    {
+        matches!(self, Op::Install)
+    }
+
+    pub(crate) fn number(self) -> u64
+        ensures value { result ≡ number_of_op self }
+        ensures small { result < 8 }
+    {
+        self as u64
+    }
+}
+
 /// Where a binding goes among the others of its event, apart from those that it names.
 #[derive(Clone, Copy, PartialEq, Eq, Debug)]
 pub enum Place {
@@ -27,6 +64,15 @@ pub enum Place {
     First = 1,
     /// After each binding that isn't `Last` too.
     Last = 2,
+}
+
+impl Place {
+    pub(crate) fn number(self) -> u64
+        ensures value { result ≡ number_of_place self }
+        ensures small { result < 8 }
+    {
+        self as u64
+    }
 }
 
 /// How a binding's handler runs.
@@ -40,10 +86,22 @@ pub enum Mode {
     Async = 2,
 }
 
-/// Each event's number is below it.
-pub const EVENT_LIMIT: u8 = 64;
+impl Mode {
+    pub(crate) fn number(self) -> u64
+        ensures value { result ≡ number_of_mode self }
+        ensures small { result < 4 }
+    {
+        self as u64
+    }
+}
 
-/// Each lane's number is below it.
+/// The most events: each event's number is below it.
+pub const MAX_EVENTS: u8 = 64;
+
+/// The most lanes that share a log.
+pub const MAX_LANES: u8 = 8;
+
+/// Each lane's number in a command is below it: a row has room for so many.
 pub const LANE_LIMIT: u8 = 16;
 
 /// Each handler's number is below it.
@@ -52,8 +110,9 @@ pub const HANDLER_LIMIT: u16 = 1024;
 /// Each guard's number is below it.
 pub const GUARD_LIMIT: u16 = 1024;
 
-/// The greatest number of a binding.
-pub const MAX_BINDING: u16 = 4096;
+/// The greatest place of a log, which is the most commands that it holds. The command at a place gives its binding
+/// the place's number, so it is also the greatest number of a binding.
+pub const MAX_PLACE: u16 = 4096;
 
 /// What stands in `before` and `after` where no binding is named.
 pub const NO_BINDING: u16 = 65535;
@@ -67,7 +126,7 @@ pub const NO_BINDINGS: [u16; 4] = [NO_BINDING; 4];
 pub struct Command {
     /// What is done.
     pub op: Op,
-    /// The event whose bindings are changed, below [`EVENT_LIMIT`].
+    /// The event whose bindings are changed, below [`MAX_EVENTS`].
     pub event: u8,
     /// The lane that gives the command, below [`LANE_LIMIT`].
     pub lane: u8,
@@ -80,66 +139,41 @@ pub struct Command {
     /// The binding's place; `Free` where the op doesn't use it.
     pub place: Place,
     /// Up to four bindings that the new one goes before, rising, and then [`NO_BINDING`]; just this where the op
-    /// doesn't use it. Each is at most [`MAX_BINDING`].
+    /// doesn't use it. Each is at most [`MAX_PLACE`].
     pub before: [u16; 4],
     /// Up to four bindings that the new one goes after, in the same form.
     pub after: [u16; 4],
-    /// The binding that is removed or replaced, at most [`MAX_BINDING`]; 0 where the op doesn't use it.
+    /// The binding that is removed or replaced, at most [`MAX_PLACE`]; 0 where the op doesn't use it.
     pub target: u16,
     /// The handler's mode; `Plain` where the op doesn't use it.
     pub mode: Mode,
 }
 
-pub(crate) fn op_number(op: Op) -> u64
-    ensures value { result ≡ number_of_op op }
-    ensures small { result < 8 }
-{
-    op as u64
-}
-
-pub(crate) fn place_number(place: Place) -> u64
-    ensures value { result ≡ number_of_place place }
-    ensures small { result < 8 }
-{
-    place as u64
-}
-
-pub(crate) fn mode_number(mode: Mode) -> u64
-    ensures value { result ≡ number_of_mode mode }
-    ensures small { result < 4 }
-{
-    mode as u64
-}
-
-fn uses_target(op: Op) -> bool
-    ensures { result ≡ target_is_used op }
-{
-    matches!(op, Op::Remove | Op::Replace)
-}
-
-fn uses_guard(op: Op) -> bool
-    ensures { result ≡ guard_is_used op }
-{
-    matches!(op, Op::Install | Op::Replace)
-}
-
-fn uses_handler(op: Op) -> bool
-    ensures { result ≡ handler_is_used op }
-{
-    matches!(op, Op::Install | Op::Replace | Op::Default)
-}
-
-// Whether the op uses place, before, after and mode.
-fn uses_place(op: Op) -> bool
-    ensures { result ≡ place_is_used op }
-{
-    matches!(op, Op::Install)
+impl Command {
+    /// The command that does this to an event, with each other field empty. It takes no memory.
+    pub fn bare(op: Op, lane: u8, event: u8, requester: u8) -> Command
+        ensures { result ≡ bare_command op lane event requester }
+    {
+        Command {
+            op,
+            event,
+            lane,
+            requester,
+            handler: 0,
+            guard: 0,
+            place: Place::Free,
+            before: NO_BINDINGS,
+            after: NO_BINDINGS,
+            target: 0,
+            mode: Mode::Plain,
+        }
+    }
 }
 
 fn is_binding_or_none(number: u16) -> bool
     ensures { result ≡ binding_or_none number }
 {
-    number <= MAX_BINDING || number == NO_BINDING
+    number <= MAX_PLACE || number == NO_BINDING
 }
 
 // Whether the number may stand before the next one in a list.
@@ -174,18 +208,18 @@ fn are_none(numbers: [u16; 4]) -> bool
 fn fits_widths(command: Command) -> bool
     ensures { result ≡ has_widths command }
 {
-    command.event < EVENT_LIMIT
+    command.event < MAX_EVENTS
         && command.lane < LANE_LIMIT
         && command.handler < HANDLER_LIMIT
         && command.guard < GUARD_LIMIT
-        && command.target <= MAX_BINDING
+        && command.target <= MAX_PLACE
 }
 
 fn has_no_place(command: &Command) -> bool
     ensures { result ≡ is_placeless command.now }
 {
-    place_number(command.place) == 0
-        && mode_number(command.mode) == 0
+    command.place.number() == 0
+        && command.mode.number() == 0
         && are_none(command.before)
         && are_none(command.after)
 }
@@ -193,10 +227,10 @@ fn has_no_place(command: &Command) -> bool
 fn unused_is_empty(command: &Command) -> bool
     ensures { result ≡ leaves_unused command.now }
 {
-    (uses_handler(command.op) || command.handler == 0)
-        && (uses_guard(command.op) || command.guard == 0)
-        && (uses_target(command.op) || command.target == 0)
-        && (uses_place(command.op) || has_no_place(command))
+    (command.op.uses_handler() || command.handler == 0)
+        && (command.op.uses_guard() || command.guard == 0)
+        && (command.op.uses_target() || command.target == 0)
+        && (command.op.uses_place() || has_no_place(command))
 }
 
 /// Whether each number lies in its range, each list rises, and each field that the op doesn't use is empty: 0,

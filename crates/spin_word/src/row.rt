@@ -8,7 +8,7 @@ ghost use Rattle.spin_word.specs.declared.command.Command.{Command as CommandVal
 ghost use Rattle.spin_word.specs.Commands.{is_command, number_of_op, number_of_place, number_of_mode};
 ghost use Rattle.spin_word.specs.Rows.{IsCommand, StandsFor, StandsForNone, lane_of, row_of, quarters};
 
-use crate::command::{Command, Mode, Op, Place, is_valid, mode_number, op_number, place_number};
+use crate::command::{Command, Mode, Op, Place, is_valid};
 
 /// Four words, which may stand for a command. [`pack`] makes the row of a command and [`unpack`] the command of a
 /// row; most rows stand for none.
@@ -56,14 +56,14 @@ fn lay_out(command: &Command) -> Row
     ensures { result ≡ row_of command.now }
 {
     Row {
-        a: mode_number(command.mode)
-            + (place_number(command.place) << 2)
+        a: command.mode.number()
+            + (command.place.number() << 2)
             + (u64::from(command.guard) << 15)
             + (u64::from(command.handler) << 25)
             + (u64::from(command.requester) << 35)
             + (u64::from(command.event) << 43)
             + (u64::from(command.lane) << 49)
-            + (op_number(command.op) << 53),
+            + (command.op.number() << 53),
         b: u64::from(command.target),
         c: join_quarters(command.before),
         d: join_quarters(command.after),
@@ -80,7 +80,9 @@ pub fn pack(command: &Command) -> Row
 }
 
 fn op_of(number: u64) -> Option<Op>
-    ensures { MatchOption result ((op : OpValue) → number_of_op op ≢ number) (λ op. number_of_op op ≡ number) }
+    ensures { MatchOption result
+        ((op : OpValue) → number_of_op op ≢ number)
+        (λ op. number_of_op op ≡ number) }
 {
     match number {
         1 => Some(Op::Install),
@@ -93,7 +95,9 @@ fn op_of(number: u64) -> Option<Op>
 }
 
 fn place_of(number: u64) -> Option<Place>
-    ensures { MatchOption result ((place : PlaceValue) → number_of_place place ≢ number) (λ place. number_of_place place ≡ number) }
+    ensures { MatchOption result
+        ((place : PlaceValue) → number_of_place place ≢ number)
+        (λ place. number_of_place place ≡ number) }
 {
     match number {
         0 => Some(Place::Free),
@@ -104,7 +108,9 @@ fn place_of(number: u64) -> Option<Place>
 }
 
 fn mode_of(number: u64) -> Option<Mode>
-    ensures { MatchOption result ((mode : ModeValue) → number_of_mode mode ≢ number) (λ mode. number_of_mode mode ≡ number) }
+    ensures { MatchOption result
+        ((mode : ModeValue) → number_of_mode mode ≢ number)
+        (λ mode. number_of_mode mode ≡ number) }
 {
     match number {
         0 => Some(Mode::Plain),
@@ -116,7 +122,8 @@ fn mode_of(number: u64) -> Option<Mode>
 
 // The four numbers of a word, the lowest bits first.
 fn split_quarters(word: u64) -> [u16; 4]
-    ensures { (ns : List ℕ) → length ns ≡ 4 → All (λ n. n < 2 ^ 16) ns → quarters ns ≡ word → result ≡ ns }
+    ensures { (ns : List ℕ) → length ns ≡ 4 → All (λ n. n < 2 ^ 16) ns
+        → quarters ns ≡ word → result ≡ ns }
 {
     [
         (word % 65536) as u16,
@@ -128,7 +135,8 @@ fn split_quarters(word: u64) -> [u16; 4]
 
 // The command of the row, if there is one with these three.
 fn command_of(row: &Row, op: Op, place: Place, mode: Mode) -> Command
-    ensures { (c : CommandValue) → IsTrue (is_command c) → row_of c ≡ row.now → c.op ≡ op → c.place ≡ place → c.mode ≡ mode → result ≡ c }
+    ensures { (c : CommandValue) → IsTrue (is_command c) → row_of c ≡ row.now
+        → c.op ≡ op → c.place ≡ place → c.mode ≡ mode → result ≡ c }
 {
     Command {
         op,
@@ -155,7 +163,7 @@ pub fn unpack(row: &Row) -> Option<Command>
     let place = place_of((row.a >> 2) % 8)?;
     let mode = mode_of(row.a % 4)?;
     let command = command_of(row, op, place, mode);
-    // The fields may come from a row with bits outside them, and then the command's own row is another.
+    // The fields may come from a row with bits outside them: then the command's row is another.
     if is_valid(&command) && pack(&command) == *row {
         Some(command)
     } else {

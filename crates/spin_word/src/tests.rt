@@ -1,96 +1,60 @@
-//! Rows of commands, both ways.
+//! Rows of commands, both ways. The rows were computed elsewhere, by the table of fields.
 
-ghost use Rattle.std.specs.Prelude.{◌≡◌, ◌<◌, IsTrue};
-ghost use Rattle.spin_word.specs.Commands.{is_command};
-
-use crate::{Command, Mode, NO_BINDING, NO_BINDINGS, Op, Place, Row, is_valid, pack, unpack};
+use crate::{Command, NO_BINDING, NO_BINDINGS, Op, Row, is_valid, pack, unpack};
 use std::test::Fail;
+
+const NONE: u64 = 18446744073709551615;
+
+/// A row with these words, which names no binding after.
+fn row(a: u64, b: u64, c: u64) -> Row {
+    Row { a, b, c, d: NONE }
+}
 
 fn install(before: [u16; 4]) -> Command {
     Command {
-        op: Op::Install,
-        event: 2,
-        lane: 0,
-        requester: 1,
         handler: 5,
-        guard: 0,
-        place: Place::Free,
         before,
-        after: NO_BINDINGS,
-        target: 0,
-        mode: Mode::Plain,
+        ..Command::bare(Op::Install, 0, 2, 1)
     }
 }
 
 #[test]
-fn an_install_is_packed(rt: HostRuntime) -> Result<(), Fail> {
-    let command = install(NO_BINDINGS);
-    assert!(rt; is_valid(&command));
-    let row = Row {
-        a: 9024825968295936,
-        b: 0,
-        c: 18446744073709551615,
-        d: 18446744073709551615,
-    };
-    assert_eq!(rt; pack(&command), row);
-    assert_eq!(rt; unpack(&row), Some(command));
-    let beyond_the_fields = Row {
-        a: 1161946330575142912,
-        ..row
-    };
-    assert_eq!(rt; unpack(&beyond_the_fields), None);
-    let unused_target = Row { b: 1, ..row };
-    assert_eq!(rt; unpack(&unused_target), None);
-    Ok(())
-}
-
-#[test]
-fn a_binding_goes_before_another(rt: HostRuntime) -> Result<(), Fail> {
-    let command = install([1, NO_BINDING, NO_BINDING, NO_BINDING]);
-    let row = Row {
-        a: 9024825968295936,
-        b: 0,
-        c: 18446744073709486081,
-        d: 18446744073709551615,
-    };
-    assert!(rt; is_valid(&command));
-    assert_eq!(rt; pack(&command), row);
-    assert_eq!(rt; unpack(&row), Some(command));
-    assert!(rt; !is_valid(&install([2, 1, NO_BINDING, NO_BINDING])));
-    assert!(rt; !is_valid(&install([NO_BINDING, 1, NO_BINDING, NO_BINDING])));
-    assert!(rt; !is_valid(&install([4097, NO_BINDING, NO_BINDING, NO_BINDING])));
-    Ok(())
-}
-
-#[test]
-fn a_removal_is_packed(rt: HostRuntime) -> Result<(), Fail> {
-    let command = Command {
-        op: Op::Remove,
-        event: 0,
-        lane: 0,
-        requester: 0,
-        handler: 0,
-        guard: 0,
-        place: Place::Free,
-        before: NO_BINDINGS,
-        after: NO_BINDINGS,
+fn commands_are_packed(rt: HostRuntime) -> Result<(), Fail> {
+    let remove = Command {
         target: 1,
-        mode: Mode::Plain,
+        ..Command::bare(Op::Remove, 0, 0, 0)
     };
-    let row = Row {
-        a: 18014398509481984,
-        b: 1,
-        c: 18446744073709551615,
-        d: 18446744073709551615,
-    };
-    assert_eq!(rt; pack(&command), row);
-    assert_eq!(rt; unpack(&row), Some(command));
+    let before_one = [1, NO_BINDING, NO_BINDING, NO_BINDING];
+    for (command, row) in [
+        (install(NO_BINDINGS), row(9024825968295936, 0, NONE)),
+        (
+            install(before_one),
+            row(9024825968295936, 0, 18446744073709486081),
+        ),
+        (remove, row(18014398509481984, 1, NONE)),
+    ] {
+        assert!(rt; is_valid(&command));
+        assert_eq!(rt; pack(&command), row);
+        assert_eq!(rt; unpack(&row), Some(command));
+    }
+    Ok(())
+}
+
+#[test]
+fn other_rows_stand_for_none(rt: HostRuntime) -> Result<(), Fail> {
+    let beyond_the_fields = row(1161946330575142912, 0, NONE);
+    let unused_target = row(9024825968295936, 1, NONE);
     let zeros = Row {
         a: 0,
         b: 0,
         c: 0,
         d: 0,
     };
-    assert_eq!(rt; unpack(&zeros), None);
+    for row in [beyond_the_fields, unused_target, zeros] {
+        assert_eq!(rt; unpack(&row), None);
+    }
+    for [first, second] in [[2, 1], [NO_BINDING, 1], [4097, NO_BINDING]] {
+        assert!(rt; !is_valid(&install([first, second, NO_BINDING, NO_BINDING])));
+    }
     Ok(())
 }
