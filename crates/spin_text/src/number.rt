@@ -1,0 +1,52 @@
+//! Numbers and bytes in digits.
+
+ghost use Rattle.std.specs.Prelude.{◌≡◌, ◌++◌, ◌<◌, decimal, OnOk, OnErr};
+ghost use Rattle.std.specs.Char.{digit_char};
+ghost use Rattle.spin_text.specs.Digits as specs;
+ghost use Rattle.spin_text.specs.Digits.{hex_digits};
+
+use itoa::Buffer;
+use spin_values::{NoMemory, Octets};
+
+/// Appends a number in decimal digits, without leading zeros. After want of memory `out` is unchanged.
+pub fn put_decimal(out: &mut Octets, number: u64) -> Result<(), NoMemory>
+    ensures ok { OnOk result (out.new ≡ out.old ++ decimal number) }
+    ensures err { OnErr result (out.new ≡ out.old) }
+{
+    let mut buffer = Buffer::new();
+    out.extend_from_slice(buffer.format(number).as_bytes())
+}
+
+/// The hexadecimal digit of a number below 16, in lower case.
+fn hex_digit(value: u8) -> u8
+    requires { value < 16 }
+    ensures { result ≡ digit_char value }
+{
+    if value < 10 {
+        b'0' + value
+    } else {
+        b'a' + (value - 10)
+    }
+}
+
+/// Appends bytes, two hexadecimal digits in lower case for each. After want of memory a front of them may stand
+/// behind what was there. It takes time linear in their number.
+pub fn put_hex(out: &mut Octets, bytes: &[u8]) -> Result<(), NoMemory>
+    ensures { OnOk result (out.new ≡ out.old ++ hex_digits bytes.now) }
+{
+    for byte in bytes {
+        out.push(hex_digit(*byte / 16))?;
+        out.push(hex_digit(*byte % 16))?;
+    }
+    Ok(())
+}
+
+/// Whether the first byte of a word is a decimal digit, as no byte of the empty word is.
+pub fn begins_with_digit(word: &[u8]) -> bool
+    ensures { result ≡ specs.begins_with_digit word.now }
+{
+    match word {
+        [first, ..] => first.is_ascii_digit(),
+        [] => false,
+    }
+}
