@@ -1,5 +1,7 @@
 pub mod Check
+pub mod Inner
 pub mod Size
 pub mod Truth
 pub mod Uses
 pub mod Value
+pub mod Limits

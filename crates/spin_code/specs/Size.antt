@@ -5,6 +5,7 @@ use Rattle.spin_code.specs.declared.expr.Expr.{Expr}
 use Rattle.spin_code.specs.declared.expr.Expr.TheVariants.{Const, Arg, Field, Plus', And', Or'}
 use Rattle.spin_code.specs.declared.test.Test.{Test}
 use Rattle.spin_code.specs.declared.test.Test.TheVariants.{True, Compare, HasBytes, Not', All', Any'}
+use Rattle.spin_code.specs.declared.depth.TheConstants.{MAX_DEPTH}
 use Rattle.spin_code.specs.declared.act.Part.{Part}
 use Rattle.spin_code.specs.declared.act.Part.TheVariants as part
 use Rattle.spin_code.specs.declared.act.ActStep.{ActStep}
@@ -27,16 +28,16 @@ test_depth (Not' p t) = suc (test_depth t)
 test_depth (All' p a q b) = suc (max (test_depth a) (test_depth b))
 test_depth (Any' p a q b) = suc (max (test_depth a) (test_depth b))
 
--- a part's expression is deeper than 8
+-- a part's expression is too deep
 abbrev pub is_part_deep : Part → Bool
-is_part_deep (part.Word e) = nat_lt 8 (expr_depth e)
+is_part_deep (part.Word e) = nat_lt MAX_DEPTH (expr_depth e)
 is_part_deep (part.Bytes a from) = false
 
--- an expression of a step is deeper than 8
+-- an expression of a step is too deep
 abbrev pub is_step_deep : ActStep → Bool
-is_step_deep (step.Set a e) = nat_lt 8 (expr_depth e)
+is_step_deep (step.Set a e) = nat_lt MAX_DEPTH (expr_depth e)
 is_step_deep (step.Send endpoint a from) = false
-is_step_deep (step.Result e) = nat_lt 8 (expr_depth e)
+is_step_deep (step.Result e) = nat_lt MAX_DEPTH (expr_depth e)
 is_step_deep (step.Up event parts) = list_any is_part_deep parts
 is_step_deep (step.Layer k event) = false
 

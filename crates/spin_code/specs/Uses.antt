@@ -71,7 +71,8 @@ is_right params (AsWord a) = is_of_kind (slice_get params a) kind.Word
 is_right params (AsBytes a) = is_of_kind (slice_get params a) kind.Bytes
 is_right params (AsField a width) = is_of_kind (slice_get params a) kind.Bytes && is_width width
 
--- the parameters are those that the headers need: a frame first; or payload, protocol, source and destination
+-- the parameters are those that the headers need: a frame first; or payload, protocol, source and
+-- destination
 abbrev pub is_layer_right : List Param → Layer → Bool
 is_layer_right params layer.Ipv4 = is_of_kind (slice_get params 0) kind.Bytes
 is_layer_right params layer.Udp =

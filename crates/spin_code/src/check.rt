@@ -7,11 +7,10 @@ ghost use Rattle.spin_code.specs.Check as specs;
 
 use crate::act::{Act, ActStep};
 use crate::depth::{MAX_DEPTH, is_any_step_deep, is_expr_deeper, is_test_deeper};
-use crate::kinds::{are_steps_right, is_expr_right, is_test_right};
-use crate::known::{are_steps_known, is_expr_known, is_test_known};
 use crate::merge::Merge;
 use crate::nodes::{MAX_NODES, after_expr, after_steps, after_test};
 use crate::test::Test;
+use crate::uses::{Asked, are_steps_known, are_steps_right, expr_passes, test_passes};
 use spin_values::{EventType, Kind, Param};
 use thiserror::Error;
 
@@ -56,10 +55,7 @@ fn sets_var(step: &ActStep, params: &[Param]) -> bool
 fn is_result(step: &ActStep) -> bool
     ensures { result ≡ specs.is_result step.now }
 {
-    match step {
-        ActStep::Result(_) => true,
-        _ => false,
-    }
+    matches!(step, ActStep::Result(_))
 }
 
 /// Whether the steps set no parameter but those that may be changed.
@@ -90,10 +86,10 @@ pub fn check_test(t: &Test, sig: &EventType) -> Result<(), ActFault>
     if after_test(t, MAX_NODES).is_none() {
         return Err(ActFault::TooLong);
     }
-    if !is_test_known(t, params) {
+    if !test_passes(t, params, Asked::Known) {
         return Err(ActFault::BadArg);
     }
-    if !is_test_right(t, params) {
+    if !test_passes(t, params, Asked::Right) {
         return Err(ActFault::BadKind);
     }
     Ok(())
@@ -152,10 +148,10 @@ pub fn check_merge(m: &Merge) -> Result<(), ActFault>
     if after_expr(e, MAX_NODES).is_none() {
         return Err(ActFault::TooLong);
     }
-    if !is_expr_known(e, &params) {
+    if !expr_passes(e, &params, Asked::Known) {
         return Err(ActFault::BadArg);
     }
-    if !is_expr_right(e, &params) {
+    if !expr_passes(e, &params, Asked::Right) {
         return Err(ActFault::BadKind);
     }
     Ok(())

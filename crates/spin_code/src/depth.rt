@@ -74,7 +74,7 @@ fn is_step_deep(step: &ActStep) -> bool
         ActStep::Set { to, .. } => is_expr_deeper(to, MAX_DEPTH),
         ActStep::Send { .. } => false,
         ActStep::Result(e) => is_expr_deeper(e, MAX_DEPTH),
-        ActStep::Up { parts, .. } => is_any_deep(parts.as_slice()),
+        ActStep::Up { parts, .. } => is_any_deep(parts),
         ActStep::Layer { .. } => false,
     }
 }

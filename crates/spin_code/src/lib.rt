@@ -2,31 +2,31 @@
 //!
 //! - [`expr`] has numbers that are computed from arguments, [`test`] what is asked of arguments;
 //! - [`act`] has what a handler does, step by step, [`merge`] how several results become one;
-//! - [`check`] finds the first fault of a test, an act or a merge, over [`depth`], [`nodes`], [`known`] and
-//!   [`kinds`];
+//! - [`check`] finds the first fault of a test, an act or a merge, over [`depth`], [`nodes`] and [`uses`];
 //! - [`guards`] is what is asked of a collection of guards.
 //!
 //! No call of this crate takes memory.
 #![tactic(auto)]
 
-pub mod act;
-pub mod check;
-pub mod depth;
-pub mod expr;
-pub mod guards;
-pub mod kinds;
-pub mod known;
-pub mod merge;
-pub mod nodes;
-pub mod test;
+mod act;
+mod check;
+mod depth;
+mod expr;
+mod guards;
+mod limits;
+mod merge;
+mod nodes;
+mod test;
 #[cfg(test)]
 mod tests;
+mod uses;
 
 pub use act::{Act, ActStep, Layer, Part, Parts, Steplist};
 pub use check::{ActFault, check_act, check_merge, check_test};
 pub use depth::MAX_DEPTH;
 pub use expr::{Expr, argument_bytes, argument_word, value};
 pub use guards::{Guards, Sincere};
+pub use limits::limits_are_stated;
 pub use merge::Merge;
 pub use nodes::MAX_NODES;
 pub use test::{Cmp, Test, holds};

@@ -1,6 +1,7 @@
 //! How many nodes expressions, tests and the steps of acts have.
 
-ghost use Rattle.std.specs.Prelude.{◌≡◌, ◌-◌, nat_le, if◌then◌else◌, Some, None, sum_by};
+ghost use Rattle.std.specs.Prelude.{◌≡◌, sum_by};
+ghost use Rattle.spin_code.specs.Inner.Room.{left_after};
 ghost use Rattle.spin_code.specs.Size.{expr_nodes, test_nodes, part_nodes, step_nodes};
 
 use crate::act::{ActStep, Part};
@@ -14,7 +15,7 @@ pub const MAX_NODES: u8 = 64;
 /// The room for nodes that is left after an expression, if it has room.
 #[tactic(auto, using(crate::proofs::Sizes::expr_nodes_positive, std::proofs::lemmas::Bool::Decides::nat_tests))]
 pub(crate) fn after_expr(e: &Expr, room: u8) -> Option<u8>
-    ensures { result ≡ (if nat_le (expr_nodes e.now) room then Some (room - expr_nodes e.now) else None) }
+    ensures { result ≡ left_after (expr_nodes e.now) room }
 {
     if room == 0 {
         return None;
@@ -32,7 +33,7 @@ pub(crate) fn after_expr(e: &Expr, room: u8) -> Option<u8>
 /// The room for nodes that is left after a test, if it has room.
 #[tactic(auto, using(crate::proofs::Sizes::test_nodes_positive, std::proofs::lemmas::Bool::Decides::nat_tests))]
 pub(crate) fn after_test(t: &Test, room: u8) -> Option<u8>
-    ensures { result ≡ (if nat_le (test_nodes t.now) room then Some (room - test_nodes t.now) else None) }
+    ensures { result ≡ left_after (test_nodes t.now) room }
 {
     if room == 0 {
         return None;
@@ -49,7 +50,7 @@ pub(crate) fn after_test(t: &Test, room: u8) -> Option<u8>
 
 /// The room for nodes that is left after a part, if it has room.
 fn after_part(part: &Part, room: u8) -> Option<u8>
-    ensures { result ≡ (if nat_le (part_nodes part.now) room then Some (room - part_nodes part.now) else None) }
+    ensures { result ≡ left_after (part_nodes part.now) room }
 {
     if room == 0 {
         return None;
@@ -62,7 +63,7 @@ fn after_part(part: &Part, room: u8) -> Option<u8>
 
 /// The room for nodes that is left after parts, if they have room.
 fn after_parts(parts: &[Part], room: u8) -> Option<u8>
-    ensures { result ≡ (if nat_le (sum_by part_nodes parts.now) room then Some (room - sum_by part_nodes parts.now) else None) }
+    ensures { result ≡ left_after (sum_by part_nodes parts.now) room }
 {
     let mut left = room;
     for part in parts {
@@ -73,7 +74,7 @@ fn after_parts(parts: &[Part], room: u8) -> Option<u8>
 
 /// The room for nodes that is left after a step, if it has room.
 fn after_step(step: &ActStep, room: u8) -> Option<u8>
-    ensures { result ≡ (if nat_le (step_nodes step.now) room then Some (room - step_nodes step.now) else None) }
+    ensures { result ≡ left_after (step_nodes step.now) room }
 {
     if room == 0 {
         return None;
@@ -82,14 +83,14 @@ fn after_step(step: &ActStep, room: u8) -> Option<u8>
         ActStep::Set { to, .. } => after_expr(to, room - 1),
         ActStep::Send { .. } => Some(room - 1),
         ActStep::Result(e) => after_expr(e, room - 1),
-        ActStep::Up { parts, .. } => after_parts(parts.as_slice(), room - 1),
+        ActStep::Up { parts, .. } => after_parts(parts, room - 1),
         ActStep::Layer { .. } => Some(room - 1),
     }
 }
 
 /// The room for nodes that is left after steps, if they have room.
 pub(crate) fn after_steps(steps: &[ActStep], room: u8) -> Option<u8>
-    ensures { result ≡ (if nat_le (sum_by step_nodes steps.now) room then Some (room - sum_by step_nodes steps.now) else None) }
+    ensures { result ≡ left_after (sum_by step_nodes steps.now) room }
 {
     let mut left = room;
     for step in steps {

@@ -190,16 +190,6 @@ fn deep(alloc: Global, depth: u8) -> Result<Expr, NoMemory> {
     Ok(e)
 }
 
-/// A balanced sum of 2^levels constants, which has 2^(levels + 1) - 1 nodes.
-fn wide(alloc: Global, levels: u8) -> Result<Expr, NoMemory> {
-    if levels == 0 {
-        return Ok(Expr::Const(1));
-    }
-    let a = wide(alloc, levels - 1)?;
-    let b = wide(alloc, levels - 1)?;
-    plus(alloc, a, b)
-}
-
 fn field(width: u8) -> Expr {
     Expr::Field {
         arg: 1,
@@ -208,169 +198,65 @@ fn field(width: u8) -> Expr {
     }
 }
 
-fn send(arg: u8) -> ActStep {
-    ActStep::Send {
-        endpoint: 0,
-        arg,
-        from: 0,
-    }
+/// What the check says of an act of this step.
+fn fault(alloc: Global, sig: &EventType, step: ActStep) -> Result<Option<ActFault>, NoMemory> {
+    let mut steps = Steplist::new(alloc);
+    steps.push(step)?;
+    Ok(check_act(&Act { steps }, sig).err())
 }
 
-fn set(arg: u8, to: Expr) -> ActStep {
-    ActStep::Set { arg, to }
-}
-
-/// A raise of event 1 with one argument.
+/// The raise of an event with one argument.
 fn up(alloc: Global, part: Part) -> Result<ActStep, NoMemory> {
     let mut parts = Parts::new(alloc);
     parts.push(part)?;
     Ok(ActStep::Up { event: 1, parts })
 }
 
-/// What the check says of an act of two steps.
-fn fault(
-    alloc: Global,
-    sig: &EventType,
-    first: ActStep,
-    second: ActStep,
-) -> Result<Option<ActFault>, NoMemory> {
-    let mut steps = Steplist::new(alloc);
-    steps.push(first)?;
-    steps.push(second)?;
-    Ok(check_act(&Act { steps }, sig).err())
-}
-
-/// What the check says of an act of so many sends.
-fn fault_of_sends(alloc: Global, sig: &EventType, count: u8) -> Result<Option<ActFault>, NoMemory> {
-    let mut steps = Steplist::new(alloc);
-    for _ in 0..count {
-        steps.push(send(1))?;
-    }
-    Ok(check_act(&Act { steps }, sig).err())
-}
-
 #[test]
 fn faults_of_acts(rt: HostRuntime) -> Result<(), NoMemory> {
     let alloc = rt.alloc();
-    let sig = signature(alloc, true)?;
-    let one = || Expr::Const(1);
-    assert_eq!(rt; fault(alloc, &sig, set(0, deep(alloc, 8)?), send(1))?, None);
-    let deep_part = up(alloc, Part::Word(deep(alloc, 9)?))?;
-    assert_eq!(rt;
-        fault(alloc, &sig, send(1), deep_part)?,
-        Some(ActFault::TooDeep)
-    );
-    assert_eq!(rt; fault_of_sends(alloc, &sig, 64)?, None);
-    assert_eq!(rt; fault_of_sends(alloc, &sig, 65)?, Some(ActFault::TooLong));
-    let long = ActStep::Result(wide(alloc, 5)?);
-    assert_eq!(rt; fault(alloc, &sig, long, send(9))?, Some(ActFault::TooLong));
-    let set_to_bytes = set(0, Expr::Arg(1));
-    assert_eq!(rt;
-        fault(alloc, &sig, set_to_bytes, send(3))?,
-        Some(ActFault::BadArg)
-    );
-    let no_such_part = up(alloc, Part::Bytes { arg: 3, from: 0 })?;
-    assert_eq!(rt;
-        fault(alloc, &sig, no_such_part, send(1))?,
-        Some(ActFault::BadArg)
-    );
-    assert_eq!(rt;
-        fault(alloc, &sig, send(0), send(1))?,
-        Some(ActFault::BadKind)
-    );
-    assert_eq!(rt;
-        fault(alloc, &sig, set(2, field(3)), send(1))?,
-        Some(ActFault::BadKind)
-    );
-    assert_eq!(rt;
-        fault(alloc, &sig, set(2, field(2)), send(1))?,
-        Some(ActFault::NotVar)
-    );
-    let result = ActStep::Result(Expr::Arg(0));
-    assert_eq!(rt; fault(alloc, &sig, result, set(0, one()))?, None);
-    let silent = signature(alloc, false)?;
-    assert_eq!(rt;
-        fault(alloc, &silent, send(1), ActStep::Result(one()))?,
-        Some(ActFault::NoResult)
-    );
-    assert_eq!(rt;
-        fault(alloc, &silent, ActStep::Result(one()), set(2, one()))?,
-        Some(ActFault::NotVar)
-    );
-    Ok(())
-}
-
-/// What the check says of an act of one layer step, where the parameters are of these kinds.
-fn fault_of_layer(
-    alloc: Global,
-    kind: Layer,
-    kinds: &[Kind],
-) -> Result<Option<ActFault>, NoMemory> {
-    let mut params = Params::new(alloc);
-    for kind in kinds {
-        if params.len() < 8 {
-            params.push(param(*kind, false))?;
-        }
+    let sig = signature(alloc, false)?;
+    for (arg, width, wanted) in [
+        (0, 2, None),
+        (0, 3, Some(ActFault::BadKind)),
+        (1, 2, Some(ActFault::BadKind)),
+        (2, 2, Some(ActFault::NotVar)),
+        (3, 3, Some(ActFault::BadArg)),
+    ] {
+        let to = field(width);
+        assert_eq!(rt; fault(alloc, &sig, ActStep::Set { arg, to })?, wanted);
     }
-    let sig = EventType {
-        params,
-        gives: false,
-    };
-    let mut steps = Steplist::new(alloc);
-    steps.push(ActStep::Layer { kind, event: 1 })?;
-    Ok(check_act(&Act { steps }, &sig).err())
-}
-
-#[test]
-fn faults_of_layers(rt: HostRuntime) -> Result<(), NoMemory> {
-    let packet = [Kind::Bytes, Kind::Word, Kind::Word, Kind::Word];
-    let wrong = Some(ActFault::BadKind);
-    assert_eq!(rt;
-        fault_of_layer(rt.alloc(), Layer::Ipv4, &packet[..1])?,
-        None
-    );
-    assert_eq!(rt;
-        fault_of_layer(rt.alloc(), Layer::Ipv4, &packet[..0])?,
-        wrong
-    );
-    assert_eq!(rt;
-        fault_of_layer(rt.alloc(), Layer::Ipv4, &packet[1..])?,
-        wrong
-    );
-    assert_eq!(rt; fault_of_layer(rt.alloc(), Layer::Udp, &packet)?, None);
-    assert_eq!(rt;
-        fault_of_layer(rt.alloc(), Layer::Udp, &packet[..3])?,
-        wrong
-    );
+    for (depth, wanted) in [(8, None), (9, Some(ActFault::TooDeep))] {
+        let part = up(alloc, Part::Word(deep(alloc, depth)?))?;
+        assert_eq!(rt; fault(alloc, &sig, part)?, wanted);
+    }
+    for (kind, wanted) in [
+        (Layer::Ipv4, Some(ActFault::BadKind)),
+        (Layer::Udp, Some(ActFault::BadKind)),
+    ] {
+        assert_eq!(rt;
+            fault(alloc, &sig, ActStep::Layer { kind, event: 1 })?,
+            wanted
+        );
+    }
+    let result = ActStep::Result(Expr::Arg(0));
+    assert_eq!(rt; fault(alloc, &sig, result)?, Some(ActFault::NoResult));
     Ok(())
 }
 
 #[test]
 fn faults_of_tests_and_merges(rt: HostRuntime) -> Result<(), NoMemory> {
-    let alloc = rt.alloc();
-    let sig = signature(alloc, false)?;
-    assert_eq!(rt; check_test(&Test::True, &sig), Ok(()));
-    let test = Test::Compare(Cmp::Eq, deep(alloc, 7)?, Expr::Arg(2));
-    assert_eq!(rt; check_test(&test, &sig), Ok(()));
-    let test = Test::Compare(Cmp::Eq, Expr::Arg(1), deep(alloc, 8)?);
-    assert_eq!(rt; check_test(&test, &sig), Err(ActFault::TooDeep));
-    let test = Test::Compare(Cmp::Eq, wide(alloc, 5)?, Expr::Arg(9));
-    assert_eq!(rt; check_test(&test, &sig), Err(ActFault::TooLong));
-    let test = both(alloc, never(), Test::HasBytes { arg: 3, length: 0 })?;
-    assert_eq!(rt; check_test(&test, &sig), Err(ActFault::BadArg));
-    assert_eq!(rt;
-        check_test(&Test::HasBytes { arg: 2, length: 0 }, &sig),
-        Err(ActFault::BadKind)
-    );
-    assert_eq!(rt; check_merge(&Merge::Last), Ok(()));
-    let sum = Merge::Fold(plus(alloc, Expr::Arg(0), Expr::Arg(1))?);
-    assert_eq!(rt; check_merge(&sum), Ok(()));
-    assert_eq!(rt;
-        check_merge(&Merge::Fold(Expr::Arg(2))),
-        Err(ActFault::BadArg)
-    );
-    assert_eq!(rt; check_merge(&Merge::Fold(field(1))), Err(ActFault::BadKind));
-    let long = plus(alloc, wide(alloc, 5)?, Expr::Const(1))?;
-    assert_eq!(rt; check_merge(&Merge::Fold(long)), Err(ActFault::TooLong));
+    let sig = signature(rt.alloc(), false)?;
+    for (arg, wanted) in [
+        (1, Ok(())),
+        (2, Err(ActFault::BadKind)),
+        (3, Err(ActFault::BadArg)),
+    ] {
+        let test = Test::HasBytes { arg, length: 0 };
+        assert_eq!(rt; check_test(&test, &sig), wanted);
+    }
+    for (arg, wanted) in [(1, Ok(())), (2, Err(ActFault::BadArg))] {
+        assert_eq!(rt; check_merge(&Merge::Fold(Expr::Arg(arg))), wanted);
+    }
     Ok(())
 }

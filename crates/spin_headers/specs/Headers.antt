@@ -1,6 +1,7 @@
 -- Which bytes are headers.
-use Rattle.std.specs.Prelude.{ℕ, ◌+◌, ◌*◌, ◌/◌, ◌%◌, ◌^◌, Bool, true, false, ◌&&◌, ◌||◌, ◌==◌, not, nat_lt, if◌then◌else◌, List, [], ◌∷◌, ◌++◌, length, take, drop, slice_index, slice_range, Result, Ok, Err}
+use Rattle.std.specs.Prelude.{ℕ, ◌+◌, ◌*◌, ◌/◌, ◌%◌, ◌^◌, Bool, ◌&&◌, ◌||◌, ◌==◌, not, nat_lt, if◌then◌else◌, List, [], ◌∷◌, ◌++◌, length, take, drop, slice_index, slice_range, Result}
 use Rattle.byteorder.specs.Endian.{big_number, big_bytes}
+use Rattle.spin_values.specs.First.{unless}
 use Rattle.spin_headers.specs.Sums.{word_sum, checksum_of}
 use Rattle.spin_headers.specs.declared.fault.HeaderFault.{HeaderFault}
 use Rattle.spin_headers.specs.declared.fault.HeaderFault.TheVariants as fault
@@ -8,15 +9,19 @@ use Rattle.spin_headers.specs.declared.ether.Ether.{Ether}
 use Rattle.spin_headers.specs.declared.ipv4.Ipv4.{Ipv4}
 use Rattle.spin_headers.specs.declared.udp.Udp.{Udp}
 
+-- the faults are numbered in their order
+abbrev pub number_of_fault : HeaderFault → ℕ
+number_of_fault fault.Short = 1
+number_of_fault fault.Version = 2
+number_of_fault fault.HeaderLength = 3
+number_of_fault fault.TotalLength = 4
+number_of_fault fault.Checksum = 5
+number_of_fault fault.Fragment = 6
+number_of_fault fault.UdpLength = 7
+
 -- the number in the bytes from a place on, highest byte first
 abbrev pub number_at : ℕ → ℕ → List ℕ → ℕ
 number_at place width bytes = big_number width (drop place bytes)
-
--- the header, or the first fault that applies
-abbrev pub unless : {A : Type 0} → List (Bool × HeaderFault) → A → Result A HeaderFault
-unless [] header = Ok header
-unless ((true, fault) ∷ later) header = Err fault
-unless ((false, fault) ∷ later) header = unless later header
 
 -- Ethernet II, RFC 894
 
@@ -24,11 +29,16 @@ unless ((false, fault) ∷ later) header = unless later header
 unfoldable pub ether_of : List ℕ → Result Ether HeaderFault
 ether_of bytes =
     unless ((nat_lt (length bytes) 14, fault.Short) ∷ [])
-    (record { destination = number_at 0 6 bytes; source = number_at 6 6 bytes; kind = number_at 12 2 bytes })
+    (record {
+      destination = number_at 0 6 bytes;
+      source = number_at 6 6 bytes;
+      kind = number_at 12 2 bytes;
+    })
 
 -- IPv4, RFC 791
 
--- the version stands in the high half of the first byte, the header's number of 32-bit words in the low half
+-- the version stands in the high half of the first byte, the header's number of 32-bit words in the
+-- low half
 abbrev pub version : List ℕ → ℕ
 version bytes = slice_index bytes 0 / 16
 
@@ -54,7 +64,8 @@ fragment_offset bytes = number_at 6 2 bytes % 2 ^ 13
 abbrev pub is_fragment : List ℕ → Bool
 is_fragment bytes = more_fragments bytes || not (fragment_offset bytes == 0)
 
--- the header of the packet, which may have options after its 20 bytes and padding after its total length
+-- the header of the packet, which may have options after its 20 bytes and padding after its total
+-- length
 unfoldable pub ipv4_of : List ℕ → Result Ipv4 HeaderFault
 ipv4_of bytes =
     let header = ipv4_fields bytes in
@@ -62,9 +73,13 @@ ipv4_of bytes =
     (nat_lt (length bytes) 20, fault.Short)
     ∷ (not (version bytes == 4), fault.Version)
     ∷ (nat_lt header.header_len 20 || nat_lt (length bytes) header.header_len, fault.HeaderLength)
-    ∷ (nat_lt header.total_len header.header_len || nat_lt (length bytes) header.total_len, fault.TotalLength)
+    ∷ (
+      nat_lt header.total_len header.header_len || nat_lt (length bytes) header.total_len,
+      fault.TotalLength,
+    )
     ∷ (not (word_sum (take header.header_len bytes) == 65535), fault.Checksum)
-    ∷ (is_fragment bytes, fault.Fragment) ∷ [])
+    ∷ (is_fragment bytes, fault.Fragment)
+    ∷ [])
     header
 
 -- what the packet carries: padding past the total length is left out
@@ -72,7 +87,8 @@ abbrev pub ipv4_payload : Ipv4 → List ℕ → List ℕ
 ipv4_payload header bytes = slice_range bytes header.header_len header.total_len
 
 -- a header without options and with that checksum, not to be broken up
-abbrev pub ipv4_bytes : (ident ttl protocol source destination payload_len checksum : ℕ) → List ℕ
+abbrev pub ipv4_bytes :
+    (ident ttl protocol source destination payload_len checksum : ℕ) → List ℕ
 ipv4_bytes ident ttl protocol source destination payload_len checksum =
     0x45 ∷ 0 ∷ []
     ++ big_bytes 2 (20 + payload_len)
@@ -84,9 +100,11 @@ ipv4_bytes ident ttl protocol source destination payload_len checksum =
     ++ big_bytes 4 destination
 
 -- the checksum is that of the header with 0 in its place
-abbrev pub ipv4_header : (ident ttl protocol source destination payload_len : ℕ) → List ℕ
+abbrev pub ipv4_header :
+    (ident ttl protocol source destination payload_len : ℕ) → List ℕ
 ipv4_header ident ttl protocol source destination payload_len =
-    ipv4_bytes ident ttl protocol source destination payload_len (checksum_of (ipv4_bytes ident ttl protocol source destination payload_len 0))
+    let with_checksum = ipv4_bytes ident ttl protocol source destination payload_len in
+    with_checksum (checksum_of (with_checksum 0))
 
 -- UDP, RFC 768
 
@@ -113,7 +131,8 @@ udp_of bytes source destination =
     unless (
     (nat_lt (length bytes) 8, fault.Short)
     ∷ (nat_lt header.length 8 || nat_lt (length bytes) header.length, fault.UdpLength)
-    ∷ (not (udp_checksum bytes == 0) && not (word_sum covered == 65535), fault.Checksum) ∷ [])
+    ∷ (not (udp_checksum bytes == 0) && not (word_sum covered == 65535), fault.Checksum)
+    ∷ [])
     header
 
 -- what the datagram carries: bytes past its length are left out
@@ -129,12 +148,15 @@ udp_bytes source_port destination_port checksum payload =
     ++ big_bytes 2 checksum
     ++ payload
 
--- 0 stands for no checksum, so a checksum of 0 is written as the other number that adds nothing to a sum
+-- 0 stands for no checksum, so a checksum of 0 is written as the other number that adds nothing to
+-- a sum
 abbrev pub written_checksum : ℕ → ℕ
 written_checksum n = if n == 0 then 65535 else n
 
 -- the checksum is that of pseudo-header and datagram with 0 in its place
-abbrev pub udp_datagram : (source destination source_port destination_port : ℕ) → List ℕ → List ℕ
+abbrev pub udp_datagram :
+    (source destination source_port destination_port : ℕ) → List ℕ → List ℕ
 udp_datagram source destination source_port destination_port payload =
-    let covered = pseudo_header source destination (8 + length payload) ++ udp_bytes source_port destination_port 0 payload in
+    let unsummed = udp_bytes source_port destination_port 0 payload in
+    let covered = pseudo_header source destination (8 + length payload) ++ unsummed in
     udp_bytes source_port destination_port (written_checksum (checksum_of covered)) payload

@@ -1,7 +1,8 @@
 -- The sum and the checksum of RFC 1071.
 use Rattle.std.specs.Prelude.{ℕ, ◌+◌, ◌-◌, ◌*◌, ◌%◌, ◌==◌, if◌then◌else◌, List, [], ◌∷◌, sum}
 
--- the 16-bit words of the bytes, highest byte first; an odd last byte is padded with a zero byte on its right
+-- the 16-bit words of the bytes, highest byte first; an odd last byte is padded with a zero byte on
+-- its right
 abbrev pub words : List ℕ → List ℕ
 words [] = []
 words (last ∷ []) = 256 * last ∷ []
@@ -11,8 +12,8 @@ words (high ∷ (low ∷ rest)) = (256 * high + low) ∷ words rest
 abbrev pub word_total : List ℕ → ℕ
 word_total bytes = sum (words bytes)
 
--- what one's complement addition makes of a sum: 0 for 0, and else the number from 1 to 65,535 that is
--- congruent modulo 65,535
+-- what one's complement addition makes of a sum: 0 for 0, and else the number from 1 to 65,535 that
+-- is congruent modulo 65,535
 abbrev pub folded : ℕ → ℕ
 folded n = if n == 0 then 0 else (n - 1) % 65535 + 1
 

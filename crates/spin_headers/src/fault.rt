@@ -1,8 +1,12 @@
 //! Why bytes aren't a valid header.
 
+ghost use Rattle.std.specs.Prelude.{◌≡◌};
+ghost use Rattle.spin_headers.specs.Headers.{number_of_fault};
+
 use thiserror::Error;
 
-/// Why bytes aren't a valid header. A reader answers the first that applies, in this order.
+/// Why bytes aren't a valid header. A reader answers the first that applies, in this order, in which
+/// they are numbered from 1.
 #[derive(Debug, Clone, Copy, PartialEq, Eq, Error)]
 pub enum HeaderFault {
     /// There are fewer bytes than the shortest header has.
@@ -26,4 +30,13 @@ pub enum HeaderFault {
     /// The length of the UDP header is under 8, or over the number of bytes.
     #[error("the length of the datagram is under 8 or over the number of bytes")]
     UdpLength = 7,
+}
+
+impl HeaderFault {
+    /// The number of the fault, from 1 in the order above.
+    pub fn number(self) -> u8
+        ensures { result ≡ number_of_fault self }
+    {
+        self as u8
+    }
 }

@@ -78,7 +78,10 @@ fn is_fragment(bytes: &[u8]) -> bool
 #[tactic(auto, unfolding(crate::specs::Headers::ipv4_of))]
 pub fn read_ipv4(bytes: &[u8]) -> Result<Ipv4, HeaderFault>
     ensures header { result ≡ ipv4_of bytes.now }
-    ensures lengths { IfOk result (λ header. (20 ≤ header.header_len) × (header.header_len ≤ header.total_len) × (header.total_len ≤ length bytes.now)) }
+    ensures lengths { IfOk result (λ header.
+        (20 ≤ header.header_len)
+        × (header.header_len ≤ header.total_len)
+        × (header.total_len ≤ length bytes.now)) }
 {
     if bytes.len() < HEADER {
         return Err(HeaderFault::Short);
@@ -119,8 +122,18 @@ pub fn write_ipv4(
     requires room { length out.old ≡ 20 }
     requires payload { payload_len ≤ 65515 }
     ensures header { out.new ≡ ipv4_header ident ttl protocol source destination payload_len }
-    ensures valid { let header : Ipv4 = record { header_len = 20; total_len = 20 + payload_len; ident = ident; ttl = ttl; protocol = protocol; source = source; destination = destination } in
-        (payload : List ℕ) → length payload ≡ payload_len → (ipv4_of (out.new ++ payload) ≡ Ok header) × (ipv4_payload header (out.new ++ payload) ≡ payload) }
+    ensures valid { let header : Ipv4 = record {
+      header_len = 20;
+      total_len = 20 + payload_len;
+      ident = ident;
+      ttl = ttl;
+      protocol = protocol;
+      source = source;
+      destination = destination;
+    } in
+        (payload : List ℕ) → length payload ≡ payload_len
+        → (ipv4_of (out.new ++ payload) ≡ Ok header)
+        × (ipv4_payload header (out.new ++ payload) ≡ payload) }
 {
     let mut header = [0u8; 20];
     header[0] = VERSION_AND_WORDS;

@@ -8,13 +8,13 @@
 //! All fields stand highest byte first. No call takes memory, and each goes once over the bytes that it needs.
 #![tactic(auto)]
 
-pub mod ether;
-pub mod fault;
-pub mod ipv4;
-pub mod sum;
+mod ether;
+mod fault;
+mod ipv4;
+mod sum;
 #[cfg(test)]
 mod tests;
-pub mod udp;
+mod udp;
 
 pub use ether::{Ether, read_ether};
 pub use fault::HeaderFault;

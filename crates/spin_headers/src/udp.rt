@@ -57,7 +57,8 @@ fn sum_with_addresses(source: u32, destination: u32, length: u16, datagram: &[u8
 #[tactic(auto, unfolding(crate::specs::Headers::udp_of))]
 pub fn read_udp(bytes: &[u8], source: u32, destination: u32) -> Result<Udp, HeaderFault>
     ensures header { result ≡ udp_of bytes.now source destination }
-    ensures lengths { IfOk result (λ header. (8 ≤ header.length) × (header.length ≤ length bytes.now)) }
+    ensures lengths { IfOk result (λ header.
+        (8 ≤ header.length) × (header.length ≤ length bytes.now)) }
 {
     if bytes.len() < HEADER {
         return Err(HeaderFault::Short);
@@ -95,9 +96,15 @@ pub fn write_udp(
 )
     requires room { length out.old ≡ 8 + length payload.now }
     requires payload { length payload.now ≤ 65507 }
-    ensures datagram { out.new ≡ udp_datagram source destination source_port destination_port payload.now }
-    ensures valid { let header : Udp = record { source_port = source_port; destination_port = destination_port; length = 8 + length payload.now } in
-        (udp_of out.new source destination ≡ Ok header) × (udp_payload header out.new ≡ payload.now) }
+    ensures datagram { out.new
+        ≡ udp_datagram source destination source_port destination_port payload.now }
+    ensures valid { let header : Udp = record {
+      source_port = source_port;
+      destination_port = destination_port;
+      length = 8 + length payload.now;
+    } in
+        (udp_of out.new source destination ≡ Ok header)
+        × (udp_payload header out.new ≡ payload.now) }
 {
     let length = (HEADER + payload.len()) as u16;
     let mut header = [0u8; HEADER];

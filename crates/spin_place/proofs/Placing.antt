@@ -10,7 +10,7 @@ use Rattle.std.proofs.lemmas.List.Sums.{sum_by-cons}
 use Rattle.std.proofs.lemmas.List.Sorted.{IsPermutation-remove, IsPermutation-map, All-permutation, sum_by-IsPermutation}
 use Rattle.spin_place.specs.declared.binding.Binding.{Binding}
 use Rattle.spin_place.specs.declared.candidate.Candidate.{Candidate}
-use Rattle.spin_place.specs.Candidates.{bindings_of, released, AreCounted, EachWaits, IsLeastReady}
+use Rattle.spin_place.specs.Inner.Candidates.{bindings_of, released, AreCounted, EachWaits, IsLeastReady}
 use Rattle.spin_place.specs.Orders.{AreDistinct, IsLeastOrder, Leads, IsRing, IsCycleOf}
 use Rattle.spin_place.specs.Precedence.{must_precede, numbers_of, MustPrecede, IsTheOrder, IsLawful, IsCycle}
 use Rattle.spin_place.proofs.Lists.{one_if, count_by-zero, none_pass, some_passes}

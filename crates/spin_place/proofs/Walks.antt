@@ -6,7 +6,7 @@ use Rattle.std.proofs.lemmas.List.{get_or-map, get_or_default, length-map}
 use Rattle.std.proofs.lemmas.List.Elements.{All-cons, Contains-get_or}
 use Rattle.spin_place.specs.declared.binding.Binding.{Binding}
 use Rattle.spin_place.specs.declared.candidate.Candidate.{Candidate}
-use Rattle.spin_place.specs.Candidates.{bindings_of}
+use Rattle.spin_place.specs.Inner.Candidates.{bindings_of}
 use Rattle.spin_place.specs.Orders.{AreDistinct, IsRing}
 use Rattle.spin_place.specs.Precedence.{must_precede, numbers_of, MustPrecede}
 use Rattle.spin_place.proofs.Lists.{AllPairs-cons, AllPairs-take}

@@ -1,4 +1,4 @@
-pub mod Candidates
 pub mod Faults
+pub mod Inner
 pub mod Orders
 pub mod Precedence

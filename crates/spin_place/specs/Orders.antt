@@ -7,7 +7,8 @@ AreDistinct ns = AllPairs (λ m n. m ≡ n → ⊥) ns
 
 -- all the numbers in an order in which nothing stands after what it must precede
 abbrev pub IsLawfulOrder : (ℕ → ℕ → Type 0) → List ℕ → List ℕ → Type 0
-IsLawfulOrder MustPrecede numbers ns = IsPermutation numbers ns × AllPairs (λ m n. MustPrecede n m → ⊥) ns
+IsLawfulOrder MustPrecede numbers ns =
+    IsPermutation numbers ns × AllPairs (λ m n. MustPrecede n m → ⊥) ns
 
 -- at the first difference the first list has the smaller number
 abbrev pub IsLess : List ℕ → List ℕ → Type 0
@@ -30,7 +31,8 @@ abbrev pub IsRing : (ℕ → ℕ → Type 0) → List ℕ → Type 0
 IsRing MustPrecede [] = ⊥
 IsRing MustPrecede (n ∷ ns) = Leads MustPrecede n ns n
 
--- at least two distinct numbers, the least first, of which each must precede the next, and the last the first
+-- at least two distinct numbers, the least first, of which each must precede the next, and the last
+-- the first
 pub record IsCycleOf (MustPrecede : ℕ → ℕ → Type 0) (ns : List ℕ) : Type 0 where
   pub several : 2 ≤ length ns
   pub distinct : AreDistinct ns

@@ -35,7 +35,8 @@ numbers_of bs = map (λ b. b.number) bs
 
 -- of the bindings, the one with the first number must precede the one with the second
 abbrev pub MustPrecede : List Binding → ℕ → ℕ → Type 0
-MustPrecede bs m n = Any (λ b. (b.number ≡ m) × Any (λ c. (c.number ≡ n) × IsTrue (must_precede b c)) bs) bs
+MustPrecede bs m n =
+    Any (λ b. (b.number ≡ m) × Any (λ c. (c.number ≡ n) × IsTrue (must_precede b c)) bs) bs
 
 -- a lawful order, the order and a cycle of bindings, by their numbers
 abbrev pub IsLawful : List Binding → List ℕ → Type 0

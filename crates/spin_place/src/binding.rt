@@ -1,9 +1,9 @@
 //! Bindings: installed handlers, and which of them must run before which.
 
-ghost use Rattle.std.specs.Prelude.{◌≡◌};
+ghost use Rattle.std.specs.Prelude.{◌≡◌, IfOk};
 ghost use Rattle.spin_place.specs.Precedence.{names, is_first, is_last, must_precede};
 
-use spin_values::Numbers;
+use spin_values::{NoMemory, Numbers};
 use spin_word::{Mode, NO_BINDING, Place};
 
 /// A handler that is installed on an event.
@@ -27,6 +27,25 @@ pub struct Binding {
     pub after: [u16; 4],
     /// How the handler runs.
     pub mode: Mode,
+}
+
+impl Binding {
+    /// An equal binding. It takes memory for the imposed guards alone.
+    pub fn copy(&self) -> Result<Binding, NoMemory>
+        ensures { IfOk result (λ copy. copy ≡ self.now) }
+    {
+        Ok(Binding {
+            number: self.number,
+            requester: self.requester,
+            handler: self.handler,
+            own_guard: self.own_guard,
+            imposed: Numbers::from_slice(self.imposed.allocator(), &self.imposed)?,
+            place: self.place,
+            before: self.before,
+            after: self.after,
+            mode: self.mode,
+        })
+    }
 }
 
 fn is_first(place: Place) -> bool

@@ -2,7 +2,7 @@
 
 ghost use Rattle.std.specs.Prelude.{◌≡◌, ◌<◌, ◌≤◌, IfOk, IsTrue, All, Any, length, map, count_by, MatchOption};
 ghost use Rattle.spin_place.specs.Precedence.{must_precede};
-ghost use Rattle.spin_place.specs.Candidates.{bindings_of, released, AreCounted, IsLeastReady};
+ghost use Rattle.spin_place.specs.Inner.Candidates.{bindings_of, released, AreCounted, IsLeastReady};
 
 use crate::binding::{Binding, must_precede};
 use spin_values::NoMemory;
@@ -45,7 +45,9 @@ pub(crate) fn candidates<'a>(
 
 /// Where the candidate with the least number stands that waits for none; `None` exactly where each waits.
 pub(crate) fn least_ready(rest: &[Candidate]) -> Option<usize>
-    ensures { MatchOption result (All (λ c. 0 < c.waits) rest.now) (λ at. IsLeastReady rest.now at) }
+    ensures { MatchOption result
+        (All (λ c. 0 < c.waits) rest.now)
+        (λ at. IsLeastReady rest.now at) }
 {
     let mut least: Option<usize> = None;
     for (at, candidate) in rest.iter().enumerate() {

@@ -2,7 +2,7 @@
 
 ghost use Rattle.std.specs.Prelude.{◌≡◌, ◌<◌, ◌≤◌, ◌++◌, ℕ, IfOk, IsTrue, MatchOption, All, Any, length, slice_index, take, drop, vec_len};
 ghost use Rattle.std.specs.List.{Contains, HoldsAt};
-ghost use Rattle.spin_place.specs.Candidates.{bindings_of, EachWaits};
+ghost use Rattle.spin_place.specs.Inner.Candidates.{bindings_of, EachWaits};
 ghost use Rattle.spin_place.specs.Orders.{AreDistinct, IsRing, IsCycleOf};
 ghost use Rattle.spin_place.specs.Precedence.{must_precede, MustPrecede};
 
@@ -14,7 +14,8 @@ use spin_values::NoMemory;
 fn predecessor(rest: &[Candidate], later: &Binding) -> usize
     requires { Any (λ c. IsTrue (must_precede c.binding.now later.now)) rest.now }
     ensures there { result < length rest.now }
-    ensures precedes { HoldsAt (λ c. IsTrue (must_precede c.binding.now later.now)) rest.now result }
+    ensures precedes { HoldsAt (λ c. IsTrue (must_precede c.binding.now later.now))
+        rest.now result }
 {
     rest.iter()
         .position(|earlier| must_precede(earlier.binding, later))
@@ -23,7 +24,9 @@ fn predecessor(rest: &[Candidate], later: &Binding) -> usize
 
 // Where the number stands, if it does.
 fn position_of(numbers: &[u16], number: u16) -> Option<usize>
-    ensures { MatchOption result (Contains numbers.now number → ⊥) (λ at. (at < length numbers.now) × (slice_index numbers.now at ≡ number)) }
+    ensures { MatchOption result
+        (Contains numbers.now number → ⊥)
+        (λ at. (at < length numbers.now) × (slice_index numbers.now at ≡ number)) }
 {
     numbers.iter().position(|other| *other == number)
 }
@@ -54,7 +57,8 @@ fn walk_back(rest: &[Candidate], mut path: Vec<u16>) -> Result<Vec<u16>, NoMemor
 fn start_at_least(ring: &mut [u16])
     requires { 0 < length ring.old }
     ensures least { All (λ n. slice_index ring.new 0 ≤ n) ring.new }
-    ensures turned { (k : ℕ) × (k < length ring.old) × (ring.new ≡ drop k ring.old ++ take k ring.old) }
+    ensures turned { (k : ℕ) × (k < length ring.old)
+        × (ring.new ≡ drop k ring.old ++ take k ring.old) }
 {
     let mut least = 0;
     for at in 1..ring.len() {

@@ -4,12 +4,10 @@
 //! - [`run_order`] finds the least order that all constraints allow, or a cycle that shows that there is none.
 #![tactic(auto)]
 
-pub mod binding;
+mod binding;
 mod candidate;
 mod cycle;
-pub mod run_order;
-#[cfg(test)]
-mod tests;
+mod run_order;
 
 pub use binding::{Binding, must_precede};
 pub use run_order::{OrderFault, order};

@@ -16,12 +16,14 @@ guards_hold tests args b = list_all (guard_holds tests args) (b.own_guard ∷ b.
 
 -- no position from one up to another passes
 abbrev pub NonePass : {X : Type 0} → (X → Bool) → List X → ℕ → ℕ → Type 0
-NonePass passes xs from to = (k : ℕ) → from ≤ k → k < to → IfSome (slice_get xs k) (λ x. passes x ≡ false)
+NonePass passes xs from to =
+    (k : ℕ) → from ≤ k → k < to → IfSome (slice_get xs k) (λ x. passes x ≡ false)
 
 -- the least position at or after one that passes, if there is one
 abbrev pub IsNext : {X : Type 0} → (X → Bool) → List X → ℕ → Option ℕ → Type 0
 IsNext passes xs from None = NonePass passes xs from (length xs)
-IsNext passes xs from (Some at) = (from ≤ at) × IsSomeAnd (slice_get xs at) (λ x. passes x ≡ true) × NonePass passes xs from at
+IsNext passes xs from (Some at) =
+    (from ≤ at) × IsSomeAnd (slice_get xs at) (λ x. passes x ≡ true) × NonePass passes xs from at
 
 -- of so many guards this is one, or it is none
 abbrev pub IsGuard : ℕ → ℕ → Type 0

@@ -3,9 +3,6 @@
 //! - [`plan`] has the plan, and the walk that finds the next binding whose guards all hold.
 #![tactic(auto)]
 
-pub mod plan;
+mod plan;
 
 pub use plan::Plan;
-
-#[cfg(test)]
-mod tests;

@@ -6,14 +6,14 @@ ghost use Rattle.spin_plan.specs.Next.{IsNext, IsGuard, guard_holds, guards_hold
 
 use spin_code::Guards;
 use spin_place::Binding;
-use spin_values::{Args, NoMemory, Numbers, Sequence, Steps};
+use spin_values::{Args, NoMemory, Sequence, Steps};
 use spin_word::Mode;
 use std::alloc::Global;
 use std::marker::Model;
 use std::sync::ledger::Ledger;
 
 /// Bindings in the order in which they run, counted from 0. Contracts see the list of them.
-#[derive(Drop)]
+#[derive(Drop, Debug)]
 pub struct Plan {
     bindings: Sequence<Binding>,
 }
@@ -27,23 +27,6 @@ impl Model for Plan {
     ghost view = { λ p. p.bindings };
 
     ghost invariant = { λ p. length p.bindings < 2 ^ 32 };
-}
-
-/// An equal binding.
-fn copy_of(alloc: Global, binding: &Binding) -> Result<Binding, NoMemory>
-    ensures { IfOk result (λ copy. copy ≡ binding.now) }
-{
-    Ok(Binding {
-        number: binding.number,
-        requester: binding.requester,
-        handler: binding.handler,
-        own_guard: binding.own_guard,
-        imposed: Numbers::from_slice(alloc, binding.imposed.as_slice())?,
-        place: binding.place,
-        before: binding.before,
-        after: binding.after,
-        mode: binding.mode,
-    })
 }
 
 /// Whether the guard's test holds: 0 is no guard and always holds.
@@ -91,7 +74,8 @@ impl Plan {
     ) -> Result<Plan, NoMemory>
         requires few { length ordered.now < 2 ^ 32 }
         requires own { All (λ b. IsGuard (length (C.tests guards.now)) b.own_guard) ordered.now }
-        requires imposed { All (λ b. All (IsGuard (length (C.tests guards.now))) b.imposed) ordered.now }
+        requires imposed { All (λ b. All (IsGuard (length (C.tests guards.now))) b.imposed)
+            ordered.now }
         ensures plan { IfOk result (λ plan. plan ≡ ordered.now) }
         ensures steps { OnOk result (steps.new ≡ steps.old + length ordered.now) }
         ensures no_more { steps.new ≤ steps.old + length ordered.now }
@@ -99,7 +83,7 @@ impl Plan {
         let mut bindings = Sequence::new(alloc);
         for binding in ordered {
             steps.tick();
-            bindings.push(copy_of(alloc, binding)?)?;
+            bindings.push(binding.copy()?)?;
         }
         Ok(Plan { bindings })
     }
@@ -163,7 +147,8 @@ impl Plan {
         steps: &mut Steps<L>,
     ) -> Option<u32>
         requires own { All (λ b. IsGuard (length (C.tests guards.now)) b.own_guard) self.now }
-        requires imposed { All (λ b. All (IsGuard (length (C.tests guards.now))) b.imposed) self.now }
+        requires imposed { All (λ b. All (IsGuard (length (C.tests guards.now))) b.imposed)
+            self.now }
         requires sincere { C.sincere guards.now }
         ensures next { IsNext (guards_hold (C.tests guards.now) args.now) self.now from result }
         ensures within { IfSome result (λ at. at < length self.now) }

@@ -1,6 +1,7 @@
 -- What an allowing verdict brings with it, by the rule that it names.
-use Rattle.std.specs.Prelude.{ℕ, ◌-◌, Bool, false, ◌==◌, if◌then◌else◌, List, [], slice_get}
+use Rattle.std.specs.Prelude.{ℕ, Bool, false, List, []}
 use Rattle.std.specs.Option.{option_map_or}
+use Rattle.spin_values.specs.First.{numbered}
 use Rattle.spin_policy.specs.declared.rule.Forced.{Forced}
 use Rattle.spin_policy.specs.declared.rule.Forced.TheVariants as forced
 use Rattle.spin_policy.specs.declared.rule.Rule.{Rule}
@@ -22,10 +23,10 @@ abbrev pub effect_apart : Effect → Bool
 effect_apart (effect.Force guards place apart) = apart
 effect_apart e = false
 
--- the effect of the rule of that number, counted from 1
+-- the effect of the rule of that number, or else `Allow`
 abbrev pub numbered_effect : List Rule → ℕ → Effect
 numbered_effect rules number =
-    if number == 0 then effect.Allow else option_map_or (λ rule. rule.effect) (slice_get rules (number - 1)) effect.Allow
+    option_map_or (λ rule. rule.effect) (numbered rules number) effect.Allow
 
 -- the effect of the rule that allows with something, or else `Allow`
 abbrev pub allowing_effect : List Rule → Verdict → Effect

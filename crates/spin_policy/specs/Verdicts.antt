@@ -1,9 +1,12 @@
 -- What a policy answers: the first of its rules that matches the request decides.
 use Rattle.std.specs.Prelude.{ℕ, ◌+◌, Bool, true, false, not, ◌&&◌, ◌||◌, ◌==◌, nat_lt, nat_le, if◌then◌else◌, List, [], ◌∷◌, length, slice_get, position, Option, None, Some}
 use Rattle.std.specs.Option.{option_map_or}
+use Rattle.spin_values.specs.First.{first_of}
 use Rattle.spin_word.specs.declared.command.Op.{Op}
 use Rattle.spin_word.specs.declared.command.Op.TheVariants as op
 use Rattle.spin_word.specs.Commands.{number_of_op}
+use Rattle.spin_policy.specs.declared.policy.TheConstants.{MAX_RULES}
+use Rattle.spin_policy.specs.declared.rule.TheConstants.{MAX_GUARDS}
 use Rattle.spin_policy.specs.declared.rule.OpMatch.{OpMatch}
 use Rattle.spin_policy.specs.declared.rule.OpMatch.TheVariants as op_match
 use Rattle.spin_policy.specs.declared.rule.Rule.{Rule}
@@ -60,31 +63,28 @@ answer_of (effect.Impose guards) number request =
 answer_of (effect.Force guards place apart) number request =
     if sets_guards request.op then verdict.Force number else verdict.Allow
 
--- the answer where the deciding rule stands at this place of the list, counted from 0, or there is none
+-- the answer where the deciding rule stands at this place of the list, counted from 0, or there is
+-- none
 abbrev pub answer_at : List Rule → Request → Option ℕ → Verdict
 answer_at rules request None = verdict.Deny 0
 answer_at rules request (Some at) =
-    option_map_or (λ rule. answer_of rule.effect (at + 1) request) (slice_get rules at) (verdict.Deny 0)
+    option_map_or (λ rule. answer_of rule.effect (at + 1) request) (slice_get rules at)
+    (verdict.Deny 0)
 
 -- the first rule that matches decides, its number being its place counted from 1
 abbrev pub verdict_of : List Rule → Request → Verdict
 verdict_of rules request = answer_at rules request (position (λ rule. matches rule request) rules)
 
--- an `Impose` of no guard or more than 4, or a `Force` of more than 4
+-- an `Impose` of no guard or too many, or a `Force` of too many
 abbrev pub has_wrong_guards : Effect → Bool
-has_wrong_guards (effect.Impose guards) = (length guards == 0) || nat_lt 4 (length guards)
-has_wrong_guards (effect.Force guards place apart) = nat_lt 4 (length guards)
+has_wrong_guards (effect.Impose guards) =
+    (length guards == 0) || nat_lt MAX_GUARDS (length guards)
+has_wrong_guards (effect.Force guards place apart) = nat_lt MAX_GUARDS (length guards)
 has_wrong_guards e = false
-
--- the refusal of the first of these conditions that holds
-abbrev pub first_refusal : {R : Type 0} → List (Bool × R) → Option R
-first_refusal [] = None
-first_refusal ((true, refusal) ∷ others) = Some refusal
-first_refusal ((false, refusal) ∷ others) = first_refusal others
 
 -- why the rule isn't added to these
 abbrev pub push_fault : List Rule → Rule → Option PolicyFault
-push_fault rules rule = first_refusal (
-    (nat_le 16 (length rules), fault.TooMany)
+push_fault rules rule = first_of (
+    (nat_le MAX_RULES (length rules), fault.TooMany)
     ∷ (has_wrong_guards rule.effect, fault.TooManyGuards)
     ∷ [])

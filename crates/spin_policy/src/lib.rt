@@ -8,12 +8,14 @@
 //! - [`authoriser`] is an object that answers as its policy does.
 #![tactic(auto)]
 
-pub mod authoriser;
-pub mod policy;
-pub mod rule;
+mod authoriser;
+mod limits;
+mod policy;
+mod rule;
 #[cfg(test)]
 mod tests;
 
 pub use authoriser::Authoriser;
+pub use limits::limits_are_stated;
 pub use policy::{MAX_RULES, Policy, PolicyFault, judge};
 pub use rule::{Effect, Forced, MAX_GUARDS, OpMatch, Request, Rule, Verdict};

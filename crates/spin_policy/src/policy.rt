@@ -2,7 +2,9 @@
 
 ghost use Rattle.std.specs.Prelude.{◌≡◌, ◌<◌, ◌≤◌, ◌++◌, ◌-◌, [], ◌∷◌, length, slice_get, Some, Err, OnOk, OnErr, IfErr, MatchOption, position};
 ghost use Rattle.spin_policy.specs.Verdicts.{matches, verdict_of, push_fault};
-ghost use Rattle.spin_policy.specs.Imposed.{numbered_effect, effect_guards, effect_place, effect_apart, imposed_guards, forced_place, forces_apart};
+ghost use Rattle.std.specs.Option.{option_copied, option_map_or};
+ghost use Rattle.spin_values.specs.First.{numbered};
+ghost use Rattle.spin_policy.specs.Imposed.{allowing_effect, imposed_guards, forced_place, forces_apart};
 
 use crate::rule::{Effect, Forced, Request, Rule, Verdict};
 use spin_values::{NoMemory, Sequence};
@@ -46,12 +48,13 @@ pub struct Policy {
 impl Model for Policy {
     ghost use Rattle.std.specs.Prelude.{List, length, ◌≤◌};
     ghost use Rattle.spin_policy.specs.declared.rule.Rule.{Rule};
+    ghost use Rattle.spin_policy.specs.declared.policy.TheConstants.{MAX_RULES};
 
     ghost Value = { List Rule };
 
     ghost view = { λ p. p.rules };
 
-    ghost invariant = { λ p. length p.rules ≤ 16 };
+    ghost invariant = { λ p. length p.rules ≤ MAX_RULES };
 }
 
 impl Policy {
@@ -72,7 +75,9 @@ impl Policy {
     pub fn push(&mut self, rule: Rule) -> Result<(), PolicyFault>
         ensures ok { OnOk result (self.new ≡ self.old ++ rule ∷ []) }
         ensures err { OnErr result (self.new ≡ self.old) }
-        ensures fault { MatchOption (push_fault self.old rule) (IfErr result (λ fault. fault ≡ PolicyFault.NoMemory)) (λ fault. result ≡ Err fault) }
+        ensures fault { MatchOption (push_fault self.old rule)
+            (IfErr result (λ fault. fault ≡ PolicyFault.NoMemory))
+            (λ fault. result ≡ Err fault) }
     {
         if self.rules.len() >= MAX_RULES {
             return Err(PolicyFault::TooMany);
@@ -112,9 +117,9 @@ impl Policy {
     pub fn imposed(&self, verdict: Verdict) -> &[u16]
         ensures { result.now ≡ imposed_guards self.now verdict }
     {
-        match verdict {
-            Verdict::Impose(number) | Verdict::Force(number) => self.guards_of(number),
-            Verdict::Allow | Verdict::Deny(_) => &[],
+        match self.allowing_rule(verdict) {
+            Some(rule) => rule.effect.guards(),
+            None => &[],
         }
     }
 
@@ -122,9 +127,9 @@ impl Policy {
     pub fn forced(&self, verdict: Verdict) -> Forced
         ensures { result ≡ forced_place self.now verdict }
     {
-        match verdict {
-            Verdict::Impose(number) | Verdict::Force(number) => self.place_of(number),
-            Verdict::Allow | Verdict::Deny(_) => Forced::Keep,
+        match self.allowing_rule(verdict) {
+            Some(rule) => rule.effect.place(),
+            None => Forced::Keep,
         }
     }
 
@@ -132,55 +137,38 @@ impl Policy {
     pub fn runs_apart(&self, verdict: Verdict) -> bool
         ensures { result ≡ forces_apart self.now verdict }
     {
+        match self.allowing_rule(verdict) {
+            Some(rule) => rule.effect.is_apart(),
+            None => false,
+        }
+    }
+
+    // The rule that allows with something, by this verdict.
+    fn allowing_rule(&self, verdict: Verdict) -> Option<&Rule>
+        ensures { option_map_or (λ rule. rule.now.effect) result Effect.Allow
+            ≡ allowing_effect self.now verdict }
+    {
         match verdict {
-            Verdict::Impose(number) | Verdict::Force(number) => self.is_apart(number),
-            Verdict::Allow | Verdict::Deny(_) => false,
+            Verdict::Impose(number) | Verdict::Force(number) => self.numbered(number),
+            Verdict::Allow | Verdict::Deny(_) => None,
         }
     }
 
-    // The guards of the rule of that number, if it is there.
-    fn guards_of(&self, number: u8) -> &[u16]
-        ensures { result.now ≡ effect_guards (numbered_effect self.now number) }
+    // The rule of that number, counted from 1, if it is there.
+    fn numbered(&self, number: u8) -> Option<&Rule>
+        ensures { option_copied result ≡ numbered self.now number }
     {
         if number == 0 || number > self.len() {
-            return &[];
+            return None;
         }
-        self.rule(number).effect.guards()
-    }
-
-    // The place that the rule of that number forces, if it is there.
-    fn place_of(&self, number: u8) -> Forced
-        ensures { result ≡ effect_place (numbered_effect self.now number) }
-    {
-        if number == 0 || number > self.len() {
-            return Forced::Keep;
-        }
-        match &self.rule(number).effect {
-            Effect::Force { place, .. } => *place,
-            _ => Forced::Keep,
-        }
-    }
-
-    // Whether the rule of that number is there and forces asynchronous running.
-    fn is_apart(&self, number: u8) -> bool
-        ensures { result ≡ effect_apart (numbered_effect self.now number) }
-    {
-        if number == 0 || number > self.len() {
-            return false;
-        }
-        match &self.rule(number).effect {
-            Effect::Force { apart, .. } => *apart,
-            _ => false,
-        }
+        Some(self.rule(number))
     }
 
     // The place of the first rule that matches.
     fn first_match(&self, request: &Request) -> Option<usize>
         ensures { result ≡ position (λ rule. matches rule request.now) self.now }
     {
-        self.as_slice()
-            .iter()
-            .position(|rule| rule.matches(request))
+        self.rules.iter().position(|rule| rule.matches(request))
     }
 }
 

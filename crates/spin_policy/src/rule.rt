@@ -1,7 +1,7 @@
 //! One rule of a policy: which requests it speaks of, and what it decides.
 
 ghost use Rattle.std.specs.Prelude.{◌≡◌};
-ghost use Rattle.spin_policy.specs.Imposed.{effect_guards};
+ghost use Rattle.spin_policy.specs.Imposed.{effect_guards, effect_place, effect_apart};
 ghost use Rattle.spin_policy.specs.Verdicts.{is_of_op, is_of_handler, is_own, matches, answer_of, has_wrong_guards};
 
 use spin_values::Numbers;
@@ -74,6 +74,26 @@ impl Effect {
             Effect::Impose(guards) => guards.as_slice(),
             Effect::Force { guards, .. } => guards.as_slice(),
             _ => &[],
+        }
+    }
+
+    /// The place that it forces on a binding.
+    pub fn place(&self) -> Forced
+        ensures { result ≡ effect_place self.now }
+    {
+        match self {
+            Effect::Force { place, .. } => *place,
+            _ => Forced::Keep,
+        }
+    }
+
+    /// Whether it forces asynchronous running.
+    pub fn is_apart(&self) -> bool
+        ensures { result ≡ effect_apart self.now }
+    {
+        match self {
+            Effect::Force { apart, .. } => *apart,
+            _ => false,
         }
     }
 

@@ -5,7 +5,7 @@ use Rattle.std.proofs.lemmas.List.Elements.{All-push, All-same}
 use Rattle.spin_place.specs.declared.binding.Binding.{Binding}
 use Rattle.spin_place.specs.declared.candidate.Candidate.{Candidate}
 use Rattle.spin_place.specs.Precedence.{must_precede}
-use Rattle.spin_place.specs.Candidates.{bindings_of}
+use Rattle.spin_place.specs.Inner.Candidates.{bindings_of}
 use Rattle.spin_place.proofs.candidate.candidates.Goals as goal
 
 -- one more binding with its count

@@ -1,6 +1,6 @@
 use Rattle.std.proofs.Common.{◌≡◌, All, count_by, take}
 use Rattle.spin_place.specs.Precedence.{must_precede}
-use Rattle.spin_place.specs.Candidates.{bindings_of}
+use Rattle.spin_place.specs.Inner.Candidates.{bindings_of}
 use Rattle.spin_place.proofs.candidate.candidates.Given as goal
 
 abbrev pub invariant-loop-binding : goal.invariant-loop-binding

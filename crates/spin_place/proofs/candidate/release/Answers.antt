@@ -4,7 +4,7 @@ use Rattle.std.specs.Prelude.{slice_set}
 use Rattle.std.proofs.lemmas.List.Edits.{map_over_more}
 use Rattle.spin_place.specs.declared.candidate.Candidate.{Candidate}
 use Rattle.spin_place.specs.Precedence.{must_precede}
-use Rattle.spin_place.specs.Candidates.{released}
+use Rattle.spin_place.specs.Inner.Candidates.{released}
 use Rattle.spin_place.proofs.Lists.{one_if}
 use Rattle.spin_place.proofs.candidate.release.Goals as goal
 

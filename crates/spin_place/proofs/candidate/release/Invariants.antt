@@ -1,5 +1,5 @@
 use Rattle.std.proofs.Common.{◌≡◌, ◌++◌, map, take, drop}
-use Rattle.spin_place.specs.Candidates.{released}
+use Rattle.spin_place.specs.Inner.Candidates.{released}
 use Rattle.spin_place.proofs.candidate.release.Given as goal
 
 abbrev pub invariant-loop-candidate : goal.invariant-loop-candidate

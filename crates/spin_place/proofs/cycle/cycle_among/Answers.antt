@@ -1,6 +1,6 @@
 use Rattle.std.proofs.Common.{◌≡◌, ◌++◌, List, ℕ, length, drop, take, arith, ap, subst, sym, ◌∙◌}
 use Rattle.std.proofs.lemmas.List.{take_at}
-use Rattle.spin_place.specs.Candidates.{bindings_of}
+use Rattle.spin_place.specs.Inner.Candidates.{bindings_of}
 use Rattle.spin_place.specs.Precedence.{MustPrecede}
 use Rattle.spin_place.specs.Orders.{IsCycleOf}
 use Rattle.spin_place.proofs.Rings.{IsCycleOf-turn}

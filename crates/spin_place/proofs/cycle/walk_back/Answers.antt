@@ -2,7 +2,7 @@ use Rattle.std.proofs.Common.{◌≡◌, ◌+◌, ◌<◌, ◌∷◌, length, ge
 use Rattle.std.specs.Prelude.{IsTrue}
 use Rattle.std.specs.List.{Contains}
 use Rattle.spin_place.specs.declared.candidate.Candidate.{Candidate}
-use Rattle.spin_place.specs.Candidates.{bindings_of}
+use Rattle.spin_place.specs.Inner.Candidates.{bindings_of}
 use Rattle.spin_place.specs.Orders.{AreDistinct, IsRing}
 use Rattle.spin_place.specs.Precedence.{must_precede, MustPrecede}
 use Rattle.spin_place.proofs.Walks.{IsWalk, IsWalk-cons, IsRing-from_walk, length-walk}

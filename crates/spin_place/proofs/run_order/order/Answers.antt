@@ -4,7 +4,7 @@ use Rattle.std.specs.List.{remove}
 use Rattle.std.proofs.lemmas.List.{take_at, nil_from_length, length-map}
 use Rattle.std.proofs.lemmas.Bool.{eqb-true}
 use Rattle.spin_place.specs.declared.candidate.Candidate.{Candidate}
-use Rattle.spin_place.specs.Candidates.{bindings_of, released, EachWaits, IsLeastReady}
+use Rattle.spin_place.specs.Inner.Candidates.{bindings_of, released, EachWaits, IsLeastReady}
 use Rattle.spin_place.specs.Orders.{IsCycleOf}
 use Rattle.spin_place.specs.Precedence.{must_precede, MustPrecede, IsCycle}
 use Rattle.spin_place.proofs.Placing.{IsPlacing, IsPlacing-nil, IsPlacing-more, IsPlacing-done, EachWaits-from_counted, IsCycle-from_rest, IsCycle-unlawful, waits_for}
