@@ -1,7 +1,7 @@
 -- Bytes that are cut into pieces of known lengths, and one piece more.
 use Rattle.std.proofs.Common.{◌≡◌, ◌≤◌, ◌+◌, ℕ, List, [], ◌∷◌, ◌++◌, length, take, drop, refl, ap, ◌∙◌, arith}
 use Rattle.std.proofs.lemmas.List.{take-append-le, drop-append-le, length-drop, take_all}
-use Rattle.spin_endpoint.specs.Keeping.{total, cut}
+use Rattle.spin_endpoint.specs.Inner.Cutting.{total, cut}
 
 pub total_more : (lens : List ℕ) (len : ℕ) → total (lens ++ len ∷ []) ≡ total lens + len
 total_more [] len = omega arith

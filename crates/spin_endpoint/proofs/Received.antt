@@ -1,15 +1,15 @@
 -- A list of sends, and one more.
-use Rattle.std.proofs.Common.{◌≡◌, ◌<◌, ◌≤◌, ◌+◌, ℕ, Bool, true, false, cond, Option, Some, None, List, [], ◌∷◌, ◌++◌, length, map, filter, take, get_or, set, replicate, refl, sym, ap, ◌∙◌, arith, append_assoc, ⊎_elim}
+use Rattle.std.proofs.Common.{◌≡◌, ◌<◌, ◌≤◌, ◌+◌, ℕ, Bool, true, false, cond, Option, Some, None, List, [], ◌∷◌, ◌++◌, length, map, filter, take, get_or, set, replicate, refl, sym, ap, ◌∙◌, arith, append_assoc, ⊎_elim, subst}
 use Rattle.std.specs.Prelude.{bytes_eq, ◌&&◌, ◌||◌, ◌==◌, not}
 use Rattle.std.specs.Option.{option_map}
 use Rattle.std.proofs.lemmas.Bool.Decides.{eqb_tells}
-use Rattle.std.proofs.lemmas.List.{append-nil, map-append, get_or-set_other, get_or-replicate, length-take}
+use Rattle.std.proofs.lemmas.List.{get_or_default, append-nil, map-append, get_or-set_other, get_or-replicate, length-take}
 use Rattle.std.proofs.lemmas.List.Elements.{filter_more}
 use Rattle.std.proofs.lemmas.List.Filters.{length-filter_more, length-filter_both}
 use Rattle.std.proofs.lemmas.Grind.{get_or-set_at}
 use Rattle.spin_endpoint.specs.Endpoints.{EndpointSeen, gained}
-use Rattle.spin_endpoint.specs.Named.{NamedEnd, stands_as, stands, changed_as, with_piece}
-use Rattle.spin_endpoint.specs.Sends.{SentSeen, name_of, pieces_for, received, all_received, is_lost, lost_to}
+use Rattle.spin_endpoint.specs.Named.{NamedEnd, FailsAt, stands_as, stands, changed_as, with_piece}
+use Rattle.spin_endpoint.specs.Sends.{StopsAt, SentSeen, name_of, pieces_for, received, all_received, is_lost, lost_to}
 
 gained_none : (end : EndpointSeen) → gained [] end ≡ end
 gained_none end = ap (λ pieces. record end { pieces = pieces }) (none end.pieces) where
@@ -148,3 +148,14 @@ step_lost names sends i d before cur after name piece lt is named holds so_far n
 pub stood : (names : List (List ℕ)) (sends : List SentSeen) (i : ℕ) (d : SentSeen) (before cur : List NamedEnd) (name : List ℕ) (b : Bool) → d ≡ get_or sends i d → name ≡ name_of names d.endpoint → cur ≡ all_received names (take i sends) before → stands name cur ≡ b → stands (name_of names (get_or sends i d).endpoint) before ≡ b
 stood names sends i d before cur name b is named so_far stands_now =
     sym (stands_still names (take i sends) (name_of names (get_or sends i d).endpoint) before) ∙ ap (λ ends. stands (name_of names (get_or sends i d).endpoint) ends) (sym so_far) ∙ ap (λ n. stands n cur) (sym (named ∙ ap (λ s. name_of names s.endpoint) is)) ∙ stands_now
+
+-- It stops at a send whose endpoint stands, and failed.
+pub stops : (names : List (List ℕ)) (sends : List SentSeen) (i : ℕ) (d : SentSeen) (before cur after : List NamedEnd) (name : List ℕ) (number : ℕ) → i < length sends → d ≡ get_or sends i d → number ≡ d.endpoint → name ≡ name_of names d.endpoint → cur ≡ all_received names (take i sends) before → stands name cur ≡ true → FailsAt name cur after → StopsAt names sends number before after
+stops names sends i d before cur after name number lt is numbered named so_far stands_now failed = record {
+  done = i;
+  there = lt;
+  number_is = λ e. ap (λ s. s.endpoint) (get_or_default sends i e d lt ∙ sym is) ∙ sym numbered;
+  standing = ap (λ n. stands (name_of names n) before) (numbered ∙ ap (λ s. s.endpoint) is) ∙ stood names sends i d before cur name true is named so_far stands_now;
+  fails = subst (λ ends. FailsAt (name_of names number) ends after) so_far
+      (subst (λ n. FailsAt n cur after) (named ∙ ap (λ n. name_of names n) (sym numbered)) failed);
+}

@@ -1,7 +1,8 @@
 -- What contracts see of an endpoint that keeps its pieces in memory.
-use Rattle.std.specs.Prelude.{ℕ, List, Bool, Some, ◌||◌, ◌&&◌, ◌+◌, ◌-◌, ◌++◌, ◌∷◌, [], not, nat_lt, nat_le, length, take, drop, if◌then◌else◌}
+use Rattle.std.specs.Prelude.{ℕ, List, Bool, Some, ◌||◌, ◌&&◌, ◌-◌, ◌++◌, ◌∷◌, [], not, nat_lt}
+use Rattle.std.specs.Prelude.{nat_le, length, if◌then◌else◌}
 use Rattle.spin_outside.specs.Counts.{raised_by}
-use Rattle.spin_outside.specs.Calls.{CallsState, next_fails, counted}
+use Rattle.spin_outside.specs.Calls.{CallsState, no_call, next_fails, counted}
 use Rattle.spin_endpoint.specs.Endpoints.{EndpointSeen}
 
 -- the pieces that were kept, and how many pieces and how many bytes there is still room for
@@ -9,6 +10,10 @@ pub record PiecesState : Type 0 where
   pub pieces : List (List ℕ)
   pub pieces_left : ℕ
   pub bytes_left : ℕ
+
+-- no piece, and room for so many with so many bytes in all
+abbrev pub no_piece : ℕ → ℕ → PiecesState
+no_piece pieces bytes = record { pieces = []; pieces_left = pieces; bytes_left = bytes }
 
 -- whether there is room for the piece
 abbrev pub fits : PiecesState → List ℕ → Bool
@@ -22,25 +27,25 @@ with_kept kept piece = record {
   bytes_left = kept.bytes_left - length piece;
 }
 
--- how many bytes pieces of these lengths have in all
-abbrev pub total : List ℕ → ℕ
-total [] = 0
-total (len ∷ lens) = len + total lens
-
--- bytes cut into pieces of these lengths
-abbrev pub cut : List ℕ → List ℕ → List (List ℕ)
-cut [] bytes = []
-cut (len ∷ lens) bytes = take len bytes ∷ cut lens (drop len bytes)
-
--- the endpoint: what it keeps, its calls, whether it is finished, and its count of faults
+-- the endpoint: what it keeps, its calls, how often it was finished, and its count of faults
 pub record KeepState : Type 0 where
   pub kept : PiecesState
   pub calls : CallsState
-  pub finished : Bool
+  pub finishes : ℕ
   pub faults : ℕ
 
+-- the endpoint with room for so many pieces with so many bytes in all, as it is made
+abbrev pub empty_end : ℕ → ℕ → KeepState
+empty_end pieces bytes = record {
+  kept = no_piece pieces bytes;
+  calls = no_call;
+  finishes = 0;
+  faults = 0;
+}
+
 abbrev pub keep_seen : KeepState → EndpointSeen
-keep_seen end = record { pieces = Some end.kept.pieces; finished = end.finished; faults = end.faults }
+keep_seen end =
+    record { pieces = Some end.kept.pieces; finishes = end.finishes; faults = end.faults }
 
 -- The next `take` fails: its number is listed, or there is no room for the piece.
 abbrev pub refuses : KeepState → List ℕ → Bool

@@ -1,5 +1,6 @@
 pub mod Endpoints
+pub mod Inner
 pub mod Keeping
 pub mod Named
 pub mod Sends
-pub mod View
+pub mod Limits

@@ -1,6 +1,8 @@
 -- Lists of sends to endpoints by number, and of endpoints that are retired.
-use Rattle.std.specs.Prelude.{◌≡◌, ◌<◌, ◌&&◌, ◌==◌, [], ℕ, Bool, List, Result, Ok, Err, not, length, map, filter, take, slice_index_or, if◌then◌else◌, bytes_eq}
+use Rattle.std.specs.Prelude.{◌≡◌, ◌<◌, ◌&&◌, ◌==◌, [], ℕ, Bool, true, List, Result, Ok, Err, not}
+use Rattle.std.specs.Prelude.{length, map, filter, take, slice_index_or, if◌then◌else◌, bytes_eq}
 use Rattle.std.specs.List.{list_any, HoldsAt}
+use Rattle.spin_endpoint.specs.declared.ends.TheConstants.{MAX_ENDPOINTS}
 use Rattle.spin_endpoint.specs.Endpoints.{gained}
 use Rattle.spin_endpoint.specs.Named.{NamedEnd, FailsAt, stands, retired}
 
@@ -15,12 +17,15 @@ name_of names number = slice_index_or names number []
 
 -- the pieces that are sent to a name, in the order of the sends
 abbrev pub pieces_for : List (List ℕ) → List SentSeen → List ℕ → List (List ℕ)
-pieces_for names sends name = map (λ sent. sent.bytes) (filter (λ sent. bytes_eq name (name_of names sent.endpoint)) sends)
+pieces_for names sends name =
+    map (λ sent. sent.bytes) (filter (λ sent. bytes_eq name (name_of names sent.endpoint)) sends)
 
 -- an endpoint after the sends: where it stands, it has gained the pieces that are sent to its name
 abbrev pub received : List (List ℕ) → List SentSeen → NamedEnd → NamedEnd
 received names sends end =
-    if end.stands then record end { object = gained (pieces_for names sends end.name) end.object } else end
+    if end.stands
+    then record end { object = gained (pieces_for names sends end.name) end.object }
+    else end
 
 abbrev pub all_received : List (List ℕ) → List SentSeen → List NamedEnd → List NamedEnd
 all_received names sends ends = map (received names sends) ends
@@ -31,29 +36,41 @@ is_lost names ends sent = not (stands (name_of names sent.endpoint) ends)
 
 -- how many sends to a number are lost
 abbrev pub lost_to : List (List ℕ) → List NamedEnd → List SentSeen → ℕ → ℕ
-lost_to names ends sends number = length (filter (λ sent. (sent.endpoint == number) && is_lost names ends sent) sends)
+lost_to names ends sends number =
+    length (filter (λ sent. (sent.endpoint == number) && is_lost names ends sent) sends)
 
--- The sends before one were delivered or lost. That one is to the number, whose endpoint stands, and failed.
-pub record StopsAt (names : List (List ℕ)) (sends : List SentSeen) (number : ℕ) (before after : List NamedEnd) : Type 0 where
+-- The sends before one were delivered or lost. That one is to the number, whose endpoint stands,
+-- and failed.
+pub record StopsAt (names : List (List ℕ)) (sends : List SentSeen) (number : ℕ)
+    (before after : List NamedEnd) : Type 0 where
   pub done : ℕ
   pub there : done < length sends
   pub number_is : HoldsAt (λ sent. sent.endpoint ≡ number) sends done
+  pub standing : stands (name_of names number) before ≡ true
   pub fails : FailsAt (name_of names number) (all_received names (take done sends) before) after
 
 -- All sends were delivered or lost, and the lost ones are counted by number; or one failed.
-abbrev pub DeliversAll : List (List ℕ) → List SentSeen → Result (List ℕ) ℕ → List NamedEnd → List NamedEnd → Type 0
+abbrev pub DeliversAll : List (List ℕ) → List SentSeen → Result (List ℕ) ℕ
+    → List NamedEnd → List NamedEnd → Type 0
 DeliversAll names sends (Ok lost) before after =
-    (after ≡ all_received names sends before) × ((number : ℕ) → number < 64 → slice_index_or lost number 0 ≡ lost_to names before sends number)
+    (after ≡ all_received names sends before)
+    × ((number : ℕ) → number < MAX_ENDPOINTS →
+    slice_index_or lost number 0 ≡ lost_to names before sends number)
 DeliversAll names sends (Err number) before after = StopsAt names sends number before after
 
 -- Each endpoint that stands under the name of one of the numbers is retired.
 abbrev pub retired_of : List (List ℕ) → List ℕ → NamedEnd → NamedEnd
 retired_of names numbers end =
-    if end.stands && list_any (λ number. bytes_eq end.name (name_of names number)) numbers then retired end else end
+    if end.stands && list_any (λ number. bytes_eq end.name (name_of names number)) numbers
+    then retired end
+    else end
 
 abbrev pub all_retired : List (List ℕ) → List ℕ → List NamedEnd → List NamedEnd
 all_retired names numbers ends = map (retired_of names numbers) ends
 
--- whether an endpoint stands under the name of a number when its turn comes, those before it being retired
+-- whether an endpoint stands under the name of a number when its turn comes, those before it being
+-- retired
 abbrev pub stands_in_turn : List (List ℕ) → List ℕ → List NamedEnd → ℕ → Bool
-stands_in_turn names numbers ends turn = stands (name_of names (slice_index_or numbers turn 0)) (all_retired names (take turn numbers) ends)
+stands_in_turn names numbers ends turn =
+    stands (name_of names (slice_index_or numbers turn 0))
+    (all_retired names (take turn numbers) ends)

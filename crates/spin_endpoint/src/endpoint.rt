@@ -1,7 +1,7 @@
 //! What an endpoint does.
 
-ghost use Rattle.std.specs.Prelude.{◌≡◌, true};
-ghost use Rattle.spin_endpoint.specs.Endpoints.{EndpointSeen, Takes};
+ghost use Rattle.std.specs.Prelude.{◌≡◌};
+ghost use Rattle.spin_endpoint.specs.Endpoints.{EndpointSeen, Takes, finished_once};
 
 use spin_outside::Failed;
 
@@ -15,7 +15,7 @@ pub trait Endpoint: Drop {
     fn take(&mut self, bytes: &[u8]) -> Result<(), Failed>
         ensures { Takes bytes.now result (seen self.old) (seen self.new) };
 
-    /// Finishes the endpoint, and changes nothing else.
+    /// Finishes the endpoint: its count of finishes rises by one, and nothing else changes.
     fn finish(&mut self)
-        ensures { seen self.new ≡ record (seen self.old) { finished = true } };
+        ensures { seen self.new ≡ finished_once (seen self.old) };
 }

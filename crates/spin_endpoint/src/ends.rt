@@ -1,6 +1,8 @@
 //! Endpoints by name.
 
-ghost use Rattle.std.specs.Prelude.{◌≡◌, ◌≢◌, ◌<◌, ◌≤◌, ℕ, Bool, true, false, List, Option, MatchResult, OnOk, OnErr, map, [], ◌∷◌, ◌++◌, length, All, IfErr, IfNone, IfSome};
+ghost use Rattle.std.specs.Prelude.{◌≡◌, ◌≢◌, ◌<◌, ◌≤◌, ℕ, Bool, true, false, List, Option};
+ghost use Rattle.std.specs.Prelude.{MatchResult, OnOk, OnErr, map, [], ◌∷◌, ◌++◌, length, All};
+ghost use Rattle.std.specs.Prelude.{IfErr, IfNone, IfSome};
 ghost use Rattle.std.specs.List.{HoldsAt, AllPairs};
 
 use crate::endpoint::Endpoint;
@@ -9,8 +11,8 @@ use spin_outside::Failed;
 use spin_values::Text;
 use std::alloc::Global;
 
-/// The most endpoints that are added, retired ones counted.
-const MOST_ENDS: usize = 64;
+/// The most endpoints: of a script, and of those that are added, retired ones counted.
+pub const MAX_ENDPOINTS: usize = 64;
 
 /// What contracts see of one endpoint beside its name.
 pub trait EndSeen {
@@ -35,7 +37,7 @@ pub struct End {
 }
 
 impl EndSeen for End {
-    ghost use Rattle.spin_endpoint.specs.View.{view_of};
+    ghost use Rattle.spin_endpoint.specs.Inner.View.{view_of};
 
     ghost one = { view_of (λ e. (Endpoint-box e.object).seen e.object.value) };
 }
@@ -52,9 +54,12 @@ impl End {
     }
 
     fn take(&mut self, bytes: &[u8]) -> Result<(), Failed>
-        ensures ok { OnOk result (⟦<End as EndSeen>⟧.one self.new ≡ with_piece bytes.now (⟦<End as EndSeen>⟧.one self.old)) }
-        ensures err { OnErr result (⟦<End as EndSeen>⟧.one self.new ≡ with_faults (⟦<End as EndSeen>⟧.one self.new).object.faults (⟦<End as EndSeen>⟧.one self.old)) }
-        ensures rose { OnErr result (Rose (⟦<End as EndSeen>⟧.one self.old).object.faults (⟦<End as EndSeen>⟧.one self.new).object.faults) }
+        ensures ok { let old = ⟦<End as EndSeen>⟧.one self.old in
+            OnOk result (⟦<End as EndSeen>⟧.one self.new ≡ with_piece bytes.now old) }
+        ensures err { let old = ⟦<End as EndSeen>⟧.one self.old in let new = ⟦<End as EndSeen>⟧.one self.new in
+            OnErr result (new ≡ with_faults new.object.faults old) }
+        ensures rose { let old = ⟦<End as EndSeen>⟧.one self.old in let new = ⟦<End as EndSeen>⟧.one self.new in
+            OnErr result (Rose old.object.faults new.object.faults) }
     {
         self.object.take(bytes)
     }
@@ -72,18 +77,21 @@ impl End {
 #[derive(Drop)]
 pub struct Ends {
     ends: Vec<End>,
-    ghost apart: { AllPairs (λ a b. a.stands ≡ true → b.stands ≡ true → a.name ≢ b.name) ends.items },
+    ghost apart: { AllPairs
+        (λ a b. a.stands ≡ true → b.stands ≡ true → a.name ≢ b.name) ends.items },
 }
 
 impl EndsSeen for Ends {
     ghost use Rattle.std.specs.Prelude.{map};
-    ghost use Rattle.spin_endpoint.specs.View.{view_of};
+    ghost use Rattle.spin_endpoint.specs.Inner.View.{view_of};
 
-    ghost all = { λ es. map (view_of (λ e. (Endpoint-box e.object).seen e.object.value)) es.ends.items };
+    ghost all = { λ es.
+        map (view_of (λ e. (Endpoint-box e.object).seen e.object.value)) es.ends.items };
 }
 
 impl Ends {
-    ghost use Rattle.spin_endpoint.specs.Named.{stands_as, stands, Delivers, Retires, CanAdd, IsFaultOf};
+    ghost use Rattle.spin_endpoint.specs.Named.{stands_as, stands, added, Delivers, Retires};
+    ghost use Rattle.spin_endpoint.specs.Named.{CanAdd, IsFaultOf};
 
     /// No endpoint.
     pub fn new(alloc: Global) -> Ends
@@ -96,9 +104,12 @@ impl Ends {
 
     /// The place of the endpoint that stands under the name.
     fn find(&self, name: &Text) -> Option<usize>
-        ensures none { IfNone result (stands name.now (⟦<Ends as EndsSeen>⟧.all self.now) ≡ false) }
-        ensures there { IfSome result (λ at. at < length (⟦<Ends as EndsSeen>⟧.all self.now)) }
-        ensures some { IfSome result (HoldsAt (λ end. stands_as name.now end ≡ true) (⟦<Ends as EndsSeen>⟧.all self.now)) }
+        ensures none { IfNone result
+            (stands name.now (⟦<Ends as EndsSeen>⟧.all self.now) ≡ false) }
+        ensures there { IfSome result
+            (λ at. at < length (⟦<Ends as EndsSeen>⟧.all self.now)) }
+        ensures some { IfSome result
+            (HoldsAt (λ end. stands_as name.now end ≡ true) (⟦<Ends as EndsSeen>⟧.all self.now)) }
     {
         for (at, end) in self.ends.iter().enumerate() {
             if end.stands_as(name) {
@@ -115,15 +126,20 @@ impl Ends {
         name: Text,
         object: Box<dyn Endpoint>,
     ) -> Result<(), (EndsFault, Box<dyn Endpoint>)>
-        ensures ok { OnOk result (⟦<Ends as EndsSeen>⟧.all self.new ≡ ⟦<Ends as EndsSeen>⟧.all self.old ++ record { name = name; stands = true; object = seen object } ∷ []) }
+        ensures ok { OnOk result
+            (⟦<Ends as EndsSeen>⟧.all self.new
+            ≡ ⟦<Ends as EndsSeen>⟧.all self.old ++ added name (seen object) ∷ []) }
         ensures back { IfErr result (λ refused. refused.1 ≡ object) }
-        ensures left { OnErr result (⟦<Ends as EndsSeen>⟧.all self.new ≡ ⟦<Ends as EndsSeen>⟧.all self.old) }
-        ensures fault { MatchResult result (λ _. CanAdd name (⟦<Ends as EndsSeen>⟧.all self.old)) (λ refused. IsFaultOf name (⟦<Ends as EndsSeen>⟧.all self.old) refused.0) }
+        ensures left { OnErr result
+            (⟦<Ends as EndsSeen>⟧.all self.new ≡ ⟦<Ends as EndsSeen>⟧.all self.old) }
+        ensures fault { MatchResult result
+            (λ _. CanAdd name (⟦<Ends as EndsSeen>⟧.all self.old))
+            (λ refused. IsFaultOf name (⟦<Ends as EndsSeen>⟧.all self.old) refused.0) }
     {
         match self.find(&name) {
             Some(_) => Err((EndsFault::SameName, object)),
             None => {
-                if self.ends.len() >= MOST_ENDS {
+                if self.ends.len() >= MAX_ENDPOINTS {
                     return Err((EndsFault::TooMany, object));
                 }
                 let end = End {
@@ -150,7 +166,8 @@ impl Ends {
     /// where none stands under it, `Failed` only where that endpoint's count of faults rose. After a refusal no
     /// piece is added. It takes no memory.
     pub fn deliver(&mut self, name: &Text, bytes: &[u8]) -> Result<(), DeliverFault>
-        ensures { Delivers name.now bytes.now result (⟦<Ends as EndsSeen>⟧.all self.old) (⟦<Ends as EndsSeen>⟧.all self.new) }
+        ensures { Delivers name.now bytes.now result
+            (⟦<Ends as EndsSeen>⟧.all self.old) (⟦<Ends as EndsSeen>⟧.all self.new) }
     {
         match self.find(name) {
             None => Err(DeliverFault::Unknown),
@@ -164,7 +181,8 @@ impl Ends {
     /// Finishes the endpoint that stands under the name, which then no longer stands. `Unknown` comes exactly
     /// where none stands under it. It takes no memory.
     pub fn retire(&mut self, name: &Text) -> Result<(), Unknown>
-        ensures { Retires name.now result (⟦<Ends as EndsSeen>⟧.all self.old) (⟦<Ends as EndsSeen>⟧.all self.new) }
+        ensures { Retires name.now result
+            (⟦<Ends as EndsSeen>⟧.all self.old) (⟦<Ends as EndsSeen>⟧.all self.new) }
     {
         match self.find(name) {
             None => Err(Unknown),

@@ -1,6 +1,6 @@
 //! An endpoint over a file, which tells nothing.
 
-ghost use Rattle.std.specs.Prelude.{◌≡◌, None, false};
+ghost use Rattle.std.specs.Prelude.{◌≡◌, None};
 
 use crate::endpoint::Endpoint;
 use spin_outside::Failed;
@@ -18,28 +18,28 @@ pub struct FileEnd<R: Files + Drop> {
     runtime: R,
     name: Text,
     file: Option<R::File>,
-    finished: bool,
+    finishes: u64,
     faults: u64,
 }
 
 impl<R: Files + Drop> FileEnd<R> {
     /// An endpoint over the file of that name, which it doesn't open yet.
     pub fn new(runtime: R, name: Text) -> FileEnd<R>
-        ensures finished { result.finished ≡ false }
+        ensures finishes { result.finishes ≡ 0 }
         ensures faults { result.faults ≡ 0 }
     {
         FileEnd {
             runtime,
             name,
             file: None,
-            finished: false,
+            finishes: 0,
             faults: 0,
         }
     }
 
     /// Appends the piece, and its length before it, to the file, which is opened where it isn't open.
     fn append(&mut self, bytes: &[u8]) -> io::Result<()>
-        ensures finished { self.new.finished ≡ self.old.finished }
+        ensures finishes { self.new.finishes ≡ self.old.finishes }
         ensures faults { self.new.faults ≡ self.old.faults }
     {
         let mut file = match self.file.take() {
@@ -73,7 +73,7 @@ fn write_piece<W: Write>(file: &mut W, bytes: &[u8]) -> io::Result<()> {
 }
 
 impl<R: Files + Drop> Endpoint for FileEnd<R> {
-    ghost seen = { λ e. record { pieces = None; finished = e.finished; faults = e.faults } };
+    ghost seen = { λ e. record { pieces = None; finishes = e.finishes; faults = e.faults } };
 
     fn take(&mut self, bytes: &[u8]) -> Result<(), Failed> {
         match self.append(bytes) {
@@ -87,7 +87,7 @@ impl<R: Files + Drop> Endpoint for FileEnd<R> {
 
     /// Closes the file.
     fn finish(&mut self) {
-        self.finished = true;
+        self.finishes = self.finishes.saturating_add(1);
         self.file = None;
     }
 }

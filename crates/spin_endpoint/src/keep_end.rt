@@ -1,8 +1,10 @@
 //! An endpoint in memory, which tells its pieces.
 
-ghost use Rattle.std.specs.Prelude.{◌≡◌, ◌++◌, ◌∷◌, [], false, true, IfOk, OnOk, OnErr, is_err};
+ghost use Rattle.std.specs.Prelude.{◌≡◌, IfOk, OnOk, OnErr, is_err};
 ghost use Rattle.spin_endpoint.specs.Endpoints.{Takes};
-ghost use Rattle.spin_endpoint.specs.Keeping.{keep_seen, refuses, taken};
+ghost use Rattle.spin_outside.specs.Calls.{with_failing};
+ghost use Rattle.spin_outside.specs.Counts.{raised_by};
+ghost use Rattle.spin_endpoint.specs.Keeping.{empty_end, keep_seen, refuses, taken};
 
 use crate::endpoint::Endpoint;
 use crate::pieces::Pieces;
@@ -12,11 +14,11 @@ use std::alloc::Global;
 use std::marker::Model;
 
 /// Keeps the pieces that it receives, and tells them.
-#[derive(Drop)]
+#[derive(Debug, Drop)]
 pub struct KeepEnd {
     kept: Pieces,
     calls: FailingCalls,
-    finished: bool,
+    finishes: u64,
     faults: u64,
 }
 
@@ -25,25 +27,31 @@ impl Model for KeepEnd {
 
     ghost Value = { KeepState };
 
-    ghost view = { λ k. record { kept = k.kept; calls = k.calls; finished = k.finished; faults = k.faults } };
+    ghost view = { λ k. record {
+      kept = k.kept;
+      calls = k.calls;
+      finishes = k.finishes;
+      faults = k.faults;
+    } };
 }
 
 impl KeepEnd {
     /// An endpoint with room for so many pieces with so many bytes in all, for which it takes the memory now.
     pub fn new(alloc: Global, pieces: u32, bytes: u32) -> Result<KeepEnd, NoMemory>
-        ensures { IfOk result (λ k. k ≡ record { kept = record { pieces = []; pieces_left = pieces; bytes_left = bytes }; calls = record { listed = []; made = 0 }; finished = false; faults = 0 }) }
+        ensures { IfOk result (λ end. end ≡ empty_end pieces bytes) }
     {
         Ok(KeepEnd {
             kept: Pieces::new(alloc, pieces, bytes)?,
             calls: FailingCalls::new(alloc),
-            finished: false,
+            finishes: 0,
             faults: 0,
         })
     }
 
     /// Lets the `take` of that number fail, counted from 0. After want of memory nothing is changed.
     pub fn fail_at(&mut self, call: u32) -> Result<(), NoMemory>
-        ensures ok { OnOk result (self.new ≡ record self.old { calls = record self.old.calls { listed = self.old.calls.listed ++ call ∷ [] } }) }
+        ensures ok { OnOk result
+            (self.new ≡ record self.old { calls = with_failing self.old.calls call }) }
         ensures err { OnErr result (self.new ≡ self.old) }
     {
         self.calls.fail_at(call)
@@ -69,8 +77,8 @@ impl Endpoint for KeepEnd {
     }
 
     fn finish(&mut self)
-        ensures { self.new ≡ record self.old { finished = true } }
+        ensures { self.new ≡ record self.old { finishes = raised_by self.old.finishes 1 } }
     {
-        self.finished = true;
+        self.finishes = self.finishes.saturating_add(1);
     }
 }

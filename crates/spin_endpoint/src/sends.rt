@@ -1,19 +1,17 @@
 //! Endpoints by number: sends that are delivered in one call, and numbers that are retired in one.
 
-ghost use Rattle.std.specs.Prelude.{◌≡◌, ◌<◌, ◌≤◌, ◌+◌, ◌-◌, ◌^◌, ℕ, false, length, All, slice_index_or, slice_set, replicate};
+ghost use Rattle.std.specs.Prelude.{◌≡◌, ◌<◌, ◌≤◌, ◌+◌, ◌-◌, ◌^◌, ℕ, false, length, All};
+ghost use Rattle.std.specs.Prelude.{slice_index_or, slice_set, replicate};
 ghost use Rattle.spin_endpoint.specs.Named.{stands, changed_as, retired};
 ghost use Rattle.spin_endpoint.specs.Sends.{DeliversAll, all_retired, stands_in_turn};
 
-use crate::ends::{Ends, EndsSeen};
+use crate::ends::{Ends, EndsSeen, MAX_ENDPOINTS};
 use crate::faults::{DeliverFault, Unknown};
 use spin_values::Text;
 use std::marker::Model;
 
-/// The most endpoints that a script has.
-pub const MOST_NUMBERS: usize = 64;
-
 /// Bytes that are sent to the endpoint of a number, from 0.
-#[derive(Drop)]
+#[derive(Debug, Drop)]
 pub struct Sent<'a> {
     endpoint: u8,
     bytes: &'a [u8],
@@ -49,9 +47,9 @@ impl<'a> Sent<'a> {
 }
 
 /// How many sends to each number were lost, since no endpoint stands under its name.
-#[derive(Drop)]
+#[derive(Debug, Drop)]
 pub struct Lost {
-    counts: [u64; MOST_NUMBERS],
+    counts: [u64; MAX_ENDPOINTS],
 }
 
 impl Model for Lost {
@@ -65,16 +63,16 @@ impl Model for Lost {
 impl Lost {
     /// None was lost.
     fn none() -> Lost
-        ensures { result ≡ replicate 64 0 }
+        ensures { result ≡ replicate MAX_ENDPOINTS 0 }
     {
         Lost {
-            counts: [0; MOST_NUMBERS],
+            counts: [0; MAX_ENDPOINTS],
         }
     }
 
     /// How many sends to a number below 64 were lost.
     pub fn to(&self, number: u8) -> u64
-        requires { number < 64 }
+        requires { number < MAX_ENDPOINTS }
         ensures { result ≡ slice_index_or self.now number 0 }
     {
         self.counts[number as usize]
@@ -82,7 +80,7 @@ impl Lost {
 
     /// Counts one more to the number.
     fn add(&mut self, number: u8)
-        requires there { number < 64 }
+        requires there { number < MAX_ENDPOINTS }
         requires room { slice_index_or self.old number 0 < 2 ^ 64 - 1 }
         ensures { self.new ≡ slice_set self.old number (slice_index_or self.old number 0 + 1) }
     {
@@ -96,9 +94,10 @@ impl Ends {
     /// number: those before it are delivered, and those behind it not. It takes no memory. Its time is that of a
     /// search by name for each send.
     pub fn deliver_all(&mut self, names: &[Text], sends: &[Sent<'_>]) -> Result<Lost, u8>
-        requires few { length names.now ≤ 64 }
+        requires few { length names.now ≤ MAX_ENDPOINTS }
         requires named { All (λ sent. sent.endpoint < length names.now) sends.now }
-        ensures { DeliversAll names.now sends.now result (⟦<Ends as EndsSeen>⟧.all self.old) (⟦<Ends as EndsSeen>⟧.all self.new) }
+        ensures { DeliversAll names.now sends.now result
+            (⟦<Ends as EndsSeen>⟧.all self.old) (⟦<Ends as EndsSeen>⟧.all self.new) }
     {
         let mut lost = Lost::none();
         for sent in sends {
@@ -115,7 +114,8 @@ impl Ends {
     /// Retires the endpoint that stands under the name, if one does, and answers whether one did.
     fn retire_if(&mut self, name: &Text) -> bool
         ensures stood { result ≡ stands name.now (⟦<Ends as EndsSeen>⟧.all self.old) }
-        ensures ends { ⟦<Ends as EndsSeen>⟧.all self.new ≡ changed_as name.now retired (⟦<Ends as EndsSeen>⟧.all self.old) }
+        ensures ends { ⟦<Ends as EndsSeen>⟧.all self.new
+            ≡ changed_as name.now retired (⟦<Ends as EndsSeen>⟧.all self.old) }
     {
         match self.retire(name) {
             Ok(()) => true,
@@ -129,8 +129,10 @@ impl Ends {
     pub fn retire_all(&mut self, names: &[Text], numbers: &[u8], stood: &mut [bool])
         requires named { All (λ number. number < length names.now) numbers.now }
         requires room { length stood.old ≡ length numbers.now }
-        ensures ends { ⟦<Ends as EndsSeen>⟧.all self.new ≡ all_retired names.now numbers.now (⟦<Ends as EndsSeen>⟧.all self.old) }
-        ensures stood { (turn : ℕ) → turn < length numbers.now → slice_index_or stood.new turn false ≡ stands_in_turn names.now numbers.now (⟦<Ends as EndsSeen>⟧.all self.old) turn }
+        ensures ends { ⟦<Ends as EndsSeen>⟧.all self.new
+            ≡ all_retired names.now numbers.now (⟦<Ends as EndsSeen>⟧.all self.old) }
+        ensures stood { (turn : ℕ) → turn < length numbers.now → slice_index_or stood.new turn false
+            ≡ stands_in_turn names.now numbers.now (⟦<Ends as EndsSeen>⟧.all self.old) turn }
     {
         for at in 0..numbers.len() {
             stood[at] = self.retire_if(&names[numbers[at] as usize]);

@@ -15,9 +15,11 @@ use Rattle.atomic_table.proofs.Lists.{at_set, at_snoc, set_else}
 use Rattle.spin_word.specs.declared.row.Row.{Row}
 use Rattle.spin_log.specs.declared.view.Hand.{Hand}
 use Rattle.spin_log.specs.declared.view.View.{View}
-use Rattle.spin_log.specs.Rows.{IsCommandBelow, max_rows, rows_of, IsRowOf, IsPrefix, row_words, row_from, turn, name_of, row_at, size_of, StandsAt}
+use Rattle.spin_word.specs.declared.command.TheConstants.{MAX_PLACE}
+use Rattle.spin_log.specs.Rows.{IsCommandBelow, rows_of, IsRowOf, IsPrefix, row_words, row_from, turn, name_of, row_at, size_of, StandsAt}
 use Rattle.spin_word.specs.Rows.{lane_of}
-use Rattle.spin_log.specs.Rule.{IsEntry, Stands, Knows, Fits, total, pens_of, Holds, holding, new_hand, new_hands, first_view, IsBlank}
+use Rattle.spin_log.specs.Rule.{IsEntry, Stands, Knows, Fits, total, pens_of, Holds, holding, new_hand, new_hands, first_view}
+use Rattle.spin_log.specs.Inner.Blank.{IsBlank}
 use Rattle.spin_log.specs.History.{Moment, pin, publish, rows_in}
 use Rattle.spin_log.specs.Steps.{Mine, read_on, writes_on, wrote, pinned, IsNext, looked, drafted, published, reread, learned, longer, longest, lengthened, AreOfOne, without_first, first_alone, note_of, both_of, spent, sat}
 use Rattle.spin_log.proofs.Lists.{all_prefix, rows_in-append, pins-publish, pins-other, pins-own, places-other, places-own, all_one, all_head, all_tail, all_cons, all_drop, all_take, all_map, total-append, total-take-drop, prefix_both, prefix_trans, prefix_append, prefix_length, rows_of_one, rows_of_other, rows_of-append, rows_of_between, rows_of_length, turn_below, turn_length, snoc_split, total_set, total_two, total_at}
@@ -30,11 +32,11 @@ each_set P views id w others mine j u e =
     ⊎_elim (λ (x : (j ≡ id) × (w ≡ u)). subst P x.1 mine) (λ (x : (j ≢ id) × (get_elem? views j ≡ some u)). others j u x.0 x.1) (at_set views id j w u e)
 
 -- the first words of the table are no row's
-before_rows : (lane turn k i : ℕ) → i ≤ max_rows + 1 → row_at lane turn + k ≢ i
+before_rows : (lane turn k i : ℕ) → i ≤ MAX_PLACE + 1 → row_at lane turn + k ≢ i
 before_rows lane turn k i le e = absurd (omega arith)
 
 -- two rows have no word in common
-apart_rows : (lane turn k other n j i : ℕ) → i ≡ row_at other n + j → k < 4 → j < 4 → turn < max_rows → n < max_rows → (lane ≡ other → turn < n) → row_at lane turn + k ≢ i
+apart_rows : (lane turn k other n j i : ℕ) → i ≡ row_at other n + j → k < 4 → j < 4 → turn < MAX_PLACE → n < MAX_PLACE → (lane ≡ other → turn < n) → row_at lane turn + k ≢ i
 apart_rows lane turn k other n j i is k4 j4 t n' below e = dite (ℕ_discrete lane other) (λ (same : lane ≡ other). let less = below same in absurd (omega arith)) (λ (not : lane ≢ other). absurd (omega arith))
 
 -- an entry whose words stay
@@ -42,7 +44,7 @@ entry_kept : (words : List ℕ) (i x : ℕ) (front : List Row) (row : Row) → I
 entry_kept words i x front row entry name four = record { name = get_or-set_other words i (suc (length front)) x 0 name ∙ entry.name; four = λ k h. get_or-set_other words i (row_at (lane_of row) (turn front row) + k) x 0 (four k h) ∙ entry.four k h }
 
 -- a row more
-stands_more : (lanes : ℕ) (log : List Row) (words : List ℕ) (i n : ℕ) (row : Row) → Stands lanes log words → i ≡ length log + 1 → length log < max_rows → IsCommandBelow lanes row → n ≡ name_of (lane_of row) (turn log row) → StandsAt words (row_at (lane_of row) (turn log row)) (row_words row)
+stands_more : (lanes : ℕ) (log : List Row) (words : List ℕ) (i n : ℕ) (row : Row) → Stands lanes log words → i ≡ length log + 1 → length log < MAX_PLACE → IsCommandBelow lanes row → n ≡ name_of (lane_of row) (turn log row) → StandsAt words (row_at (lane_of row) (turn log row)) (row_words row)
     → Stands lanes (log ++ row ∷ []) (set words i n)
 stands_more lanes log words i n row st is room command name four = record {
   size = length-set words i n ∙ st.size;
@@ -67,7 +69,7 @@ stands_more lanes log words i n row st is room command name four = record {
         }
 
 -- a word is stored into a lane's next row
-stands_kept : (lanes : ℕ) (log : List Row) (words : List ℕ) (i x lane j : ℕ) → Stands lanes log words → i ≡ row_at lane (length (rows_of lane log)) + j → j < 4 → length (rows_of lane log) < max_rows → Stands lanes log (set words i x)
+stands_kept : (lanes : ℕ) (log : List Row) (words : List ℕ) (i x lane j : ℕ) → Stands lanes log words → i ≡ row_at lane (length (rows_of lane log)) + j → j < 4 → length (rows_of lane log) < MAX_PLACE → Stands lanes log (set words i x)
 stands_kept lanes log words i x lane j st is j4 room = record {
   size = length-set words i x ∙ st.size;
   head = get_or-set_other words i 0 x 0 (λ e. absurd (omega arith)) ∙ st.head;
@@ -255,7 +257,7 @@ module _ (lanes : ℕ) where
   looks slots id me hand i is at = subst (λ (m : Mine). Allows (Holds lanes) slots id m i (λ n. n) (looked (step slots i 0 0 none) m)) (sym is) (looks_at slots id hand i at)
 
   -- a pen of another seat, when a row of this lane is added
-  others_know : (s : St) (r : Holds lanes s) (id i n : ℕ) (hand : Hand) (row : Row) → get_elem? s.views id ≡ some (holding (hand ∷ [])) → lane_of row ≡ hand.lane → i ≤ max_rows + 1
+  others_know : (s : St) (r : Holds lanes s) (id i n : ℕ) (hand : Hand) (row : Row) → get_elem? s.views id ≡ some (holding (hand ∷ [])) → lane_of row ≡ hand.lane → i ≤ MAX_PLACE + 1
       → (j : ℕ) (u : View) → j ≢ id → get_elem? s.views j ≡ some u → Fits lanes (r.log ++ row ∷ []) (r.moments ++ publish row ∷ []) (set s.words i n) u
   others_know s r id i n hand row at carries early j u apart there =
       let f = r.each j u there in (
@@ -279,7 +281,7 @@ module _ (lanes : ℕ) where
         λ i' d h. prefix_append (get_or u.older i' d) r.log (row ∷ []) (f.1 i' d h),
       )
 
-  writes : (s : St) (r : Holds lanes s) (id i n : ℕ) (hand : Hand) → get_elem? s.views id ≡ some (holding (hand ∷ [])) → i ≡ length hand.front + 1 → length hand.front < max_rows → n ≡ name_of hand.lane (length hand.own)
+  writes : (s : St) (r : Holds lanes s) (id i n : ℕ) (hand : Hand) → get_elem? s.views id ≡ some (holding (hand ∷ [])) → i ≡ length hand.front + 1 → length hand.front < MAX_PLACE → n ≡ name_of hand.lane (length hand.own)
       → hand.draft ≡ row_words (row_from hand.draft) → IsRowOf hand.lane (row_from hand.draft) → get_or s.words i 0 ≡ 0
       → Holds lanes record { words = set s.words i n; homes = s.homes; views = set s.views id (holding (wrote (0 + length r.moments) hand ∷ [])) }
   writes s r id i n hand at is room name whole_row command found =
@@ -314,7 +316,7 @@ module _ (lanes : ℕ) where
         within_its_part = omega arith;
       }) (λ lane. refl)
 
-  publishes_at : (slots id : ℕ) (hand : Hand) (i name : ℕ) → i ≡ length hand.front + 1 → length hand.front < max_rows → name ≡ name_of hand.lane (length hand.own) → hand.draft ≡ row_words (row_from hand.draft) → IsRowOf hand.lane (row_from hand.draft)
+  publishes_at : (slots id : ℕ) (hand : Hand) (i name : ℕ) → i ≡ length hand.front + 1 → length hand.front < MAX_PLACE → name ≡ name_of hand.lane (length hand.own) → hand.draft ≡ row_words (row_from hand.draft) → IsRowOf hand.lane (row_from hand.draft)
       → Allows (Holds lanes) slots id (holding (hand ∷ []), []) i (λ n. either (eqb n 0) name n) (published (step slots i 0 name none) (holding (hand ∷ []), []))
   publishes_at slots id hand i name is room names whole command s r count at small =
       let n : ℕ = get_or s.words i 0 in
@@ -334,13 +336,13 @@ module _ (lanes : ℕ) where
         ((λ free. absurd (taken free)), λ _. (t.0, refl, all_one (IsNext n t.0) hand t.2)),
       ))
 
-  pub publishes : (slots id : ℕ) (me : Mine) (hand : Hand) (i name : ℕ) → me ≡ (holding (hand ∷ []), []) → i ≡ length hand.front + 1 → length hand.front < max_rows → name ≡ name_of hand.lane (length hand.own)
+  pub publishes : (slots id : ℕ) (me : Mine) (hand : Hand) (i name : ℕ) → me ≡ (holding (hand ∷ []), []) → i ≡ length hand.front + 1 → length hand.front < MAX_PLACE → name ≡ name_of hand.lane (length hand.own)
       → hand.draft ≡ row_words (row_from hand.draft) → IsRowOf hand.lane (row_from hand.draft)
       → Allows (Holds lanes) slots id me i (λ n. either (eqb n 0) name n) (published (step slots i 0 name none) me)
   publishes slots id me hand i name is at room names whole command =
       subst (λ (m : Mine). Allows (Holds lanes) slots id m i (λ n. either (eqb n 0) name n) (published (step slots i 0 name none) m)) (sym is) (publishes_at slots id hand i name at room names whole command)
 
-  knows_draft : (log : List Row) (moments : List Moment) (words : List ℕ) (hand : Hand) (i x : ℕ) → length words ≡ size_of lanes → Knows lanes log moments words hand → i ≡ row_at hand.lane (length hand.own) + length hand.draft → length hand.draft < 4 → length hand.own < max_rows
+  knows_draft : (log : List Row) (moments : List Moment) (words : List ℕ) (hand : Hand) (i x : ℕ) → length words ≡ size_of lanes → Knows lanes log moments words hand → i ≡ row_at hand.lane (length hand.own) + length hand.draft → length hand.draft < 4 → length hand.own < MAX_PLACE
       → Knows lanes log moments (set words i x) (writes_on x hand)
   knows_draft log moments words hand i x size k is room own =
       let lane = k.lane in
@@ -363,7 +365,7 @@ module _ (lanes : ℕ) where
         within_its_part = omega arith;
       }
 
-  drafts_at : (slots id : ℕ) (hand : Hand) (i x : ℕ) → i ≡ row_at hand.lane (length hand.own) + length hand.draft → length hand.draft < 4 → length hand.own < max_rows
+  drafts_at : (slots id : ℕ) (hand : Hand) (i x : ℕ) → i ≡ row_at hand.lane (length hand.own) + length hand.draft → length hand.draft < 4 → length hand.own < MAX_PLACE
       → Allows (Holds lanes) slots id (holding (hand ∷ []), []) i (λ _. x) (λ _. drafted (step slots i x 0 none) (holding (hand ∷ []), []) x)
   drafts_at slots id hand i x is room own s r count at small =
       let k = knows s r id hand at in
@@ -399,7 +401,7 @@ module _ (lanes : ℕ) where
         refl,
       )
 
-  pub drafts : (slots id : ℕ) (me : Mine) (hand : Hand) (i x : ℕ) → me ≡ (holding (hand ∷ []), []) → i ≡ row_at hand.lane (length hand.own) + length hand.draft → length hand.draft < 4 → length hand.own < max_rows
+  pub drafts : (slots id : ℕ) (me : Mine) (hand : Hand) (i x : ℕ) → me ≡ (holding (hand ∷ []), []) → i ≡ row_at hand.lane (length hand.own) + length hand.draft → length hand.draft < 4 → length hand.own < MAX_PLACE
       → Allows (Holds lanes) slots id me i (λ _. x) (λ _. drafted (step slots i x 0 none) me x)
   drafts slots id me hand i x is at room own = subst (λ (m : Mine). Allows (Holds lanes) slots id m i (λ _. x) (λ _. drafted (step slots i x 0 none) m x)) (sym is) (drafts_at slots id hand i x at room own)
 

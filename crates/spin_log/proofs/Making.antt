@@ -4,10 +4,12 @@ use Rattle.std.proofs.lemmas.List.{map-append}
 use Rattle.std.proofs.lemmas.List.Elements.{All-nil}
 use Rattle.atomic_table.specs.Seated.{TableId}
 use Rattle.spin_log.specs.declared.view.Hand.{Hand}
-use Rattle.spin_log.specs.Rows.{IsCommandBelow, max_lanes, size_of}
+use Rattle.spin_word.specs.declared.command.TheConstants.{MAX_LANES}
+use Rattle.spin_log.specs.Rows.{IsCommandBelow, size_of}
 use Rattle.spin_log.specs.Rule.{holding, new_hand, new_hands}
 use Rattle.spin_log.specs.Steps.{Mine, without_first, first_alone}
-use Rattle.spin_log.specs.Pens.{pen_value, only_hand, IsPenSeat, first_pens}
+use Rattle.spin_log.specs.Pens.{pen_value, only_hand, first_pens}
+use Rattle.spin_log.specs.Inner.Seats.{IsPenSeat}
 
 next_hand : (lane lanes : ℕ) → lane < lanes → new_hands lanes lane (lanes - lane) ≡ new_hand lanes lane ∷ new_hands lanes (lane + 1) (lanes - (lane + 1))
 next_hand lane lanes less = let n : lanes - lane ≡ suc (lanes - (lane + 1)) = omega arith in ap (λ (n : ℕ). new_hands lanes lane n) n
@@ -20,7 +22,7 @@ rest_of lane lanes me less is =
     let f : Mine → Mine = λ m. (without_first m.0, m.1) in
     ap f is ∙ ap (λ (hands : List Hand). f (holding hands, [])) (next_hand lane lanes less)
 
-pub new_seat : (id : TableId) (me : Mine) (lanes lane : ℕ) → id.words ≡ size_of lanes → lanes ≤ max_lanes → lane < lanes → me ≡ (holding (new_hand lanes lane ∷ []), []) → IsPenSeat id me lane 0 0
+pub new_seat : (id : TableId) (me : Mine) (lanes lane : ℕ) → id.words ≡ size_of lanes → lanes ≤ MAX_LANES → lane < lanes → me ≡ (holding (new_hand lanes lane ∷ []), []) → IsPenSeat id me lane 0 0
 new_seat id me lanes lane size few below is = subst (λ (m : Mine). IsPenSeat id m lane 0 0) (sym is) record {
   alone = refl;
   table = size;

@@ -12,12 +12,15 @@ use Rattle.atomic_table.specs.Table.{Final, Seen}
 use Rattle.spin_word.specs.declared.row.Row.{Row}
 use Rattle.spin_log.specs.declared.view.Hand.{Hand}
 use Rattle.spin_log.specs.declared.view.View.{View}
-use Rattle.spin_log.specs.Rows.{IsCommandBelow, max_lanes, max_rows, rows_of, IsPrefix, row_words, turn, name_of, row_at, size_of, place_of, IsNameIn, StandsAt}
+use Rattle.spin_word.specs.declared.command.TheConstants.{MAX_PLACE, MAX_LANES}
+use Rattle.spin_log.specs.Rows.{IsCommandBelow, rows_of, IsPrefix, row_words, turn, name_of, row_at, size_of, StandsAt}
+use Rattle.spin_log.specs.Inner.Places.{place_of, IsNameIn}
 use Rattle.spin_word.specs.Rows.{lane_of}
 use Rattle.spin_log.specs.Rule.{IsEntry, Stands, Holds, holding}
 use Rattle.spin_log.specs.History.{Moment, pins_from}
 use Rattle.spin_log.specs.Steps.{Mine, Learned, AreOfOne, longer, lengthened, both_of}
-use Rattle.spin_log.specs.Pens.{PenValue, pen_value, only_hand, only_front, with_draft, IsPenSeat, IsNoteSeat, StandsIn, IsHistory}
+use Rattle.spin_log.specs.Pens.{PenValue, pen_value, only_hand, StandsIn, IsHistory}
+use Rattle.spin_log.specs.Inner.Seats.{only_front, with_draft, IsPenSeat, IsNoteSeat}
 use Rattle.spin_log.proofs.Lists.{all_head, all_map, rows_of_length, prefix_length}
 use Rattle.spin_log.proofs.Keeps.{next_none, next_some}
 
@@ -59,7 +62,7 @@ module _ (id : TableId) (pen note m m' : Mine) (lane n rows k : ℕ) (p : IsPenS
   tells_commands : All (IsCommandBelow hand.lanes) (longer hand.front front)
   tells_commands = all_head (λ (h : Hand). All (IsCommandBelow h.lanes) (longer h.front front)) (with_draft [] hand) [] learned_of.commands
 
-  pub tells_seat : (x : ℕ) → length (longer hand.front front) ≡ x → x ≤ max_rows → IsPenSeat id m' lane x rows
+  pub tells_seat : (x : ℕ) → length (longer hand.front front) ≡ x → x ≤ MAX_PLACE → IsPenSeat id m' lane x rows
   tells_seat x len room = subst (λ (y : Mine). IsPenSeat id y lane x rows) (sym tells_view) record {
     alone = refl;
     table = p.table;
@@ -103,7 +106,7 @@ module _ (lanes : ℕ) (front log : List Row) (words : List ℕ) (at name : ℕ)
     next : (row : Row) × IsPrefix (front ++ row ∷ []) log × IsEntry words front row × (name ≡ name_of (lane_of row) (turn front row)) × IsCommandBelow lanes row
     next = next_some lanes front log words at name st p (sym is) (at_read words at name found) not
 
-    pub name_inside : lanes ≤ max_lanes → IsNameIn (size_of lanes) name
+    pub name_inside : lanes ≤ MAX_LANES → IsNameIn (size_of lanes) name
     name_inside few =
         let row = next.0 in
         let names = next.3 in
@@ -169,11 +172,11 @@ stands_in lanes id table v words slots final log read =
 
 -- the rows of the last state
 pub rows_below : (lanes id : ℕ) (v : View) (words : List ℕ) (slots : List (Unit {0})) → Final (Seen (Holds lanes) id v) words slots → (log : List Row) → ((entries : List Row) → Stands lanes entries words → log ≡ entries)
-    → All (IsCommandBelow lanes) log × (length log ≤ max_rows)
+    → All (IsCommandBelow lanes) log × (length log ≤ MAX_PLACE)
 rows_below lanes id v words slots final log read =
     let r = final.1.0 in
     let is : log ≡ r.log = read r.log (subst (Stands lanes r.log) final.2 r.stands) in
-    subst (λ (l : List Row). All (IsCommandBelow lanes) l × (length l ≤ max_rows)) (sym is) (r.stands.commands, r.stands.room)
+    subst (λ (l : List Row). All (IsCommandBelow lanes) l × (length l ≤ MAX_PLACE)) (sym is) (r.stands.commands, r.stands.room)
 
 -- the moments of the last state
 pub history_of : (lanes id : ℕ) (table : TableId) (v : View) (words : List ℕ) (slots : List (Unit {0})) → Final (Seen (Holds lanes) id v) words slots → (log : List Row) → ((entries : List Row) → Stands lanes entries words → log ≡ entries)

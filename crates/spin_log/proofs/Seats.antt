@@ -6,11 +6,14 @@ use Rattle.std.proofs.lemmas.List.Elements.{All-append}
 use Rattle.atomic_table.specs.Seated.{TableId}
 use Rattle.spin_word.specs.declared.row.Row.{Row}
 use Rattle.spin_log.specs.declared.view.Hand.{Hand}
-use Rattle.spin_log.specs.Rows.{IsCommandBelow, max_rows, rows_of, IsRowOf, row_words, turn, name_of, place_of, IsNameIn}
+use Rattle.spin_word.specs.declared.command.TheConstants.{MAX_PLACE}
+use Rattle.spin_log.specs.Rows.{IsCommandBelow, rows_of, IsRowOf, row_words, turn, name_of}
+use Rattle.spin_log.specs.Inner.Places.{place_of, IsNameIn}
 use Rattle.spin_word.specs.Rows.{lane_of}
 use Rattle.spin_log.specs.Rule.{holding}
 use Rattle.spin_log.specs.Steps.{Mine, Each, pinned, wrote, writes_on, read_on, each_hand, IsNext, ReadsOn, IsWordOfFront}
-use Rattle.spin_log.specs.Pens.{PenValue, pen_value, only_hand, with_draft, IsPenSeat, read}
+use Rattle.spin_log.specs.Pens.{PenValue, pen_value, only_hand, read}
+use Rattle.spin_log.specs.Inner.Seats.{with_draft, IsPenSeat}
 use Rattle.spin_log.specs.Answers.{Reads}
 use Rattle.spin_log.proofs.Lists.{rising_on, all_one, all_head, rows_of_one, rows_of_other, rows_of-append, rows_of_length}
 
@@ -83,7 +86,7 @@ module _ (id : TableId) (start me me' : Mine) (lane n rows : ℕ) (draft : List 
 
 -- it has published its draft
 pub seat_writes : (id table : TableId) (start me me' : Mine) (lane n rows : ℕ) (row : Row) → IsPenSeat id start lane n rows → me ≡ (holding (with_draft (row_words row) (only_hand start.0.hands) ∷ []), []) → Each wrote me me'
-    → n < max_rows → IsRowOf (only_hand start.0.hands).lane row → table ≡ id → IsPenSeat table me' lane (n + 1) (rows + 1)
+    → n < MAX_PLACE → IsRowOf (only_hand start.0.hands).lane row → table ≡ id → IsPenSeat table me' lane (n + 1) (rows + 1)
 seat_writes id table start me me' lane n rows row p is wrote_it room command same =
     let hand : Hand = only_hand start.0.hands in
     let e : me' ≡ (holding (wrote wrote_it.0 (with_draft (row_words row) hand) ∷ []), []) = subst (λ (m : Mine). me' ≡ (each_hand (wrote wrote_it.0) m.0, m.1)) is wrote_it.1 in
@@ -149,7 +152,7 @@ row_loaded hands first name a b c d some_name at one two three four k default in
     λ i. record { a = first_is i; b = second_is i; c = third_is i; d = fourth_is i }
 
 -- a pen has room for a row of its own where its front has room
-pub own_room : (id : TableId) (me : Mine) (lane n rows : ℕ) → IsPenSeat id me lane n rows → n < max_rows → length (only_hand me.0.hands).own < max_rows
+pub own_room : (id : TableId) (me : Mine) (lane n rows : ℕ) → IsPenSeat id me lane n rows → n < MAX_PLACE → length (only_hand me.0.hands).own < MAX_PLACE
 own_room id me lane n rows p room =
     let hand : Hand = only_hand me.0.hands in
     let few = rows_of_length hand.lane hand.front in

@@ -1,4 +1,5 @@
--- What has happened to a log, in one order: rows were published, and lanes found that no row was there.
+-- What has happened to a log, in one order: rows were published, and lanes found that no row was
+-- there.
 use Rattle.std.specs.Prelude.{ℕ, ◌+◌, ◌==◌, cond, List, [], ◌∷◌}
 use Rattle.spin_word.specs.declared.row.Row.{Row}
 use Rattle.spin_word.specs.Rows.{lane_of}
@@ -23,9 +24,13 @@ rows_in (pin lane ∷ moments) = rows_in moments
 abbrev pub pins_from : ℕ → ℕ → List Moment → List ℕ
 pins_from lane n [] = []
 pins_from lane n (publish row ∷ moments) = pins_from lane (n + 1) moments
-pins_from lane n (pin by ∷ moments) = cond (by == lane) (n ∷ pins_from lane n moments) (pins_from lane n moments)
+pins_from lane n (pin by ∷ moments) =
+    cond (by == lane) (n ∷ pins_from lane n moments) (pins_from lane n moments)
 
 -- the places of the lane's moments in the history, where n moments were before them all
 abbrev pub places_from : ℕ → ℕ → List Moment → List ℕ
 places_from lane n [] = []
-places_from lane n (moment ∷ moments) = cond (lane_at moment == lane) (n ∷ places_from lane (n + 1) moments) (places_from lane (n + 1) moments)
+places_from lane n (moment ∷ moments) =
+    cond (lane_at moment == lane)
+    (n ∷ places_from lane (n + 1) moments)
+    (places_from lane (n + 1) moments)

@@ -2,11 +2,12 @@
 use Rattle.std.specs.Prelude.{◌≡◌, ℕ, ◌<◌, ◌≤◌, List, [], ◌∷◌, ◌++◌, All, map, length}
 use Rattle.core.specs.List.Sorted.{IsNonDecreasing}
 use Rattle.atomic_table.specs.Seated.{TableId}
+use Rattle.spin_word.specs.declared.command.TheConstants.{MAX_PLACE, MAX_LANES}
 use Rattle.spin_word.specs.declared.row.Row.{Row}
 use Rattle.spin_log.specs.declared.view.Hand.{Hand}
-use Rattle.spin_log.specs.Rows.{max_lanes, max_rows, size_of, rows_of, IsCommandBelow, IsPrefix}
+use Rattle.spin_log.specs.Rows.{size_of, rows_of, IsCommandBelow, IsPrefix}
 use Rattle.spin_log.specs.History.{Moment, rows_in, pins_from}
-use Rattle.spin_log.specs.Rule.{holding, new_hands}
+use Rattle.spin_log.specs.Rule.{holding, new_hand, new_hands}
 use Rattle.spin_log.specs.Steps.{Mine}
 
 -- which log it is, and its number of lanes
@@ -14,7 +15,8 @@ pub record LogValue : Type 0 where
   pub id : TableId
   pub lanes : ℕ
 
--- its log with the number of lanes, its lane, the part of the log that it knows, the rows that it published, and for each time that it found no next row how many rows there were
+-- its log with the number of lanes, its lane, the part of the log that it knows, the rows that it
+-- published, and for each time that it found no next row how many rows there were
 pub record PenValue : Type 0 where
   pub log : TableId
   pub lanes : ℕ
@@ -23,51 +25,31 @@ pub record PenValue : Type 0 where
   pub own : List Row
   pub pins : List ℕ
 
--- what is so of every pen: its front is rows of commands, of which those of its lane are its own, and its pins don't fall and lie in its front
+-- what is so of every pen: its front is rows of commands, of which those of its lane are its own,
+-- and its pins don't fall and lie in its front
 pub record IsPen (pen : PenValue) : Type 0 where
-  pub few : pen.lanes ≤ max_lanes
+  pub few : pen.lanes ≤ MAX_LANES
   pub below : pen.lane < pen.lanes
-  pub room : length pen.front ≤ max_rows
+  pub room : length pen.front ≤ MAX_PLACE
   pub commands : All (IsCommandBelow pen.lanes) pen.front
   pub own : pen.own ≡ rows_of pen.lane pen.front
   pub rising : IsNonDecreasing pen.pins
   pub reached : All (λ (pin : ℕ). pin ≤ length pen.front) pen.pins
 
 abbrev pub pen_value : TableId → Hand → PenValue
-pen_value id hand = record { log = id; lanes = hand.lanes; lane = hand.lane; front = hand.front; own = hand.own; pins = hand.pins }
+pen_value id hand = record {
+  log = id;
+  lanes = hand.lanes;
+  lane = hand.lane;
+  front = hand.front;
+  own = hand.own;
+  pins = hand.pins;
+}
 
 -- the one pen of a view
 abbrev pub only_hand : List Hand → Hand
-only_hand [] = record { lanes = 0; lane = 0; front = []; own = []; pins = []; places = []; draft = [] }
+only_hand [] = new_hand 0 0
 only_hand (hand ∷ hands) = hand
-
--- the pen with this draft
-abbrev pub with_draft : List ℕ → Hand → Hand
-with_draft draft hand = record hand { draft = draft }
-
--- the seat of a pen that has no draft, and has this lane, a front of n rows, and so many rows of its own
-pub record IsPenSeat (id : TableId) (me : Mine) (lane n published : ℕ) : Type 0 where
-  pub alone : me ≡ (holding (with_draft [] (only_hand me.0.hands) ∷ []), [])
-  pub table : id.words ≡ size_of (only_hand me.0.hands).lanes
-  pub lane_is : (only_hand me.0.hands).lane ≡ lane
-  pub front : length (only_hand me.0.hands).front ≡ n
-  pub rows : length (only_hand me.0.hands).own ≡ published
-  pub pen : IsPen (pen_value id (only_hand me.0.hands))
-
--- a part of the log that a pen of it knows
-pub record NoteValue : Type 0 where
-  pub log : TableId
-  pub front : List Row
-
-abbrev pub only_front : List (List Row) → List Row
-only_front [] = []
-only_front (front ∷ fronts) = front
-
--- the seat of a note of n rows
-pub record IsNoteSeat (me : Mine) (n : ℕ) : Type 0 where
-  pub alone : me ≡ (record { hands = []; older = only_front me.0.older ∷ [] }, [])
-  pub front : length (only_front me.0.older) ≡ n
-  pub room : n ≤ max_rows
 
 -- new pens of the first n lanes
 abbrev pub first_pens : TableId → ℕ → ℕ → List PenValue
@@ -94,13 +76,16 @@ with_front pen front = record pen { front = front }
 abbrev pub IsSamePen : PenValue → PenValue → Type 0
 IsSamePen old new = (new.log ≡ old.log) × (new.lanes ≡ old.lanes) × (new.lane ≡ old.lane)
 
--- what the log has of a pen: its front begins the log, and its own rows are the log's rows of its lane, and all lie in its front
+-- what the log has of a pen: its front begins the log, and its own rows are the log's rows of its
+-- lane, and all lie in its front
 pub record StandsIn (log : List Row) (pen : PenValue) : Type 0 where
   pub front : IsPrefix pen.front log
   pub own : pen.own ≡ rows_of pen.lane log
   pub reached : pen.own ≡ rows_of pen.lane pen.front
 
--- what has happened to the log, in one order: its rows were published, and each pin of a pen was set where as many rows had been published as it says
-pub record IsHistory (log : List Row) (pens : List PenValue) (moments : List Moment) : Type 0 where
+-- what has happened to the log, in one order: its rows were published, and each pin of a pen was
+-- set where as many rows had been published as it says
+pub record IsHistory (log : List Row) (pens : List PenValue) (moments : List Moment)
+    : Type 0 where
   pub rows : rows_in moments ≡ log
   pub pins : All (λ (pen : PenValue). pen.pins ≡ pins_from pen.lane 0 moments) pens

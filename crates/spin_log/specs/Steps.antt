@@ -1,10 +1,13 @@
 -- What the steps of a pen tell, and how views are cut and joined.
-use Rattle.std.specs.Prelude.{◌≡◌, ◌≢◌, ℕ, ◌+◌, ◌<◌, List, [], ◌∷◌, ◌++◌, ◌⊎◌, All, map, length, slice_index, take, drop, cond, nat_lt}
+use Rattle.std.specs.Prelude.{◌≡◌, ◌≢◌, ℕ, ◌+◌, ◌<◌, List, [], ◌∷◌, ◌++◌, ◌⊎◌, All, map, length}
+use Rattle.std.specs.Prelude.{slice_index, take, drop, cond, nat_lt}
 use Rattle.atomic_table.specs.Table.{Me, Step}
+use Rattle.spin_word.specs.declared.command.TheConstants.{MAX_PLACE}
 use Rattle.spin_word.specs.declared.row.Row.{Row}
 use Rattle.spin_log.specs.declared.view.Hand.{Hand}
 use Rattle.spin_log.specs.declared.view.View.{View}
-use Rattle.spin_log.specs.Rows.{max_rows, IsCommandBelow, rows_of, IsRowOfOther, IsPrefix, row_words, row_from, turn, name_of, row_at}
+use Rattle.spin_log.specs.Rows.{IsCommandBelow, rows_of, IsRowOfOther, IsPrefix, row_words}
+use Rattle.spin_log.specs.Rows.{row_from, turn, name_of, row_at}
 use Rattle.spin_word.specs.Rows.{lane_of}
 use Rattle.spin_log.specs.Rule.{holding}
 
@@ -21,11 +24,19 @@ writes_on word hand = record hand { draft = hand.draft ++ word ∷ [] }
 
 -- the pen has published its draft, as the moment of this place
 abbrev pub wrote : ℕ → Hand → Hand
-wrote place hand = record hand { front = hand.front ++ row_from hand.draft ∷ []; own = hand.own ++ row_from hand.draft ∷ []; places = hand.places ++ place ∷ []; draft = [] }
+wrote place hand = record hand {
+  front = hand.front ++ row_from hand.draft ∷ [];
+  own = hand.own ++ row_from hand.draft ∷ [];
+  places = hand.places ++ place ∷ [];
+  draft = [];
+}
 
 -- the pen has found no next row, as the moment of this place
 abbrev pub pinned : ℕ → Hand → Hand
-pinned place hand = record hand { pins = hand.pins ++ length hand.front ∷ []; places = hand.places ++ place ∷ [] }
+pinned place hand = record hand {
+  pins = hand.pins ++ length hand.front ∷ [];
+  places = hand.places ++ place ∷ [];
+}
 
 -- the view with each of its pens changed
 abbrev pub each_hand : (Hand → Hand) → View → View
@@ -33,11 +44,17 @@ each_hand f v = record { hands = map f v.hands; older = v.older }
 
 -- the number found names the row after the pen's front, which is of another lane
 abbrev pub IsNext : ℕ → Row → Hand → Type 0
-IsNext found row hand = IsRowOfOther hand.lanes hand.lane row × (found ≡ name_of (lane_of row) (turn hand.front row)) × (length hand.front < max_rows)
+IsNext found row hand =
+    IsRowOfOther hand.lanes hand.lane row
+    × (found ≡ name_of (lane_of row) (turn hand.front row))
+    × (length hand.front < MAX_PLACE)
 
 -- what a pen learns where the next log word was found not to be 0
 abbrev pub ReadsOn : Mine → ℕ → Mine → Type 0
-ReadsOn m found m' = (row : Row) × (m' ≡ (each_hand (read_on row) m.0, m.1)) × All (IsNext found row) m.0.hands
+ReadsOn m found m' =
+    (row : Row)
+    × (m' ≡ (each_hand (read_on row) m.0, m.1))
+    × All (IsNext found row) m.0.hands
 
 -- each pen has made its change, as the moment of some place
 abbrev pub Each : (ℕ → Hand → Hand) → Mine → Mine → Type 0
@@ -57,7 +74,11 @@ published st m found m' = (found ≡ 0 → Each wrote m m') × (found ≢ 0 → 
 
 -- whichever word of a row of the front was loaded, it is that row's
 abbrev pub IsWordOfFront : ℕ → ℕ → Hand → Type 0
-IsWordOfFront at found hand = (front : List Row) (row : Row) (rest : List Row) (k : ℕ) → hand.front ≡ front ++ row ∷ rest → k < 4 → at ≡ row_at (lane_of row) (turn front row) + k → found ≡ slice_index (row_words row) k
+IsWordOfFront at found hand =
+    (front : List Row) (row : Row) (rest : List Row) (k : ℕ) →
+    hand.front ≡ front ++ row ∷ rest → k < 4 →
+    at ≡ row_at (lane_of row) (turn front row) + k →
+    found ≡ slice_index (row_words row) k
 
 -- a load of a word of a row
 abbrev pub reread : Step (Unit {0}) → Mine → ℕ → Mine → Type 0
@@ -79,12 +100,16 @@ lengthened others hand = record hand { front = longest hand.front others }
 abbrev pub AreOfOne : List Row → List Row → Type 0
 AreOfOne front other = IsPrefix front other ⊎ IsPrefix other front
 
--- a load of word 0, which tells that the older fronts are of the same log, that they have no row of the pen's lane but its own, and takes the longest
+-- a load of word 0, which tells that the older fronts are of the same log, that they have no row of
+-- the pen's lane but its own, and takes the longest
 pub record Learned (m m' : Mine) : Type 0 where
   pub view : m' ≡ (holding (map (lengthened m.0.older) m.0.hands), m.1)
   pub one : All (λ (hand : Hand). All (AreOfOne hand.front) m.0.older) m.0.hands
-  pub own : All (λ (hand : Hand). rows_of hand.lane (longest hand.front m.0.older) ≡ rows_of hand.lane hand.front) m.0.hands
-  pub commands : All (λ (hand : Hand). All (IsCommandBelow hand.lanes) (longest hand.front m.0.older)) m.0.hands
+  pub own : All
+      (λ (hand : Hand). rows_of hand.lane (longest hand.front m.0.older)
+      ≡ rows_of hand.lane hand.front) m.0.hands
+  pub commands : All
+      (λ (hand : Hand). All (IsCommandBelow hand.lanes) (longest hand.front m.0.older)) m.0.hands
 
 abbrev pub learned : Step (Unit {0}) → Mine → ℕ → Mine → Type 0
 learned st m found m' = Learned m m'

@@ -1,14 +1,20 @@
 //! The log.
 
-ghost use Rattle.std.specs.Prelude.{◌≡◌, ℕ, ◌+◌, ◌*◌, ◌-◌, ◌≤◌, ◌<◌, List, [], ◌∷◌, ◌++◌, All, map, length, vec_capacity, IfOk};
+ghost use Rattle.std.specs.Prelude.{◌≡◌, ℕ, ◌+◌, ◌*◌, ◌-◌, ◌≤◌, ◌<◌, List, [], ◌∷◌, ◌++◌, All};
+ghost use Rattle.std.specs.Prelude.{map, length, vec_capacity, IfOk};
 ghost use Rattle.core.specs.Mem.Slots.{slots_items, slots_len, IsFull};
 ghost use Rattle.spin_word.specs.declared.row.Row.{Row as RowValue};
 ghost use Rattle.spin_word.specs.Rows.{lane_of};
-ghost use Rattle.spin_log.specs.Rows.{max_lanes, max_rows, size_of, name_of, place_of, IsNameIn, turn, IsRowOf, IsCommandBelow, row_words, StandsAt};
+ghost use Rattle.spin_log.specs.Rows.{size_of, name_of, turn, IsRowOf, IsCommandBelow, row_words};
+ghost use Rattle.spin_log.specs.Rows.{StandsAt};
+ghost use Rattle.spin_log.specs.Inner.Places.{place_of, IsNameIn};
 ghost use Rattle.spin_log.specs.History.{Moment};
-ghost use Rattle.spin_log.specs.Rule.{IsBlank, Stands, first_view, holding};
+ghost use Rattle.spin_log.specs.Rule.{Stands, first_view, holding};
+ghost use Rattle.spin_log.specs.Inner.Blank.{IsBlank};
 ghost use Rattle.spin_log.specs.Steps.{longer, AreOfOne};
-ghost use Rattle.spin_log.specs.Pens.{new_pens, pen_value, only_hand, with_draft, with_front, IsSamePen, StandsIn, IsHistory};
+ghost use Rattle.spin_log.specs.Pens.{new_pens, pen_value, only_hand, with_front, IsSamePen};
+ghost use Rattle.spin_log.specs.Pens.{StandsIn, IsHistory};
+ghost use Rattle.spin_log.specs.Inner.Seats.{with_draft};
 
 use crate::pen::{Note, Pen, Pens};
 use crate::rule::{
@@ -17,24 +23,18 @@ use crate::rule::{
 use crate::view::View;
 use atomic_table::{Closed, Seat, Table};
 use spin_values::{NoMemory, Sequence};
-use spin_word::Row;
+use spin_word::{MAX_LANES, MAX_PLACE, Row};
 use std::alloc::Global;
 use std::marker::Model;
 
-/// The most lanes of a log.
-pub const MAX_LANES: u8 = 8;
-
-/// The most rows of a log, and so of a lane.
-pub const MAX_ROWS: u16 = 4096;
-
 // Where the lanes' rows begin: after the number of lanes, a log word for each row, and a word that stays 0.
-const ROWS_START: usize = 4098;
+const ROWS_START: usize = MAX_PLACE as usize + 2;
 
 // How many words the rows of a lane have, four a row.
-const PART_SIZE: usize = 16384;
+const PART_SIZE: usize = 4 * MAX_PLACE as usize;
 
 // How many rows of a lane have names.
-const NAMES_PER_LANE: u64 = MAX_ROWS as u64;
+const NAMES_PER_LANE: u64 = MAX_PLACE as u64;
 
 /// Rows, in order.
 pub type Rows = Sequence<Row>;
@@ -55,7 +55,7 @@ pub enum Publish {
     Done,
     /// Another lane had published this row there. The pen's front has that row now, and its own wasn't published.
     Lost(Row),
-    /// Nothing, since the pen's front has [`MAX_ROWS`] rows.
+    /// Nothing, since the pen's front has [`MAX_PLACE`] rows.
     Full,
 }
 
@@ -68,14 +68,18 @@ pub struct Log {
 
 impl Model for Log {
     ghost use Rattle.std.specs.Prelude.{◌≡◌, ◌≤◌};
-    ghost use Rattle.spin_log.specs.Rows.{max_lanes, size_of};
+    ghost use Rattle.spin_word.specs.declared.command.TheConstants.{MAX_LANES};
+    ghost use Rattle.spin_log.specs.Rows.{size_of};
     ghost use Rattle.spin_log.specs.Pens.{LogValue};
 
     ghost Value = { LogValue };
 
     ghost view = { λ l. record { id = l.table.shared.table_id; lanes = l.table.shared.key } };
 
-    ghost invariant = { λ l. (l.table.shared.table_id.words ≡ size_of l.table.shared.key) × (l.table.shared.table_id.slots ≡ 0) × (l.table.shared.key ≤ max_lanes) };
+    ghost invariant = { λ l.
+        (l.table.shared.table_id.words ≡ size_of l.table.shared.key)
+        × (l.table.shared.table_id.slots ≡ 0)
+        × (l.table.shared.key ≤ MAX_LANES) };
 }
 
 // The name of a lane's row, counted from 0: never 0, and no other row's.
@@ -87,7 +91,7 @@ fn row_name(lane: u8, turn: u16) -> u64
 
 // Where the row of this name begins.
 fn place(name: u64) -> usize
-    requires { (0 < name) × (name ≤ max_rows * max_lanes) }
+    requires { (0 < name) × (name ≤ MAX_PLACE * MAX_LANES) }
     ensures { result ≡ place_of name }
 {
     ROWS_START + 4 * (name as usize - 1)
@@ -121,12 +125,16 @@ fn read_row(closed: &Closed<(), Global>, name: u64) -> Row
 // The rows that the log words name, up to the first 0.
 fn read_rows(closed: &Closed<(), Global>, rows: &mut Vec<Row>)
     requires words { IsFull closed.now.words }
-    requires stands { (lanes : ℕ) × (log : List RowValue) × (slots_len closed.now.words ≡ size_of lanes) × (lanes ≤ max_lanes) × Stands lanes log (slots_items closed.now.words) }
+    requires stands { (lanes : ℕ) × (log : List RowValue)
+        × (slots_len closed.now.words ≡ size_of lanes)
+        × (lanes ≤ MAX_LANES)
+        × Stands lanes log (slots_items closed.now.words) }
     requires empty { rows.old.items ≡ [] }
-    requires room { max_rows ≤ vec_capacity rows.old }
-    ensures { (lanes : ℕ) (log : List RowValue) → Stands lanes log (slots_items closed.now.words) → rows.new.items ≡ log }
+    requires room { MAX_PLACE ≤ vec_capacity rows.old }
+    ensures { (lanes : ℕ) (log : List RowValue) →
+        Stands lanes log (slots_items closed.now.words) → rows.new.items ≡ log }
 {
-    for at in 1..usize::from(MAX_ROWS) + 1 {
+    for at in 1..usize::from(MAX_PLACE) + 1 {
         let name = closed.word(at);
         if name == 0 {
             return;
@@ -141,8 +149,10 @@ impl Log {
     /// A log with no row, and a pen for each lane, from 1 lane to [`MAX_LANES`]: the k-th pen, from 0, is that of
     /// lane k, with an empty front, no own rows and no pins.
     pub fn new(alloc: Global, lanes: u8) -> Result<(Log, Pens), NoMemory>
-        requires { (0 < lanes) × (lanes ≤ max_lanes) }
-        ensures { IfOk result (λ made. (made.0.lanes ≡ lanes) × (made.1 ≡ new_pens made.0.id lanes)) }
+        requires some { 0 < lanes }
+        requires few { lanes ≤ MAX_LANES }
+        ensures lanes { IfOk result (λ made. made.0.lanes ≡ lanes) }
+        ensures pens { IfOk result (λ made. made.1 ≡ new_pens made.0.id lanes) }
     {
         let count = u64::from(lanes);
         let size = ROWS_START + PART_SIZE * usize::from(lanes);
@@ -181,12 +191,15 @@ impl Log {
     // Writes the row into the seat's lane, as a draft. The name is that of the lane's next row.
     fn draft(&self, seat: &mut Seat<(), View>, name: u64, row: Row)
         requires own { seat.old.table_id ≡ self.now.id }
-        requires alone { seat.old.me ≡ (holding (with_draft [] (only_hand seat.old.me.0.hands) ∷ []), []) }
-        requires next { name ≡ name_of (only_hand seat.old.me.0.hands).lane (length (only_hand seat.old.me.0.hands).own) }
-        requires room { length (only_hand seat.old.me.0.hands).own < max_rows }
+        requires alone { seat.old.me
+            ≡ (holding (with_draft [] (only_hand seat.old.me.0.hands) ∷ []), []) }
+        requires next { let hand = only_hand seat.old.me.0.hands in
+            name ≡ name_of hand.lane (length hand.own) }
+        requires room { length (only_hand seat.old.me.0.hands).own < MAX_PLACE }
         requires name { IsNameIn self.now.id.words name }
         ensures own { seat.new.table_id ≡ seat.old.table_id }
-        ensures drafted { seat.new.me ≡ (holding (with_draft (row_words row) (only_hand seat.old.me.0.hands) ∷ []), []) }
+        ensures drafted { seat.new.me
+            ≡ (holding (with_draft (row_words row) (only_hand seat.old.me.0.hands) ∷ []), []) }
     {
         let first = place(name);
         self.table.shared.store::<Drafts>(seat, first, row.a);
@@ -200,7 +213,9 @@ impl Log {
         requires own { seat.old.table_id ≡ self.now.id }
         requires name { IsNameIn self.now.id.words name }
         ensures seat { (seat.new.table_id ≡ seat.old.table_id) × (seat.new.me ≡ seat.old.me) }
-        ensures row { All (λ hand. (front : List RowValue) (row : RowValue) (rest : List RowValue) → hand.front ≡ front ++ row ∷ rest → name ≡ name_of (lane_of row) (turn front row) → result ≡ row) seat.old.me.0.hands }
+        ensures row { All (λ hand. (front : List RowValue) (row : RowValue) (rest : List RowValue) →
+            hand.front ≡ front ++ row ∷ rest → name ≡ name_of (lane_of row) (turn front row) →
+            result ≡ row) seat.old.me.0.hands }
     {
         let first = place(name);
         let a = self.table.shared.load::<Rereads>(seat, first);
@@ -228,7 +243,7 @@ impl Log {
         Look::Entry(row)
     }
 
-    /// Adds a row of the pen's lane right after the pen's front. `Full` exactly where the front has [`MAX_ROWS`]
+    /// Adds a row of the pen's lane right after the pen's front. `Full` exactly where the front has [`MAX_PLACE`]
     /// rows, and then nothing changes; `Done` exactly where the next log word was 0, and the front and the own
     /// rows have the row then; `Lost` exactly where it named another row, which the front has then. It is four
     /// stores and one exchange, and where it lost four loads. It takes neither memory nor time to wait.
@@ -238,7 +253,7 @@ impl Log {
         ensures answer { PublishesSay pen.old row result pen.new }
         ensures same { IsSamePen pen.old pen.new }
     {
-        if pen.length == MAX_ROWS {
+        if pen.length == MAX_PLACE {
             return Publish::Full;
         }
         let name = row_name(pen.lane, pen.published);
@@ -323,10 +338,12 @@ impl Log {
     pub fn close(self, alloc: Global, pens: Pens) -> Result<Rows, NoMemory>
         requires { All (λ pen. pen.log ≡ self.id) pens }
         ensures pens { IfOk result (λ log. All (StandsIn log) pens) }
-        ensures history { IfOk result (λ log. (moments : List Moment) × IsHistory log pens moments) }
-        ensures rows { IfOk result (λ log. All (IsCommandBelow self.lanes) log × (length log ≤ max_rows)) }
+        ensures history { IfOk result
+            (λ log. (moments : List Moment) × IsHistory log pens moments) }
+        ensures rows { IfOk result
+            (λ log. All (IsCommandBelow self.lanes) log × (length log ≤ MAX_PLACE)) }
     {
-        let mut rows = Vec::with_capacity(alloc, usize::from(MAX_ROWS))?;
+        let mut rows = Vec::with_capacity(alloc, usize::from(MAX_PLACE))?;
         let taker = self.gather(pens);
         let Log { table } = self;
         let closed = table.close_with(taker);

@@ -22,7 +22,8 @@ pub struct Pen {
 }
 
 impl Model for Pen {
-    ghost use Rattle.spin_log.specs.Pens.{PenValue, pen_value, only_hand, IsPenSeat};
+    ghost use Rattle.spin_log.specs.Pens.{PenValue, pen_value, only_hand};
+    ghost use Rattle.spin_log.specs.Inner.Seats.{IsPenSeat};
 
     ghost Value = { PenValue };
 
@@ -33,18 +34,18 @@ impl Model for Pen {
 
 impl Pen {
     ghost use Rattle.std.specs.Prelude.{◌≡◌, ◌<◌, ◌≤◌, length};
-    ghost use Rattle.spin_log.specs.Rows.{max_lanes};
+    ghost use Rattle.spin_word.specs.declared.command.TheConstants.{MAX_LANES};
     ghost use Rattle.spin_log.specs.Pens.{IsPen};
 
-    /// The lane, which is below the number of lanes, and this is at most [`MAX_LANES`](crate::MAX_LANES).
+    /// The lane, which is below the number of lanes, and this is at most [`MAX_LANES`](spin_word::MAX_LANES).
     pub fn lane(&self) -> u8
         ensures lane { result ≡ self.now.lane }
-        ensures below { (self.now.lane < self.now.lanes) × (self.now.lanes ≤ max_lanes) }
+        ensures below { (self.now.lane < self.now.lanes) × (self.now.lanes ≤ MAX_LANES) }
     {
         self.lane
     }
 
-    /// The length of the front, in rows. It is at most [`MAX_ROWS`](crate::MAX_ROWS).
+    /// The length of the front, in rows. It is at most [`MAX_PLACE`](spin_word::MAX_PLACE).
     ///
     /// The second clause tells what is so of every pen: its front is rows of commands of lanes below the number
     /// of lanes, those of its own lane are its own rows, and its pins don't fall and lie in its front.
@@ -64,7 +65,7 @@ pub(crate) struct Note {
 }
 
 impl Model for Note {
-    ghost use Rattle.spin_log.specs.Pens.{NoteValue, only_front, IsNoteSeat};
+    ghost use Rattle.spin_log.specs.Inner.Seats.{NoteValue, only_front, IsNoteSeat};
 
     ghost Value = { NoteValue };
 

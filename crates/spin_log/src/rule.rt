@@ -4,7 +4,8 @@
 //! what each kind of step tells in `specs/Steps.antt`.
 
 ghost use Rattle.spin_log.specs.Rule.{Holds, first_view};
-ghost use Rattle.spin_log.specs.Steps.{looked, drafted, published, reread, learned, without_first, first_alone, note_of, both_of, spent, sat};
+ghost use Rattle.spin_log.specs.Steps.{looked, drafted, published, reread, learned, without_first};
+ghost use Rattle.spin_log.specs.Steps.{first_alone, note_of, both_of, spent, sat};
 
 use crate::view::View;
 use atomic_table::{Join, Play, Split, TableRule};

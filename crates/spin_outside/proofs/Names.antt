@@ -7,7 +7,8 @@ use Rattle.std.proofs.lemmas.Slice.Eq.{slice_eq-Decides}
 use Rattle.std.proofs.lemmas.Bool.Decides.{Decides-eqb}
 use Rattle.spin_outside.specs.Counts.{raised_by}
 use Rattle.spin_outside.specs.Files.{content, ReadsMore}
-use Rattle.spin_outside.specs.Shelves.{held, fresh, refilled, with_file, name_of, reads_under, AreNamedApart}
+use Rattle.spin_outside.specs.Shelves.{held, fresh, refilled, with_file, name_of, reads_under}
+use Rattle.spin_outside.specs.Inner.Apart.{AreNamedApart}
 use Rattle.spin_outside.specs.declared.mem_file.MemFile.{MemFile}
 
 is_false : (b : Bool) → (b ≡ true → ⊥) → b ≡ false

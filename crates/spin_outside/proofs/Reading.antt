@@ -60,11 +60,12 @@ under_more before mid now file n m files named h k =
     ReadsMore-more before.reads mid.reads now.reads (before.found_as file) n m first (subst (λ (name : Option (List ℕ)). ReadsMore mid.reads now.reads name m) (same file) then_))
 
 -- a front that was taken in pieces, and one piece more
-pub front_more : (before mid now : ShelfSeen) (file : ℕ) (bytes buf : List ℕ) (count : ℕ) → count ≤ length buf → Consumes (before.left file) (mid.left file) bytes → Consumes (mid.left file) (now.left file) (take count buf) → mid.files ≡ before.files → IfSome before.files (λ _. AllKeep before.found_as mid.found_as) → IfSome before.files (λ _. ReadsMore before.reads mid.reads (before.found_as file) (length bytes)) → IfSome mid.files (λ _. ReadsMore mid.reads now.reads (mid.found_as file) count) → TakesFront before now file
-front_more before mid now file bytes buf count le h k files named first then_ =
+pub front_more : (before mid now : ShelfSeen) (file : ℕ) (bytes buf : List ℕ) (count most : ℕ) → count ≤ length buf → length bytes + count ≤ most → Consumes (before.left file) (mid.left file) bytes → Consumes (mid.left file) (now.left file) (take count buf) → mid.files ≡ before.files → IfSome before.files (λ _. AllKeep before.found_as mid.found_as) → IfSome before.files (λ _. ReadsMore before.reads mid.reads (before.found_as file) (length bytes)) → IfSome mid.files (λ _. ReadsMore mid.reads now.reads (mid.found_as file) count) → TakesFront before now file most
+front_more before mid now file bytes buf count most le within h k files named first then_ =
     let len : length (bytes ++ take count buf) ≡ length bytes + count = length-append bytes (take count buf) ∙ ap (λ n. length bytes + n) (length-take-le count buf le) in
     record {
       bytes = bytes ++ take count buf;
+      few = subst (λ (n : ℕ). n ≤ most) (sym len) within;
       taken = Consumes-append _ _ _ _ _ h k;
       under = subst (λ (n : ℕ). IfSome before.files (λ _. ReadsMore before.reads now.reads (before.found_as file) n)) (sym len) (under_more before mid now file (length bytes) count files named first then_);
     }

@@ -1,5 +1,6 @@
 -- Calls that are counted, and of which those of listed numbers fail.
-use Rattle.std.specs.Prelude.{◌≡◌, ℕ, List, Bool, true, false, ◌==◌, Result, Ok, Err}
+use Rattle.std.specs.Prelude.{◌≡◌, ℕ, List, Bool, true, false, ◌==◌, ◌++◌, ◌∷◌, [], Result, Ok}
+use Rattle.std.specs.Prelude.{Err}
 use Rattle.std.specs.List.{list_any}
 use Rattle.spin_outside.specs.Counts.{raised_by}
 use Rattle.spin_outside.specs.declared.faults.FindFault.{FindFault}
@@ -9,6 +10,14 @@ use Rattle.spin_outside.specs.declared.faults.FindFault.TheVariants as find
 pub record CallsState : Type 0 where
   pub listed : List ℕ
   pub made : ℕ
+
+-- no call was made, and none is to fail
+abbrev pub no_call : CallsState
+no_call = record { listed = []; made = 0 }
+
+-- the call of that number is to fail too
+abbrev pub with_failing : CallsState → ℕ → CallsState
+with_failing calls number = record calls { listed = calls.listed ++ number ∷ [] }
 
 -- whether the next call fails
 abbrev pub next_fails : CallsState → Bool

@@ -9,7 +9,8 @@ use Rattle.spin_outside.specs.declared.faults.TakeFault.TheVariants as taking
 abbrev pub raised_by : ℕ → ℕ → ℕ
 raised_by before more = max before (min (before + more) (2 ^ 64 - 1))
 
--- The count is greater than before, or stands still at the greatest number of 64 bits. It hasn't fallen.
+-- The count is greater than before, or stands still at the greatest number of 64 bits. It hasn't
+-- fallen.
 abbrev pub Rose : ℕ → ℕ → Type 0
 Rose before now = raised_by before 1 ≤ now
 
@@ -17,15 +18,21 @@ Rose before now = raised_by before 1 ≤ now
 abbrev pub FailsByCount : {T E : Type 0} → ℕ → ℕ → Result T E → Type 0
 FailsByCount before now result = MatchResult result (λ _. now ≡ before) (λ _. Rose before now)
 
--- Which count a refusal of `find` raises: `Failed` that of faults, `Absent` that of absences, each its own alone.
+-- Which count a refusal of `find` raises: `Failed` that of faults, `Absent` that of absences, each
+-- its own alone.
 abbrev pub RefusesByCount : ℕ → ℕ → ℕ → ℕ → FindFault → Type 0
-RefusesByCount faults faults' absences absences' find.Absent = (faults' ≡ faults) × Rose absences absences'
-RefusesByCount faults faults' absences absences' find.Failed = Rose faults faults' × (absences' ≡ absences)
-RefusesByCount faults faults' absences absences' find.NoMemory = (faults' ≡ faults) × (absences' ≡ absences)
+RefusesByCount faults faults' absences absences' find.Absent =
+    (faults' ≡ faults) × Rose absences absences'
+RefusesByCount faults faults' absences absences' find.Failed =
+    Rose faults faults' × (absences' ≡ absences)
+RefusesByCount faults faults' absences absences' find.NoMemory =
+    (faults' ≡ faults) × (absences' ≡ absences)
 
 abbrev pub FindsByCount : {T : Type 0} → ℕ → ℕ → ℕ → ℕ → Result T FindFault → Type 0
 FindsByCount faults faults' absences absences' result =
-    MatchResult result (λ _. (faults' ≡ faults) × (absences' ≡ absences)) (RefusesByCount faults faults' absences absences')
+    MatchResult result
+    (λ _. (faults' ≡ faults) × (absences' ≡ absences))
+    (RefusesByCount faults faults' absences absences')
 
 -- Which refusal of `read_up_to` raises the count of faults: `Failed` alone.
 abbrev pub StopsByCount : ℕ → ℕ → TakeFault → Type 0

@@ -1,7 +1,9 @@
 pub mod Calls
 pub mod Counts
 pub mod Files
+pub mod Inner
 pub mod Memory
 pub mod Seen
 pub mod Shelves
 pub mod Sources
+pub mod Limits

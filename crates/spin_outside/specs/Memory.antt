@@ -1,7 +1,8 @@
 -- What contracts see of a sink in memory.
-use Rattle.std.specs.Prelude.{ℕ, List, Bool, Some, ◌||◌, ◌-◌, ◌++◌, nat_le, length, take, if◌then◌else◌}
+use Rattle.std.specs.Prelude.{ℕ, List, Bool, Some, ◌||◌, ◌-◌, ◌++◌, [], nat_le, length, take}
+use Rattle.std.specs.Prelude.{if◌then◌else◌}
 use Rattle.spin_outside.specs.Counts.{raised_by}
-use Rattle.spin_outside.specs.Calls.{CallsState, next_fails, counted}
+use Rattle.spin_outside.specs.Calls.{CallsState, no_call, next_fails, counted}
 use Rattle.spin_outside.specs.Seen.{SinkSeen}
 
 -- what it took, how many bytes it takes in all, its calls, and its count of faults
@@ -10,6 +11,10 @@ pub record SinkState : Type 0 where
   pub room : ℕ
   pub calls : CallsState
   pub faults : ℕ
+
+-- a sink with room for so many bytes, as it is made
+abbrev pub empty_sink : ℕ → SinkState
+empty_sink room = record { taken = []; room = room; calls = no_call; faults = 0 }
 
 abbrev pub sink_seen : SinkState → SinkSeen
 sink_seen sink = record { told = Some sink.taken; faults = sink.faults }

@@ -1,5 +1,5 @@
 -- What contracts see of a sink and of a shelf at one moment.
-use Rattle.std.specs.Prelude.{ℕ, Option, List, length, IfSome}
+use Rattle.std.specs.Prelude.{ℕ, ◌≤◌, Option, List, length, IfSome}
 use Rattle.std.specs.Io.KnownBytes.{Consumes}
 use Rattle.spin_outside.specs.Files.{File, ReadsMore}
 
@@ -8,9 +8,10 @@ pub record SinkSeen : Type 0 where
   pub told : Option (List ℕ)
   pub faults : ℕ
 
--- A shelf. `files` are the files that it holds, and `left` is what a file number has left, each where the shelf tells it.
--- The name that a file number was last found under, and how many bytes were read under a name in all, are told by a
--- shelf that tells its files. Then there are how often it failed, and how often no file had the name that was asked for.
+-- A shelf. `files` are the files that it holds, and `left` is what a file number has left, each
+-- where the shelf tells it. The name that a file number was last found under, and how many bytes
+-- were read under a name in all, are told by a shelf that tells its files. Then there are how often
+-- it failed, and how often no file had the name that was asked for.
 pub record ShelfSeen : Type 0 where
   pub files : Option (List File)
   pub left : ℕ → Option (List ℕ)
@@ -19,8 +20,11 @@ pub record ShelfSeen : Type 0 where
   pub faults : ℕ
   pub absences : ℕ
 
--- Some front of what the file number had left is no longer left, and was read under the name of that number.
-pub record TakesFront (before now : ShelfSeen) (file : ℕ) : Type 0 where
+-- Some front of what the file number had left, of at most so many bytes, is no longer left, and was
+-- read under the name of that number.
+pub record TakesFront (before now : ShelfSeen) (file most : ℕ) : Type 0 where
   pub bytes : List ℕ
+  pub few : length bytes ≤ most
   pub taken : Consumes (before.left file) (now.left file) bytes
-  pub under : IfSome before.files (λ _. ReadsMore before.reads now.reads (before.found_as file) (length bytes))
+  pub under : IfSome before.files
+      (λ _. ReadsMore before.reads now.reads (before.found_as file) (length bytes))

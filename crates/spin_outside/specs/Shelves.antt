@@ -1,11 +1,10 @@
 -- What the files of a shelf in memory tell.
-use Rattle.std.specs.Prelude.{◌≡◌, ◌≢◌, ℕ, zero, suc, Bool, true, false, refl, Option, Some, None, List, [], ◌∷◌, map, drop, if◌then◌else◌, bytes_eq}
-use Rattle.std.specs.List.{AllPairs}
+use Rattle.std.specs.Prelude.{ℕ, zero, suc, false, Option, Some, None, List, [], ◌∷◌, map, drop}
+use Rattle.std.specs.Prelude.{if◌then◌else◌, bytes_eq}
 use Rattle.spin_outside.specs.declared.mem_file.MemFile.{MemFile}
-use Rattle.spin_outside.specs.Calls.{CallsState}
+use Rattle.spin_outside.specs.Calls.{CallsState, no_call}
 use Rattle.spin_outside.specs.Files.{File}
 use Rattle.spin_outside.specs.Seen.{ShelfSeen}
-use Rattle.std.proofs.Common.{ap}
 
 -- a shelf in memory: its files, its finds and reads, and its counts
 pub record ShelfState : Type 0 where
@@ -15,15 +14,15 @@ pub record ShelfState : Type 0 where
   pub faults : ℕ
   pub absences : ℕ
 
+-- a shelf without files, as it is made
+abbrev pub empty_shelf : ShelfState
+empty_shelf = record { files = []; finds = no_call; reads = no_call; faults = 0; absences = 0 }
+
 abbrev pub file_of : MemFile → File
 file_of file = record { name = file.name; bytes = file.bytes }
 
 abbrev pub held : List MemFile → List File
 held files = map file_of files
-
--- No two files have the same name.
-abbrev pub AreNamedApart : List File → Type 0
-AreNamedApart files = AllPairs (λ a b. a ≢ b) (map (λ file. file.name) files)
 
 -- a file that is put in anew, of which nothing was read
 abbrev pub fresh : List ℕ → List ℕ → MemFile
@@ -37,7 +36,9 @@ refilled file bytes = record file { bytes = bytes; opened = false; position = 0 
 abbrev pub with_file : List MemFile → List ℕ → List ℕ → List MemFile
 with_file [] name bytes = fresh name bytes ∷ []
 with_file (file ∷ files) name bytes =
-    if bytes_eq file.name name then refilled file bytes ∷ files else file ∷ with_file files name bytes
+    if bytes_eq file.name name
+    then refilled file bytes ∷ files
+    else file ∷ with_file files name bytes
 
 -- what is left of a file: nothing, before it is found
 abbrev pub rest_of : MemFile → List ℕ
@@ -63,7 +64,8 @@ name_at files at = view_at name_of None files at
 -- how many bytes were read under a name
 abbrev pub reads_under : List MemFile → List ℕ → ℕ
 reads_under [] name = 0
-reads_under (file ∷ files) name = if bytes_eq file.name name then file.taken else reads_under files name
+reads_under (file ∷ files) name =
+    if bytes_eq file.name name then file.taken else reads_under files name
 
 abbrev pub shelf_seen : ShelfState → ShelfSeen
 shelf_seen shelf = record {
@@ -74,15 +76,3 @@ shelf_seen shelf = record {
   faults = shelf.faults;
   absences = shelf.absences;
 }
-
--- A number that wasn't found has nothing left.
-closed_has_none : (file : MemFile) → name_of file ≡ None → rest_of file ≡ []
-closed_has_none file none = closed (file.opened) none where
-  closed : (opened : Bool) → (if opened then Some file.name else None) ≡ None → (if opened then drop file.position file.bytes else []) ≡ []
-  closed true none = cc
-  closed false none = refl
-
-pub none_left_at : (files : List MemFile) (at : ℕ) → name_at files at ≡ None → Some (left_at files at) ≡ Some []
-none_left_at [] at none = refl
-none_left_at (file ∷ files) zero none = ap Some (closed_has_none file none)
-none_left_at (file ∷ files) (suc at) none = none_left_at files at none

@@ -1,13 +1,14 @@
 -- What contracts see of a source at one moment, and what a read does to it.
-use Rattle.std.specs.Prelude.{◌≡◌, ℕ, Option, Some, None, List, if◌then◌else◌, bytes_eq, min, take, drop, length, MatchResult, Result}
-use Rattle.spin_outside.specs.Calls.{CallsState, next_fails, counted}
+use Rattle.std.specs.Prelude.{◌≡◌, ℕ, Option, Some, None, List, if◌then◌else◌, bytes_eq, min, take}
+use Rattle.std.specs.Prelude.{drop, length, MatchResult, Result}
+use Rattle.spin_outside.specs.Calls.{CallsState, no_call, next_fails, counted}
 use Rattle.spin_outside.specs.Counts.{raised_by}
 use Rattle.spin_outside.specs.Files.{File}
 use Rattle.spin_outside.specs.Seen.{ShelfSeen}
 
--- What no read of the source changes: the number of its file; the files by name and how many bytes were read under
--- each name in all, where they are told; how often a file was absent; and the name by which proofs know the reference
--- that the source holds.
+-- What no read of the source changes: the number of its file; the files by name and how many bytes
+-- were read under each name in all, where they are told; how often a file was absent; and the name
+-- by which proofs know the reference that the source holds.
 pub record Keep : Type 0 where
   pub file : ℕ
   pub files : Option (List File)
@@ -15,8 +16,8 @@ pub record Keep : Type 0 where
   pub absences : ℕ
   pub reference : ℕ
 
--- a source: the bytes that it has left, and how many were taken from it in all, each where it tells them; its keep; and
--- how often it failed
+-- a source: the bytes that it has left, and how many were taken from it in all, each where it tells
+-- them; its keep; and how often it failed
 pub record SourceSeen : Type 0 where
   pub left : Option (List ℕ)
   pub taken : Option ℕ
@@ -30,11 +31,13 @@ taken_more (Some before) count = Some (raised_by before count)
 
 -- A read adds what it took to the bytes taken, and a failed one nothing.
 abbrev pub TakesMore : {E : Type 0} → Option ℕ → Option ℕ → Result ℕ E → Type 0
-TakesMore before now result = MatchResult result (λ count. now ≡ taken_more before count) (λ _. now ≡ before)
+TakesMore before now result =
+    MatchResult result (λ count. now ≡ taken_more before count) (λ _. now ≡ before)
 
 -- One file of a shelf
 
--- The bytes read under a name. Those under the name of the file itself are the source's bytes taken, and aren't kept.
+-- The bytes read under a name. Those under the name of the file itself are the source's bytes
+-- taken, and aren't kept.
 abbrev pub reads_beside : Option (List ℕ) → (List ℕ → ℕ) → List ℕ → Option ℕ
 reads_beside None reads name = Some (reads name)
 reads_beside (Some own) reads name = if bytes_eq own name then None else Some (reads name)
@@ -70,13 +73,24 @@ file_seen shelf file reference = record {
 
 -- A source in memory
 
--- what it has left, how many bytes a call moves at most, its calls, how many bytes were taken, and its count of faults
+-- what it has left, how many bytes a call moves at most, its calls, how many bytes were taken, and
+-- its count of faults
 pub record SourceState : Type 0 where
   pub left : List ℕ
   pub piece : Option ℕ
   pub calls : CallsState
   pub taken : ℕ
   pub faults : ℕ
+
+-- a source that has these bytes left, as it is made
+abbrev pub full_source : List ℕ → SourceState
+full_source bytes = record {
+  left = bytes;
+  piece = None;
+  calls = no_call;
+  taken = 0;
+  faults = 0;
+}
 
 abbrev pub memory_seen : SourceState → SourceSeen
 memory_seen source = record {

@@ -1,14 +1,14 @@
 //! Calls that are counted, and of which those of listed numbers fail.
 
-ghost use Rattle.std.specs.Prelude.{◌≡◌, ◌++◌, ◌∷◌, [], OnOk, OnErr};
-ghost use Rattle.spin_outside.specs.Calls.{CallsState, next_fails, counted};
+ghost use Rattle.std.specs.Prelude.{◌≡◌, OnOk, OnErr};
+ghost use Rattle.spin_outside.specs.Calls.{CallsState, no_call, with_failing, next_fails, counted};
 
 use spin_values::NoMemory;
 use std::alloc::Global;
 use std::marker::Model;
 
 /// Counts the calls of an object in memory from 0, and knows the numbers of those that are to fail.
-#[derive(Drop)]
+#[derive(Debug, Drop)]
 pub struct FailingCalls {
     listed: Vec<u32>,
     made: u64,
@@ -23,7 +23,7 @@ impl Model for FailingCalls {
 impl FailingCalls {
     /// No call was made, and none is listed.
     pub fn new(alloc: Global) -> Self
-        ensures { result ≡ record { listed = []; made = 0 } }
+        ensures { result ≡ no_call }
     {
         FailingCalls {
             listed: Vec::new(alloc),
@@ -33,7 +33,7 @@ impl FailingCalls {
 
     /// Lists the call of that number. After want of memory nothing is changed.
     pub fn fail_at(&mut self, call: u32) -> Result<(), NoMemory>
-        ensures ok { OnOk result (self.new ≡ record self.old { listed = self.old.listed ++ call ∷ [] }) }
+        ensures ok { OnOk result (self.new ≡ with_failing self.old call) }
         ensures err { OnErr result (self.new ≡ self.old) }
     {
         self.listed.push(call)?;

@@ -35,7 +35,14 @@ impl<'a, R: Files> FolderShelf<'a, R> {
 }
 
 impl<R: Files> Shelf for FolderShelf<'_, R> {
-    ghost seen = { λ s. record { files = None; left = λ _. None; found_as = λ _. None; reads = λ _. 0; faults = s.faults; absences = s.absences } };
+    ghost seen = { λ s. record {
+      files = None;
+      left = λ _. None;
+      found_as = λ _. None;
+      reads = λ _. 0;
+      faults = s.faults;
+      absences = s.absences;
+    } };
 
     ghost none_left = { λ _ _ _. tt };
 

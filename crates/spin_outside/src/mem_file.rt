@@ -7,7 +7,7 @@ ghost use Rattle.spin_outside.specs.Shelves.{rest_of, fresh, refilled};
 use spin_values::{Octets, Text};
 
 /// A file, its name, and how far it is read.
-#[derive(Drop)]
+#[derive(Debug, Drop)]
 pub struct MemFile {
     /// The name.
     pub name: Text,
@@ -60,7 +60,8 @@ impl MemFile {
         ensures end { result ≡ 0 → rest_of self.new ≡ [] }
         ensures closed { self.old.opened ≡ false → result ≡ 0 }
         ensures counted { self.new.taken ≡ raised_by self.old.taken result }
-        ensures same { self.new ≡ record self.old { position = self.new.position; taken = self.new.taken } }
+        ensures same { self.new
+            ≡ record self.old { position = self.new.position; taken = self.new.taken } }
     {
         if !self.opened {
             return 0;

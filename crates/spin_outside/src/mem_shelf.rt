@@ -1,12 +1,15 @@
 //! A shelf in memory, which tells its files.
 
-ghost use Rattle.std.specs.Prelude.{◌≡◌, ◌≢◌, ◌<◌, ◌≤◌, ◌+◌, ◌++◌, ◌∷◌, ℕ, List, [], Option, Some, None, length, IfOk, IfErr, IfSome, OnOk, OnErr, MatchResult, take, is_err, IsErrOf, refl};
+ghost use Rattle.std.specs.Prelude.{◌≡◌, ◌≢◌, ◌<◌, ◌≤◌, ◌+◌, ◌++◌, ℕ, List, [], Option, Some};
+ghost use Rattle.std.specs.Prelude.{None, length, IfOk, IfErr, IfSome, OnOk, OnErr, MatchResult};
+ghost use Rattle.std.specs.Prelude.{take, is_err, IsErrOf, refl};
 ghost use Rattle.std.specs.Io.{ReadsAtMost};
 ghost use Rattle.std.specs.Io.KnownBytes.{ReadConsumes};
-ghost use Rattle.spin_outside.specs.Calls.{FindsByList, next_fails, counted};
+ghost use Rattle.spin_outside.specs.Calls.{FindsByList, with_failing, next_fails, counted};
 ghost use Rattle.spin_outside.specs.Counts.{FailsByCount, FindsByCount};
-ghost use Rattle.spin_outside.specs.Files.{IsWholeFile, IsLacking, OthersKeep, AllKeep, ReadsUnder};
-ghost use Rattle.spin_outside.specs.Shelves.{shelf_seen, with_file};
+ghost use Rattle.spin_outside.specs.Files.{IsWholeFile, IsLacking, OthersKeep, AllKeep};
+ghost use Rattle.spin_outside.specs.Files.{ReadsUnder};
+ghost use Rattle.spin_outside.specs.Shelves.{empty_shelf, shelf_seen, with_file};
 
 use crate::calls::FailingCalls;
 use crate::faults::{Failed, FindFault};
@@ -19,7 +22,7 @@ use std::marker::Model;
 
 /// A shelf of files in memory, no two of which have the same name. Its finds and its reads are counted apart,
 /// each from 0.
-#[derive(Drop)]
+#[derive(Debug, Drop)]
 pub struct MemShelf {
     files: Vec<MemFile>,
     finds: FailingCalls,
@@ -29,11 +32,18 @@ pub struct MemShelf {
 }
 
 impl Model for MemShelf {
-    ghost use Rattle.spin_outside.specs.Shelves.{ShelfState, held, AreNamedApart};
+    ghost use Rattle.spin_outside.specs.Shelves.{ShelfState, held};
+    ghost use Rattle.spin_outside.specs.Inner.Apart.{AreNamedApart};
 
     ghost Value = { ShelfState };
 
-    ghost view = { λ s. record { files = s.files.items; finds = s.finds; reads = s.reads; faults = s.faults; absences = s.absences } };
+    ghost view = { λ s. record {
+      files = s.files.items;
+      finds = s.finds;
+      reads = s.reads;
+      faults = s.faults;
+      absences = s.absences;
+    } };
 
     ghost invariant = { λ s. AreNamedApart (held s.files.items) };
 }
@@ -41,7 +51,7 @@ impl Model for MemShelf {
 impl MemShelf {
     /// A shelf without files.
     pub fn new(alloc: Global) -> MemShelf
-        ensures { result ≡ record { files = []; finds = record { listed = []; made = 0 }; reads = record { listed = []; made = 0 }; faults = 0; absences = 0 } }
+        ensures { result ≡ empty_shelf }
     {
         MemShelf {
             files: Vec::new(alloc),
@@ -55,7 +65,8 @@ impl MemShelf {
     /// Puts a file in. It takes the place of the one that has its name, which must then be found anew; else it
     /// stands behind the others. After want of memory nothing is changed.
     pub fn put(&mut self, name: Text, bytes: Octets) -> Result<(), NoMemory>
-        ensures ok { OnOk result (self.new ≡ record self.old { files = with_file self.old.files name bytes }) }
+        ensures ok { OnOk result
+            (self.new ≡ record self.old { files = with_file self.old.files name bytes }) }
         ensures err { OnErr result (self.new ≡ self.old) }
     {
         match place_of(&self.files, name.as_slice()) {
@@ -72,7 +83,8 @@ impl MemShelf {
 
     /// Lets the find of that number fail, counted from 0. After want of memory nothing is changed.
     pub fn fail_find(&mut self, call: u32) -> Result<(), NoMemory>
-        ensures ok { OnOk result (self.new ≡ record self.old { finds = record self.old.finds { listed = self.old.finds.listed ++ call ∷ [] } }) }
+        ensures ok { OnOk result
+            (self.new ≡ record self.old { finds = with_failing self.old.finds call }) }
         ensures err { OnErr result (self.new ≡ self.old) }
     {
         self.finds.fail_at(call)
@@ -80,7 +92,8 @@ impl MemShelf {
 
     /// Lets the read of that number fail, counted from 0. After want of memory nothing is changed.
     pub fn fail_read(&mut self, call: u32) -> Result<(), NoMemory>
-        ensures ok { OnOk result (self.new ≡ record self.old { reads = record self.old.reads { listed = self.old.reads.listed ++ call ∷ [] } }) }
+        ensures ok { OnOk result
+            (self.new ≡ record self.old { reads = with_failing self.old.reads call }) }
         ensures err { OnErr result (self.new ≡ self.old) }
     {
         self.reads.fail_at(call)
@@ -88,7 +101,7 @@ impl MemShelf {
 }
 
 impl Shelf for MemShelf {
-    ghost use Rattle.spin_outside.specs.Shelves.{none_left_at};
+    ghost use Rattle.spin_outside.specs.Inner.NoneLeft.{none_left_at};
 
     ghost seen = { shelf_seen };
 
@@ -97,17 +110,22 @@ impl Shelf for MemShelf {
     /// Finds the file, in time linear in the number of files. It is `Failed` exactly where the number of the call
     /// is listed.
     fn find(&mut self, name: &Text) -> Result<u32, FindFault>
-        ensures found { IfOk result (λ file. IsWholeFile (shelf_seen self.old).files name.now ((shelf_seen self.new).left file)) }
-        ensures absent { IsErrOf result FindFault.Absent → IsLacking (shelf_seen self.old).files name.now }
+        ensures found { IfOk result (λ file.
+            IsWholeFile (shelf_seen self.old).files name.now ((shelf_seen self.new).left file)) }
+        ensures absent { IsErrOf result FindFault.Absent
+            → IsLacking (shelf_seen self.old).files name.now }
         ensures others { MatchResult result
             (λ file. OthersKeep (shelf_seen self.old).left (shelf_seen self.new).left file)
             (λ _. AllKeep (shelf_seen self.old).left (shelf_seen self.new).left) }
         ensures named { IfSome (shelf_seen self.old).files (λ _. MatchResult result
-            (λ file. ((shelf_seen self.new).found_as file ≡ Some name.now) × OthersKeep (shelf_seen self.old).found_as (shelf_seen self.new).found_as file)
+            (λ file. ((shelf_seen self.new).found_as file ≡ Some name.now)
+            × OthersKeep (shelf_seen self.old).found_as (shelf_seen self.new).found_as file)
             (λ _. AllKeep (shelf_seen self.old).found_as (shelf_seen self.new).found_as)) }
-        ensures under { IfSome (shelf_seen self.old).files (λ _. AllKeep (shelf_seen self.old).reads (shelf_seen self.new).reads) }
+        ensures under { IfSome (shelf_seen self.old).files
+            (λ _. AllKeep (shelf_seen self.old).reads (shelf_seen self.new).reads) }
         ensures files { (shelf_seen self.new).files ≡ (shelf_seen self.old).files }
-        ensures cause { FindsByCount self.old.faults self.new.faults self.old.absences self.new.absences result }
+        ensures cause { FindsByCount
+            self.old.faults self.new.faults self.old.absences self.new.absences result }
         ensures exactly { FindsByList (next_fails self.old.finds) result }
         ensures finds { self.new.finds ≡ counted self.old.finds }
         ensures reads { self.new.reads ≡ self.old.reads }
@@ -131,10 +149,14 @@ impl Shelf for MemShelf {
     fn read(&mut self, file: u32, buf: &mut [u8]) -> Result<usize, Failed>
         requires { 0 < length buf.old }
         ensures some { ReadsAtMost result buf.new }
-        ensures taken { ReadConsumes ((shelf_seen self.old).left file) ((shelf_seen self.new).left file) result buf.new }
+        ensures taken { ReadConsumes
+            ((shelf_seen self.old).left file) ((shelf_seen self.new).left file) result buf.new }
         ensures others { OthersKeep (shelf_seen self.old).left (shelf_seen self.new).left file }
-        ensures named { IfSome (shelf_seen self.old).files (λ _. AllKeep (shelf_seen self.old).found_as (shelf_seen self.new).found_as) }
-        ensures under { IfSome (shelf_seen self.old).files (λ _. ReadsUnder (shelf_seen self.old).reads (shelf_seen self.new).reads ((shelf_seen self.old).found_as file) result) }
+        ensures named { IfSome (shelf_seen self.old).files
+            (λ _. AllKeep (shelf_seen self.old).found_as (shelf_seen self.new).found_as) }
+        ensures under { IfSome (shelf_seen self.old).files
+            (λ _. ReadsUnder (shelf_seen self.old).reads (shelf_seen self.new).reads
+            ((shelf_seen self.old).found_as file) result) }
         ensures files { (shelf_seen self.new).files ≡ (shelf_seen self.old).files }
         ensures absences { self.new.absences ≡ self.old.absences }
         ensures cause { FailsByCount self.old.faults self.new.faults result }

@@ -1,9 +1,11 @@
 //! A sink in memory, which tells what it took.
 
-ghost use Rattle.std.specs.Prelude.{◌≡◌, ◌<◌, ◌≤◌, ◌+◌, ◌++◌, ◌∷◌, ℕ, List, [], Option, Some, length, IfOk, OnOk, OnErr, MatchResult, take, is_err, IsOk, vec_capacity};
+ghost use Rattle.std.specs.Prelude.{◌≡◌, ◌<◌, ◌≤◌, ◌+◌, ◌++◌, ℕ, List, Option, Some, length, IfOk};
+ghost use Rattle.std.specs.Prelude.{OnOk, OnErr, MatchResult, take, is_err, IsOk, vec_capacity};
 ghost use Rattle.std.specs.Io.KnownBytes.{WriteAppends};
 ghost use Rattle.spin_outside.specs.Counts.{FailsByCount};
-ghost use Rattle.spin_outside.specs.Memory.{sink_seen, refuses, written, fitting};
+ghost use Rattle.spin_outside.specs.Calls.{with_failing};
+ghost use Rattle.spin_outside.specs.Memory.{empty_sink, sink_seen, refuses, written, fitting};
 
 use crate::calls::FailingCalls;
 use crate::faults::Failed;
@@ -13,7 +15,7 @@ use std::alloc::Global;
 use std::marker::Model;
 
 /// A sink with room for a number of bytes. It tells what it took.
-#[derive(Drop)]
+#[derive(Debug, Drop)]
 pub struct MemSink {
     taken: Vec<u8>,
     room: u32,
@@ -27,7 +29,12 @@ impl Model for MemSink {
 
     ghost Value = { SinkState };
 
-    ghost view = { λ s. record { taken = s.taken.items; room = s.room; calls = s.calls; faults = s.faults } };
+    ghost view = { λ s. record {
+      taken = s.taken.items;
+      room = s.room;
+      calls = s.calls;
+      faults = s.faults;
+    } };
 
     ghost invariant = { λ s. (length s.taken.items ≤ s.room) × (s.room ≤ vec_capacity s.taken) };
 }
@@ -35,7 +42,7 @@ impl Model for MemSink {
 impl MemSink {
     /// An empty sink with room for so many bytes, for which it takes the memory now.
     pub fn new(alloc: Global, room: u32) -> Result<MemSink, NoMemory>
-        ensures { IfOk result (λ s. s ≡ record { taken = []; room = room; calls = record { listed = []; made = 0 }; faults = 0 }) }
+        ensures { IfOk result (λ sink. sink ≡ empty_sink room) }
     {
         Ok(MemSink {
             taken: Vec::with_capacity(alloc, room as usize)?,
@@ -54,7 +61,8 @@ impl MemSink {
 
     /// Lets the write of that number fail, counted from 0. After want of memory nothing is changed.
     pub fn fail_at(&mut self, call: u32) -> Result<(), NoMemory>
-        ensures ok { OnOk result (self.new ≡ record self.old { calls = record self.old.calls { listed = self.old.calls.listed ++ call ∷ [] } }) }
+        ensures ok { OnOk result
+            (self.new ≡ record self.old { calls = with_failing self.old.calls call }) }
         ensures err { OnErr result (self.new ≡ self.old) }
     {
         self.calls.fail_at(call)

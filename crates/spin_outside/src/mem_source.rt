@@ -1,11 +1,13 @@
 //! A source in memory, which tells what it has left.
 
-ghost use Rattle.std.specs.Prelude.{◌≡◌, ◌<◌, ◌≤◌, ◌++◌, ◌∷◌, ℕ, List, [], Option, Some, None, length, take, IfOk, OnOk, OnErr, is_err};
+ghost use Rattle.std.specs.Prelude.{◌≡◌, ◌<◌, ◌≤◌, ◌++◌, ℕ, List, Option, Some, None, length};
+ghost use Rattle.std.specs.Prelude.{take, IfOk, OnOk, OnErr, is_err};
 ghost use Rattle.std.specs.Io.{ReadsAtMost};
 ghost use Rattle.std.specs.Io.KnownBytes.{ReadConsumes};
-ghost use Rattle.spin_outside.specs.Calls.{next_fails};
+ghost use Rattle.spin_outside.specs.Calls.{with_failing, next_fails};
 ghost use Rattle.spin_outside.specs.Counts.{FailsByCount};
-ghost use Rattle.spin_outside.specs.Sources.{TakesMore, memory_seen, handed, after_read, moved_at_most};
+ghost use Rattle.spin_outside.specs.Sources.{TakesMore, full_source, memory_seen, handed};
+ghost use Rattle.spin_outside.specs.Sources.{after_read, moved_at_most};
 
 use crate::calls::FailingCalls;
 use crate::faults::Failed;
@@ -14,7 +16,7 @@ use spin_values::{NoMemory, Octets};
 use std::marker::Model;
 
 /// A source of bytes in memory. Its calls are counted from 0.
-#[derive(Drop)]
+#[derive(Debug, Drop)]
 pub struct MemSource {
     bytes: Octets,
     position: usize,
@@ -30,15 +32,22 @@ impl Model for MemSource {
 
     ghost Value = { SourceState };
 
-    ghost view = { λ s. record { left = drop s.position s.bytes; piece = s.piece; calls = s.calls; taken = s.taken; faults = s.faults } };
+    ghost view = { λ s. record {
+      left = drop s.position s.bytes;
+      piece = s.piece;
+      calls = s.calls;
+      taken = s.taken;
+      faults = s.faults;
+    } };
 
-    ghost invariant = { λ s. (s.position ≤ length s.bytes) × IfSome s.piece (λ piece. 0 < piece) };
+    ghost invariant = { λ s.
+        (s.position ≤ length s.bytes) × IfSome s.piece (λ piece. 0 < piece) };
 }
 
 impl MemSource {
     /// A source that has these bytes left, and moves as many in a call as fit the buffer.
     pub fn new(bytes: Octets) -> MemSource
-        ensures { result ≡ record { left = bytes; piece = None; calls = record { listed = []; made = 0 }; taken = 0; faults = 0 } }
+        ensures { result ≡ full_source bytes }
     {
         let calls = FailingCalls::new(bytes.allocator());
         MemSource {
@@ -53,7 +62,8 @@ impl MemSource {
 
     /// Lets the call of that number fail, counted from 0. After want of memory nothing is changed.
     pub fn fail_at(&mut self, call: u32) -> Result<(), NoMemory>
-        ensures ok { OnOk result (self.new ≡ record self.old { calls = record self.old.calls { listed = self.old.calls.listed ++ call ∷ [] } }) }
+        ensures ok { OnOk result
+            (self.new ≡ record self.old { calls = with_failing self.old.calls call }) }
         ensures err { OnErr result (self.new ≡ self.old) }
     {
         self.calls.fail_at(call)

@@ -1,6 +1,7 @@
 //! Sinks: what takes the bytes that the program writes.
 
-ghost use Rattle.std.specs.Prelude.{◌≡◌, ◌<◌, ◌≤◌, ℕ, List, Option, length, IfOk, IfErr, MatchResult, take};
+ghost use Rattle.std.specs.Prelude.{◌≡◌, ◌<◌, ◌≤◌, ℕ, List, Option, length, IfOk, IfErr};
+ghost use Rattle.std.specs.Prelude.{MatchResult, take};
 ghost use Rattle.std.specs.Io.KnownBytes.{WriteAppends, Appends};
 ghost use Rattle.spin_outside.specs.Counts.{FailsByCount};
 ghost use Rattle.spin_outside.specs.Seen.{SinkSeen};
@@ -26,7 +27,8 @@ pub trait Sink {
 pub fn write_all<K: Sink>(out: &mut K, bytes: &[u8]) -> Result<(), Failed>
     ensures taken { MatchResult result
         (λ _. Appends (K.seen out.old).told (K.seen out.new).told bytes.now)
-        (λ _. (n : ℕ) × (n < length bytes.now) × Appends (K.seen out.old).told (K.seen out.new).told (take n bytes.now)) }
+        (λ _. (n : ℕ) × (n < length bytes.now)
+        × Appends (K.seen out.old).told (K.seen out.new).told (take n bytes.now)) }
     ensures cause { FailsByCount (K.seen out.old).faults (K.seen out.new).faults result }
 {
     let mut rest = bytes;

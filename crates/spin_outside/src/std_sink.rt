@@ -1,13 +1,14 @@
-//! A writer of std as a sink, which tells nothing of what it took.
+//! A writer of std as a sink, which tells what the writer does.
 
-ghost use Rattle.std.specs.Prelude.{◌≡◌, ℕ, List, Option, None};
+ghost use Rattle.std.specs.Prelude.{◌≡◌};
 
 use crate::faults::Failed;
 use crate::sink::Sink;
 use std::io::Write;
 
-/// A writer, as standard output. A write that takes nothing is a failure.
-#[derive(Drop)]
+/// A writer, as standard output. A write that takes nothing is a failure. It tells what the writer holds, where the
+/// writer says that: a list of bytes does, a stream doesn't.
+#[derive(Debug, Drop)]
 pub struct StdSink<W> {
     inner: W,
     faults: u64,
@@ -16,14 +17,15 @@ pub struct StdSink<W> {
 impl<W: Write> StdSink<W> {
     /// A sink over the writer.
     pub fn new(inner: W) -> StdSink<W>
-        ensures { result.faults ≡ 0 }
+        ensures inner { result.inner ≡ inner }
+        ensures faults { result.faults ≡ 0 }
     {
         StdSink { inner, faults: 0 }
     }
 }
 
 impl<W: Write> Sink for StdSink<W> {
-    ghost seen = { λ s. record { told = None; faults = s.faults } };
+    ghost seen = { λ s. record { told = W.contents s.inner; faults = s.faults } };
 
     fn write(&mut self, bytes: &[u8]) -> Result<usize, Failed> {
         match self.inner.write(bytes) {

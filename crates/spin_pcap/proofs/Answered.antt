@@ -9,7 +9,8 @@ use Rattle.spin_pcap.specs.declared.fault.PcapFault.TheVariants as fault
 use Rattle.spin_pcap.specs.declared.next.Next.TheVariants as next
 use Rattle.spin_pcap.specs.declared.order.Order.{Order}
 use Rattle.spin_pcap.specs.declared.order.Order.TheVariants as order
-use Rattle.spin_pcap.specs.Captures.{number, number_at, captured, max_records, max_captured, IsRecord, IsCut, IsBad}
+use Rattle.spin_pcap.specs.declared.limits.TheConstants.{MAX_RECORDS, MAX_CAPTURED}
+use Rattle.spin_pcap.specs.Captures.{number, number_at, captured, IsRecord, IsCut, IsBad}
 use Rattle.spin_pcap.specs.Passing.{Passes, left_for, IsAnswer}
 use Rattle.spin_pcap.proofs.Passed.{before-rest, before-end, passes-then, passes-skip}
 
@@ -34,7 +35,7 @@ passes-record held held' held'' frame source source' source'' p size q =
     passes-then [] (take 16 held' ++ frame) held held' held'' source source' source'' p
     (passes-then (take 16 held') frame held' (drop 16 held') held'' source' source' source'' (passes-skip held' source' 16 size) q)
 
-pub answers-packet : (way : Order) (given : ℕ) (held held' held'' frame : List ℕ) (source source' source'' : SourceSeen) → Passes [] held source held' source' → 16 ≤ length held' → Passes frame (drop 16 held') source' held'' source'' → given < max_records → captured way held' ≡ length frame → length frame ≤ max_captured → IfSome (left_for held source.left) (λ bytes. IsAnswer way given bytes (Ok next.Packet) frame (left_for held'' source''.left))
+pub answers-packet : (way : Order) (given : ℕ) (held held' held'' frame : List ℕ) (source source' source'' : SourceSeen) → Passes [] held source held' source' → 16 ≤ length held' → Passes frame (drop 16 held') source' held'' source'' → given < MAX_RECORDS → captured way held' ≡ length frame → length frame ≤ MAX_CAPTURED → IfSome (left_for held source.left) (λ bytes. IsAnswer way given bytes (Ok next.Packet) frame (left_for held'' source''.left))
 answers-packet way given held held' held'' frame source source' source'' p size q few says small =
     before-rest (λ bytes. IsAnswer way given bytes (Ok next.Packet) frame (left_for held'' source''.left)) (take 16 held' ++ frame) held held'' source source'' (passes-record held held' held'' frame source source' source'' p size q)
     (λ rest left. (

@@ -7,7 +7,8 @@ use Rattle.spin_pcap.specs.declared.fault.PcapFault.{PcapFault}
 use Rattle.spin_pcap.specs.declared.fault.PcapFault.TheVariants as fault
 use Rattle.spin_outside.specs.Counts.{raised_by}
 use Rattle.spin_outside.specs.Sources.{SourceSeen, taken_more}
-use Rattle.spin_pcap.specs.Passing.{Passes, Takes, left_for, Copies, UnlessFailed}
+use Rattle.spin_pcap.specs.Passing.{Passes, Takes, left_for, UnlessFailed}
+use Rattle.spin_pcap.specs.Inner.Filling.{Copies}
 
 raised_twice : (x n m : ℕ) → raised_by (raised_by x n) m ≡ raised_by x (n + m)
 raised_twice x n m = omega arith

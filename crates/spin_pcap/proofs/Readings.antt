@@ -7,7 +7,8 @@ use Rattle.spin_pcap.specs.declared.fault.PcapFault.TheVariants as fault
 use Rattle.spin_pcap.specs.declared.next.Next.{Next}
 use Rattle.spin_pcap.specs.declared.next.Next.TheVariants as next
 use Rattle.spin_pcap.specs.declared.order.Order.{Order}
-use Rattle.spin_pcap.specs.Captures.{captured, max_records, max_captured, header_of, IsRecord, IsCut, IsBad, IsRest, IsBody, IsCapture}
+use Rattle.spin_pcap.specs.declared.limits.TheConstants.{MAX_RECORDS, MAX_CAPTURED}
+use Rattle.spin_pcap.specs.Captures.{captured, header_of, IsRecord, IsCut, IsBad, IsRest, IsBody, IsCapture}
 use Rattle.spin_pcap.specs.Laws.{OneReading, OneAnswer}
 use Rattle.spin_pcap.proofs.Answered.{number_at-front}
 
@@ -56,35 +57,35 @@ not-both way given bytes frame rest (Err fault.NoMemory) r e = e
 abbrev answer : ℕ → ℕ → ℕ → Result Next PcapFault
 answer given size says =
     cond (nat_lt 0 size)
-    (cond (nat_lt given max_records) (cond (nat_lt 15 size) (cond (nat_lt max_captured says) (Err fault.TooLong) (Ok (next.Cut size))) (Ok (next.Cut size))) (Err fault.TooManyRecords))
+    (cond (nat_lt given MAX_RECORDS) (cond (nat_lt 15 size) (cond (nat_lt MAX_CAPTURED says) (Err fault.TooLong) (Ok (next.Cut size))) (Ok (next.Cut size))) (Err fault.TooManyRecords))
     (Ok next.End)
 
-answer-some : (given size says : ℕ) → 0 < size → given < max_records → answer given size says ≡ cond (nat_lt 15 size) (cond (nat_lt max_captured says) (Err fault.TooLong) (Ok (next.Cut size))) (Ok (next.Cut size))
+answer-some : (given size says : ℕ) → 0 < size → given < MAX_RECORDS → answer given size says ≡ cond (nat_lt 15 size) (cond (nat_lt MAX_CAPTURED says) (Err fault.TooLong) (Ok (next.Cut size))) (Ok (next.Cut size))
 answer-some given size says some few =
-    ap (λ b. cond b (cond (nat_lt given max_records) (cond (nat_lt 15 size) (cond (nat_lt max_captured says) (Err fault.TooLong) (Ok (next.Cut size))) (Ok (next.Cut size))) (Err fault.TooManyRecords)) (Ok next.End)) (lt-ltb 0 size some)
-    ∙ ap (λ b. cond b (cond (nat_lt 15 size) (cond (nat_lt max_captured says) (Err fault.TooLong) (Ok (next.Cut size))) (Ok (next.Cut size))) (Err fault.TooManyRecords)) (lt-ltb given max_records few)
+    ap (λ b. cond b (cond (nat_lt given MAX_RECORDS) (cond (nat_lt 15 size) (cond (nat_lt MAX_CAPTURED says) (Err fault.TooLong) (Ok (next.Cut size))) (Ok (next.Cut size))) (Err fault.TooManyRecords)) (Ok next.End)) (lt-ltb 0 size some)
+    ∙ ap (λ b. cond b (cond (nat_lt 15 size) (cond (nat_lt MAX_CAPTURED says) (Err fault.TooLong) (Ok (next.Cut size))) (Ok (next.Cut size))) (Err fault.TooManyRecords)) (lt-ltb given MAX_RECORDS few)
 
 answer-none : (given says : ℕ) → answer given 0 says ≡ Ok next.End
 answer-none given says =
-    ap (λ b. cond b (cond (nat_lt given max_records) (cond (nat_lt 15 0) (cond (nat_lt max_captured says) (Err fault.TooLong) (Ok (next.Cut 0))) (Ok (next.Cut 0))) (Err fault.TooManyRecords)) (Ok next.End)) (le-ltb 0 0 (omega arith))
+    ap (λ b. cond b (cond (nat_lt given MAX_RECORDS) (cond (nat_lt 15 0) (cond (nat_lt MAX_CAPTURED says) (Err fault.TooLong) (Ok (next.Cut 0))) (Ok (next.Cut 0))) (Err fault.TooManyRecords)) (Ok next.End)) (le-ltb 0 0 (omega arith))
 
-answer-many : (given size says : ℕ) → 0 < size → max_records ≤ given → answer given size says ≡ Err fault.TooManyRecords
+answer-many : (given size says : ℕ) → 0 < size → MAX_RECORDS ≤ given → answer given size says ≡ Err fault.TooManyRecords
 answer-many given size says some many =
-    ap (λ b. cond b (cond (nat_lt given max_records) (cond (nat_lt 15 size) (cond (nat_lt max_captured says) (Err fault.TooLong) (Ok (next.Cut size))) (Ok (next.Cut size))) (Err fault.TooManyRecords)) (Ok next.End)) (lt-ltb 0 size some)
-    ∙ ap (λ b. cond b (cond (nat_lt 15 size) (cond (nat_lt max_captured says) (Err fault.TooLong) (Ok (next.Cut size))) (Ok (next.Cut size))) (Err fault.TooManyRecords)) (le-ltb given max_records many)
+    ap (λ b. cond b (cond (nat_lt given MAX_RECORDS) (cond (nat_lt 15 size) (cond (nat_lt MAX_CAPTURED says) (Err fault.TooLong) (Ok (next.Cut size))) (Ok (next.Cut size))) (Err fault.TooManyRecords)) (Ok next.End)) (lt-ltb 0 size some)
+    ∙ ap (λ b. cond b (cond (nat_lt 15 size) (cond (nat_lt MAX_CAPTURED says) (Err fault.TooLong) (Ok (next.Cut size))) (Ok (next.Cut size))) (Err fault.TooManyRecords)) (le-ltb given MAX_RECORDS many)
 
-answer-long : (given size says : ℕ) → 16 ≤ size → given < max_records → max_captured < says → answer given size says ≡ Err fault.TooLong
+answer-long : (given size says : ℕ) → 16 ≤ size → given < MAX_RECORDS → MAX_CAPTURED < says → answer given size says ≡ Err fault.TooLong
 answer-long given size says large few long =
     answer-some given size says (omega arith) few
-    ∙ ap (λ b. cond b (cond (nat_lt max_captured says) (Err fault.TooLong) (Ok (next.Cut size))) (Ok (next.Cut size))) (lt-ltb 15 size (omega arith))
-    ∙ ap (λ b. cond b (Err fault.TooLong) (Ok (next.Cut size))) (lt-ltb max_captured says long)
+    ∙ ap (λ b. cond b (cond (nat_lt MAX_CAPTURED says) (Err fault.TooLong) (Ok (next.Cut size))) (Ok (next.Cut size))) (lt-ltb 15 size (omega arith))
+    ∙ ap (λ b. cond b (Err fault.TooLong) (Ok (next.Cut size))) (lt-ltb MAX_CAPTURED says long)
 
-answer-cut : (given size says : ℕ) → 0 < size → given < max_records → (16 ≤ size → says ≤ max_captured) → answer given size says ≡ Ok (next.Cut size)
+answer-cut : (given size says : ℕ) → 0 < size → given < MAX_RECORDS → (16 ≤ size → says ≤ MAX_CAPTURED) → answer given size says ≡ Ok (next.Cut size)
 answer-cut given size says some few small =
     answer-some given size says some few
     ∙ (elim (cases_lt 15 size) [
-      | inl lt ↦ ap (λ b. cond b (cond (nat_lt max_captured says) (Err fault.TooLong) (Ok (next.Cut size))) (Ok (next.Cut size))) (lt-ltb 15 size lt) ∙ ap (λ b. cond b (Err fault.TooLong) (Ok (next.Cut size))) (le-ltb max_captured says (small (omega arith)))
-      | inr le ↦ ap (λ b. cond b (cond (nat_lt max_captured says) (Err fault.TooLong) (Ok (next.Cut size))) (Ok (next.Cut size))) (le-ltb 15 size le)
+      | inl lt ↦ ap (λ b. cond b (cond (nat_lt MAX_CAPTURED says) (Err fault.TooLong) (Ok (next.Cut size))) (Ok (next.Cut size))) (lt-ltb 15 size lt) ∙ ap (λ b. cond b (Err fault.TooLong) (Ok (next.Cut size))) (le-ltb MAX_CAPTURED says (small (omega arith)))
+      | inr le ↦ ap (λ b. cond b (cond (nat_lt MAX_CAPTURED says) (Err fault.TooLong) (Ok (next.Cut size))) (Ok (next.Cut size))) (le-ltb 15 size le)
     ])
 
 answered : (way : Order) (given : ℕ) (bytes : List ℕ) (ending : Result Next PcapFault) → IsRest way given bytes ending → answer given (length bytes) (captured way bytes) ≡ ending

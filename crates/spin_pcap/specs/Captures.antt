@@ -1,6 +1,10 @@
--- The capture file of version 2.4 (draft-ietf-opsawg-pcap): a header, whole records, and a rest that is none.
-use Rattle.std.specs.Prelude.{◌≡◌, ℕ, ◌+◌, ◌<◌, ◌≤◌, Bool, ◌&&◌, ◌||◌, ◌==◌, not, nat_lt, if◌then◌else◌, Option, Some, None, List, [], ◌∷◌, ◌++◌, length, drop, Result, Ok, Err, ⊤}
+-- The capture file of version 2.4 (draft-ietf-opsawg-pcap): a header, whole records, and a rest
+-- that is none.
+use Rattle.std.specs.Prelude.{◌≡◌, ℕ, ◌+◌, ◌<◌, ◌≤◌, Bool, ◌&&◌, ◌||◌, ◌==◌, not, nat_lt}
+use Rattle.std.specs.Prelude.{if◌then◌else◌, Option, Some, None, List, [], ◌∷◌, ◌++◌, length, drop}
+use Rattle.std.specs.Prelude.{Result, Ok, Err, ⊤}
 use Rattle.byteorder.specs.Endian.{big_number, little_number}
+use Rattle.spin_pcap.specs.declared.limits.TheConstants.{MAX_RECORDS, MAX_CAPTURED}
 use Rattle.spin_pcap.specs.declared.fault.PcapFault.{PcapFault}
 use Rattle.spin_pcap.specs.declared.fault.PcapFault.TheVariants as fault
 use Rattle.spin_pcap.specs.declared.next.Next.{Next}
@@ -42,45 +46,43 @@ fields_of (Some way) bytes =
 
 -- the first fault of the header at the front of the file, or the order of all fields
 abbrev pub header_of : List ℕ → Result Order PcapFault
-header_of bytes = if nat_lt (length bytes) 24 then Err fault.Short else fields_of (order_of bytes) bytes
+header_of bytes =
+    if nat_lt (length bytes) 24 then Err fault.Short else fields_of (order_of bytes) bytes
 
 -- Records
-
-abbrev pub max_records : ℕ
-max_records = 1048576
-
-abbrev pub max_captured : ℕ
-max_captured = 262144
 
 -- the captured length in the header of a record
 abbrev pub captured : Order → List ℕ → ℕ
 captured way bytes = number_at way 8 4 bytes
 
--- At the front stands a whole record with these captured bytes, and the others follow. So many records came before.
+-- At the front stands a whole record with these captured bytes, and the others follow. So many
+-- records came before.
 pub record IsRecord (way : Order) (given : ℕ) (bytes frame rest : List ℕ) : Type 0 where
-  pub few : given < max_records
+  pub few : given < MAX_RECORDS
   pub header : List ℕ
   pub size : length header ≡ 16
   pub says : captured way header ≡ length frame
-  pub small : length frame ≤ max_captured
+  pub small : length frame ≤ MAX_CAPTURED
   pub whole : bytes ≡ header ++ frame ++ rest
 
 -- So many bytes are there, no whole record among them, and they could still become one.
 pub record IsCut (way : Order) (given : ℕ) (bytes : List ℕ) (count : ℕ) : Type 0 where
   pub some : 0 < count
   pub size : length bytes ≡ count
-  pub few : given < max_records
-  pub begun : 16 ≤ count → (captured way bytes ≤ max_captured) × (count < 16 + captured way bytes)
+  pub few : given < MAX_RECORDS
+  pub begun : 16 ≤ count → (captured way bytes ≤ MAX_CAPTURED) × (count < 16 + captured way bytes)
 
--- a rest that no bytes could mend: a byte behind the last record that is allowed, or else a captured length over the limit
+-- a rest that no bytes could mend: a byte behind the last record that is allowed, or else a
+-- captured length over the limit
 abbrev pub IsBad : Order → ℕ → List ℕ → PcapFault → Type 0
 IsBad way given bytes fault.ReadFault = ⊥
 IsBad way given bytes fault.BadMagic = ⊥
 IsBad way given bytes fault.BadVersion = ⊥
 IsBad way given bytes fault.BadLink = ⊥
 IsBad way given bytes fault.Short = ⊥
-IsBad way given bytes fault.TooLong = (given < max_records) × (16 ≤ length bytes) × (max_captured < captured way bytes)
-IsBad way given bytes fault.TooManyRecords = (max_records ≤ given) × (0 < length bytes)
+IsBad way given bytes fault.TooLong =
+    (given < MAX_RECORDS) × (16 ≤ length bytes) × (MAX_CAPTURED < captured way bytes)
+IsBad way given bytes fault.TooManyRecords = (MAX_RECORDS ≤ given) × (0 < length bytes)
 IsBad way given bytes (fault.Spoilt first) = ⊥
 IsBad way given bytes fault.NoMemory = ⊥
 
@@ -95,9 +97,13 @@ IsRest way given bytes (Err wrong) = IsBad way given bytes wrong
 abbrev pub IsBody : Order → ℕ → List ℕ → List (List ℕ) → Result Next PcapFault → Type 0
 IsBody way given bytes [] ending = IsRest way given bytes ending
 IsBody way given bytes (frame ∷ frames) ending =
-    (rest : List ℕ) × IsRecord way given bytes frame rest × IsBody way (given + 1) rest frames ending
+    (rest : List ℕ)
+    × IsRecord way given bytes frame rest
+    × IsBody way (given + 1) rest frames ending
 
--- The file has a header of that order, whole records with these captured bytes, and then such a rest.
-pub record IsCapture (file : List ℕ) (way : Order) (frames : List (List ℕ)) (ending : Result Next PcapFault) : Type 0 where
+-- The file has a header of that order, whole records with these captured bytes, and then such a
+-- rest.
+pub record IsCapture (file : List ℕ) (way : Order) (frames : List (List ℕ))
+    (ending : Result Next PcapFault) : Type 0 where
   pub header : header_of file ≡ Ok way
   pub body : IsBody way 0 (drop 24 file) frames ending

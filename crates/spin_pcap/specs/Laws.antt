@@ -8,14 +8,19 @@ use Rattle.spin_pcap.specs.Captures.{IsCapture, IsRecord, IsRest}
 -- Two readings of one file are one.
 abbrev pub OneReading : Type 0
 OneReading =
-    (file : List ℕ) (way way' : Order) (frames frames' : List (List ℕ)) (ending ending' : Result Next PcapFault) →
+    (file : List ℕ) (way way' : Order) (frames frames' : List (List ℕ))
+    (ending ending' : Result Next PcapFault) →
     IsCapture file way frames ending → IsCapture file way' frames' ending' →
     (way ≡ way') × (frames ≡ frames') × (ending ≡ ending')
 
--- Two records at the front of the same bytes are one, no rest has a record at its front, and two answers for one rest
--- are one.
+-- Two records at the front of the same bytes are one, no rest has a record at its front, and two
+-- answers for one rest are one.
 abbrev pub OneAnswer : Type 0
 OneAnswer = (way : Order) (given : ℕ) (bytes : List ℕ) →
-    ((frame frame' rest rest' : List ℕ) → IsRecord way given bytes frame rest → IsRecord way given bytes frame' rest' → (frame ≡ frame') × (rest ≡ rest'))
-    × ((frame rest : List ℕ) (ending : Result Next PcapFault) → IsRecord way given bytes frame rest → IsRest way given bytes ending → ⊥)
-    × ((ending ending' : Result Next PcapFault) → IsRest way given bytes ending → IsRest way given bytes ending' → ending ≡ ending')
+    ((frame frame' rest rest' : List ℕ) →
+    IsRecord way given bytes frame rest → IsRecord way given bytes frame' rest' →
+    (frame ≡ frame') × (rest ≡ rest'))
+    × ((frame rest : List ℕ) (ending : Result Next PcapFault) →
+    IsRecord way given bytes frame rest → IsRest way given bytes ending → ⊥)
+    × ((ending ending' : Result Next PcapFault) →
+    IsRest way given bytes ending → IsRest way given bytes ending' → ending ≡ ending')

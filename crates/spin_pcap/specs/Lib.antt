@@ -1,3 +1,5 @@
 pub mod Captures
+pub mod Inner
 pub mod Laws
 pub mod Passing
+pub mod Limits

@@ -1,5 +1,6 @@
 -- What contracts see of a reader, and what its calls do.
-use Rattle.std.specs.Prelude.{◌≡◌, ℕ, ◌+◌, ◌<◌, ◌≤◌, Bool, true, false, Option, Some, None, List, [], ◌++◌, length, drop, Result, Ok, Err, ⊤}
+use Rattle.std.specs.Prelude.{◌≡◌, ℕ, ◌+◌, ◌<◌, ◌≤◌, Bool, true, false, Option, Some, None, List}
+use Rattle.std.specs.Prelude.{[], ◌++◌, length, drop, Result, Ok, Err, ⊤}
 use Rattle.std.specs.Io.KnownBytes.{Consumes, IsAtEnd}
 use Rattle.spin_outside.specs.Counts.{Rose}
 use Rattle.spin_outside.specs.Sources.{SourceSeen, taken_more}
@@ -10,10 +11,11 @@ use Rattle.spin_pcap.specs.declared.next.Next.TheVariants as next
 use Rattle.spin_pcap.specs.declared.order.Order.{Order}
 use Rattle.spin_pcap.specs.declared.state.State.{State}
 use Rattle.spin_pcap.specs.declared.state.State.TheVariants as state
-use Rattle.spin_pcap.specs.Captures.{header_of, IsRecord, IsRest, max_captured}
+use Rattle.spin_pcap.specs.Captures.{header_of, IsRecord, IsRest}
+use Rattle.spin_pcap.specs.declared.limits.TheConstants.{MAX_CAPTURED, MAX_HELD}
 
--- a reader: the order of the fields, the bytes that it took and hasn't given yet, how many records it gave, and how it
--- stands
+-- a reader: the order of the fields, the bytes that it took and hasn't given yet, how many records
+-- it gave, and how it stands
 pub record ReaderState : Type 0 where
   pub order : Order
   pub held : List ℕ
@@ -25,29 +27,21 @@ abbrev pub left_for : List ℕ → Option (List ℕ) → Option (List ℕ)
 left_for held None = None
 left_for held (Some left) = Some (held ++ left)
 
--- So many bytes were taken from the source: those that are gone, and those that are held, but for those held before.
-pub record Takes (gone held : List ℕ) (source : SourceSeen) (held' : List ℕ) (source' : SourceSeen) : Type 0 where
+-- So many bytes were taken from the source: those that are gone, and those that are held, but for
+-- those held before.
+pub record Takes (gone held : List ℕ) (source : SourceSeen) (held' : List ℕ)
+    (source' : SourceSeen) : Type 0 where
   pub count : ℕ
   pub taken : source'.taken ≡ taken_more source.taken count
   pub balance : count + length held ≡ length gone + length held'
 
--- These bytes are gone from the front of what was left for the reader, and the source keeps what it keeps.
-pub record Passes (gone held : List ℕ) (source : SourceSeen) (held' : List ℕ) (source' : SourceSeen) : Type 0 where
+-- These bytes are gone from the front of what was left for the reader, and the source keeps what it
+-- keeps.
+pub record Passes (gone held : List ℕ) (source : SourceSeen) (held' : List ℕ)
+    (source' : SourceSeen) : Type 0 where
   pub left : Consumes (left_for held source.left) (left_for held' source'.left) gone
   pub takes : Takes gone held source held' source'
   pub keep : source'.keep ≡ source.keep
-
--- One read brought more, or came to the end, or failed.
-abbrev pub Fills : {E : Type 0} → Result Bool E → List ℕ → List ℕ → Option (List ℕ) → Type 0
-Fills (Ok true) held held' left = length held < length held'
-Fills (Ok false) held held' left = (held' ≡ held) × IsAtEnd left
-Fills (Err e) held held' left = held' ≡ held
-
--- All the bytes that were wanted came, or fewer were left.
-abbrev pub Copies : {E : Type 0} → Result Bool E → ℕ → List ℕ → List ℕ → Option (List ℕ) → Type 0
-Copies (Ok true) wanted copied held left = length copied ≡ wanted
-Copies (Ok false) wanted copied held left = (length copied < wanted) × (held ≡ []) × IsAtEnd left
-Copies (Err e) wanted copied held left = length copied ≤ wanted
 
 -- The number of a fault, in the order in which they are declared.
 abbrev pub number : PcapFault → ℕ
@@ -89,36 +83,45 @@ abbrev pub ReadsByCount : {T : Type 0} → ℕ → ℕ → Result T PcapFault �
 ReadsByCount before now (Ok x) = now ≡ before
 ReadsByCount before now (Err wrong) = FaultByCount wrong before now
 
--- What `start` answers where these bytes are left: the order of the header, and what follows it is left; or its first
--- fault.
+-- What `start` answers where these bytes are left: the order of the header, and what follows it is
+-- left; or its first fault.
 abbrev pub IsStart : List ℕ → Result ReaderState PcapFault → Option (List ℕ) → Type 0
-IsStart bytes (Ok reader) left = (header_of bytes ≡ Ok reader.order) × (left_for reader.held left ≡ Some (drop 24 bytes))
+IsStart bytes (Ok reader) left =
+    (header_of bytes ≡ Ok reader.order) × (left_for reader.held left ≡ Some (drop 24 bytes))
 IsStart bytes (Err wrong) left = UnlessFailed wrong (header_of bytes ≡ Err wrong)
 
 -- What `start` took: the header and what the reader holds.
 abbrev pub TakesHeader : Result ReaderState PcapFault → SourceSeen → SourceSeen → Type 0
-TakesHeader (Ok reader) source source' = source'.taken ≡ taken_more source.taken (24 + length reader.held)
-TakesHeader (Err wrong) source source' = (count : ℕ) × (count ≤ 65536) × (source'.taken ≡ taken_more source.taken count)
+TakesHeader (Ok reader) source source' =
+    source'.taken ≡ taken_more source.taken (24 + length reader.held)
+TakesHeader (Err wrong) source source' =
+    (count : ℕ) × (count ≤ MAX_HELD) × (source'.taken ≡ taken_more source.taken count)
 
 -- a reader that gave nothing yet
 abbrev pub IsFresh : ReaderState → Type 0
-IsFresh reader = (reader.given ≡ 0) × (reader.state ≡ state.Reading) × (length reader.held ≤ 65536)
+IsFresh reader =
+    (reader.given ≡ 0) × (reader.state ≡ state.Reading) × (length reader.held ≤ MAX_HELD)
 
--- What `next` answers where these bytes are left for the reader: the record that stands there, whose bytes are then no
--- longer left; or how the rest is answered.
-abbrev pub IsAnswer : Order → ℕ → List ℕ → Result Next PcapFault → List ℕ → Option (List ℕ) → Type 0
-IsAnswer way given bytes (Ok next.Packet) frame left = (rest : List ℕ) × (left ≡ Some rest) × IsRecord way given bytes frame rest
+-- What `next` answers where these bytes are left for the reader: the record that stands there,
+-- whose bytes are then no longer left; or how the rest is answered.
+abbrev pub IsAnswer : Order → ℕ → List ℕ → Result Next PcapFault → List ℕ → Option (List ℕ)
+    → Type 0
+IsAnswer way given bytes (Ok next.Packet) frame left =
+    (rest : List ℕ) × (left ≡ Some rest) × IsRecord way given bytes frame rest
 IsAnswer way given bytes (Ok next.End) frame left = IsRest way given bytes (Ok next.End)
-IsAnswer way given bytes (Ok (next.Cut count)) frame left = IsRest way given bytes (Ok (next.Cut count))
-IsAnswer way given bytes (Err wrong) frame left = UnlessFailed wrong (IsRest way given bytes (Err wrong))
+IsAnswer way given bytes (Ok (next.Cut count)) frame left =
+    IsRest way given bytes (Ok (next.Cut count))
+IsAnswer way given bytes (Err wrong) frame left =
+    UnlessFailed wrong (IsRest way given bytes (Err wrong))
 
--- A record that was given is gone, its header and its bytes; in any other case at most as many bytes are gone as a
--- record can have.
+-- A record that was given is gone, its header and its bytes; in any other case at most as many
+-- bytes are gone as a record can have.
 abbrev pub IsGone : Result Next PcapFault → List ℕ → List ℕ → Type 0
-IsGone (Ok next.Packet) gone frame = (length gone ≡ 16 + length frame) × (length frame ≤ max_captured)
-IsGone (Ok next.End) gone frame = length gone ≤ 16 + max_captured
-IsGone (Ok (next.Cut count)) gone frame = length gone ≤ 16 + max_captured
-IsGone (Err wrong) gone frame = length gone ≤ 16 + max_captured
+IsGone (Ok next.Packet) gone frame =
+    (length gone ≡ 16 + length frame) × (length frame ≤ MAX_CAPTURED)
+IsGone (Ok next.End) gone frame = length gone ≤ 16 + MAX_CAPTURED
+IsGone (Ok (next.Cut count)) gone frame = length gone ≤ 16 + MAX_CAPTURED
+IsGone (Err wrong) gone frame = length gone ≤ 16 + MAX_CAPTURED
 
 -- The frame has no bytes, unless a record was given.
 abbrev pub EmptyUnlessPacket : Result Next PcapFault → List ℕ → Type 0

@@ -1,27 +1,25 @@
 //! Captures of packets: files of the classic format, version 2.4 (draft-ietf-opsawg-pcap), read record by record
 //! from any source, in whatever pieces the source gives its bytes.
 //!
-//! - [`reader`] has [`Reader`], which gives the records;
-//! - [`header`] reads the header of a file;
-//! - [`order`] reads numbers in the writer's byte order;
-//! - [`laws`] says that a file is one capture at most;
-//! - [`window`] holds the bytes that were taken from a source and not given yet;
-//! - [`next`], [`state`] and [`fault`] have the answers.
+//! - [`Reader`] gives the records, each as a [`Next`]; [`PcapFault`] says why a capture isn't read;
+//! - [`MAX_RECORDS`], [`MAX_CAPTURED`] and [`MAX_HELD`] are its limits;
+//! - [`one_reading`] and [`one_answer`] are laws: a file is one capture at most.
 //!
 //! Times, the time zone, the accuracy, the snapshot length and the original lengths aren't looked at.
 #![tactic(auto)]
 
-pub mod fault;
+mod fault;
 mod header;
-pub mod laws;
-pub mod next;
-pub mod order;
-pub mod reader;
-pub mod state;
-#[cfg(test)]
-mod tests;
+mod laws;
+mod limits;
+mod next;
+mod order;
+mod reader;
+mod state;
 mod window;
 
 pub use fault::PcapFault;
+pub use laws::{one_answer, one_reading};
+pub use limits::{MAX_CAPTURED, MAX_HELD, MAX_RECORDS, limits_are_stated};
 pub use next::Next;
 pub use reader::Reader;

@@ -1,10 +1,16 @@
 //! The reader of a capture.
 
-ghost use Rattle.std.specs.Prelude.{◌≡◌, ◌<◌, ◌≤◌, ◌+◌, ℕ, List, [], ◌++◌, length, IfOk, IfErr, IfSome};
-ghost use Rattle.spin_pcap.specs.Passing.{Passes, Copies, UnlessFailed, ReadsByCount, IsStart, TakesHeader, IsFresh, IsAnswer, IsGone, EmptyUnlessPacket, IfReading, Repeats, given_after, state_after, left_for};
+ghost use Rattle.std.specs.Prelude.{◌≡◌, ◌<◌, ◌≤◌, ◌+◌, ℕ, List, [], ◌++◌, length, IfOk, IfErr};
+ghost use Rattle.std.specs.Prelude.{IfSome};
+ghost use Rattle.spin_pcap.specs.Inner.Filling.{Copies};
+ghost use Rattle.spin_pcap.specs.Passing.{Passes, UnlessFailed, ReadsByCount, IsStart};
+ghost use Rattle.spin_pcap.specs.Passing.{TakesHeader, IsFresh, IsAnswer, IsGone};
+ghost use Rattle.spin_pcap.specs.Passing.{EmptyUnlessPacket, IfReading, Repeats, given_after};
+ghost use Rattle.spin_pcap.specs.Passing.{state_after, left_for};
 
 use crate::fault::PcapFault;
 use crate::header::{HEADER, read_header};
+use crate::limits::{MAX_CAPTURED, MAX_HELD, MAX_RECORDS};
 use crate::next::Next;
 use crate::order::Order;
 use crate::state::State;
@@ -14,17 +20,11 @@ use std::alloc::Global;
 use std::marker::Model;
 use std::mem;
 
-/// The greatest number of records.
-const MAX_RECORDS: u32 = 1_048_576;
-
-/// The greatest captured length, in bytes.
-const MAX_CAPTURED: u32 = 262_144;
-
 /// The number of bytes of the header of a record.
 const RECORD: usize = 16;
 
 /// Reads a capture record by record. The bytes that it took and hasn't given are at most 65,536.
-#[derive(Drop)]
+#[derive(Debug, Drop)]
 pub struct Reader {
     order: Order,
     window: Window,
@@ -34,13 +34,19 @@ pub struct Reader {
 
 impl Model for Reader {
     ghost use Rattle.std.specs.Prelude.{◌≤◌, length};
+    ghost use Rattle.spin_pcap.specs.declared.limits.TheConstants.{MAX_HELD};
     ghost use Rattle.spin_pcap.specs.Passing.{ReaderState};
 
     ghost Value = { ReaderState };
 
-    ghost view = { λ r. record { order = r.order; held = r.window; given = r.given; state = r.state } };
+    ghost view = { λ r. record {
+      order = r.order;
+      held = r.window;
+      given = r.given;
+      state = r.state;
+    } };
 
-    ghost invariant = { λ r. length r.window ≤ 65536 };
+    ghost invariant = { λ r. length r.window ≤ MAX_HELD };
 }
 
 /// Takes all bytes out of a list, which keeps its memory.
@@ -61,10 +67,11 @@ fn copy_body<S: Source>(
     frame: &mut Octets,
 ) -> Result<bool, PcapFault>
     requires empty { frame.old ≡ [] }
-    ensures passed { Passes frame.new window.old (S.seen source.old) window.new (S.seen source.new) }
+    ensures passed { Passes frame.new
+        window.old (S.seen source.old) window.new (S.seen source.new) }
     ensures copied { Copies result count frame.new window.new (S.seen source.new).left }
     ensures failed { IfErr result (λ wrong. UnlessFailed wrong ⊥) }
-    ensures bound { length window.old ≤ 65536 → length window.new ≤ 65536 }
+    ensures bound { length window.old ≤ MAX_HELD → length window.new ≤ MAX_HELD }
     ensures cause { ReadsByCount (S.seen source.old).faults (S.seen source.new).faults result }
 {
     let mut rest = count;
@@ -92,10 +99,13 @@ fn read_record<S: Source>(
 ) -> Result<Next, PcapFault>
     requires empty { frame.old ≡ [] }
     ensures answer { IfSome (left_for window.old (S.seen source.old).left) (λ bytes.
-        IsAnswer order given bytes result frame.new (left_for window.new (S.seen source.new).left)) }
+        IsAnswer order given bytes result frame.new
+        (left_for window.new (S.seen source.new).left)) }
     ensures few { result ≡ Ok Next.Packet → given < MAX_RECORDS }
-    ensures passed { (gone : List ℕ) × Passes gone window.old (S.seen source.old) window.new (S.seen source.new) × IsGone result gone frame.new }
-    ensures bound { length window.new ≤ 65536 }
+    ensures passed { (gone : List ℕ)
+        × Passes gone window.old (S.seen source.old) window.new (S.seen source.new)
+        × IsGone result gone frame.new }
+    ensures bound { length window.new ≤ MAX_HELD }
     ensures cause { ReadsByCount (S.seen source.old).faults (S.seen source.new).faults result }
 {
     window.need(source, RECORD)?;
@@ -136,7 +146,8 @@ impl Reader {
     /// [`PcapFault::ReadFault`] comes only where the source's count of faults rose, and
     /// [`PcapFault::NoMemory`] for want of memory. The reader takes at most 65,536 bytes past the header.
     pub fn start<S: Source>(alloc: Global, source: &mut S) -> Result<Reader, PcapFault>
-        ensures answer { IfSome (S.seen source.old).left (λ bytes. IsStart bytes result (S.seen source.new).left) }
+        ensures answer { IfSome (S.seen source.old).left
+            (λ bytes. IsStart bytes result (S.seen source.new).left) }
         ensures fresh { IfOk result IsFresh }
         ensures taken { TakesHeader result (S.seen source.old) (S.seen source.new) }
         ensures keep { (S.seen source.new).keep ≡ (S.seen source.old).keep }
@@ -174,14 +185,21 @@ impl Reader {
         ensures repeats { Repeats self.old.state result }
         ensures answer { IfReading self.old.state
             (IfSome (left_for self.old.held (S.seen source.old).left) (λ bytes.
-            IsAnswer self.old.order self.old.given bytes result frame.new (left_for self.new.held (S.seen source.new).left)))
+            IsAnswer self.old.order self.old.given bytes result frame.new
+            (left_for self.new.held (S.seen source.new).left)))
             (source.new ≡ source.old) }
         ensures reader { IfReading self.old.state
-            (self.new ≡ record self.old { held = self.new.held; given = given_after self.old.given result; state = state_after result })
+            (self.new ≡ record self.old {
+              held = self.new.held;
+              given = given_after self.old.given result;
+              state = state_after result;
+            })
             (self.new ≡ self.old) }
         ensures frame { EmptyUnlessPacket result frame.new }
-        ensures passed { (gone : List ℕ) × Passes gone self.old.held (S.seen source.old) self.new.held (S.seen source.new) × IsGone result gone frame.new }
-        ensures bound { length self.new.held ≤ 65536 }
+        ensures passed { (gone : List ℕ)
+            × Passes gone self.old.held (S.seen source.old) self.new.held (S.seen source.new)
+            × IsGone result gone frame.new }
+        ensures bound { length self.new.held ≤ MAX_HELD }
         ensures cause { ReadsByCount (S.seen source.old).faults (S.seen source.new).faults result }
     {
         empty(frame);

@@ -3,17 +3,16 @@
 ghost use Rattle.std.specs.Prelude.{◌≡◌, ◌<◌, ◌≤◌, ◌-◌, ℕ, List, [], length, take, drop, IfOk};
 ghost use Rattle.std.specs.Io.KnownBytes.{IsAtEnd};
 ghost use Rattle.spin_outside.specs.Counts.{FailsByCount};
-ghost use Rattle.spin_pcap.specs.Passing.{Passes, Fills};
+ghost use Rattle.spin_pcap.specs.Inner.Filling.{Fills};
+ghost use Rattle.spin_pcap.specs.Passing.{Passes};
 
+use crate::limits::MAX_HELD;
 use spin_outside::{Failed, NoMemory, Source};
 use std::alloc::Global;
 use std::marker::Model;
 
-/// The greatest number of bytes that are held.
-const ROOM: usize = 65_536;
-
 /// The bytes that were taken from a source and not given yet. Contracts see the list of these bytes.
-#[derive(Drop)]
+#[derive(Debug, Drop)]
 pub struct Window {
     bytes: Vec<u8>,
     start: usize,
@@ -22,12 +21,14 @@ pub struct Window {
 
 impl Model for Window {
     ghost use Rattle.std.specs.Prelude.{◌≡◌, ◌≤◌, ◌-◌, ℕ, List, length, take, drop};
+    ghost use Rattle.spin_pcap.specs.declared.limits.TheConstants.{MAX_HELD};
 
     ghost Value = { List ℕ };
 
     ghost view = { λ w. take (w.end - w.start) (drop w.start w.bytes.items) };
 
-    ghost invariant = { λ w. (w.start ≤ w.end) × (w.end ≤ 65536) × (length w.bytes.items ≡ 65536) };
+    ghost invariant = { λ w.
+        (w.start ≤ w.end) × (w.end ≤ MAX_HELD) × (length w.bytes.items ≡ MAX_HELD) };
 }
 
 /// Moves what stands between two places to the front, and answers its length.
@@ -49,7 +50,7 @@ impl Window {
         ensures { IfOk result (λ window. window ≡ []) }
     {
         let mut bytes = Vec::new(alloc);
-        bytes.resize(ROOM, 0u8)?;
+        bytes.resize(MAX_HELD, 0u8)?;
         Ok(Window {
             bytes,
             start: 0,
@@ -60,7 +61,7 @@ impl Window {
     /// The bytes that are held.
     pub fn held(&self) -> &[u8]
         ensures same { result.now ≡ self.now }
-        ensures bound { length self.now ≤ 65536 }
+        ensures bound { length self.now ≤ MAX_HELD }
     {
         &self.bytes[self.start..self.end]
     }
@@ -69,17 +70,17 @@ impl Window {
     pub fn skip(&mut self, count: usize)
         requires { count ≤ length self.old }
         ensures skipped { self.new ≡ drop count self.old }
-        ensures bound { length self.new ≤ 65536 }
+        ensures bound { length self.new ≤ MAX_HELD }
     {
         self.start += count;
     }
 
     /// Does one read, of as many bytes as there is room for. The answer says whether there were any.
     pub fn fill<S: Source>(&mut self, source: &mut S) -> Result<bool, Failed>
-        requires room { length self.old < 65536 }
+        requires room { length self.old < MAX_HELD }
         ensures passed { Passes [] self.old (S.seen source.old) self.new (S.seen source.new) }
         ensures filled { Fills result self.old self.new (S.seen source.new).left }
-        ensures bound { length self.new ≤ 65536 }
+        ensures bound { length self.new ≤ MAX_HELD }
         ensures cause { FailsByCount (S.seen source.old).faults (S.seen source.new).faults result }
     {
         let len = move_to_front(&mut self.bytes, self.start, self.end);
@@ -95,10 +96,11 @@ impl Window {
 
     /// Reads until that many bytes are held, or nothing is left.
     pub fn need<S: Source>(&mut self, source: &mut S, wanted: usize) -> Result<(), Failed>
-        requires room { wanted ≤ 65536 }
+        requires room { wanted ≤ MAX_HELD }
         ensures passed { Passes [] self.old (S.seen source.old) self.new (S.seen source.new) }
-        ensures end { IfOk result (λ _. length self.new < wanted → IsAtEnd (S.seen source.new).left) }
-        ensures bound { length self.new ≤ 65536 }
+        ensures end { IfOk result
+            (λ _. length self.new < wanted → IsAtEnd (S.seen source.new).left) }
+        ensures bound { length self.new ≤ MAX_HELD }
         ensures cause { FailsByCount (S.seen source.old).faults (S.seen source.new).faults result }
     {
         while self.held().len() < wanted {

@@ -1,6 +1,6 @@
 use Rattle.std.proofs.Common.{true, sym, subst}
 use Rattle.std.specs.Result.{is_ok}
-use Rattle.spin_endpoint.specs.View.{view_of}
+use Rattle.spin_endpoint.specs.Inner.View.{view_of}
 use Rattle.spin_endpoint.proofs.Changes.{Apart, apart-pushed, stands_at}
 use Rattle.spin_endpoint.proofs.ends.Ends.add.Goals as goal
 

@@ -1,8 +1,8 @@
 use Rattle.std.proofs.Common.{◌≡◌, ◌<◌, ◌≤◌, ◌+◌, ℕ, [], true, false, length, get_or, map, set, ap, sym, ◌∙◌, arith, rules}
 use Rattle.std.proofs.lemmas.List.{get_or_default, length-replicate, length-set}
 use Rattle.spin_endpoint.specs.Sends.{name_of}
-use Rattle.spin_endpoint.specs.View.{view_of}
-use Rattle.spin_endpoint.proofs.Received.{all_received_none, none_lost, lost_within, none_lost_more, one_lost_more, step_delivered, step_lost, stood}
+use Rattle.spin_endpoint.specs.Inner.View.{view_of}
+use Rattle.spin_endpoint.proofs.Received.{all_received_none, none_lost, lost_within, none_lost_more, one_lost_more, step_delivered, step_lost, stood, stops}
 use Rattle.spin_endpoint.proofs.ends.Ends.deliver_all.Goals.{in-Ok, in-Err-Unknown}
 use Rattle.spin_endpoint.proofs.ends.Ends.deliver_all.Goals as goal
 
@@ -48,3 +48,12 @@ loop-sent-preserved g c =
         len = ap length (w.lost-is ∙ w.add.ensures) ∙ length-set c.loop-sent.lost c.endpoint-number.result _ ∙ c.loop-sent.invariant.len;
       }
     ]
+
+pub returns-in-Err-Failed : goal.returns-in-Err-Failed
+returns-in-Err-Failed g c =
+    let lt : c.loop-sent.sent-index < length c.args.sends.now = search rules in
+    let there : c.endpoint-number.result < length c.args.names.now = search rules in
+    let named : c.index-names-number.result ≡ name_of c.args.names.now c.sent-item.result.endpoint =
+    c.index-names-number.is ∙ get_or_default c.args.names.now c.endpoint-number.result c.index-names-number.result [] there ∙ ap (λ n. name_of c.args.names.now n) c.endpoint-number.ensures in
+    let failed = rw c.in-Err-Failed.field-0-is at c.in-Err-Failed.ensures in
+    stops c.args.names.now c.args.sends.now c.loop-sent.sent-index c.sent-item.result _ _ _ _ c.endpoint-number.result lt c.sent-item.is c.endpoint-number.ensures named c.loop-sent.invariant.received failed.0 failed.1

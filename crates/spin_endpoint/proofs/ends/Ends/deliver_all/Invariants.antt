@@ -1,5 +1,5 @@
 use Rattle.std.proofs.Common.{◌≡◌, ◌<◌, ℕ, length, map, take, get_or}
-use Rattle.spin_endpoint.specs.View.{view_of}
+use Rattle.spin_endpoint.specs.Inner.View.{view_of}
 use Rattle.spin_endpoint.specs.Sends.{all_received, lost_to}
 use Rattle.spin_endpoint.proofs.ends.Ends.deliver_all.Given as goal
 

@@ -1,6 +1,6 @@
 use Rattle.std.proofs.Common.{◌≡◌, ◌<◌, ℕ, [], refl, length, map, get_or, sym, ◌∙◌, arith, rules}
 use Rattle.std.proofs.lemmas.List.{get_or_default, length-set}
-use Rattle.spin_endpoint.specs.View.{view_of}
+use Rattle.spin_endpoint.specs.Inner.View.{view_of}
 use Rattle.spin_endpoint.specs.Sends.{name_of, stands_in_turn}
 use Rattle.spin_endpoint.proofs.Retired.{all_retired_none, step_retired, stood_in_turn, noted_more}
 use Rattle.spin_endpoint.proofs.ends.Ends.retire_all.Goals as goal

@@ -1,5 +1,5 @@
 use Rattle.std.proofs.Common.{◌≡◌, ◌<◌, ℕ, false, length, map, take, get_or}
-use Rattle.spin_endpoint.specs.View.{view_of}
+use Rattle.spin_endpoint.specs.Inner.View.{view_of}
 use Rattle.spin_endpoint.specs.Sends.{all_retired, stands_in_turn}
 use Rattle.spin_endpoint.proofs.ends.Ends.retire_all.Given as goal
 

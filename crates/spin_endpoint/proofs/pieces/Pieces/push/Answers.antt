@@ -1,7 +1,8 @@
 use Rattle.std.proofs.Common.{◌≡◌, ◌≤◌, ◌+◌, ◌-◌, ◌++◌, ◌∷◌, [], true, length, ap, sym, ◌∙◌, rules}
 use Rattle.std.specs.Prelude.{if◌then◌else◌, vec_capacity}
 use Rattle.std.proofs.lemmas.List.{length-append}
-use Rattle.spin_endpoint.specs.Keeping.{PiecesState, fits, with_kept, total, cut}
+use Rattle.spin_endpoint.specs.Inner.Cutting.{total, cut}
+use Rattle.spin_endpoint.specs.Keeping.{PiecesState, fits, with_kept}
 use Rattle.spin_endpoint.proofs.Cutting.{total_more, cut_more}
 use Rattle.spin_endpoint.proofs.pieces.Pieces.push.Goals as goal
 

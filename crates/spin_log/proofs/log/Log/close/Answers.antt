@@ -1,6 +1,7 @@
 use Rattle.std.proofs.Common.{ℕ, length, ◌≤◌, ap, subst, ◌∙◌}
 use Rattle.std.specs.Prelude.{All}
-use Rattle.spin_log.specs.Rows.{max_rows, IsCommandBelow}
+use Rattle.spin_word.specs.declared.command.TheConstants.{MAX_PLACE}
+use Rattle.spin_log.specs.Rows.{IsCommandBelow}
 use Rattle.spin_log.specs.Pens.{LogValue, StandsIn}
 use Rattle.spin_log.proofs.Meeting.{stands_in, rows_below, history_of}
 use Rattle.spin_log.proofs.log.Log.close.Goals as goal
@@ -15,5 +16,5 @@ returns-clause-history c =
 
 pub returns-clause-rows : goal.returns-clause-rows
 returns-clause-rows c =
-    subst (λ (lanes : ℕ). All (IsCommandBelow lanes) c.from_vec.result × (length c.from_vec.result ≤ max_rows)) (ap (λ (l : LogValue). l.lanes) c.self.view_is)
+    subst (λ (lanes : ℕ). All (IsCommandBelow lanes) c.from_vec.result × (length c.from_vec.result ≤ MAX_PLACE)) (ap (λ (l : LogValue). l.lanes) c.self.view_is)
     (rows_below _ _ _ _ _ c.close_with-closed.ensures.values.2 c.from_vec.result (λ log st. c.from_vec.ensures ∙ c.read_rows.ensures _ log st))

@@ -1,6 +1,6 @@
 use Rattle.std.proofs.Common.{List, ℕ, ◌≡◌, ◌+◌, ◌*◌, subst, sym, arith}
 use Rattle.spin_log.specs.Rows.{part_size, rows_start, size_of}
-use Rattle.spin_log.specs.Rule.{IsBlank}
+use Rattle.spin_log.specs.Inner.Blank.{IsBlank}
 use Rattle.spin_log.proofs.Keeps as keeps
 use Rattle.spin_log.proofs.log.Log.new.Goals as goal
 

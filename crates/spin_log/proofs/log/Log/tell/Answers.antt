@@ -1,5 +1,6 @@
 use Rattle.std.proofs.Common.{rules, arith, ap, length, ◌∙◌, sym, subst, ◌≡◌}
-use Rattle.spin_log.specs.Pens.{PenValue, NoteValue, IsPenSeat}
+use Rattle.spin_log.specs.Pens.{PenValue}
+use Rattle.spin_log.specs.Inner.Seats.{NoteValue, IsPenSeat}
 use Rattle.spin_log.specs.Steps.{AreOfOne}
 use Rattle.spin_log.proofs.Keeps as keeps
 use Rattle.spin_log.proofs.Meeting.{tells_one, tells_seat, longer_note}

@@ -2,7 +2,8 @@ use Rattle.std.proofs.Common.{◌≡◌, ◌++◌, ◌∷◌, [], None, List, ap
 use Rattle.std.proofs.lemmas.List.{with_items_is}
 use Rattle.spin_outside.specs.Files.{content}
 use Rattle.spin_outside.specs.declared.mem_file.MemFile.{MemFile}
-use Rattle.spin_outside.specs.Shelves.{ShelfState, AreNamedApart, held, with_file}
+use Rattle.spin_outside.specs.Shelves.{ShelfState, held, with_file}
+use Rattle.spin_outside.specs.Inner.Apart.{AreNamedApart}
 use Rattle.spin_outside.proofs.Names.{with_file-behind, apart-push}
 use Rattle.spin_outside.proofs.mem_shelf.MemShelf.put.Goals as goal
 

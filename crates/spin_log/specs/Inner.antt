@@ -1,0 +1,4 @@
+-- What invariants and the contracts of private functions cite alone.
+pub mod Blank
+pub mod Places
+pub mod Seats
