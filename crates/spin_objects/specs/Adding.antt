@@ -2,6 +2,8 @@
 use Rattle.std.specs.Prelude.{ℕ, ◌≡◌, ◌≢◌, if◌then◌else◌, nat_lt, List, length, is_some, Option, Some, None, Result, Ok, Err}
 use Rattle.spin_code.specs.declared.check.ActFault.{ActFault}
 use Rattle.spin_code.specs.Check.{act_check, test_check}
+use Rattle.spin_objects.specs.declared.unit.TheConstants.{MAX_UNITS}
+use Rattle.spin_objects.specs.declared.kinds.TheConstants.{MAX_NATIVES}
 use Rattle.spin_objects.specs.declared.unit.Body.{Body}
 use Rattle.spin_objects.specs.declared.unit.Body.TheVariants as body
 use Rattle.spin_objects.specs.declared.unit.Check.{Check}
@@ -15,12 +17,12 @@ use Rattle.spin_objects.specs.Units.{index_of}
 -- the first refusal of what was checked so, where so many of its kind are there
 abbrev pub refusal : Result (Unit {0}) ActFault → ℕ → Option CatalogueFault
 refusal (Err what) count = Some (refused.Bad what)
-refusal (Ok done) count = if nat_lt count 1023 then None else Some refused.TooMany
+refusal (Ok done) count = if nat_lt count MAX_UNITS then None else Some refused.TooMany
 
 -- the first refusal of a native, of which so many are there, where so many of its kind are in the catalogue
 abbrev pub native_refusal : ℕ → ℕ → ℕ → Option CatalogueFault
 native_refusal native natives count =
-    if nat_lt count 1023 then (if nat_lt native natives then None else Some refused.NoNative) else Some refused.TooMany
+    if nat_lt count MAX_UNITS then (if nat_lt native natives then None else Some refused.NoNative) else Some refused.TooMany
 
 -- why the handler isn't added, where there are so many natives and handlers
 abbrev pub handler_refusal : Body → ℕ → ℕ → Option CatalogueFault
@@ -40,7 +42,7 @@ IsBy first (Err fault) = fault ≢ refused.NoMemory → first ≡ Some fault
 -- the first refusal of a native that was checked so, where there are so many of its kind
 abbrev pub checked_refusal : Result (Unit {0}) ActFault → ℕ → Option NativeFault
 checked_refusal (Err what) count = Some (fault.Bad what)
-checked_refusal (Ok done) count = if nat_lt count 64 then None else Some fault.TooMany
+checked_refusal (Ok done) count = if nat_lt count MAX_NATIVES then None else Some fault.TooMany
 
 -- why a native of this name that was checked so isn't added, where those of its kind have these names
 abbrev pub adding_refusal : List ℕ → List (List ℕ) → Result (Unit {0}) ActFault → Option NativeFault

@@ -3,3 +3,4 @@ pub mod Doing
 pub mod Layers
 pub mod There
 pub mod Units
+pub mod Limits

@@ -2,6 +2,7 @@
 
 ghost use Rattle.std.specs.Prelude.{◌≡◌, ◌+◌, ◌-◌, ◌<◌, ◌≤◌, ◌++◌, [], ◌∷◌, length, All, Some, OnOk, OnErr, IfOk, IfSome, IsSomeAnd};
 ghost use Rattle.spin_objects.specs.Doing.{IsDone};
+ghost use Rattle.spin_objects.specs.declared.unit.TheConstants.{MAX_UNITS};
 ghost use Rattle.spin_objects.specs.There.{IsBodyThere, IsCheckThere, IsBodyThere-prop, IsCheckThere-prop};
 
 use crate::item::Outcome;
@@ -24,8 +25,8 @@ pub struct Catalogue {
     natives: Natives,
     bodies: Sequence<Body>,
     checks: Sequence<Check>,
-    ghost few_bodies: { length bodies ≤ 1023 },
-    ghost few_checks: { length checks ≤ 1023 },
+    ghost few_bodies: { length bodies ≤ MAX_UNITS },
+    ghost few_checks: { length checks ≤ MAX_UNITS },
     ghost bodies_there: { All (IsBodyThere (length natives.handlers)) bodies } by { Prim.hlevel IsBodyThere-prop },
     ghost checks_there: { All (IsCheckThere (length natives.guards)) checks } by { Prim.hlevel IsCheckThere-prop },
 }

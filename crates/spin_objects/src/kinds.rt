@@ -27,7 +27,7 @@ pub enum NativeFault {
     #[error("a native of the kind has the name")]
     SameName,
     /// The act or the test has this fault.
-    #[error("the act or test is refused: {0}")]
+    #[error("its check refuses it: {0}")]
     Bad(ActFault),
     /// There are [`MAX_NATIVES`] of its kind.
     #[error("64 of the kind are there")]

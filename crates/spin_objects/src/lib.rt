@@ -1,29 +1,28 @@
 //! What handlers and guards are, what a raise gives, and the doing of acts.
 //!
-//! - [`item`] is what a raise gives, item by item;
-//! - [`run`] does acts, and [`layer`] their steps that read headers;
-//! - [`object`] is what a handler or a guard that is an object of another's making has to do;
-//! - [`natives`] are such objects by name, each with the data that it was handed in with (`pair`); [`kinds`] has their kinds and their
-//!   refusals;
-//! - [`unit`] is a handler or a guard as it is handed to a catalogue;
-//! - [`catalogue`] has the handlers and guards that bindings name by their numbers.
+//! - [`Item`] is one thing that a raise gives, and an [`Outcome`] all that it gives in order;
+//! - [`run_act`] does acts, whose steps that read headers are in `layer`;
+//! - a [`Handler`] or a [`Guard`] is an object of another's making that does an act or asks a test;
+//! - [`Natives`] are such objects by name, each with the data that it was handed in with (`pair`);
+//! - a [`Body`] is a handler, and a [`Check`] a guard, as it is handed to a catalogue;
+//! - a [`Catalogue`] has the handlers and guards that bindings name by their numbers.
 #![tactic(auto)]
 
-pub mod catalogue;
-pub mod item;
-pub mod kinds;
-pub mod layer;
-pub mod natives;
-pub mod object;
-pub mod pair;
-pub mod run;
-#[cfg(test)]
-mod tests;
-pub mod unit;
+mod catalogue;
+mod item;
+mod kinds;
+mod layer;
+mod limits;
+mod natives;
+mod object;
+mod pair;
+mod run;
+mod unit;
 
 pub use catalogue::Catalogue;
 pub use item::{Item, Outcome};
 pub use kinds::{MAX_NATIVES, NativeFault, NativeKind};
+pub use limits::limits_are_stated;
 pub use natives::Natives;
 pub use object::{Guard, Handler};
 pub use run::run_act;

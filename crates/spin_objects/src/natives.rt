@@ -5,6 +5,7 @@ ghost use Rattle.spin_code.specs.Check.{act_check, test_check};
 ghost use Rattle.spin_code.specs.Truth.{truth_of};
 ghost use Rattle.spin_policy.specs.Verdicts.{verdict_of};
 ghost use Rattle.spin_objects.specs.Doing.{IsDone};
+ghost use Rattle.spin_objects.specs.declared.kinds.TheConstants.{MAX_NATIVES};
 
 use crate::item::Outcome;
 use crate::kinds::{NativeFault, NativeKind, checked_refusal};
@@ -17,7 +18,7 @@ use std::alloc::Global;
 
 /// The place of a native, of which there are few.
 fn as_index(found: Option<usize>) -> Option<u16>
-    requires { IfSome found (λ at. at < 64) }
+    requires { IfSome found (λ at. at < MAX_NATIVES) }
     ensures { result ≡ found }
 {
     match found {
@@ -33,9 +34,9 @@ pub struct Natives {
     handlers: Sequence<NativeHandler>,
     guards: Sequence<NativeGuard>,
     authorisers: Sequence<NativeAuthoriser>,
-    ghost few_handlers: { length handlers ≤ 64 },
-    ghost few_guards: { length guards ≤ 64 },
-    ghost few_authorisers: { length authorisers ≤ 64 },
+    ghost few_handlers: { length handlers ≤ MAX_NATIVES },
+    ghost few_guards: { length guards ≤ MAX_NATIVES },
+    ghost few_authorisers: { length authorisers ≤ MAX_NATIVES },
 }
 
 /// Each object does, asks or follows what it was handed in with.
@@ -82,7 +83,7 @@ impl Natives {
     /// Adds a handler of this name, whose object does this act for events of this signature.
     ///
     /// [`NativeFault::SameName`] comes exactly where a native handler has the name, else [`NativeFault::Bad`] exactly
-    /// where the check refuses the act, and else [`NativeFault::TooMany`] exactly where [`MAX_NATIVES`](crate::MAX_NATIVES) native
+    /// where the check refuses the act, and else [`NativeFault::TooMany`] exactly where [`MAX_NATIVES`] native
     /// handlers are there. A refused object is dropped, and the natives are unchanged.
     pub fn add_handler(
         &mut self,
@@ -120,7 +121,7 @@ impl Natives {
     /// Adds a guard of this name, whose object asks this test of events of this signature.
     ///
     /// [`NativeFault::SameName`] comes exactly where a native guard has the name, else [`NativeFault::Bad`] exactly
-    /// where the check refuses the test, and else [`NativeFault::TooMany`] exactly where [`MAX_NATIVES`](crate::MAX_NATIVES) native
+    /// where the check refuses the test, and else [`NativeFault::TooMany`] exactly where [`MAX_NATIVES`] native
     /// guards are there. A refused object is dropped, and the natives are unchanged.
     pub fn add_guard(
         &mut self,
@@ -158,7 +159,7 @@ impl Natives {
     /// Adds an authoriser of this name, whose object answers by this policy.
     ///
     /// [`NativeFault::SameName`] comes exactly where a native authoriser has the name, and else
-    /// [`NativeFault::TooMany`] exactly where [`MAX_NATIVES`](crate::MAX_NATIVES) native authorisers are there. A refused object is
+    /// [`NativeFault::TooMany`] exactly where [`MAX_NATIVES`] native authorisers are there. A refused object is
     /// dropped, and the natives are unchanged.
     pub fn add_authoriser(
         &mut self,

@@ -79,7 +79,7 @@ impl Check {
 #[derive(Debug, Clone, Copy, PartialEq, Eq, Error)]
 pub enum CatalogueFault {
     /// The coded act or test has this fault.
-    #[error("the act or test is refused: {0}")]
+    #[error("its check refuses it: {0}")]
     Bad(ActFault),
     /// There are [`MAX_UNITS`] of its kind.
     #[error("1023 of the kind are there")]

@@ -15,7 +15,9 @@ use Rattle.spin_objects.specs.Doing.{step_args, args_after, items_of, up_or_drop
 use Rattle.spin_objects.specs.Layers.{layer_args}
 use Rattle.spin_place.specs.declared.binding.Binding.{Binding}
 use Rattle.spin_plan.specs.Next.{guards_hold}
-use Rattle.spin_raise.specs.Firing.{Units, Bound, Firing, Did, Apart, ByDefault, steps_at, is_async, firing_of, firings, fired, or_default, left_by, items_by}
+use Rattle.spin_raise.specs.declared.bound.Runner.{Runner}
+use Rattle.spin_raise.specs.declared.bound.Runner.TheVariants as runner
+use Rattle.spin_raise.specs.Firing.{Units, Bound, Firing, Did, Apart, ByDefault, steps_at, is_async, leaves_jobs, firing_of, firings, fired, or_default, left_by, items_by}
 use Rattle.spin_table.specs.declared.event.EventDef.{EventDef}
 use Rattle.spin_table.specs.States.{State, EventState, binding_of, is_live}
 use Rattle.spin_table.specs.Steps.{bindings_at, bindings_if}
@@ -34,14 +36,14 @@ EachCall P (Plain s ∷ marks) = EachCall P marks
 EachCall P (Queued event number args ∷ marks) = P event number × EachCall P marks
 
 -- a binding leaves a job only where this holds of its number
-abbrev pub EachMay : (ℕ → Type 0) → Bool → List Binding → Type 0
-EachMay P apart [] = Unit {0}
-EachMay P apart (b ∷ bs) = ((is_async b.mode && not apart) ≡ true → P b.number) × EachMay P apart bs
+abbrev pub EachMay : (ℕ → Type 0) → Runner → List Binding → Type 0
+EachMay P by [] = Unit {0}
+EachMay P by (b ∷ bs) = ((is_async b.mode && leaves_jobs by) ≡ true → P b.number) × EachMay P by bs
 
 -- the same of the events from one number on
-abbrev pub EventsMay : (ℕ → ℕ → Type 0) → Bool → ℕ → List Bound → Type 0
-EventsMay P apart from [] = Unit {0}
-EventsMay P apart from (b ∷ later) = EachMay (P from) apart b.bindings × EventsMay P apart (suc from) later
+abbrev pub EventsMay : (ℕ → ℕ → Type 0) → Runner → ℕ → List Bound → Type 0
+EventsMay P by from [] = Unit {0}
+EventsMay P by from (b ∷ later) = EachMay (P from) by b.bindings × EventsMay P by (suc from) later
 
 module _ (P : ℕ → ℕ → Type 0) where
   each-append : (xs ys : List Mark) → EachCall P xs → EachCall P ys → EachCall P (xs ++ ys)
@@ -66,19 +68,19 @@ module _ (P : ℕ → ℕ → Type 0) where
   FiringsMay event [] = Unit {0}
   FiringsMay event (f ∷ fs) = EachCall P (flat_map (marks_at event) (items_by f)) × FiringsMay event fs
 
-  firing_calls : (event : ℕ) (apart : Bool) (u : Units) (b : Binding) (args : List Value) → ((is_async b.mode && not apart) ≡ true → P event b.number) → EachCall P (flat_map (marks_at event) (items_by (firing_of apart u b args)))
-  firing_calls event apart u b args may = choose (is_async b.mode && not apart) refl
+  firing_calls : (event : ℕ) (by : Runner) (u : Units) (b : Binding) (args : List Value) → ((is_async b.mode && leaves_jobs by) ≡ true → P event b.number) → EachCall P (flat_map (marks_at event) (items_by (firing_of by u b args)))
+  firing_calls event by u b args may = choose (is_async b.mode && leaves_jobs by) refl
     where
-      choose : (t : Bool) → (is_async b.mode && not apart) ≡ t → EachCall P (flat_map (marks_at event) (items_by (cond t (Apart b.number args) (Did b.number (not (is_async b.mode)) (items_of (steps_at u b.handler) args) (args_after (steps_at u b.handler) args)))))
+      choose : (t : Bool) → (is_async b.mode && leaves_jobs by) ≡ t → EachCall P (flat_map (marks_at event) (items_by (cond t (Apart b.number args) (Did b.number (not (is_async b.mode)) (items_of (steps_at u b.handler) args) (args_after (steps_at u b.handler) args)))))
       choose true is = (may is, tt)
       choose false is = act_calls event (steps_at u b.handler) args
 
-  firings_calls : (event : ℕ) (apart : Bool) (u : Units) (bs : List Binding) (args : List Value) → EachMay (P event) apart bs → FiringsMay event (firings apart u bs args)
-  firings_calls event apart u [] args may = tt
-  firings_calls event apart u (b ∷ bs) args may =
-      elim (guards_hold u.tests args b) as (λ t. FiringsMay event (cond t (firing_of apart u b args ∷ firings apart u bs (left_by (firing_of apart u b args))) (firings apart u bs args))) [
-        | true ↦ (firing_calls event apart u b args may.0, firings_calls event apart u bs (left_by (firing_of apart u b args)) may.1)
-        | false ↦ firings_calls event apart u bs args may.1
+  firings_calls : (event : ℕ) (by : Runner) (u : Units) (bs : List Binding) (args : List Value) → EachMay (P event) by bs → FiringsMay event (firings by u bs args)
+  firings_calls event by u [] args may = tt
+  firings_calls event by u (b ∷ bs) args may =
+      elim (guards_hold u.tests args b) as (λ t. FiringsMay event (cond t (firing_of by u b args ∷ firings by u bs (left_by (firing_of by u b args))) (firings by u bs args))) [
+        | true ↦ (firing_calls event by u b args may.0, firings_calls event by u bs (left_by (firing_of by u b args)) may.1)
+        | false ↦ firings_calls event by u bs args may.1
       ]
 
   default_calls : (event : ℕ) (u : Units) (default : ℕ) (args : List Value) (fs : List Firing) → FiringsMay event fs → FiringsMay event (or_default u default args fs)
@@ -105,15 +107,15 @@ module _ (P : ℕ → ℕ → Type 0) where
     all_calls event (f ∷ fs) h =
         each-append (marks_of event raise (items_by f)) (flat_map (λ f. marks_of event raise (items_by f)) fs) (given_calls event (items_by f) h.0) (all_calls event fs h.1)
 
-  pub raised_calls : (apart : Bool) (u : Units) (bs : List Bound) (from : ℕ) → EventsMay P apart from bs → (event : ℕ) (args : List Value) → EachCall P (raised apart u bs from event args).marks
-  raised_calls apart u [] from may event args = tt
-  raised_calls apart u (b ∷ later) from may event args = choose (raised_calls apart u later (suc from) may.1) (from == event) refl
+  pub raised_calls : (by : Runner) (u : Units) (bs : List Bound) (from : ℕ) → EventsMay P by from bs → (event : ℕ) (args : List Value) → EachCall P (raised by u bs from event args).marks
+  raised_calls by u [] from may event args = tt
+  raised_calls by u (b ∷ later) from may event args = choose (raised_calls by u later (suc from) may.1) (from == event) refl
     where
-      choose : ((event : ℕ) (args : List Value) → EachCall P (raised apart u later (suc from) event args).marks) → (t : Bool) → (from == event) ≡ t → EachCall P (cond t (raised_with apart u event b (raised apart u later (suc from)) args) (raised apart u later (suc from) event args)).marks
+      choose : ((event : ℕ) (args : List Value) → EachCall P (raised by u later (suc from) event args).marks) → (t : Bool) → (from == event) ≡ t → EachCall P (cond t (raised_with by u event b (raised by u later (suc from)) args) (raised by u later (suc from) event args)).marks
       choose ups true is =
-          let may_here : EachMay (P event) apart b.bindings = subst (λ n. EachMay (P n) apart b.bindings) (eqb-true from event is) may.0 in
-          all_calls (raised apart u later (suc from)) ups event (fired apart u b args)
-          (default_calls event u b.default args (firings apart u b.bindings args) (firings_calls event apart u b.bindings args may_here))
+          let may_here : EachMay (P event) by b.bindings = subst (λ n. EachMay (P n) by b.bindings) (eqb-true from event is) may.0 in
+          all_calls (raised by u later (suc from)) ups event (fired by u b args)
+          (default_calls event u b.default args (firings by u b.bindings args) (firings_calls event by u b.bindings args may_here))
       choose ups false is = ups event args
 
   pub job_calls : (u : Units) (event number handler : ℕ) (raise : ℕ → List Value → Raised) (args : List Value) → ((event : ℕ) (args : List Value) → EachCall P (raise event args).marks) → EachCall P (job_of u event number handler raise args).marks
@@ -126,11 +128,11 @@ never : (a : Bool) → (a && false) ≡ true → ⊥
 never true e = cc
 never false e = cc
 
-none_may : (P : ℕ → Type 0) (bs : List Binding) → EachMay P true bs
+none_may : (P : ℕ → Type 0) (bs : List Binding) → EachMay P runner.Job bs
 none_may P [] = tt
 none_may P (b ∷ bs) = ((λ e. absurd (never (is_async b.mode) e)), none_may P bs)
 
-pub jobs_may : (P : ℕ → ℕ → Type 0) (from : ℕ) (bounds : List Bound) → EventsMay P true from bounds
+pub jobs_may : (P : ℕ → ℕ → Type 0) (from : ℕ) (bounds : List Bound) → EventsMay P runner.Job from bounds
 jobs_may P from [] = tt
 jobs_may P from (b ∷ bs) = (none_may (P from) b.bindings, jobs_may P (suc from) bs)
 
@@ -165,17 +167,17 @@ found_live bs n x e =
     let same : x.number ≡ n = eqb-true x.number n (find_passes (λ (b : Binding). b.number == n) bs x e) in
     ap (λ m. is_some (binding_of bs m)) same ∙ ap is_some e
 
-arranged_may : (P : ℕ → Type 0) (bs : List Binding) (ns : List ℕ) → ((n : ℕ) → IsTrue (is_live bs n) → P n) → EachMay P false (arranged bs ns)
+arranged_may : (P : ℕ → Type 0) (bs : List Binding) (ns : List ℕ) → ((n : ℕ) → IsTrue (is_live bs n) → P n) → EachMay P runner.Raiser (arranged bs ns)
 arranged_may P bs [] live = tt
 arranged_may P bs (n ∷ ns) live = choose (arranged_may P bs ns live) (binding_of bs n) refl
   where
-    choose : EachMay P false (arranged bs ns) → (o : Option Binding) → binding_of bs n ≡ o → EachMay P false (cons_option o (arranged bs ns))
+    choose : EachMay P runner.Raiser (arranged bs ns) → (o : Option Binding) → binding_of bs n ≡ o → EachMay P runner.Raiser (cons_option o (arranged bs ns))
     choose rest None is = rest
     choose rest (Some x) is = ((λ _. live x.number (found_live bs n x is)), rest)
 
 live_from : (s : State) (es : List EventDef) (ts : List EventState) (bounds : List Bound) (from : ℕ) → AreBounds es ts bounds
     → ((k : ℕ) (t : EventState) → slice_get ts k ≡ Some t → slice_get s.events (from + k) ≡ Some t)
-    → EventsMay (IsLiveAt s) false from bounds
+    → EventsMay (IsLiveAt s) runner.Raiser from bounds
 live_from s [] [] [] from h read = tt
 live_from s [] [] (b ∷ bs) from h read = absurd h
 live_from s [] (t ∷ ts) bounds from h read = absurd h
@@ -184,11 +186,11 @@ live_from s (e ∷ es) (t ∷ ts) [] from h read = absurd h
 live_from s (e ∷ es) (t ∷ ts) (b ∷ bs) from (first, rest) read =
     let here : slice_get s.events from ≡ Some t = ap (slice_get s.events) (omega arith) ∙ read 0 t refl in
     let may = arranged_may (IsLiveAt s from) t.bindings first.0 (λ n live. ap (λ o. is_live (bindings_if o) n) here ∙ live) in (
-      subst (λ (b : Bound). EachMay (IsLiveAt s from) false b.bindings) (sym first.2) may,
+      subst (λ (b : Bound). EachMay (IsLiveAt s from) runner.Raiser b.bindings) (sym first.2) may,
       live_from s es ts bs (suc from) rest (λ k u e. ap (slice_get s.events) (omega arith) ∙ read (suc k) u e),
     )
 
-pub bounds_may : (s : State) (es : List EventDef) (bounds : List Bound) → AreBounds es s.events bounds → EventsMay (IsLiveAt s) false 0 bounds
+pub bounds_may : (s : State) (es : List EventDef) (bounds : List Bound) → AreBounds es s.events bounds → EventsMay (IsLiveAt s) runner.Raiser 0 bounds
 bounds_may s es bounds h = live_from s es s.events bounds 0 h (λ k t e. ap (slice_get s.events) (omega arith) ∙ e)
 
 each_belongs : (s : State) (marks : List Mark) → EachCall (IsLiveAt s) marks → All (BelongsTo s) (flat_map calls_of marks)

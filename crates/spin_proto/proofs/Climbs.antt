@@ -20,10 +20,12 @@ use Rattle.spin_word.specs.declared.command.Mode.{Mode}
 use Rattle.spin_word.specs.declared.command.Mode.TheVariants as mode
 use Rattle.spin_place.specs.declared.binding.Binding.{Binding}
 use Rattle.spin_plan.specs.Next.{guards_hold, IsGuard}
-use Rattle.spin_raise.specs.Firing.{Units, Bound, Firing, Did, Apart, ByDefault, steps_at, is_async, firing_of, firings, fired, or_default, left_by, items_by, IsThere, bound_of}
+use Rattle.spin_raise.specs.declared.bound.Runner.{Runner}
+use Rattle.spin_raise.specs.Firing.{Units, Bound, Firing, Did, Apart, ByDefault, steps_at, is_async, leaves_jobs, firing_of, firings, fired, or_default, left_by, items_by, IsThere, bound_of}
 use Rattle.spin_table.specs.declared.event.EventDef.{EventDef}
 use Rattle.spin_table.specs.declared.fault.SetupFault.TheVariants as fault
-use Rattle.spin_table.specs.Setups.{SetupData, unit_of}
+use Rattle.spin_values.specs.First.{numbered}
+use Rattle.spin_table.specs.Setups.{SetupData}
 use Rattle.spin_table.specs.States.{EventState}
 use Rattle.spin_table.specs.Units.{step_raises_down, raises_down, has_wrong_mode, same_signature, is_handler_for, is_fit_handler, is_fit_guard, is_fit_own_guard, is_fit_default}
 use Rattle.spin_table.specs.Faults.{is_step_fit, raises_amiss, takes_parts, takes_layer, faults_of, IsSoundSetup}
@@ -32,10 +34,10 @@ use Rattle.spin_table.specs.Orders.{arranged}
 use Rattle.spin_table.proofs.Arranged.{All-arranged}
 use Rattle.spin_table.proofs.ImposedFit.{no_faults, unmapped, position-fails}
 use Rattle.spin_table.proofs.Keeping.{first_two}
-use Rattle.spin_table.proofs.Numbered.{unit_of-at}
+use Rattle.spin_table.proofs.Numbered.{numbered-at}
 use Rattle.spin_table.proofs.Sound.{AreSound-from, guards_there}
 use Rattle.spin_proto.specs.Whole.{ups_of}
-use Rattle.spin_proto.specs.Walks.{UpsRise}
+use Rattle.spin_proto.specs.Inner.Walks.{UpsRise}
 use Rattle.spin_proto.specs.Replies.{units_in, IsBound}
 
 -- an act raises only events that are there and come after its own
@@ -74,19 +76,19 @@ abbrev pub FiringsRise : ℕ → ℕ → List Firing → Type 0
 FiringsRise count event [] = Unit {0}
 FiringsRise count event (f ∷ fs) = UpsRise count event (ups_of (items_by f)) × FiringsRise count event fs
 
-firing_rises : (count event : ℕ) (apart : Bool) (u : Units) (b : Binding) (args : List Value) → Rises count event (steps_at u b.handler) → UpsRise count event (ups_of (items_by (firing_of apart u b args)))
-firing_rises count event apart u b args h =
-    elim (is_async b.mode && not apart) as (λ t. UpsRise count event (ups_of (items_by (cond t (Apart b.number args) (Did b.number (not (is_async b.mode)) (items_of (steps_at u b.handler) args) (args_after (steps_at u b.handler) args)))))) [
+firing_rises : (count event : ℕ) (by : Runner) (u : Units) (b : Binding) (args : List Value) → Rises count event (steps_at u b.handler) → UpsRise count event (ups_of (items_by (firing_of by u b args)))
+firing_rises count event by u b args h =
+    elim (is_async b.mode && leaves_jobs by) as (λ t. UpsRise count event (ups_of (items_by (cond t (Apart b.number args) (Did b.number (not (is_async b.mode)) (items_of (steps_at u b.handler) args) (args_after (steps_at u b.handler) args)))))) [
       | true ↦ tt
       | false ↦ items_rise count event (steps_at u b.handler) args h
     ]
 
-firings_rise : (count event : ℕ) (apart : Bool) (u : Units) (bs : List Binding) (args : List Value) → EachRises count event u bs → FiringsRise count event (firings apart u bs args)
-firings_rise count event apart u [] args h = tt
-firings_rise count event apart u (b ∷ bs) args h =
-    elim (guards_hold u.tests args b) as (λ t. FiringsRise count event (cond t (firing_of apart u b args ∷ firings apart u bs (left_by (firing_of apart u b args))) (firings apart u bs args))) [
-      | true ↦ (firing_rises count event apart u b args h.0, firings_rise count event apart u bs (left_by (firing_of apart u b args)) h.1)
-      | false ↦ firings_rise count event apart u bs args h.1
+firings_rise : (count event : ℕ) (by : Runner) (u : Units) (bs : List Binding) (args : List Value) → EachRises count event u bs → FiringsRise count event (firings by u bs args)
+firings_rise count event by u [] args h = tt
+firings_rise count event by u (b ∷ bs) args h =
+    elim (guards_hold u.tests args b) as (λ t. FiringsRise count event (cond t (firing_of by u b args ∷ firings by u bs (left_by (firing_of by u b args))) (firings by u bs args))) [
+      | true ↦ (firing_rises count event by u b args h.0, firings_rise count event by u bs (left_by (firing_of by u b args)) h.1)
+      | false ↦ firings_rise count event by u bs args h.1
     ]
 
 or_default_rises : (count event : ℕ) (u : Units) (default : ℕ) (args : List Value) (fs : List Firing) → ((default == 0) ≡ false → Rises count event (steps_at u default)) → FiringsRise count event fs → FiringsRise count event (or_default u default args fs)
@@ -97,8 +99,8 @@ or_default_rises count event u default args [] h r = choose (default == 0) refl
     choose false is = (items_rise count event (steps_at u default) args (h is), tt)
 or_default_rises count event u default args (f ∷ fs) h r = r
 
-pub fired_rises : (count event : ℕ) (apart : Bool) (u : Units) (b : Bound) (args : List Value) → Serves u count event b → FiringsRise count event (fired apart u b args)
-fired_rises count event apart u b args h = or_default_rises count event u b.default args (firings apart u b.bindings args) h.default (firings_rise count event apart u b.bindings args h.bindings)
+pub fired_rises : (count event : ℕ) (by : Runner) (u : Units) (b : Bound) (args : List Value) → Serves u count event b → FiringsRise count event (fired by u b args)
+fired_rises count event by u b args h = or_default_rises count event u b.default args (firings by u b.bindings args) h.default (firings_rise count event by u b.bindings args h.bindings)
 
 -- what a sound setup says of its acts ----------------------------------------------
 
@@ -156,15 +158,15 @@ steps_read : (d : SetupData) (handler : ℕ) (h : HandlerUnit) → slice_get d.h
 steps_read d handler h read = ap (λ o. (act_if o).steps) (slice_get-map (λ (h : HandlerUnit). h.act) d.handlers (handler - 1) ∙ ap (option_map (λ (h : HandlerUnit). h.act)) read)
 
 pub fits_from : (d : SetupData) (event : ℕ) (e : EventDef) (m : Mode) (handler : ℕ) → IsSoundSetup d → is_fit_handler d.handlers event e m handler ≡ true → Fits d event handler
-fits_from d event e m handler sound fit = choose (unit_of d.handlers handler) refl fit
+fits_from d event e m handler sound fit = choose (numbered d.handlers handler) refl fit
   where
-    choose : (o : Option HandlerUnit) → unit_of d.handlers handler ≡ o → option_map_or (is_handler_for event e m) o false ≡ true → Fits d event handler
+    choose : (o : Option HandlerUnit) → numbered d.handlers handler ≡ o → option_map_or (is_handler_for event e m) o false ≡ true → Fits d event handler
     choose None is some = cc
     choose (Some h) is some =
         elim (cases_eq handler 0) [
-          | inl none ↦ let nothing : unit_of d.handlers handler ≡ None = ap (unit_of d.handlers) none in cc
+          | inl none ↦ let nothing : numbered d.handlers handler ≡ None = ap (numbered d.handlers) none in cc
           | inr other ↦
-              let read : slice_get d.handlers (handler - 1) ≡ Some h = sym (unit_of-at d.handlers handler other) ∙ is in
+              let read : slice_get d.handlers (handler - 1) ≡ Some h = sym (numbered-at d.handlers handler other) ∙ is in
               let parts = first_two (same_signature h.sig e.sig) (not (raises_down event h.act)) (not (has_wrong_mode m h.act)) some in
               let rises = rises_from d.events event h.act.steps (opposite_true (raises_down event h.act) parts.1) (unit_fits d (handler - 1) h sound read) in
               let inside = slice_get_within d.handlers (handler - 1) h read in

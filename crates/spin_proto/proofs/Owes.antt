@@ -6,7 +6,7 @@ use Rattle.std.proofs.lemmas.Grind.{flat_map-append}
 use Rattle.std.proofs.lemmas.List.Sums.{sum_by-append}
 use Rattle.spin_proto.specs.declared.walk.Walk.{Walk}
 use Rattle.spin_proto.specs.Whole.{Mark, step_of, calls_of, is_start, starts}
-use Rattle.spin_proto.specs.Walks.{Gained}
+use Rattle.spin_proto.specs.Inner.Walks.{Gained}
 
 pub record Owes (all rest : List Mark) (w_0 w : Walk) : Type 0 where
   pub trace : w.trace ++ map step_of rest ≡ w_0.trace ++ map step_of all

@@ -31,7 +31,7 @@ use Rattle.spin_proto.specs.declared.reply.Reply.{Reply}
 use Rattle.spin_proto.specs.declared.reply.Reply.TheVariants as reply
 use Rattle.spin_proto.specs.declared.walk.Walk.{Walk}
 use Rattle.spin_proto.specs.Whole.{Raised, step_of, calls_of, starts, reply_of}
-use Rattle.spin_proto.specs.Walks.{Gained}
+use Rattle.spin_proto.specs.Inner.Walks.{Gained}
 use Rattle.spin_proto.specs.Replies.{units_in, types_in, are_fit, reply_if_fit, handler_at, AreBounds}
 use Rattle.spin_proto.proofs.Bounds.{here, bound_at, sound_at, the_bound}
 use Rattle.spin_proto.proofs.Climbs.{Serves, serves, Fits, fits_binding}

@@ -1,3 +1,4 @@
 pub mod Whole
 pub mod Replies
-pub mod Walks
+pub mod Inner
+pub mod Limits

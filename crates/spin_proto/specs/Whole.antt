@@ -1,5 +1,6 @@
 -- A raise with its raises upwards: what it answers, and the steps that it takes.
-use Rattle.std.specs.Prelude.{ℕ, suc, ◌==◌, nat_lt, Bool, true, false, if◌then◌else◌, List, [], ◌∷◌, ◌++◌, map, drop, count_by, Option, Some, None}
+use Rattle.std.specs.Prelude.{ℕ, suc, ◌==◌, nat_lt, Bool, true, false, if◌then◌else◌, List}
+use Rattle.std.specs.Prelude.{[], ◌∷◌, ◌++◌, map, drop, count_by, Option, Some, None}
 use Rattle.std.specs.List.{flat_map}
 use Rattle.spin_values.specs.declared.values.Value.{Value}
 use Rattle.spin_objects.specs.declared.item.Item.{Item}
@@ -7,6 +8,7 @@ use Rattle.spin_objects.specs.declared.item.Item.TheVariants as item
 use Rattle.spin_objects.specs.Doing.{items_of, last_result}
 use Rattle.spin_raise.specs.declared.answer.Answer.{Answer}
 use Rattle.spin_raise.specs.declared.answer.Answer.TheVariants as answer
+use Rattle.spin_raise.specs.declared.bound.Runner.{Runner}
 use Rattle.spin_raise.specs.Firing.{Units, Bound, steps_at, items_by, fired, answer_of}
 use Rattle.spin_proto.specs.declared.deed.JobCall.{JobCall}
 use Rattle.spin_proto.specs.declared.deed.JobCall.TheVariants as call
@@ -63,30 +65,34 @@ ups_of given = flat_map up_of given
 
 -- a raise upwards: its own steps between its beginning and its end, which tells its answer
 abbrev pub marks_up : (ℕ → List Value → Raised) → Upward → List Mark
-marks_up raise up = Plain (step.Up up.event) ∷ (raise up.event up.args).marks ++ Plain (step.Back (raise up.event up.args).answer) ∷ []
+marks_up raise up =
+    Plain (step.Up up.event) ∷ (raise up.event up.args).marks
+    ++ Plain (step.Back (raise up.event up.args).answer) ∷ []
 
 -- of a firing: what it gave, and then each of its raises upwards in order
 abbrev pub marks_of : ℕ → (ℕ → List Value → Raised) → List Item → List Mark
-marks_of event raise given = flat_map (marks_at event) given ++ flat_map (marks_up raise) (ups_of given)
+marks_of event raise given =
+    flat_map (marks_at event) given ++ flat_map (marks_up raise) (ups_of given)
 
 -- a raise of one event, where raises upwards come to this
-abbrev pub raised_with : Bool → Units → ℕ → Bound → (ℕ → List Value → Raised) → List Value → Raised
-raised_with apart u event b raise args = record {
-  answer = answer_of b.merge (fired apart u b args);
-  marks = flat_map (λ f. marks_of event raise (items_by f)) (fired apart u b args);
+abbrev pub raised_with : Runner → Units → ℕ → Bound → (ℕ → List Value → Raised) → List Value
+    → Raised
+raised_with by u event b raise args = record {
+  answer = answer_of b.merge (fired by u b args);
+  marks = flat_map (λ f. marks_of event raise (items_by f)) (fired by u b args);
 }
 
 -- a raise among the events from one number on: raises upwards go to the events after its own
-abbrev pub raised : Bool → Units → List Bound → ℕ → ℕ → List Value → Raised
-raised apart u [] from event args = record { answer = answer.NoHandler; marks = [] }
-raised apart u (b ∷ later) from event args =
+abbrev pub raised : Runner → Units → List Bound → ℕ → ℕ → List Value → Raised
+raised by u [] from event args = record { answer = answer.NoHandler; marks = [] }
+raised by u (b ∷ later) from event args =
     if from == event
-    then raised_with apart u event b (raised apart u later (suc from)) args
-    else raised apart u later (suc from) event args
+    then raised_with by u event b (raised by u later (suc from)) args
+    else raised by u later (suc from) event args
 
 -- a raise of an event after this one
-abbrev pub raised_after : Bool → Units → List Bound → ℕ → ℕ → List Value → Raised
-raised_after apart u bounds event = raised apart u (drop (suc event) bounds) (suc event)
+abbrev pub raised_after : Runner → Units → List Bound → ℕ → ℕ → List Value → Raised
+raised_after by u bounds event = raised by u (drop (suc event) bounds) (suc event)
 
 -- the reply where so many handlers may start
 abbrev pub reply_of : ℕ → Raised → Reply

@@ -1,27 +1,8 @@
-//! What is asked of a version: deeds, and the calls of jobs.
+//! What is left to jobs.
 
 use spin_table::Version;
 use spin_values::{Args, Sequence};
 use std::sync::Arc;
-
-/// What is asked of a version.
-#[derive(PartialEq, Drop, Debug)]
-pub enum Deed {
-    /// To raise an event now.
-    Raise {
-        /// The number of the event.
-        event: u8,
-        /// Its arguments.
-        args: Args,
-    },
-    /// To leave the raise of an event to a job.
-    Later {
-        /// The number of the event.
-        event: u8,
-        /// Its arguments.
-        args: Args,
-    },
-}
 
 /// What a job is to do.
 #[derive(PartialEq, Drop, Debug)]

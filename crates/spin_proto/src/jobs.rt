@@ -8,7 +8,7 @@ ghost use Rattle.spin_table.specs.Soundness.{IsSound};
 ghost use Rattle.spin_proto.specs.Replies.{units_in, job_reply, IsJobReply, BelongsTo, calls_left};
 ghost use Rattle.spin_proto.specs.Whole.{job_answer};
 ghost use Rattle.spin_proto.specs.Whole.{marks_of, raised_after, ups_of};
-ghost use Rattle.spin_proto.specs.Walks.{OnBounds, Spends, UpsRise};
+ghost use Rattle.spin_proto.specs.Inner.Walks.{OnBounds, Spends, UpsRise};
 
 use crate::deed::JobCall;
 use crate::reply::{Reply, Step};
@@ -18,13 +18,11 @@ use crate::whole::raise_whole;
 use spin_code::Sincere;
 use spin_objects::{Catalogue, Outcome};
 use spin_place::Binding;
-use spin_raise::{Answer, run_handler};
+use spin_raise::{Answer, Runner, run_handler};
 use spin_table::{Setup, Version};
-use spin_values::{Args, NoMemory, Sequence, Steps};
+use spin_values::{Args, NoMemory, Sequence};
 use std::alloc::Global;
 use std::collections::VecDeque;
-use std::marker::Brand;
-use std::sync::ledger::{Blank, Ledger};
 
 /// The binding of that number.
 fn find_binding(bindings: &[Binding], number: u16) -> Option<&Binding>
@@ -53,20 +51,21 @@ fn answer_of_job(word: Option<u64>) -> Answer
 }
 
 /// Notes what a firing gave at an event, and does its raises upwards. False where too many handlers start.
-fn follow<L: Ledger>(
+fn follow(
     alloc: Global,
     version: &Version,
     setup: &Setup,
-    apart: bool,
+    runner: Runner,
     event: u8,
     given: Outcome,
-    steps: &mut Steps<L>,
     walk: &mut Walk,
 ) -> Result<bool, NoMemory>
     requires sound { IsSound (data_of setup.now) version.now }
     requires sincere { ⟦<Catalogue as Sincere>⟧.sincere setup.now.catalogue }
     requires rise { UpsRise (length version.now.events) event (ups_of given) }
-    ensures { IfOk result (λ on. OnBounds (data_of setup.now) version.now (λ bounds. Spends on (marks_of event (raised_after apart (units_in (data_of setup.now)) bounds event) given) walk.old walk.new)) }
+    ensures { IfOk result (λ on. OnBounds (data_of setup.now) version.now (λ bounds.
+        let later = raised_after runner (units_in (data_of setup.now)) bounds event in
+        Spends on (marks_of event later given) walk.old walk.new)) }
 {
     let Some(ups) = note_items(alloc, walk, event, given)? else {
         return Ok(false);
@@ -75,7 +74,7 @@ fn follow<L: Ledger>(
     while let Some(up) = queue.pop_front() {
         let Upward { event: to, args } = up;
         walk.note(Step::Up(to))?;
-        match raise_event(alloc, version, setup, apart, to, args, steps, walk)? {
+        match raise_event(alloc, version, setup, runner, to, args, walk)? {
             None => return Ok(false),
             Some(answer) => walk.note(Step::Back(answer))?,
         }
@@ -84,32 +83,27 @@ fn follow<L: Ledger>(
 }
 
 /// Does the handler of a live binding, its guards untested, with its raises upwards.
-fn binding_job<L: Ledger>(
+fn binding_job(
     alloc: Global,
     version: &Version,
     setup: &Setup,
     event: u8,
     number: u16,
     mut args: Args,
-    blank: Blank,
 ) -> Result<Reply, NoMemory>
     requires sound { IsSound (data_of setup.now) version.now }
     requires sincere { ⟦<Catalogue as Sincere>⟧.sincere setup.now.catalogue }
     requires belongs { BelongsTo version.now (JobCall.Binding event number args) }
-    requires name { blank.name ≡ L.name }
-    requires parts { blank.parts ≡ L.parts }
-    requires some { 0 < L.parts }
-    ensures { IfOk result (λ reply. OnBounds (data_of setup.now) version.now (λ bounds. reply ≡ job_reply (units_in (data_of setup.now)) bounds (JobCall.Binding event number args))) }
+    ensures { IfOk result (λ reply. OnBounds (data_of setup.now) version.now (λ bounds.
+        let call = JobCall.Binding event number args in
+        reply ≡ job_reply (units_in (data_of setup.now)) bounds call)) }
 {
     let cat = setup.catalogue();
     let handler = handler_of(version.bindings(event), number);
     let mut given = Sequence::new(alloc);
     let word = run_handler(alloc, cat, handler, number, &mut args, &mut given)?;
-    let mut steps = Steps::<L>::new(blank);
     let mut walk = Walk::new(alloc);
-    if !follow(
-        alloc, version, setup, true, event, given, &mut steps, &mut walk,
-    )? {
+    if !follow(alloc, version, setup, Runner::Job, event, given, &mut walk)? {
         return Ok(Reply::Spent);
     }
     let Walk { trace, jobs, .. } = walk;
@@ -145,27 +139,14 @@ pub fn job_path(
     ensures calls { IfOk result (λ reply. calls_left reply ≡ []) }
 {
     match call {
-        JobCall::Whole { event, args } => raise_whole::<Brand>(
-            alloc,
-            version,
-            setup,
-            true,
-            *event,
-            args.copy()?,
-            Blank::new(1),
-        ),
+        JobCall::Whole { event, args } => {
+            let args = args.copy()?;
+            raise_whole(alloc, version, setup, Runner::Job, *event, args)
+        }
         JobCall::Binding {
             event,
             number,
             args,
-        } => binding_job::<Brand>(
-            alloc,
-            version,
-            setup,
-            *event,
-            *number,
-            args.copy()?,
-            Blank::new(1),
-        ),
+        } => binding_job(alloc, version, setup, *event, *number, args.copy()?),
     }
 }

@@ -1,21 +1,22 @@
 //! A raise with its raises upwards, and the work of jobs, each on one version.
 //!
-//! - [`deed`] is what is asked: a raise, a raise that is left to a job, and the call of a job;
-//! - [`reply`] is what it comes to: the answer, the steps and the calls of jobs;
-//! - [`whole`] does deeds and [`jobs`] the calls of jobs, over `rising`, which goes from handler to handler and up,
+//! - a [`Deed`] is what is asked, a raise or a raise that is left to a job, and a [`JobCall`] what a job is to do;
+//! - a [`Reply`] is what it comes to: the answer, the steps and the calls of jobs;
+//! - [`path`] does deeds and [`job_path`] the calls of jobs, over `rising`, which goes from handler to handler and up,
 //!   and `walk`, which notes the steps and counts the handlers.
 #![tactic(auto)]
 
-pub mod deed;
-pub mod jobs;
-pub mod reply;
+mod deed;
+mod jobs;
+mod limits;
+mod reply;
 mod rising;
-#[cfg(test)]
-mod tests;
 mod walk;
-pub mod whole;
+mod whole;
 
-pub use deed::{Deed, Job, JobCall, JobCalls, Jobs};
+pub use deed::{Job, JobCall, JobCalls, Jobs};
 pub use jobs::job_path;
+pub use limits::limits_are_stated;
 pub use reply::{MAX_RUNS, Reply, Step, Trace};
+pub use spin_word::Deed;
 pub use whole::path;

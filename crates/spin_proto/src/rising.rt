@@ -6,18 +6,17 @@ ghost use Rattle.spin_table.specs.SetupOf.{data_of};
 ghost use Rattle.spin_table.specs.Soundness.{IsSound};
 ghost use Rattle.spin_proto.specs.Replies.{units_in};
 ghost use Rattle.spin_proto.specs.Whole.{marks_at, marks_of, up_of, ups_of, raised, raised_after};
-ghost use Rattle.spin_proto.specs.Walks.{OnBounds, Spends, Comes, Notes, UpsRise};
+ghost use Rattle.spin_proto.specs.Inner.Walks.{OnBounds, Spends, Comes, Notes, UpsRise};
 
 use crate::reply::Step;
 use crate::walk::{Upward, Walk};
 use spin_code::Sincere;
 use spin_objects::{Catalogue, Item, Outcome};
-use spin_raise::{Answer, Progress, Stepped, step};
+use spin_raise::{Answer, Bound, Progress, Runner, Stepped, step};
 use spin_table::{Setup, Version};
-use spin_values::{Args, NoMemory, Sequence, Steps};
+use spin_values::{Args, NoMemory, Sequence};
 use std::alloc::Global;
 use std::collections::VecDeque;
-use std::sync::ledger::Ledger;
 
 /// Notes one item, and keeps a raise upwards for later. False where too many handlers start.
 fn note_item(
@@ -74,42 +73,36 @@ pub(crate) fn note_items(
 ///
 /// It calls itself, and no other function does with it: functions that call one another in a ring may not be lent
 /// boxed objects. So the raises upwards of a firing are done here, and for a job once more in `jobs`.
-pub(crate) fn raise_event<L: Ledger>(
+pub(crate) fn raise_event(
     alloc: Global,
     version: &Version,
     setup: &Setup,
-    apart: bool,
+    runner: Runner,
     event: u8,
-    mut args: Args,
-    steps: &mut Steps<L>,
+    args: Args,
     walk: &mut Walk,
 ) -> Result<Option<Answer>, NoMemory>
     requires sound { IsSound (data_of setup.now) version.now }
     requires sincere { ⟦<Catalogue as Sincere>⟧.sincere setup.now.catalogue }
     requires there { event < length version.now.events }
-    ensures { IfOk result (λ answer. OnBounds (data_of setup.now) version.now (λ bounds. Comes answer (raised apart (units_in (data_of setup.now)) bounds 0 event args) walk.old walk.new)) }
+    ensures { IfOk result (λ answer. OnBounds (data_of setup.now) version.now (λ bounds.
+        let all = raised runner (units_in (data_of setup.now)) bounds 0 event args in
+        Comes answer all walk.old walk.new)) }
 {
     let cat = setup.catalogue();
     let def = setup.event(event);
     let plan = version.plan(event);
     let default = version.default_of(event);
-    let mut progress = Progress::start();
+    let bound = Bound {
+        plan,
+        merge: &def.merge,
+        default,
+    };
+    let mut progress = Progress::start(args);
     'turns: loop {
         let room = walk.left > 0;
         let mut given = Sequence::new(alloc);
-        match step(
-            alloc,
-            plan,
-            &def.merge,
-            default,
-            cat,
-            apart,
-            room,
-            &mut progress,
-            &mut args,
-            &mut given,
-            steps,
-        )? {
+        match step(alloc, cat, &bound, runner, room, &mut progress, &mut given)? {
             Stepped::End => return Ok(Some(progress.answer)),
             Stepped::Full => return Ok(None),
             Stepped::Ran => {
@@ -120,7 +113,7 @@ pub(crate) fn raise_event<L: Ledger>(
                 while let Some(up) = queue.pop_front() {
                     let Upward { event: to, args } = up;
                     walk.note(Step::Up(to))?;
-                    match raise_event(alloc, version, setup, apart, to, args, steps, walk)? {
+                    match raise_event(alloc, version, setup, runner, to, args, walk)? {
                         None => return Ok(None),
                         Some(answer) => walk.note(Step::Back(answer))?,
                     }

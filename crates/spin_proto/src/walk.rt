@@ -2,7 +2,7 @@
 
 ghost use Rattle.std.specs.Prelude.{◌≡◌, ◌<◌, [], ◌∷◌, OnOk, IfOk, false};
 ghost use Rattle.spin_proto.specs.Whole.{Plain, Queued, is_start};
-ghost use Rattle.spin_proto.specs.Walks.{Gained, Spends};
+ghost use Rattle.spin_proto.specs.Inner.Walks.{Gained, Spends};
 
 use crate::deed::{JobCall, JobCalls};
 use crate::reply::{MAX_RUNS, Step, Trace};
@@ -48,7 +48,8 @@ impl Walk {
 
     /// Starts a handler. False where none may start.
     pub(crate) fn start(&mut self, event: u8, number: u16) -> Result<bool, NoMemory>
-        ensures { IfOk result (λ on. Spends on (Plain (Step.Run event number) ∷ []) self.old self.new) }
+        ensures { IfOk result
+            (λ on. Spends on (Plain (Step.Run event number) ∷ []) self.old self.new) }
     {
         if self.left == 0 {
             return Ok(false);

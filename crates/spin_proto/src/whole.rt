@@ -1,48 +1,44 @@
 //! What a deed comes to on a version.
 
-ghost use Rattle.std.specs.Prelude.{◌≡◌, ◌<◌, [], length, IfOk, MatchOption};
+ghost use Rattle.std.specs.Prelude.{◌≡◌, ◌<◌, length, IfOk, MatchOption};
 ghost use Rattle.std.specs.List.{All};
 ghost use Rattle.spin_table.specs.SetupOf.{data_of};
 ghost use Rattle.spin_table.specs.Soundness.{IsSound};
-ghost use Rattle.spin_proto.specs.Replies.{units_in, types_in, reply_if_fit, IsDeedReply, BelongsTo, calls_left};
+ghost use Rattle.spin_proto.specs.Replies.{units_in, IsDeedReply, BelongsTo, calls_left};
+ghost use Rattle.spin_proto.specs.Inner.Fits.{IsFit, IsUnfit};
 ghost use Rattle.spin_proto.specs.Whole.{raised, reply_of};
-ghost use Rattle.spin_proto.specs.Walks.{OnBounds};
+ghost use Rattle.spin_proto.specs.Inner.Walks.{OnBounds};
 
-use crate::deed::{Deed, JobCall};
-use crate::reply::Reply;
+use crate::deed::JobCall;
+use crate::reply::{MAX_RUNS, Reply};
 use crate::rising::raise_event;
 use crate::walk::Walk;
 use spin_code::Sincere;
 use spin_objects::Catalogue;
+use spin_raise::Runner;
 use spin_table::{Setup, Version};
-use spin_values::{Args, NoMemory, Steps, fits};
+use spin_values::{Args, NoMemory, fits};
+use spin_word::Deed;
 use std::alloc::Global;
-use std::marker::Brand;
-use std::sync::ledger::{Blank, Ledger};
 
-/// Does a raise of an event that is there with a counter of its own.
-pub(crate) fn raise_whole<L: Ledger>(
+/// Does a raise of an event that is there.
+pub(crate) fn raise_whole(
     alloc: Global,
     version: &Version,
     setup: &Setup,
-    apart: bool,
+    runner: Runner,
     event: u8,
     args: Args,
-    blank: Blank,
 ) -> Result<Reply, NoMemory>
     requires sound { IsSound (data_of setup.now) version.now }
     requires sincere { ⟦<Catalogue as Sincere>⟧.sincere setup.now.catalogue }
     requires there { event < length version.now.events }
-    requires name { blank.name ≡ L.name }
-    requires parts { blank.parts ≡ L.parts }
-    requires some { 0 < L.parts }
-    ensures { IfOk result (λ reply. OnBounds (data_of setup.now) version.now (λ bounds. reply ≡ reply_of 4096 (raised apart (units_in (data_of setup.now)) bounds 0 event args))) }
+    ensures { IfOk result (λ reply. OnBounds (data_of setup.now) version.now (λ bounds.
+        let all = raised runner (units_in (data_of setup.now)) bounds 0 event args in
+        reply ≡ reply_of MAX_RUNS all)) }
 {
-    let mut steps = Steps::<L>::new(blank);
     let mut walk = Walk::new(alloc);
-    match raise_event(
-        alloc, version, setup, apart, event, args, &mut steps, &mut walk,
-    )? {
+    match raise_event(alloc, version, setup, runner, event, args, &mut walk)? {
         None => Ok(Reply::Spent),
         Some(answer) => {
             let Walk { trace, jobs, .. } = walk;
@@ -57,7 +53,9 @@ pub(crate) fn raise_whole<L: Ledger>(
 
 /// Why a deed isn't done, if it isn't.
 fn refusal(setup: &Setup, event: u8, args: &Args) -> Option<Reply>
-    ensures { MatchOption result ((event < length (data_of setup.now).events) × ((answer : Reply) → reply_if_fit (types_in (data_of setup.now)) event args.now answer ≡ answer)) (λ refused. ((answer : Reply) → reply_if_fit (types_in (data_of setup.now)) event args.now answer ≡ refused) × (calls_left refused ≡ [])) }
+    ensures { MatchOption result
+        (IsFit (data_of setup.now) event args.now)
+        (IsUnfit (data_of setup.now) event args.now) }
 {
     if event >= setup.events() {
         return Some(Reply::UnknownEvent);
@@ -91,15 +89,10 @@ pub fn path(alloc: Global, version: &Version, setup: &Setup, deed: &Deed) -> Res
     match deed {
         Deed::Raise { event, args } => match refusal(setup, *event, args) {
             Some(refused) => Ok(refused),
-            None => raise_whole::<Brand>(
-                alloc,
-                version,
-                setup,
-                false,
-                *event,
-                args.copy()?,
-                Blank::new(1),
-            ),
+            None => {
+                let args = args.copy()?;
+                raise_whole(alloc, version, setup, Runner::Raiser, *event, args)
+            }
         },
         Deed::Later { event, args } => match refusal(setup, *event, args) {
             Some(refused) => Ok(refused),

@@ -10,8 +10,9 @@ use Rattle.spin_objects.specs.declared.item.Item.TheVariants as item
 use Rattle.spin_objects.specs.Doing.{IsDone, args_after, items_of, last_result}
 use Rattle.spin_place.specs.declared.binding.Binding.{Binding}
 use Rattle.spin_plan.specs.Next.{guards_hold, NonePass}
+use Rattle.spin_raise.specs.declared.bound.Runner.{Runner}
 use Rattle.spin_raise.specs.declared.answer.Answer.TheVariants as answer
-use Rattle.spin_raise.specs.Firing.{Units, Bound, Firing, Did, Apart, ByDefault, steps_at, is_async, firing_of, firings, fired, or_default, left_by, one_if, merged_by, combine, answer_of_results, answer_of}
+use Rattle.spin_raise.specs.Firing.{Units, Bound, Firing, Did, Apart, ByDefault, steps_at, is_async, leaves_jobs, firing_of, firings, fired, or_default, left_by, one_if, merged_by, combine, answer_of_results, answer_of}
 use Rattle.spin_raise.specs.Progress.{with_result, answer_after}
 
 -- the doing of the act of a handler --------------------------------------------
@@ -29,30 +30,30 @@ tail_pass : (p : Binding → Bool) (b : Binding) (bs : List Binding) (to : ℕ) 
 tail_pass p b bs to h = λ k low high. h (suc k) (omega arith) (omega arith)
 
 -- the bindings that don't fire are passed over
-pub firings_skip : (apart : Bool) (u : Units) (bs : List Binding) (args : List Value) (from at : ℕ) → from ≤ at → NonePass (guards_hold u.tests args) bs from at → firings apart u (drop from bs) args ≡ firings apart u (drop at bs) args
-firings_skip apart u [] args from at le h = ap (λ xs. firings apart u xs args) (drop-nil from ∙ sym (drop-nil at))
-firings_skip apart u (b ∷ bs) args zero zero le h = refl
-firings_skip apart u (b ∷ bs) args zero (suc at) le h =
-    ap (λ t. cond t (firing_of apart u b args ∷ firings apart u bs (left_by (firing_of apart u b args))) (firings apart u bs args)) (h zero (omega arith) (omega arith))
-    ∙ firings_skip apart u bs args zero at (omega arith) (tail_pass (guards_hold u.tests args) b bs at h)
-firings_skip apart u (b ∷ bs) args (suc from) zero le h = absurd (omega (arith, le))
-firings_skip apart u (b ∷ bs) args (suc from) (suc at) le h = firings_skip apart u bs args from at (omega (arith, le)) (later_pass (guards_hold u.tests args) b bs from at h)
+pub firings_skip : (by : Runner) (u : Units) (bs : List Binding) (args : List Value) (from at : ℕ) → from ≤ at → NonePass (guards_hold u.tests args) bs from at → firings by u (drop from bs) args ≡ firings by u (drop at bs) args
+firings_skip by u [] args from at le h = ap (λ xs. firings by u xs args) (drop-nil from ∙ sym (drop-nil at))
+firings_skip by u (b ∷ bs) args zero zero le h = refl
+firings_skip by u (b ∷ bs) args zero (suc at) le h =
+    ap (λ t. cond t (firing_of by u b args ∷ firings by u bs (left_by (firing_of by u b args))) (firings by u bs args)) (h zero (omega arith) (omega arith))
+    ∙ firings_skip by u bs args zero at (omega arith) (tail_pass (guards_hold u.tests args) b bs at h)
+firings_skip by u (b ∷ bs) args (suc from) zero le h = absurd (omega (arith, le))
+firings_skip by u (b ∷ bs) args (suc from) (suc at) le h = firings_skip by u bs args from at (omega (arith, le)) (later_pass (guards_hold u.tests args) b bs from at h)
 
 -- none fires any more
-pub firings_end : (apart : Bool) (u : Units) (bs : List Binding) (args : List Value) (from : ℕ) → NonePass (guards_hold u.tests args) bs from (length bs) → firings apart u (drop from bs) args ≡ []
-firings_end apart u [] args from h = ap (λ xs. firings apart u xs args) (drop-nil from)
-firings_end apart u (b ∷ bs) args zero h =
-    ap (λ t. cond t (firing_of apart u b args ∷ firings apart u bs (left_by (firing_of apart u b args))) (firings apart u bs args)) (h zero (omega arith) (omega arith))
-    ∙ firings_end apart u bs args zero (λ k low high. h (suc k) (omega arith) (omega arith))
-firings_end apart u (b ∷ bs) args (suc from) h = firings_end apart u bs args from (λ k low high. h (suc k) (omega arith) (omega arith))
+pub firings_end : (by : Runner) (u : Units) (bs : List Binding) (args : List Value) (from : ℕ) → NonePass (guards_hold u.tests args) bs from (length bs) → firings by u (drop from bs) args ≡ []
+firings_end by u [] args from h = ap (λ xs. firings by u xs args) (drop-nil from)
+firings_end by u (b ∷ bs) args zero h =
+    ap (λ t. cond t (firing_of by u b args ∷ firings by u bs (left_by (firing_of by u b args))) (firings by u bs args)) (h zero (omega arith) (omega arith))
+    ∙ firings_end by u bs args zero (λ k low high. h (suc k) (omega arith) (omega arith))
+firings_end by u (b ∷ bs) args (suc from) h = firings_end by u bs args from (λ k low high. h (suc k) (omega arith) (omega arith))
 
 -- the binding at a position fires
-pub firings_here : (apart : Bool) (u : Units) (bs : List Binding) (b : Binding) (args : List Value) (at : ℕ) → slice_get bs at ≡ Some b → guards_hold u.tests args b ≡ true → firings apart u (drop at bs) args ≡ firing_of apart u b args ∷ firings apart u (drop (suc at) bs) (left_by (firing_of apart u b args))
-firings_here apart u [] b args at there h = cc
-firings_here apart u (c ∷ bs) b args zero there h =
-    let P : Binding → Type 0 = λ x. firings apart u (x ∷ bs) args ≡ firing_of apart u b args ∷ firings apart u bs (left_by (firing_of apart u b args)) in
-    subst P (sym (ap (λ o. unwrap_or o c) there)) (ap (λ t. cond t (firing_of apart u b args ∷ firings apart u bs (left_by (firing_of apart u b args))) (firings apart u bs args)) h)
-firings_here apart u (c ∷ bs) b args (suc at) there h = firings_here apart u bs b args at there h
+pub firings_here : (by : Runner) (u : Units) (bs : List Binding) (b : Binding) (args : List Value) (at : ℕ) → slice_get bs at ≡ Some b → guards_hold u.tests args b ≡ true → firings by u (drop at bs) args ≡ firing_of by u b args ∷ firings by u (drop (suc at) bs) (left_by (firing_of by u b args))
+firings_here by u [] b args at there h = cc
+firings_here by u (c ∷ bs) b args zero there h =
+    let P : Binding → Type 0 = λ x. firings by u (x ∷ bs) args ≡ firing_of by u b args ∷ firings by u bs (left_by (firing_of by u b args)) in
+    subst P (sym (ap (λ o. unwrap_or o c) there)) (ap (λ t. cond t (firing_of by u b args ∷ firings by u bs (left_by (firing_of by u b args))) (firings by u bs args)) h)
+firings_here by u (c ∷ bs) b args (suc at) there h = firings_here by u bs b args at there h
 
 -- the answer so far -----------------------------------------------------------
 
@@ -63,16 +64,16 @@ AreBindings (Did n m given left ∷ fs) = AreBindings fs
 AreBindings (Apart n args ∷ fs) = AreBindings fs
 AreBindings (ByDefault given left ∷ fs) = ⊥
 
-firing_is : (apart : Bool) (u : Units) (b : Binding) (args : List Value) (fs : List Firing) → AreBindings fs → AreBindings (firing_of apart u b args ∷ fs)
-firing_is apart u b args fs h =
-    elim (is_async b.mode && not apart) as (λ t. AreBindings (cond t (Apart b.number args) (Did b.number (not (is_async b.mode)) (items_of (steps_at u b.handler) args) (args_after (steps_at u b.handler) args)) ∷ fs)) [ true ↦ h | false ↦ h ]
+firing_is : (by : Runner) (u : Units) (b : Binding) (args : List Value) (fs : List Firing) → AreBindings fs → AreBindings (firing_of by u b args ∷ fs)
+firing_is by u b args fs h =
+    elim (is_async b.mode && leaves_jobs by) as (λ t. AreBindings (cond t (Apart b.number args) (Did b.number (not (is_async b.mode)) (items_of (steps_at u b.handler) args) (args_after (steps_at u b.handler) args)) ∷ fs)) [ true ↦ h | false ↦ h ]
 
-pub firings_are : (apart : Bool) (u : Units) (bs : List Binding) (args : List Value) → AreBindings (firings apart u bs args)
-firings_are apart u [] args = tt
-firings_are apart u (b ∷ bs) args =
-    elim (guards_hold u.tests args b) as (λ t. AreBindings (cond t (firing_of apart u b args ∷ firings apart u bs (left_by (firing_of apart u b args))) (firings apart u bs args))) [
-      | true ↦ firing_is apart u b args _ (firings_are apart u bs (left_by (firing_of apart u b args)))
-      | false ↦ firings_are apart u bs args
+pub firings_are : (by : Runner) (u : Units) (bs : List Binding) (args : List Value) → AreBindings (firings by u bs args)
+firings_are by u [] args = tt
+firings_are by u (b ∷ bs) args =
+    elim (guards_hold u.tests args b) as (λ t. AreBindings (cond t (firing_of by u b args ∷ firings by u bs (left_by (firing_of by u b args))) (firings by u bs args))) [
+      | true ↦ firing_is by u b args _ (firings_are by u bs (left_by (firing_of by u b args)))
+      | false ↦ firings_are by u bs args
     ]
 
 fold_value : (m : Merge) (fs : List Firing) (n : ℕ) → AreBindings fs → fold (answer_after m) (answer.Value n) fs ≡ answer.Value (fold (combine m) n (flat_map merged_by fs))
@@ -114,5 +115,5 @@ fold_default m u default args [] h =
 fold_default m u default args (f ∷ fs) h = fold_answer m (f ∷ fs) h
 
 -- the answer that is built up along the way is that of all that fired
-pub fold_fired : (apart : Bool) (u : Units) (e : Bound) (args : List Value) → fold (answer_after e.merge) answer.NoHandler (fired apart u e args) ≡ answer_of e.merge (fired apart u e args)
-fold_fired apart u e args = fold_default e.merge u e.default args (firings apart u e.bindings args) (firings_are apart u e.bindings args)
+pub fold_fired : (by : Runner) (u : Units) (e : Bound) (args : List Value) → fold (answer_after e.merge) answer.NoHandler (fired by u e args) ≡ answer_of e.merge (fired by u e args)
+fold_fired by u e args = fold_default e.merge u e.default args (firings by u e.bindings args) (firings_are by u e.bindings args)

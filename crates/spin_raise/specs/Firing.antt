@@ -1,5 +1,6 @@
 -- One raise of one event: which bindings fire, what they give, and the answer.
-use Rattle.std.specs.Prelude.{ℕ, ◌<◌, ◌≤◌, ◌==◌, Bool, true, false, not, ◌&&◌, if◌then◌else◌, List, [], ◌∷◌, length, fold, Option, Some, None}
+use Rattle.std.specs.Prelude.{ℕ, ◌<◌, ◌≤◌, ◌==◌, Bool, true, false, not, ◌&&◌, if◌then◌else◌}
+use Rattle.std.specs.Prelude.{List, [], ◌∷◌, length, fold, Option, Some, None}
 use Rattle.std.specs.List.{All, flat_map}
 use Rattle.spin_values.specs.declared.values.Value.{Value}
 use Rattle.spin_values.specs.declared.values.Value.TheVariants as value
@@ -18,6 +19,9 @@ use Rattle.spin_place.specs.declared.binding.Binding.{Binding}
 use Rattle.spin_word.specs.declared.command.Mode.{Mode}
 use Rattle.spin_word.specs.declared.command.Mode.TheVariants as mode
 use Rattle.spin_plan.specs.Next.{guards_hold, IsGuard}
+use Rattle.spin_raise.specs.declared.bound.Bound as given
+use Rattle.spin_raise.specs.declared.bound.Runner.{Runner}
+use Rattle.spin_raise.specs.declared.bound.Runner.TheVariants as runner
 use Rattle.spin_raise.specs.declared.answer.Answer.{Answer}
 use Rattle.spin_raise.specs.declared.answer.Answer.TheVariants as answer
 
@@ -26,7 +30,8 @@ pub record Units : Type 0 where
   pub acts : List Act
   pub tests : List Test
 
-abbrev pub units_of : {A C E : Type 0} {B : A → Type 0} {D : C → Type 0} {F : E → Type 0} → Catalogue A C E B D F → Units
+abbrev pub units_of : {A C E : Type 0} {B : A → Type 0} {D : C → Type 0} {F : E → Type 0}
+    → Catalogue A C E B D F → Units
 units_of c = record { acts = acts_of c; tests = tests_of c }
 
 -- an event as a raise finds it: its bindings in order, how results are merged, and its default, 0 being none
@@ -37,6 +42,20 @@ pub record Bound : Type 0 where
 
 abbrev pub bound_of : List Binding → Merge → ℕ → Bound
 bound_of bindings m default = record { bindings = bindings; merge = m; default = default }
+
+-- the event that a raise is handed, so
+abbrev pub as_found : given.Bound → Bound
+as_found b = bound_of b.plan.now b.merge.now b.default
+
+-- who does a raise: a job where it runs apart from its raiser
+abbrev pub runner_of : Bool → Runner
+runner_of true = runner.Job
+runner_of false = runner.Raiser
+
+-- a job does all itself, and a raiser leaves to jobs what is asynchronous
+abbrev pub leaves_jobs : Runner → Bool
+leaves_jobs runner.Raiser = true
+leaves_jobs runner.Job = false
 
 -- what fired: a handler that was done, whether its result is merged, what its act gave and the arguments that it left;
 -- a job of these arguments; or the default
@@ -55,11 +74,12 @@ is_async mode.Async = true
 is_async m = false
 
 -- a binding's act is done, or is left to a job where it is asynchronous and the raise isn't itself a job
-abbrev pub firing_of : Bool → Units → Binding → List Value → Firing
-firing_of apart u b args =
-    if is_async b.mode && not apart
+abbrev pub firing_of : Runner → Units → Binding → List Value → Firing
+firing_of by u b args =
+    if is_async b.mode && leaves_jobs by
     then Apart b.number args
-    else Did b.number (not (is_async b.mode)) (items_of (steps_at u b.handler) args) (args_after (steps_at u b.handler) args)
+    else Did b.number (not (is_async b.mode)) (items_of (steps_at u b.handler) args)
+    (args_after (steps_at u b.handler) args)
 
 -- the arguments as a firing leaves them
 abbrev pub left_by : Firing → List Value
@@ -68,12 +88,12 @@ left_by (Apart number args) = args
 left_by (ByDefault given left) = left
 
 -- along the bindings: each fires where its guards hold on the arguments as they stand
-abbrev pub firings : Bool → Units → List Binding → List Value → List Firing
-firings apart u [] args = []
-firings apart u (b ∷ bs) args =
+abbrev pub firings : Runner → Units → List Binding → List Value → List Firing
+firings by u [] args = []
+firings by u (b ∷ bs) args =
     if guards_hold u.tests args b
-    then firing_of apart u b args ∷ firings apart u bs (left_by (firing_of apart u b args))
-    else firings apart u bs args
+    then firing_of by u b args ∷ firings by u bs (left_by (firing_of by u b args))
+    else firings by u bs args
 
 -- the default's act is done where nothing fired
 abbrev pub or_default : Units → ℕ → List Value → List Firing → List Firing
@@ -84,8 +104,8 @@ or_default u default args [] =
 or_default u default args (f ∷ fs) = f ∷ fs
 
 -- all that fires in a raise
-abbrev pub fired : Bool → Units → Bound → List Value → List Firing
-fired apart u e args = or_default u e.default args (firings apart u e.bindings args)
+abbrev pub fired : Runner → Units → Bound → List Value → List Firing
+fired by u e args = or_default u e.default args (firings by u e.bindings args)
 
 -- what a firing gives, under its number
 abbrev pub items_by : Firing → List Item

@@ -1,85 +1,19 @@
 //! A whole raise of one event.
 
-ghost use Rattle.std.specs.Prelude.{◌≡◌, ◌++◌, ◌<◌, OnOk, IfOk};
+ghost use Rattle.std.specs.Prelude.{◌≡◌, ◌++◌, OnOk, IfOk};
 ghost use Rattle.std.specs.List.{flat_map};
-ghost use Rattle.spin_raise.specs.Firing.{units_of, bound_of, IsThere, fired, items_by, answer_of, args_left};
+ghost use Rattle.spin_raise.specs.Firing.{units_of, bound_of, runner_of, IsThere, fired};
+ghost use Rattle.spin_raise.specs.Firing.{items_by, answer_of, args_left};
 
 use crate::answer::Answer;
+use crate::bound::{Bound, Runner};
 use crate::stepping::{Progress, Stepped, step};
 use spin_code::{Merge, Sincere};
 use spin_objects::{Catalogue, Outcome};
 use spin_plan::Plan;
-use spin_values::{Args, NoMemory, Steps};
+use spin_values::{Args, NoMemory};
 use std::alloc::Global;
-use std::marker::Brand;
-use std::sync::ledger::{Blank, Ledger};
-
-/// Runs all that fires, with a counter.
-fn raise_counted<L: Ledger>(
-    alloc: Global,
-    plan: &Plan,
-    merge: &Merge,
-    default: u16,
-    cat: &Catalogue,
-    apart: bool,
-    args: &mut Args,
-    out: &mut Outcome,
-    steps: &mut Steps<L>,
-) -> Result<Answer, NoMemory>
-    requires there { IsThere (units_of cat.now) (bound_of plan.now merge.now default) }
-    requires sincere { ⟦<Catalogue as Sincere>⟧.sincere cat.now }
-    ensures answer { IfOk result (λ a. a ≡ answer_of merge.now (fired apart (units_of cat.now) (bound_of plan.now merge.now default) args.old)) }
-    ensures out { OnOk result (out.new ≡ out.old ++ flat_map items_by (fired apart (units_of cat.now) (bound_of plan.now merge.now default) args.old)) }
-    ensures args { OnOk result (args.new ≡ args_left args.old (fired apart (units_of cat.now) (bound_of plan.now merge.now default) args.old)) }
-{
-    let mut progress = Progress::start();
-    'turns: loop {
-        match step(
-            alloc,
-            plan,
-            merge,
-            default,
-            cat,
-            apart,
-            true,
-            &mut progress,
-            args,
-            out,
-            steps,
-        )? {
-            Stepped::Ran => {}
-            Stepped::End => return Ok(progress.answer),
-            Stepped::Full => return Ok(progress.answer),
-        }
-    }
-}
-
-/// Makes the counter.
-fn raise_from<L: Ledger>(
-    alloc: Global,
-    plan: &Plan,
-    merge: &Merge,
-    default: u16,
-    cat: &Catalogue,
-    apart: bool,
-    args: &mut Args,
-    out: &mut Outcome,
-    blank: Blank,
-) -> Result<Answer, NoMemory>
-    requires there { IsThere (units_of cat.now) (bound_of plan.now merge.now default) }
-    requires sincere { ⟦<Catalogue as Sincere>⟧.sincere cat.now }
-    requires name { blank.name ≡ L.name }
-    requires parts { blank.parts ≡ L.parts }
-    requires some { 0 < L.parts }
-    ensures answer { IfOk result (λ a. a ≡ answer_of merge.now (fired apart (units_of cat.now) (bound_of plan.now merge.now default) args.old)) }
-    ensures out { OnOk result (out.new ≡ out.old ++ flat_map items_by (fired apart (units_of cat.now) (bound_of plan.now merge.now default) args.old)) }
-    ensures args { OnOk result (args.new ≡ args_left args.old (fired apart (units_of cat.now) (bound_of plan.now merge.now default) args.old)) }
-{
-    let mut steps = Steps::<L>::new(blank);
-    raise_counted(
-        alloc, plan, merge, default, cat, apart, args, out, &mut steps,
-    )
-}
+use std::mem;
 
 /// Raises an event: goes along the plan, and runs each binding whose guards all hold of the arguments as they stand
 /// when it is reached.
@@ -108,19 +42,36 @@ pub fn raise(
 ) -> Result<Answer, NoMemory>
     requires there { IsThere (units_of cat.now) (bound_of plan.now merge.now default) }
     requires sincere { ⟦<Catalogue as Sincere>⟧.sincere cat.now }
-    ensures answer { IfOk result (λ a. a ≡ answer_of merge.now (fired apart (units_of cat.now) (bound_of plan.now merge.now default) args.old)) }
-    ensures out { OnOk result (out.new ≡ out.old ++ flat_map items_by (fired apart (units_of cat.now) (bound_of plan.now merge.now default) args.old)) }
-    ensures args { OnOk result (args.new ≡ args_left args.old (fired apart (units_of cat.now) (bound_of plan.now merge.now default) args.old)) }
+    ensures answer { let event = bound_of plan.now merge.now default in
+        let all = fired (runner_of apart) (units_of cat.now) event args.old in
+        IfOk result (λ a. a ≡ answer_of merge.now all) }
+    ensures out { let event = bound_of plan.now merge.now default in
+        let all = fired (runner_of apart) (units_of cat.now) event args.old in
+        OnOk result (out.new ≡ out.old ++ flat_map items_by all) }
+    ensures args { let event = bound_of plan.now merge.now default in
+        let all = fired (runner_of apart) (units_of cat.now) event args.old in
+        OnOk result (args.new ≡ args_left args.old all) }
 {
-    raise_from::<Brand>(
-        alloc,
+    let bound = Bound {
         plan,
         merge,
         default,
-        cat,
-        apart,
-        args,
-        out,
-        Blank::new(1),
-    )
+    };
+    let runner = Runner::of(apart);
+    let mut progress = Progress::start(mem::replace(args, Args::new(alloc)));
+    'turns: loop {
+        match step(alloc, cat, &bound, runner, true, &mut progress, out)? {
+            Stepped::Ran => {}
+            Stepped::End => {
+                let Progress {
+                    answer,
+                    args: left,
+                    ..
+                } = progress;
+                *args = left;
+                return Ok(answer);
+            }
+            Stepped::Full => unreachable!(),
+        }
+    }
 }

@@ -1,30 +1,38 @@
 //! A raise of one event, handler by handler.
 
-ghost use Rattle.std.specs.Prelude.{◌≡◌, ◌+◌, ◌-◌, ◌<◌, ◌≤◌, ◌++◌, ◌∷◌, length, slice_get, OnOk, IfOk, Some};
+ghost use Rattle.std.specs.Prelude.{◌≡◌, ◌+◌, ◌-◌, ◌<◌, ◌≤◌, ◌^◌, ◌++◌, ◌∷◌, length};
+ghost use Rattle.std.specs.Prelude.{slice_get, OnOk, IfOk, IfSome, Some};
+ghost use Rattle.std.specs.List.{All};
+ghost use Rattle.spin_plan.specs.Next.{IsNext, IsGuard, guards_hold};
 ghost use Rattle.spin_objects.specs.Doing.{items_of, args_after, last_result};
-ghost use Rattle.spin_objects.specs.Units.{acts_of};
-ghost use Rattle.spin_raise.specs.Firing.{units_of, steps_at, firing_of, IsThere, bound_of};
+ghost use Rattle.spin_objects.specs.Units.{acts_of, tests_of};
+ghost use Rattle.spin_raise.specs.Firing.{units_of, steps_at, firing_of, IsThere, as_found};
+ghost use Rattle.spin_raise.specs.Firing.{items_by, left_by, merged_by, one_if};
 ghost use Rattle.spin_raise.specs.Firing as firing;
-ghost use Rattle.spin_raise.specs.Progress.{IsFired, IsStep, to_come};
+ghost use Rattle.spin_raise.specs.Progress.{IsStep, to_come};
 
 use crate::answer::Answer;
-use crate::merging::{after_result, after_run, default_next, last_of};
-use spin_code::{Merge, Sincere};
+use crate::bound::{Bound, Runner};
+use crate::merging::{after_result, default_next, last_of};
+use spin_code::Sincere;
 use spin_objects::{Catalogue, Item, Outcome};
 use spin_place::Binding;
 use spin_plan::Plan;
 use spin_values::{Args, NoMemory, Steps};
 use spin_word::Mode;
 use std::alloc::Global;
-use std::sync::ledger::Ledger;
+use std::marker::Brand;
+use std::sync::ledger::{Blank, Ledger};
 
 /// How far a raise has come.
-#[derive(Clone, Copy, PartialEq, Eq, Debug)]
+#[derive(Drop, Debug)]
 pub struct Progress {
     /// The position from which bindings are still to be tried.
     pub from: u32,
     /// The answer so far: `NoHandler` where none ran.
     pub answer: Answer,
+    /// The arguments as they stand.
+    pub args: Args,
 }
 
 /// What one step of a raise did.
@@ -39,14 +47,16 @@ pub enum Stepped {
 }
 
 impl Progress {
-    /// Nothing has fired yet.
-    pub fn start() -> Progress
+    /// Nothing has fired yet, and these are the arguments.
+    pub fn start(args: Args) -> Progress
         ensures from { result.from ≡ 0 }
         ensures answer { result.answer ≡ Answer.NoHandler }
+        ensures args { result.args ≡ args }
     {
         Progress {
             from: 0,
             answer: Answer::NoHandler,
+            args,
         }
     }
 }
@@ -64,8 +74,10 @@ pub fn run_handler(
     requires first { 0 < handler }
     requires last { handler ≤ length (acts_of cat.now) }
     requires sincere { ⟦<Catalogue as Sincere>⟧.sincere cat.now }
-    ensures result { IfOk result (λ r. r ≡ last_result (items_of (steps_at (units_of cat.now) handler) args.old)) }
-    ensures out { OnOk result (out.new ≡ out.old ++ (Item.Ran number ∷ items_of (steps_at (units_of cat.now) handler) args.old)) }
+    ensures result { let given = items_of (steps_at (units_of cat.now) handler) args.old in
+        IfOk result (λ r. r ≡ last_result given) }
+    ensures out { let given = items_of (steps_at (units_of cat.now) handler) args.old in
+        OnOk result (out.new ≡ out.old ++ (Item.Ran number ∷ given)) }
     ensures args { OnOk result (args.new ≡ args_after (steps_at (units_of cat.now) handler) args.old) }
 {
     out.push(Item::Ran(number))?;
@@ -74,103 +86,124 @@ pub fn run_handler(
     Ok(last_of(&out.as_slice()[before..]))
 }
 
+/// The next position whose binding fires, with this counter.
+fn next_counted<L: Ledger>(
+    cat: &Catalogue,
+    plan: &Plan,
+    from: u32,
+    args: &Args,
+    blank: Blank,
+) -> Option<u32>
+    requires own { All (λ b. IsGuard (length (tests_of cat.now)) b.own_guard) plan.now }
+    requires imposed { All (λ b. All (IsGuard (length (tests_of cat.now))) b.imposed) plan.now }
+    requires sincere { ⟦<Catalogue as Sincere>⟧.sincere cat.now }
+    requires name { blank.name ≡ L.name }
+    requires parts { blank.parts ≡ L.parts }
+    requires some { 0 < L.parts }
+    ensures next { IsNext (guards_hold (tests_of cat.now) args.now) plan.now from result }
+    ensures within { IfSome result (λ at. at < length plan.now) }
+    ensures small { IfSome result (λ at. at + 1 < 2 ^ 32) }
+{
+    let mut steps = Steps::<L>::new(blank);
+    plan.next(from, args, cat, &mut steps)
+}
+
+/// The next position, from this one on, whose binding fires on these arguments.
+fn next_firing(cat: &Catalogue, plan: &Plan, from: u32, args: &Args) -> Option<u32>
+    requires own { All (λ b. IsGuard (length (tests_of cat.now)) b.own_guard) plan.now }
+    requires imposed { All (λ b. All (IsGuard (length (tests_of cat.now))) b.imposed) plan.now }
+    requires sincere { ⟦<Catalogue as Sincere>⟧.sincere cat.now }
+    ensures next { IsNext (guards_hold (tests_of cat.now) args.now) plan.now from result }
+    ensures within { IfSome result (λ at. at < length plan.now) }
+    ensures small { IfSome result (λ at. at + 1 < 2 ^ 32) }
+{
+    next_counted::<Brand>(cat, plan, from, args, Blank::new(1))
+}
+
 fn is_async(mode: Mode) -> bool
     ensures { result ≡ firing.is_async mode }
 {
-    match mode {
-        Mode::Async => true,
-        Mode::Plain => false,
-        Mode::Filter => false,
-    }
+    matches!(mode, Mode::Async)
 }
 
-/// Does the act of a binding that fires. An asynchronous one is left to a job with a copy of the arguments, or is
-/// done in place where the raise is itself a job, and its result isn't merged.
+/// Does the act of a binding that fires, and answers the result that is merged, if there is one. An asynchronous one
+/// is left to a job with a copy of the arguments, or is done in place where the raise is itself a job.
 fn fire(
     alloc: Global,
-    binding: &Binding,
-    merge: &Merge,
     cat: &Catalogue,
-    apart: bool,
-    answer: &mut Answer,
+    binding: &Binding,
+    runner: Runner,
     args: &mut Args,
     out: &mut Outcome,
-) -> Result<(), NoMemory>
+) -> Result<Option<u64>, NoMemory>
     requires first { 0 < binding.now.handler }
     requires last { binding.now.handler ≤ length (acts_of cat.now) }
     requires sincere { ⟦<Catalogue as Sincere>⟧.sincere cat.now }
-    ensures { OnOk result (IsFired merge.now (firing_of apart (units_of cat.now) binding.now args.old) out.old out.new answer.old answer.new args.new) }
+    ensures merged { let fired = firing_of runner (units_of cat.now) binding.now args.old in
+        IfOk result (λ word. merged_by fired ≡ one_if word) }
+    ensures out { let fired = firing_of runner (units_of cat.now) binding.now args.old in
+        OnOk result (out.new ≡ out.old ++ items_by fired) }
+    ensures args { let fired = firing_of runner (units_of cat.now) binding.now args.old in
+        OnOk result (args.new ≡ left_by fired) }
 {
     if is_async(binding.mode) {
-        if !apart {
+        if runner.leaves_jobs() {
             let copy = args.copy()?;
             out.push(Item::Job {
                 number: binding.number,
                 args: copy,
             })?;
-            *answer = after_run(*answer);
-            return Ok(());
+            return Ok(None);
         }
         run_handler(alloc, cat, binding.handler, binding.number, args, out)?;
-        *answer = after_run(*answer);
-        return Ok(());
+        return Ok(None);
     }
-    let word = run_handler(alloc, cat, binding.handler, binding.number, args, out)?;
-    *answer = after_result(alloc, merge, *answer, word)?;
-    Ok(())
+    run_handler(alloc, cat, binding.handler, binding.number, args, out)
 }
 
 /// Runs what is next in a raise: the next binding whose guards all hold of the arguments as they stand, or the
 /// default where no binding ran. Where there is no room, nothing is run and nothing changes.
 ///
 /// Beside the guards that it tests, it is linear in the act and what it gives.
-pub fn step<L: Ledger>(
+pub fn step(
     alloc: Global,
-    plan: &Plan,
-    merge: &Merge,
-    default: u16,
     cat: &Catalogue,
-    apart: bool,
+    bound: &Bound<'_>,
+    runner: Runner,
     room: bool,
     progress: &mut Progress,
-    args: &mut Args,
     out: &mut Outcome,
-    steps: &mut Steps<L>,
 ) -> Result<Stepped, NoMemory>
-    requires there { IsThere (units_of cat.now) (bound_of plan.now merge.now default) }
+    requires there { IsThere (units_of cat.now) (as_found bound.now) }
     requires sincere { ⟦<Catalogue as Sincere>⟧.sincere cat.now }
-    ensures { IfOk result (λ stepped. IsStep merge.now room stepped (to_come apart (units_of cat.now) (bound_of plan.now merge.now default) progress.old args.old) (to_come apart (units_of cat.now) (bound_of plan.now merge.now default) progress.new args.new) out.old out.new progress.old.answer progress.new.answer args.old args.new) }
+    ensures { let before = to_come runner (units_of cat.now) (as_found bound.now) progress.old in
+        let after = to_come runner (units_of cat.now) (as_found bound.now) progress.new in
+        IfOk result (λ stepped.
+        IsStep bound.now.merge.now room stepped before after
+        progress.old progress.new out.old out.new) }
 {
-    match plan.next(progress.from, args, cat, steps) {
+    match next_firing(cat, bound.plan, progress.from, &progress.args) {
         Some(at) => {
-            let binding = plan.binding(at);
+            let binding = bound.plan.binding(at);
             if !room {
                 return Ok(Stepped::Full);
             }
-            fire(
-                alloc,
-                binding,
-                merge,
-                cat,
-                apart,
-                &mut progress.answer,
-                args,
-                out,
-            )?;
+            let word = fire(alloc, cat, binding, runner, &mut progress.args, out)?;
+            progress.answer = after_result(alloc, bound.merge, progress.answer, word)?;
             progress.from = at + 1;
             Ok(Stepped::Ran)
         }
         None => {
-            let handler = default_next(progress.answer, default);
+            let handler = default_next(progress.answer, bound.default);
             if handler == 0 {
                 return Ok(Stepped::End);
             }
             if !room {
                 return Ok(Stepped::Full);
             }
-            let word = run_handler(alloc, cat, handler, 0, args, out)?;
+            let word = run_handler(alloc, cat, handler, 0, &mut progress.args, out)?;
             progress.answer = Answer::Default(word);
-            progress.from = plan.len();
+            progress.from = bound.plan.len();
             Ok(Stepped::Ran)
         }
     }

@@ -51,7 +51,7 @@ effect_fit : (guards : List GuardUnit) (e : EventDef) (rules : List Rule) → li
     → list_all (is_fit_guard guards e) (effect_guards (numbered_effect rules number)) ≡ true
 effect_fit guards e rules all number = choose (number == 0)
   where
-    choose : (t : Bool) → list_all (is_fit_guard guards e) (effect_guards (if t then effect.Allow else option_map_or (λ rule. rule.effect) (slice_get rules (number - 1)) effect.Allow)) ≡ true
+    choose : (t : Bool) → list_all (is_fit_guard guards e) (effect_guards (option_map_or (λ rule. rule.effect) (if t then None else slice_get rules (number - 1)) effect.Allow)) ≡ true
     choose true = refl
     choose false =
         elim (slice_get_cases rules (number - 1)).1 [

@@ -11,3 +11,4 @@ pub mod Sound
 pub mod Starting
 pub mod Stepping
 pub mod Types
+pub mod OneStep

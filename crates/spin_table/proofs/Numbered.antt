@@ -3,10 +3,10 @@ use Rattle.std.proofs.Common.{◌≡◌, ℕ, ◌<◌, length, get_or, ◌-◌, 
 use Rattle.std.specs.Prelude.{slice_get, Option, None, IsSomeAnd}
 use Rattle.std.specs.Option.{option_map}
 use Rattle.std.proofs.lemmas.Option.{slice_get-map, slice_get_within, get_or_from_slice_get, same_Some}
+use Rattle.spin_values.specs.First.{numbered}
 use Rattle.spin_values.specs.declared.types.EventType.{EventType}
 use Rattle.spin_code.specs.declared.act.Act.{Act}
 use Rattle.spin_objects.specs.Units.{HandlerUnit, GuardUnit}
-use Rattle.spin_table.specs.Setups.{unit_of}
 
 -- a handler is its signature and its act
 same_unit : (u : HandlerUnit) (sig : EventType) (act : Act) → u.sig ≡ sig → u.act ≡ act → u ≡ record { sig = sig; act = act }
@@ -32,8 +32,8 @@ pub guard_at : (units : List GuardUnit) (at : ℕ) (sig : EventType) → IsSomeA
 guard_at units at sig p = sig_from (slice_get units at) sig p
 
 -- a number from 1 on reads the place before it
-pub unit_of-at : {X : Type 0} (xs : List X) (number : ℕ) → (number ≡ 0 → ⊥) → unit_of xs number ≡ slice_get xs (number - 1)
-unit_of-at xs number h = let other : (number == 0) ≡ false = grind arith in rw other
+pub numbered-at : {X : Type 0} (xs : List X) (number : ℕ) → (number ≡ 0 → ⊥) → numbered xs number ≡ slice_get xs (number - 1)
+numbered-at xs number h = let other : (number == 0) ≡ false = grind arith in rw other
 
 unit_with : (o : Option HandlerUnit) (act : Act) → option_map (λ (u : HandlerUnit). u.act) o ≡ Some act → (u : HandlerUnit) × (o ≡ Some u) × (u.act ≡ act)
 unit_with None act e = cc

@@ -1,5 +1,5 @@
 -- What holds of a command to which no refusal applies.
-use Rattle.std.proofs.Common.{◌≡◌, ℕ, zero, suc, ◌≤◌, ◌-◌, ◌==◌, Bool, true, false, not, ◌&&◌, ◌||◌, List, [], ◌∷◌, length, get_or, refl, sym, ap, subst, ◌∙◌, arith, inl, inr}
+use Rattle.std.proofs.Common.{◌≡◌, ℕ, zero, suc, ◌≤◌, ◌-◌, ◌==◌, Bool, true, false, not, ◌&&◌, ◌||◌, cond, List, [], ◌∷◌, length, get_or, refl, sym, ap, subst, ◌∙◌, arith, inl, inr}
 use Rattle.std.specs.Prelude.{Option, None, Some, nat_lt}
 use Rattle.std.specs.Option.{option_map_or}
 use Rattle.std.proofs.lemmas.Option.{slice_get_cases}
@@ -8,7 +8,8 @@ use Rattle.spin_word.specs.declared.command.Command.{Command}
 use Rattle.spin_word.specs.Commands.{guard_is_used, handler_is_used}
 use Rattle.spin_word.specs.declared.command.Mode.TheVariants as mode
 use Rattle.spin_word.specs.declared.command.Op.TheVariants as op
-use Rattle.spin_policy.specs.Verdicts.{first_refusal, is_install}
+use Rattle.spin_values.specs.First.{first_of, numbered}
+use Rattle.spin_policy.specs.Verdicts.{is_install}
 use Rattle.spin_policy.specs.Imposed.{forces_apart}
 use Rattle.spin_table.specs.Steps.{mode_under}
 use Rattle.spin_table.specs.Verdicts.{answer_to}
@@ -16,13 +17,13 @@ use Rattle.spin_table.specs.declared.refusal.Refusal.TheVariants as refusal
 use Rattle.spin_place.specs.declared.binding.Binding.{Binding}
 use Rattle.spin_objects.specs.Units.{HandlerUnit, GuardUnit}
 use Rattle.spin_table.specs.declared.event.EventDef.{EventDef}
-use Rattle.spin_table.specs.Setups.{SetupData, unit_of, rules_of}
+use Rattle.spin_table.specs.Setups.{SetupData, rules_of}
 use Rattle.spin_table.specs.Units.{same_signature, same_parameter_kinds, raises_down, sets_argument, has_wrong_mode, is_handler_for, is_fit_handler, is_fit_guard, is_fit_own_guard}
 use Rattle.spin_table.specs.Refusals.{refusals_at, lacks_handler, lacks_guard, of_handler, of_guard, mode_of, forces_a_change_apart, is_full}
-use Rattle.spin_table.proofs.Numbered.{unit_of-at}
+use Rattle.spin_table.proofs.Numbered.{numbered-at}
 
 -- none of a list of conditions holds
-none_hold : {R : Type 0} (xs : List (Bool × R)) → first_refusal xs ≡ None → (k : ℕ) (r : R) → (get_or xs k (false, r)).0 ≡ false
+none_hold : {R : Type 0} (xs : List (Bool × R)) → first_of xs ≡ None → (k : ℕ) (r : R) → (get_or xs k (false, r)).0 ≡ false
 none_hold [] none k r = refl
 none_hold ((true, refusal) ∷ others) none k r = cc
 none_hold ((false, refusal) ∷ others) none zero r = refl
@@ -43,22 +44,22 @@ neither : (a b : Bool) → (a || b) ≡ false → (a ≡ false) × (b ≡ false)
 neither true b e = cc
 neither false b e = (refl, e)
 
-pub passes : (d : SetupData) (e : EventDef) (bs : List Binding) (c : Command) → first_refusal (refusals_at d e bs c) ≡ None → Passes d e bs c
+pub passes : (d : SetupData) (e : EventDef) (bs : List Binding) (c : Command) → first_of (refusals_at d e bs c) ≡ None → Passes d e bs c
 passes d e bs c none =
     let at = λ (k : ℕ). none_hold (refusals_at d e bs c) none k refusal.TooMany in
     let types = neither (of_handler d.handlers c (λ h. not (same_signature h.sig e.sig))) (of_guard d.guards c (λ g. not (same_parameter_kinds g.sig e.sig))) (at 4) in
     record { handler = at 1; guard = at 2; signature = types.0; kinds = types.1; upward = at 5; mode = at 6; apart = at 8; room = at 9 }
 
 -- what is said of the unit of a number that is there
-unit_there : {X : Type 0} (units : List X) (number : ℕ) → (number ≡ 0 → ⊥) → number ≤ length units → (u : X) × (unit_of units number ≡ Some u)
+unit_there : {X : Type 0} (units : List X) (number : ℕ) → (number ≡ 0 → ⊥) → number ≤ length units → (u : X) × (numbered units number ≡ Some u)
 unit_there units number first last =
     elim (slice_get_cases units (number - 1)).1 [
-      | inl (u, inside, read, at) ↦ (u, unit_of-at units number first ∙ read)
+      | inl (u, inside, read, at) ↦ (u, numbered-at units number first ∙ read)
       | inr (past, none) ↦ absurd (omega arith)
     ]
 
 -- a condition on the handler that is used and there
-of_used : (used : Bool) (o : Option HandlerUnit) (u : HandlerUnit) (test : HandlerUnit → Bool) → used ≡ true → o ≡ Some u → (used && option_map_or test o false) ≡ false → test u ≡ false
+of_used : (used : Bool) (o : Option HandlerUnit) (u : HandlerUnit) (test : HandlerUnit → Bool) → used ≡ true → o ≡ Some u → option_map_or test (cond used o None) false ≡ false → test u ≡ false
 of_used true None u test t e f = cc
 of_used true (Some v) u test t e f = let same : v ≡ u = cc in sym (ap test same) ∙ f
 of_used false o u test t e f = cc
@@ -77,15 +78,15 @@ fit_handler d e bs c m p used right =
     let parts = neither (c.handler == 0) (nat_lt (length d.handlers) c.handler) there in
     let unit = unit_there d.handlers c.handler (λ z. grind (arith, parts.0, z)) (grind (arith, parts.1)) in
     let u = unit.0 in
-    let found = unit_of d.handlers c.handler in
+    let found = numbered d.handlers c.handler in
     let signature = of_used (handler_is_used c.op) found u (λ h. not (same_signature h.sig e.sig)) used unit.1 p.signature in
     let upward = of_used (handler_is_used c.op) found u (λ h. raises_down c.event h.act) used unit.1 p.upward in
     let mode = of_used (handler_is_used c.op) found u (λ h. has_wrong_mode m h.act) used unit.1 right in
     ap (λ o. option_map_or (is_handler_for c.event e m) o false) unit.1 ∙ serves (same_signature u.sig e.sig) (raises_down c.event u.act) (has_wrong_mode m u.act) signature upward mode
 
 -- a handler that changes no argument may run asynchronously
-harmless : (used : Bool) (o : Option HandlerUnit) → (used && option_map_or (λ h. sets_argument h.act) o false) ≡ false
-    → (used && option_map_or (λ h. has_wrong_mode mode.Async h.act) o false) ≡ false
+harmless : (used : Bool) (o : Option HandlerUnit) → option_map_or (λ (h : HandlerUnit). sets_argument h.act) (cond used o None) false ≡ false
+    → option_map_or (λ (h : HandlerUnit). has_wrong_mode mode.Async h.act) (cond used o None) false ≡ false
 harmless false o e = refl
 harmless true None e = refl
 harmless true (Some u) e = ap (λ b. b && true) e
@@ -96,7 +97,7 @@ pub fit_installed : (d : SetupData) (e : EventDef) (bs : List Binding) (c : Comm
 fit_installed d e bs c false p is forced =
     fit_handler d e bs c c.mode p (ap handler_is_used is) (subst (λ m. of_handler d.handlers c (λ h. has_wrong_mode m h.act) ≡ false) (ap (mode_of bs c) is) p.mode)
 fit_installed d e bs c true p is forced =
-    fit_handler d e bs c mode.Async p (ap handler_is_used is) (harmless (handler_is_used c.op) (unit_of d.handlers c.handler) (grind (arith, p.apart, ap is_install is, forced)))
+    fit_handler d e bs c mode.Async p (ap handler_is_used is) (harmless (handler_is_used c.op) (numbered d.handlers c.handler) (grind (arith, p.apart, ap is_install is, forced)))
 
 -- a condition on the guard that is used and there
 of_used_guard : (used : Bool) (o : Option GuardUnit) (u : GuardUnit) (test : GuardUnit → Bool) → used ≡ true → o ≡ Some u → (used && option_map_or (λ g. not (test g)) o false) ≡ false → test u ≡ true
@@ -113,5 +114,5 @@ fit_guard d e bs c p used = fit_or_none (c.guard == 0) refl
     fit_or_none false is =
         let last : nat_lt (length d.guards) c.guard ≡ false = grind (arith, p.guard, used) in
         let unit = unit_there d.guards c.guard (λ z. grind (arith, is, z)) (grind (arith, last)) in
-        let kinds = of_used_guard (guard_is_used c.op) (unit_of d.guards c.guard) unit.0 (λ (g : GuardUnit). same_parameter_kinds g.sig e.sig) used unit.1 p.kinds in
+        let kinds = of_used_guard (guard_is_used c.op) (numbered d.guards c.guard) unit.0 (λ (g : GuardUnit). same_parameter_kinds g.sig e.sig) used unit.1 p.kinds in
         ap (λ o. option_map_or (λ (g : GuardUnit). same_parameter_kinds g.sig e.sig) o false) unit.1 ∙ kinds

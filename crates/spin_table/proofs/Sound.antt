@@ -11,12 +11,12 @@ use Rattle.spin_word.specs.declared.command.Op.TheVariants as op
 use Rattle.spin_word.specs.declared.command.Command.{Command}
 use Rattle.spin_word.specs.declared.command.Mode.TheVariants as mode
 use Rattle.spin_word.specs.Commands.{handler_is_used}
-use Rattle.spin_policy.specs.Verdicts.{first_refusal}
+use Rattle.spin_values.specs.First.{first_of, numbered}
 use Rattle.spin_objects.specs.Units.{GuardUnit}
 use Rattle.spin_place.specs.declared.binding.Binding.{Binding}
 use Rattle.spin_place.specs.Precedence.{HasLawfulOrder}
 use Rattle.spin_table.specs.declared.event.EventDef.{EventDef}
-use Rattle.spin_table.specs.Setups.{SetupData, unit_of}
+use Rattle.spin_table.specs.Setups.{SetupData}
 use Rattle.spin_table.specs.States.{EventState}
 use Rattle.spin_table.specs.Units.{is_fit_handler, is_fit_own_guard, is_fit_guard, is_fit_default, has_wrong_mode, same_parameter_kinds}
 use Rattle.spin_table.specs.Verdicts.{answer_to}
@@ -26,7 +26,7 @@ use Rattle.spin_table.specs.Faults.{IsSoundSetup}
 use Rattle.spin_table.specs.Soundness.{IsSoundEvent}
 use Rattle.spin_table.proofs.Passing.{Passes, passes, fit_handler}
 use Rattle.spin_table.proofs.Keeping.{AreSound, AreSound-after, first_two}
-use Rattle.spin_table.proofs.Numbered.{unit_of-at}
+use Rattle.spin_table.proofs.Numbered.{numbered-at}
 use Rattle.spin_table.proofs.ImposedFit.{imposed_of_setup, list_all-at}
 
 -- the bindings of a sound event are sound
@@ -40,7 +40,7 @@ AreSound-from d place event e s sound = record {
 
 -- so are those that a command leaves to which no refusal but a conflict applies
 pub AreSound-step : (d : SetupData) (place : ℕ) (e : EventDef) (s : EventState) (c : Command) → IsSoundSetup d → slice_get d.events c.event ≡ Some e
-    → IsSoundEvent d place c.event e s → first_refusal (refusals_at d e s.bindings c) ≡ None
+    → IsSoundEvent d place c.event e s → first_of (refusals_at d e s.bindings c) ≡ None
     → AreSound d (place + 1) c.event e (event_after d.policies e (place + 1) c s).bindings
 AreSound-step d place e s c setup read sound none =
     AreSound-after d place e s.bindings c c.op refl (passes d e s.bindings c none) (imposed_of_setup d c.event e (answer_to d.policies e s.bindings c) setup read) (AreSound-from d place c.event e s sound)
@@ -60,7 +60,7 @@ fit_default_after d e bs c default op.Replace is p fit = fit
 
 -- the event's state after a command is sound, if its bindings have an order
 pub IsSoundEvent-step : (d : SetupData) (place : ℕ) (e : EventDef) (s : EventState) (c : Command) → IsSoundSetup d → slice_get d.events c.event ≡ Some e
-    → IsSoundEvent d place c.event e s → first_refusal (refusals_at d e s.bindings c) ≡ None
+    → IsSoundEvent d place c.event e s → first_of (refusals_at d e s.bindings c) ≡ None
     → HasLawfulOrder (event_after d.policies e (place + 1) c s).bindings → IsSoundEvent d (place + 1) c.event e (event_after d.policies e (place + 1) c s)
 IsSoundEvent-step d place e s c setup read sound none orderly =
     let bindings = AreSound-step d place e s c setup read sound none in
@@ -75,15 +75,15 @@ IsSoundEvent-step d place e s c setup read sound none orderly =
 
 -- a guard that serves the event is there
 there_if : (guards : List GuardUnit) (e : EventDef) (guard : ℕ) → is_fit_guard guards e guard ≡ true → guard ≤ length guards
-there_if guards e guard fit = choose (unit_of guards guard) refl fit
+there_if guards e guard fit = choose (numbered guards guard) refl fit
   where
-    choose : (o : Option GuardUnit) → unit_of guards guard ≡ o → option_map_or (λ (g : GuardUnit). same_parameter_kinds g.sig e.sig) o false ≡ true → guard ≤ length guards
+    choose : (o : Option GuardUnit) → numbered guards guard ≡ o → option_map_or (λ (g : GuardUnit). same_parameter_kinds g.sig e.sig) o false ≡ true → guard ≤ length guards
     choose None is none = cc
     choose (Some g) is some =
         elim (cases_eq guard 0) [
           | inl zero ↦ omega arith
           | inr other ↦
-              let inside = slice_get_within guards (guard - 1) g (sym (unit_of-at guards guard other) ∙ is) in
+              let inside = slice_get_within guards (guard - 1) g (sym (numbered-at guards guard other) ∙ is) in
               omega arith
         ]
 

@@ -1,6 +1,6 @@
 -- The step of a command from what is known of its event.
 use Rattle.std.proofs.Common.{◌≡◌, ℕ, ◌+◌, ◌<◌, ◌≤◌, ◌==◌, ◌⊎◌, Bool, true, false, not, List, length, get_or, refl, sym, ap, subst, ◌∙◌, inl, inr, arith}
-use Rattle.std.specs.Prelude.{slice_get, slice_set, Option, None, Some, MatchOption, Err, IsSomeAnd, Contains, All, if◌then◌else◌}
+use Rattle.std.specs.Prelude.{slice_get, slice_set, Option, None, Some, MatchOption, Result, Ok, Err, IsErrAnd, IsSomeAnd, Contains, All, if◌then◌else◌}
 use Rattle.std.proofs.lemmas.Bool.{cases_eq}
 use Rattle.std.proofs.lemmas.List.{length-set, map-append, get_or-set_same, get_or-set_other, get_or_default}
 use Rattle.std.proofs.lemmas.List.Elements.{All-contains, All-push, All-filter}
@@ -10,7 +10,7 @@ use Rattle.spin_word.specs.declared.command.Op.TheVariants as op
 use Rattle.spin_word.specs.declared.command.Command.{Command}
 use Rattle.spin_policy.specs.declared.rule.Rule.{Rule}
 use Rattle.spin_policy.specs.declared.rule.Verdict.{Verdict}
-use Rattle.spin_policy.specs.Verdicts.{first_refusal}
+use Rattle.spin_values.specs.First.{first_of}
 use Rattle.spin_place.specs.declared.binding.Binding.{Binding}
 use Rattle.spin_place.specs.Precedence.{must_precede, numbers_of, HasLawfulOrder, IsCycle}
 use Rattle.spin_table.specs.declared.event.EventDef.{EventDef}
@@ -21,7 +21,7 @@ use Rattle.spin_table.specs.Setups.{SetupData, rules_of}
 use Rattle.spin_table.specs.States.{State, EventState}
 use Rattle.spin_table.specs.Verdicts.{answer_to}
 use Rattle.spin_table.specs.Refusals.{refusals_at, refusal_on, refusal_of}
-use Rattle.spin_table.specs.Steps.{replaced, replaced_at, bindings_after, event_after, events_after, state_after, bindings_if, bindings_at, IsOrderly, IsConflict, ChangesTo, IsStep, IsAnswer}
+use Rattle.spin_table.specs.Steps.{replaced, replaced_at, bindings_after, default_after, event_after, events_after, state_after, bindings_if, bindings_at, IsOrderly, IsConflict, ChangesTo, IsStep, IsAnswer}
 use Rattle.spin_table.specs.Orders.{IsOrderFault, IsChangeFault}
 use Rattle.spin_table.specs.declared.refusal.StepFault.{StepFault}
 use Rattle.spin_table.specs.declared.refusal.StepFault.TheVariants as fault
@@ -43,7 +43,7 @@ at_set xs at k x y read other =
 
 module _ (d : SetupData) (s : State) (c : Command) (e : EventDef) (t : EventState)
     (read_e : slice_get d.events c.event ≡ Some e) (read_t : slice_get s.events c.event ≡ Some t) where
-  known : refusal_of d s c ≡ first_refusal (refusals_at d e t.bindings c)
+  known : refusal_of d s c ≡ first_of (refusals_at d e t.bindings c)
   known = ap (λ o. refusal_on d c o (slice_get s.events c.event)) read_e ∙ ap (λ o. refusal_on d c (Some e) o) read_t
 
   events : events_after d.policies (s.place + 1) c (slice_get d.events c.event) (slice_get s.events c.event) s.events ≡ slice_set s.events c.event (event_after d.policies e (s.place + 1) c t)
@@ -53,18 +53,21 @@ module _ (d : SetupData) (s : State) (c : Command) (e : EventDef) (t : EventStat
   next_bindings =
       ap (λ es. bindings_if (slice_get es c.event)) events ∙ ap bindings_if (slice_get-set_same s.events c.event (event_after d.policies e (s.place + 1) c t) (slice_get_within s.events c.event t read_t))
 
-  pub refused : (r : Refusal) → first_refusal (refusals_at d e t.bindings c) ≡ Some r → IsStep d s c (verdicted.Refused r) s
+  pub refused : (r : Refusal) → first_of (refusals_at d e t.bindings c) ≡ Some r → IsStep d s c (verdicted.Refused r) s
   refused r first =
       subst (λ o. MatchOption o (ChangesTo d s c (verdicted.Refused r) s) (λ r'. (verdicted.Refused r ≡ verdicted.Refused r') × (s ≡ s))) (sym (known ∙ first)) (refl, refl)
 
-  passed : (P : Type 0) (Q : Refusal → Type 0) → first_refusal (refusals_at d e t.bindings c) ≡ None → P → MatchOption (refusal_of d s c) P Q
+  pub unrefused : first_of (refusals_at d e t.bindings c) ≡ None → refusal_of d s c ≡ None
+  unrefused none = known ∙ none
+
+  passed : (P : Type 0) (Q : Refusal → Type 0) → first_of (refusals_at d e t.bindings c) ≡ None → P → MatchOption (refusal_of d s c) P Q
   passed P Q none p = subst (λ o. MatchOption o P Q) (sym (known ∙ none)) p
 
-  pub conflict : (r : Refusal) → first_refusal (refusals_at d e t.bindings c) ≡ None → IsConflict c.op (event_after d.policies e (s.place + 1) c t).bindings r
+  pub conflict : (r : Refusal) → first_of (refusals_at d e t.bindings c) ≡ None → IsConflict c.op (event_after d.policies e (s.place + 1) c t).bindings r
       → IsStep d s c (verdicted.Refused r) s
   conflict r none is = passed _ _ none (refl, subst (λ bs. IsConflict c.op bs r) (sym next_bindings) is)
 
-  pub accepted : (next : EventState) → first_refusal (refusals_at d e t.bindings c) ≡ None → next ≡ event_after d.policies e (s.place + 1) c t → IsOrderly c.op next.bindings
+  pub accepted : (next : EventState) → first_of (refusals_at d e t.bindings c) ≡ None → next ≡ event_after d.policies e (s.place + 1) c t → IsOrderly c.op next.bindings
       → IsStep d s c verdicted.Accepted (record { place = s.place + 1; events = slice_set s.events c.event next })
   accepted next none is orderly =
       let same : slice_set s.events c.event next ≡ events_after d.policies (s.place + 1) c (slice_get d.events c.event) (slice_get s.events c.event) s.events = ap (slice_set s.events c.event) is ∙ sym events in
@@ -133,7 +136,7 @@ event_there d s event t same read =
 module _ (d : SetupData) (s : State) (c : Command) (e : EventDef) (t next : EventState)
     (setup : IsSoundSetup d) (sound : IsSound d s)
     (read_e : slice_get d.events c.event ≡ Some e) (read_t : slice_get s.events c.event ≡ Some t)
-    (none : first_refusal (refusals_at d e t.bindings c) ≡ None) (is : next ≡ event_after d.policies e (s.place + 1) c t) (orderly : HasLawfulOrder next.bindings) where
+    (none : first_of (refusals_at d e t.bindings c) ≡ None) (is : next ≡ event_after d.policies e (s.place + 1) c t) (orderly : HasLawfulOrder next.bindings) where
   abbrev pub after : State
   after = record { place = s.place + 1; events = slice_set s.events c.event next }
 
@@ -255,6 +258,19 @@ change_fault d e t c new (fault.Refused (refusal.Denied rule)) orderly h = absur
 change_fault d e t c new (fault.Refused refusal.TooMany) orderly h = absurd h
 change_fault d e t c new (fault.Refused (refusal.ForcedMode rule)) orderly h = absurd h
 
+-- a default and a no-default change the default alone
+pub after_default : (policies : List (List Rule)) (e : EventDef) (place : ℕ) (c : Command) (t : EventState) → c.op ≡ op.Default
+    → event_after policies e place c t ≡ record { bindings = t.bindings; default = c.handler }
+after_default policies e place c t is =
+    let state : Op → EventState = λ o. record { bindings = bindings_after (rules_of policies e.authority) (answer_to policies e t.bindings c) place c o t.bindings; default = default_after c o t.default } in
+    ap state is
+
+pub after_no_default : (policies : List (List Rule)) (e : EventDef) (place : ℕ) (c : Command) (t : EventState) → c.op ≡ op.NoDefault
+    → event_after policies e place c t ≡ record { bindings = t.bindings; default = 0 }
+after_no_default policies e place c t is =
+    let state : Op → EventState = λ o. record { bindings = bindings_after (rules_of policies e.authority) (answer_to policies e t.bindings c) place c o t.bindings; default = default_after c o t.default } in
+    ap state is
+
 -- an order is all that an install asks beside
 pub orderly_for : (o : Op) (bs : List Binding) → HasLawfulOrder bs → IsOrderly o bs
 orderly_for op.Install bs h = h
@@ -265,7 +281,13 @@ orderly_for op.NoDefault bs h = tt
 
 -- a fault of the change is the answer to the command
 pub answer_of_fault : (d : SetupData) (s : State) (c : Command) (e : EventDef) (t : EventState)
-    → slice_get d.events c.event ≡ Some e → slice_get s.events c.event ≡ Some t → first_refusal (refusals_at d e t.bindings c) ≡ None
+    → slice_get d.events c.event ≡ Some e → slice_get s.events c.event ≡ Some t → first_of (refusals_at d e t.bindings c) ≡ None
     → (f : StepFault) → IsChangeFault d.policies e (s.place + 1) c t f → IsAnswer d s c (Err f)
 answer_of_fault d s c e t read_e read_t none (fault.Refused r) h = conflict d s c e t read_e read_t r none h
-answer_of_fault d s c e t read_e read_t none fault.NoMemory h = tt
+answer_of_fault d s c e t read_e read_t none fault.NoMemory h = unrefused d s c e t read_e read_t none
+
+-- want of memory is an answer where the command isn't refused
+pub short_of_memory : (d : SetupData) (s : State) (c : Command) (r : Result State StepFault) → IsErrAnd r (λ f. f ≡ fault.NoMemory)
+    → refusal_of d s c ≡ None → IsAnswer d s c r
+short_of_memory d s c (Ok next) is none = absurd is
+short_of_memory d s c (Err f) is none = subst (λ (x : StepFault). IsAnswer d s c (Err x)) (sym is) none

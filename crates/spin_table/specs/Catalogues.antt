@@ -6,7 +6,8 @@ use Rattle.spin_table.specs.declared.event.EventDef.{EventDef}
 use Rattle.spin_table.specs.Setups.{SetupData}
 
 -- a native handler, guard or authoriser counts as the act, the test or the rules that it was handed in with
-abbrev pub data_from : {A C E : Type 0} {B : A → Type 0} {D : C → Type 0} {F : E → Type 0} → ℕ → ℕ → List EventDef → Catalogue A C E B D F → SetupData
+abbrev pub data_from : {A C E : Type 0} {B : A → Type 0} {D : C → Type 0} {F : E → Type 0} → ℕ
+    → ℕ → List EventDef → Catalogue A C E B D F → SetupData
 data_from modules live events c = record {
   modules = modules;
   live = live;

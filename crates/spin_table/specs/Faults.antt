@@ -1,5 +1,7 @@
 -- What is wrong with a setup: the first of these faults that applies.
-use Rattle.std.specs.Prelude.{ℕ, ◌+◌, Bool, true, false, not, ◌&&◌, ◌||◌, ◌==◌, nat_lt, nat_le, if◌then◌else◌, IsTrue, List, [], ◌∷◌, length, map, slice_get, position, Option, None, Some, is_err, is_none}
+use Rattle.std.specs.Prelude.{ℕ, ◌+◌, Bool, true, false, not, ◌&&◌, ◌||◌, ◌==◌, nat_lt}
+use Rattle.std.specs.Prelude.{nat_le, if◌then◌else◌, IsTrue, List, [], ◌∷◌, length, map}
+use Rattle.std.specs.Prelude.{slice_get, position, Option, None, Some, is_err, is_none}
 use Rattle.std.specs.List.{list_all, enumerate_from}
 use Rattle.std.specs.Option.{option_map, option_map_or}
 use Rattle.std.specs.Cmp.Lexicographic.{pointwise}
@@ -15,9 +17,11 @@ use Rattle.spin_code.specs.declared.act.Part.{Part}
 use Rattle.spin_code.specs.declared.act.Part.TheVariants as part
 use Rattle.spin_code.specs.declared.act.ActStep.{ActStep}
 use Rattle.spin_code.specs.declared.act.ActStep.TheVariants as step
+use Rattle.spin_word.specs.declared.command.TheConstants.{MAX_EVENTS}
 use Rattle.spin_policy.specs.declared.rule.Rule.{Rule}
 use Rattle.spin_policy.specs.Imposed.{effect_guards}
 use Rattle.spin_objects.specs.Units.{HandlerUnit, GuardUnit}
+use Rattle.spin_table.specs.declared.setup.TheConstants.{MAX_LIVE, MAX_MODULES}
 use Rattle.spin_table.specs.declared.event.EventDef.{EventDef}
 use Rattle.spin_table.specs.declared.fault.SetupFault.{SetupFault}
 use Rattle.spin_table.specs.declared.fault.SetupFault.TheVariants as fault
@@ -27,7 +31,11 @@ use Rattle.spin_table.specs.Units.{is_fit_guard, is_fit_default}
 -- a number of modules, of live bindings, or of events that is out of its range
 abbrev pub has_wrong_size : ℕ → ℕ → ℕ → Bool
 has_wrong_size modules live events =
-    (modules == 0) || nat_lt 256 modules || (live == 0) || nat_lt 64 live || nat_lt 64 events
+    (modules == 0)
+    || nat_lt MAX_MODULES modules
+    || (live == 0)
+    || nat_lt MAX_LIVE live
+    || nat_lt MAX_EVENTS events
 
 abbrev pub has_bad_owner : ℕ → EventDef → Bool
 has_bad_owner modules e = nat_le modules e.owner
@@ -62,8 +70,11 @@ takes_parts parts e = pointwise same_kind (kinds_of e.sig) (map part_kind parts)
 
 -- what the step raises is there, and takes what it gets
 abbrev pub is_step_fit : List EventDef → ActStep → Bool
-is_step_fit events (step.Up event parts) = option_map_or (takes_parts parts) (slice_get events event) false
-is_step_fit events (step.Layer k event) = option_map_or (λ (e : EventDef). takes_layer e.sig.params k) (slice_get events event) false
+is_step_fit events (step.Up event parts) =
+    option_map_or (takes_parts parts) (slice_get events event) false
+is_step_fit events (step.Layer k event) =
+    option_map_or (λ (e : EventDef). takes_layer e.sig.params k) (slice_get events event)
+    false
 is_step_fit events s = true
 
 abbrev pub raises_amiss : List EventDef → HandlerUnit → Bool
@@ -71,7 +82,8 @@ raises_amiss events h = not (list_all (is_step_fit events) h.act.steps)
 
 -- the first default, if there is one, can't serve the event of that number
 abbrev pub has_bad_default : List HandlerUnit → ℕ × EventDef → Bool
-has_bad_default handlers numbered = not (is_fit_default handlers numbered.0 numbered.1 numbered.1.first_default)
+has_bad_default handlers numbered =
+    not (is_fit_default handlers numbered.0 numbered.1 numbered.1.first_default)
 
 -- the guards that the rule imposes are there, and ask of the event's parameters
 abbrev pub is_fit_rule : List GuardUnit → EventDef → Rule → Bool
@@ -80,7 +92,9 @@ is_fit_rule guards e rule = list_all (is_fit_guard guards e) (effect_guards rule
 -- the native authoriser isn't there, or a guard that the rules impose isn't there or asks of other parameters
 abbrev pub has_bad_policy : List (List Rule) → List GuardUnit → EventDef → Bool
 has_bad_policy policies guards e =
-    not (has_authority policies e.authority && list_all (is_fit_rule guards e) (rules_of policies e.authority))
+    not
+    (has_authority policies e.authority
+    && list_all (is_fit_rule guards e) (rules_of policies e.authority))
 
 -- the first of these faults
 abbrev pub first_fault : List (Option SetupFault) → Option SetupFault
@@ -95,7 +109,8 @@ faults_of d =
     ∷ option_map (λ at. fault.BadOwner at) (position (has_bad_owner d.modules) d.events)
     ∷ option_map (λ at. fault.BadMerge at) (position has_bad_merge d.events)
     ∷ option_map (λ at. fault.BadUp (at + 1)) (position (raises_amiss d.events) d.handlers)
-    ∷ option_map (λ at. fault.BadDefault at) (position (has_bad_default d.handlers) (enumerate_from 0 d.events))
+    ∷ option_map (λ at. fault.BadDefault at)
+    (position (has_bad_default d.handlers) (enumerate_from 0 d.events))
     ∷ option_map (λ at. fault.BadPolicy at) (position (has_bad_policy d.policies d.guards) d.events)
     ∷ []
 

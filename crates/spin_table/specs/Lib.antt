@@ -9,3 +9,5 @@ pub mod Faults
 pub mod Soundness
 pub mod SetupOf
 pub mod Orders
+pub mod Laws
+pub mod Limits

@@ -1,5 +1,6 @@
 -- Why a command is refused: the first of these conditions that holds.
-use Rattle.std.specs.Prelude.{ℕ, Bool, false, not, ◌&&◌, ◌||◌, ◌==◌, nat_lt, nat_le, List, [], ◌∷◌, ◌++◌, length, slice_get, Option, Some}
+use Rattle.std.specs.Prelude.{ℕ, Bool, false, not, ◌&&◌, ◌||◌, ◌==◌, nat_lt, nat_le, List, []}
+use Rattle.std.specs.Prelude.{◌∷◌, ◌++◌, length, slice_get, Option, Some, None, if◌then◌else◌}
 use Rattle.std.specs.List.{list_any}
 use Rattle.std.specs.Option.{option_map_or}
 use Rattle.spin_word.specs.declared.command.Mode.{Mode}
@@ -8,7 +9,8 @@ use Rattle.spin_word.specs.declared.command.Op.{Op}
 use Rattle.spin_word.specs.declared.command.Op.TheVariants as op
 use Rattle.spin_word.specs.declared.command.Command.{Command}
 use Rattle.spin_word.specs.Commands.{no_number, target_is_used, guard_is_used, handler_is_used}
-use Rattle.spin_policy.specs.Verdicts.{is_install, first_refusal}
+use Rattle.spin_values.specs.First.{first_of, numbered}
+use Rattle.spin_policy.specs.Verdicts.{is_install}
 use Rattle.spin_policy.specs.declared.rule.Rule.{Rule}
 use Rattle.spin_policy.specs.Imposed.{forces_apart}
 use Rattle.spin_place.specs.declared.binding.Binding.{Binding}
@@ -16,14 +18,16 @@ use Rattle.spin_table.specs.declared.event.EventDef.{EventDef}
 use Rattle.spin_table.specs.declared.refusal.Refusal.{Refusal}
 use Rattle.spin_table.specs.declared.refusal.Refusal.TheVariants as refusal
 use Rattle.spin_objects.specs.Units.{HandlerUnit, GuardUnit}
-use Rattle.spin_table.specs.Setups.{SetupData, unit_of, rules_of}
+use Rattle.spin_table.specs.Setups.{SetupData, rules_of}
 use Rattle.spin_table.specs.States.{State, EventState, binding_of, is_live}
-use Rattle.spin_table.specs.Units.{same_signature, same_parameter_kinds, raises_down, sets_argument, has_wrong_mode}
+use Rattle.spin_table.specs.Units.{same_signature, same_parameter_kinds, raises_down}
+use Rattle.spin_table.specs.Units.{sets_argument, has_wrong_mode}
 use Rattle.spin_table.specs.Verdicts.{answer_to, is_denied, named_rule}
 
 -- 3: the op uses a handler, and there is none of its number
 abbrev pub lacks_handler : List HandlerUnit → Command → Bool
-lacks_handler handlers c = handler_is_used c.op && ((c.handler == 0) || nat_lt (length handlers) c.handler)
+lacks_handler handlers c =
+    handler_is_used c.op && ((c.handler == 0) || nat_lt (length handlers) c.handler)
 
 -- 4: the op uses a guard, and there is none of its number
 abbrev pub lacks_guard : List GuardUnit → Command → Bool
@@ -40,13 +44,17 @@ lacks_binding bs c =
     || list_any (names_unknown bs) c.before
     || list_any (names_unknown bs) c.after
 
+-- the handler that the op uses, if it is there
+abbrev pub used_handler : List HandlerUnit → Command → Option HandlerUnit
+used_handler handlers c = if handler_is_used c.op then numbered handlers c.handler else None
+
 -- something of the handler that the op uses
 abbrev pub of_handler : List HandlerUnit → Command → (HandlerUnit → Bool) → Bool
-of_handler handlers c test = handler_is_used c.op && option_map_or test (unit_of handlers c.handler) false
+of_handler handlers c test = option_map_or test (used_handler handlers c) false
 
 -- something of the guard that the op uses, which isn't 0
 abbrev pub of_guard : List GuardUnit → Command → (GuardUnit → Bool) → Bool
-of_guard guards c test = guard_is_used c.op && option_map_or test (unit_of guards c.guard) false
+of_guard guards c test = guard_is_used c.op && option_map_or test (numbered guards c.guard) false
 
 -- 6: the handler's signature isn't the event's, or the guard hasn't the kinds of the event's parameters
 abbrev pub has_wrong_type : List HandlerUnit → List GuardUnit → EventDef → Command → Bool
@@ -73,7 +81,8 @@ abbrev pub is_denied_by : List (List Rule) → EventDef → List Binding → Com
 is_denied_by policies e bs c = is_denied (answer_to policies e bs c)
 
 -- 12: the owner would have a handler run asynchronously that changes an argument
-abbrev pub forces_a_change_apart : List (List Rule) → List HandlerUnit → EventDef → List Binding → Command → Bool
+abbrev pub forces_a_change_apart : List (List Rule) → List HandlerUnit → EventDef
+    → List Binding → Command → Bool
 forces_a_change_apart policies handlers e bs c =
     is_install c.op
     && forces_apart (rules_of policies e.authority) (answer_to policies e bs c)
@@ -84,7 +93,8 @@ abbrev pub is_full : ℕ → List Binding → Command → Bool
 is_full live bs c = is_install c.op && nat_le live (length bs)
 
 -- the refusals that come of what the command names, on this event with these bindings
-abbrev pub unit_refusals : List HandlerUnit → List GuardUnit → EventDef → List Binding → Command → List (Bool × Refusal)
+abbrev pub unit_refusals : List HandlerUnit → List GuardUnit → EventDef → List Binding
+    → Command → List (Bool × Refusal)
 unit_refusals handlers guards e bs c =
     (lacks_handler handlers c, refusal.UnknownHandler)
     ∷ (lacks_guard guards c, refusal.UnknownGuard)
@@ -98,7 +108,11 @@ unit_refusals handlers guards e bs c =
 abbrev pub owner_refusals : SetupData → EventDef → List Binding → Command → List (Bool × Refusal)
 owner_refusals d e bs c =
     (is_denied_by d.policies e bs c, refusal.Denied (named_rule (answer_to d.policies e bs c)))
-    ∷ (forces_a_change_apart d.policies d.handlers e bs c, refusal.ForcedMode (named_rule (answer_to d.policies e bs c)))
+    ∷ (
+      forces_a_change_apart d.policies d.handlers e bs c,
+      refusal.ForcedMode
+          (named_rule (answer_to d.policies e bs c)),
+    )
     ∷ (is_full d.live bs c, refusal.TooMany)
     ∷ []
 
@@ -110,7 +124,7 @@ refusals_at d e bs c =
     ++ owner_refusals d e bs c
 
 abbrev pub refusal_on : SetupData → Command → Option EventDef → Option EventState → Option Refusal
-refusal_on d c (Some e) (Some s) = first_refusal (refusals_at d e s.bindings c)
+refusal_on d c (Some e) (Some s) = first_of (refusals_at d e s.bindings c)
 refusal_on d c _ _ = Some refusal.UnknownEvent
 
 -- the first refusal of the command that applies, but for a conflict

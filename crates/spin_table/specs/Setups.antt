@@ -1,5 +1,6 @@
 -- What a setup says, as plain data.
-use Rattle.std.specs.Prelude.{ℕ, ◌-◌, ◌==◌, Bool, true, nat_lt, if◌then◌else◌, List, [], length, Option, None, Some, slice_get}
+use Rattle.std.specs.Prelude.{ℕ, Bool, true, nat_lt, List, [], length, Option, None, Some}
+use Rattle.std.specs.Prelude.{slice_get}
 use Rattle.spin_objects.specs.Units.{HandlerUnit, GuardUnit}
 use Rattle.spin_policy.specs.declared.rule.Rule.{Rule}
 use Rattle.spin_table.specs.declared.event.EventDef.{EventDef}
@@ -15,10 +16,6 @@ pub record SetupData : Type 0 where
   pub handlers : List HandlerUnit
   pub guards : List GuardUnit
   pub policies : List (List Rule)
-
--- what has that number, the first having number 1
-abbrev pub unit_of : {X : Type 0} → List X → ℕ → Option X
-unit_of units number = if number == 0 then None else slice_get units (number - 1)
 
 abbrev pub rules_if : Option (List Rule) → List Rule
 rules_if None = []

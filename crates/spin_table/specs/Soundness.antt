@@ -1,5 +1,6 @@
 -- States that are sound for a setup.
-use Rattle.std.specs.Prelude.{◌≡◌, ℕ, ◌<◌, ◌≤◌, Bool, ◌&&◌, IsTrue, length, slice_get, Some, All, IsSomeAnd, Contains}
+use Rattle.std.specs.Prelude.{◌≡◌, ℕ, ◌<◌, ◌≤◌, Bool, ◌&&◌, IsTrue, length, slice_get, Some}
+use Rattle.std.specs.Prelude.{All, IsSomeAnd, Contains}
 use Rattle.std.specs.List.{list_all}
 use Rattle.std.specs.List.Sorted.{IsStrictlyIncreasing}
 use Rattle.spin_place.specs.declared.binding.Binding.{Binding}
@@ -18,7 +19,8 @@ is_fit_binding d event e b =
 
 -- the state of an event is sound at that place: its bindings rise by number from 1 to the place, are no more than the
 -- limit, have a lawful order, and like its default serve the event
-pub record IsSoundEvent (d : SetupData) (place event : ℕ) (e : EventDef) (s : EventState) : Type 0 where
+pub record IsSoundEvent (d : SetupData) (place event : ℕ) (e : EventDef) (s : EventState)
+    : Type 0 where
   pub rising : IsStrictlyIncreasing (numbers_of s.bindings)
   pub installed : All (λ n. (0 < n) × (n ≤ place)) (numbers_of s.bindings)
   pub few : length s.bindings ≤ d.live
@@ -28,11 +30,15 @@ pub record IsSoundEvent (d : SetupData) (place event : ℕ) (e : EventDef) (s : 
 
 -- the event of that number has a binding of this number
 abbrev pub IsNumberAt : State → ℕ → ℕ → Type 0
-IsNumberAt s event number = IsSomeAnd (slice_get s.events event) (λ (t : EventState). Contains (numbers_of t.bindings) number)
+IsNumberAt s event number =
+    IsSomeAnd (slice_get s.events event)
+    (λ (t : EventState). Contains (numbers_of t.bindings) number)
 
 -- the state is sound for the setup: it has the setup's events, each event's state is sound, and no two events have
 -- bindings of one number
 pub record IsSound (d : SetupData) (s : State) : Type 0 where
   pub events : length s.events ≡ length d.events
-  pub each : (event : ℕ) (e : EventDef) (t : EventState) → slice_get d.events event ≡ Some e → slice_get s.events event ≡ Some t → IsSoundEvent d s.place event e t
+  pub each : (event : ℕ) (e : EventDef) (t : EventState)
+      → slice_get d.events event ≡ Some e → slice_get s.events event ≡ Some t
+      → IsSoundEvent d s.place event e t
   pub apart : (i j number : ℕ) → IsNumberAt s i number → IsNumberAt s j number → i ≡ j

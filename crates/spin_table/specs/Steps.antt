@@ -1,5 +1,7 @@
 -- What a command changes: the step from one state to the next, as a relation.
-use Rattle.std.specs.Prelude.{◌≡◌, ℕ, ◌+◌, Bool, true, false, not, ◌==◌, if◌then◌else◌, List, [], ◌∷◌, ◌++◌, map, filter, slice_get, slice_set, Option, None, Some, MatchOption, ⊤, Result, Ok, Err}
+use Rattle.std.specs.Prelude.{◌≡◌, ℕ, ◌+◌, Bool, true, false, not, ◌==◌, if◌then◌else◌, List}
+use Rattle.std.specs.Prelude.{[], ◌∷◌, ◌++◌, map, filter, slice_get, slice_set, Option, None}
+use Rattle.std.specs.Prelude.{Some, MatchOption, ⊤, Result, Ok, Err}
 use Rattle.spin_word.specs.declared.command.Op.{Op}
 use Rattle.spin_word.specs.declared.command.Op.TheVariants as op
 use Rattle.spin_word.specs.declared.command.Place.{Place}
@@ -62,7 +64,8 @@ installed rules v number c = record {
 
 -- the binding with another handler and other guards, which keeps number, requester, place and mode
 abbrev pub replaced : List Rule → Verdict → Command → Binding → Binding
-replaced rules v c b = record b { handler = c.handler; own_guard = c.guard; imposed = imposed_guards rules v }
+replaced rules v c b =
+    record b { handler = c.handler; own_guard = c.guard; imposed = imposed_guards rules v }
 
 -- it is replaced where it is the target
 abbrev pub replaced_at : List Rule → Verdict → Command → Binding → Binding
@@ -84,20 +87,24 @@ default_after c o default = default
 -- the event after a command under that place
 abbrev pub event_after : List (List Rule) → EventDef → ℕ → Command → EventState → EventState
 event_after policies e place c s = record {
-  bindings = bindings_after (rules_of policies e.authority) (answer_to policies e s.bindings c) place c c.op s.bindings;
+  bindings = bindings_after (rules_of policies e.authority)
+      (answer_to policies e s.bindings c) place c c.op s.bindings;
   default = default_after c c.op s.default;
 }
 
 -- the command's event is changed, and no other
-abbrev pub events_after : List (List Rule) → ℕ → Command → Option EventDef → Option EventState → List EventState → List EventState
-events_after policies place c (Some e) (Some s) events = slice_set events c.event (event_after policies e place c s)
+abbrev pub events_after : List (List Rule) → ℕ → Command → Option EventDef → Option EventState
+    → List EventState → List EventState
+events_after policies place c (Some e) (Some s) events =
+    slice_set events c.event (event_after policies e place c s)
 events_after policies place c _ _ events = events
 
 -- the state after a command that is accepted: the place is one greater, and one thing else is changed
 abbrev pub state_after : SetupData → Command → State → State
 state_after d c s = record {
   place = s.place + 1;
-  events = events_after d.policies (s.place + 1) c (slice_get d.events c.event) (slice_get s.events c.event) s.events;
+  events = events_after d.policies (s.place + 1) c (slice_get d.events c.event)
+      (slice_get s.events c.event) s.events;
 }
 
 abbrev pub bindings_if : Option EventState → List Binding
@@ -127,13 +134,16 @@ ChangesTo d s c (verdicted.Refused r) next =
 
 -- the command has this verdict at the state, and leaves that one
 abbrev pub IsStep : SetupData → State → Command → Verdicted → State → Type 0
-IsStep d s c v next = MatchOption (refusal_of d s c) (ChangesTo d s c v next) (λ r. (v ≡ verdicted.Refused r) × (next ≡ s))
+IsStep d s c v next =
+    MatchOption (refusal_of d s c) (ChangesTo d s c v next)
+    (λ r. (v ≡ verdicted.Refused r) × (next ≡ s))
 
--- the answer to a command at the state: the next state, or a refusal; want of memory comes at any time
+-- the answer to a command at the state: the next state, or a refusal; want of memory comes only where none of the
+-- refusals but a conflict applies
 abbrev pub IsAnswer : SetupData → State → Command → Result State StepFault → Type 0
 IsAnswer d s c (Ok next) = IsStep d s c verdicted.Accepted next
 IsAnswer d s c (Err (fault.Refused r)) = IsStep d s c (verdicted.Refused r) s
-IsAnswer d s c (Err fault.NoMemory) = Unit {0}
+IsAnswer d s c (Err fault.NoMemory) = refusal_of d s c ≡ None
 
 -- where the command is refused, P holds
 abbrev pub OnRefused : {A : Type 0} → Result A StepFault → Type 0 → Type 0

@@ -1,6 +1,7 @@
 //! What is wrong with the parts of a setup.
 
-ghost use Rattle.std.specs.Prelude.{◌≡◌, ◌≤◌, ◌<◌, ◌↔◌, IfSome, IsTrue, not, false, length, map, position, slice_get};
+ghost use Rattle.std.specs.Prelude.{◌≡◌, ◌≤◌, ◌<◌, ◌↔◌, IfSome, IsTrue, not, false, length};
+ghost use Rattle.std.specs.Prelude.{map, position, slice_get};
 ghost use Rattle.std.specs.Option.{option_map_or};
 ghost use Rattle.std.specs.List.{list_all, enumerate_from};
 ghost use Rattle.spin_values.specs.Kinds.{kinds_of};
@@ -13,20 +14,23 @@ ghost use Rattle.spin_table.specs.Faults as specs;
 
 use crate::event::EventDef;
 use crate::fault::SetupFault;
-use crate::setup::{MAX_EVENTS, MAX_LIVE, MAX_MODULES};
+use crate::setup::{MAX_LIVE, MAX_MODULES};
 use crate::units::{is_fit_guard, is_fit_handler};
-use spin_code::act::Parts;
-use spin_code::{Act, ActStep, Layer, Part, check_merge};
+use spin_code::{Act, ActStep, Layer, Part, Parts, check_merge};
 use spin_objects::Catalogue;
 use spin_policy::Rule;
 use spin_values::{EventType, Kind, Param};
-use spin_word::Mode;
+use spin_word::{MAX_EVENTS, Mode};
 
 /// Whether a number of modules, of live bindings, or of events is out of its range.
 pub(crate) fn has_wrong_size(modules: u16, live: u16, events: usize) -> bool
     ensures { result ≡ specs.has_wrong_size modules live events }
 {
-    modules == 0 || modules > MAX_MODULES || live == 0 || live > MAX_LIVE || events > MAX_EVENTS
+    modules == 0
+        || modules > MAX_MODULES
+        || live == 0
+        || live > MAX_LIVE
+        || events > usize::from(MAX_EVENTS)
 }
 
 fn has_bad_owner(modules: u16, event: &EventDef) -> bool
@@ -74,7 +78,7 @@ fn have_kinds(sig: &EventType, parts: &Parts) -> bool
         return false;
     }
     for at in 0..parts.len() {
-        if !sig.params.get(at).kind.is(part_kind(parts.get(at))) {
+        if sig.params.get(at).kind != part_kind(parts.get(at)) {
             return false;
         }
     }
@@ -122,7 +126,8 @@ fn takes_layer(params: &[Param], layer: Layer) -> bool
 }
 
 fn is_up_fit(events: &[EventDef], event: u8, parts: &Parts) -> bool
-    ensures { result ≡ option_map_or (specs.takes_parts parts.now) (slice_get events.now event) false }
+    ensures { result
+        ≡ option_map_or (specs.takes_parts parts.now) (slice_get events.now event) false }
 {
     match events.get(event as usize) {
         None => false,
@@ -131,7 +136,9 @@ fn is_up_fit(events: &[EventDef], event: u8, parts: &Parts) -> bool
 }
 
 fn is_layer_fit(events: &[EventDef], event: u8, layer: Layer) -> bool
-    ensures { result ≡ option_map_or (λ e. specs.takes_layer e.sig.params layer) (slice_get events.now event) false }
+    ensures { result
+        ≡ option_map_or (λ e. specs.takes_layer e.sig.params layer)
+        (slice_get events.now event) false }
 {
     match events.get(event as usize) {
         None => false,
@@ -180,8 +187,10 @@ fn has_bad_default(catalogue: &Catalogue, number: u8, event: &EventDef) -> bool
 
 /// The first event whose default can't serve it.
 pub(crate) fn bad_default(events: &[EventDef], catalogue: &Catalogue) -> Option<usize>
-    requires few { length events.now ≤ 64 }
-    ensures default { result ≡ position (specs.has_bad_default (handlers_of catalogue.now)) (enumerate_from 0 events.now) }
+    requires few { length events.now ≤ MAX_EVENTS }
+    ensures default { result
+        ≡ position (specs.has_bad_default (handlers_of catalogue.now))
+        (enumerate_from 0 events.now) }
     ensures there { IfSome result (λ at. at < length events.now) }
 {
     for (at, event) in events.iter().enumerate() {
@@ -224,21 +233,28 @@ pub fn are_all_fit(catalogue: &Catalogue, event: &EventDef, rules: &[Rule]) -> b
 
 fn are_rules_fit(catalogue: &Catalogue, event: &EventDef) -> bool
     requires there { IsTrue (has_authority (policies_of catalogue.now.natives) event.now.authority) }
-    ensures { result ≡ list_all (specs.is_fit_rule (guards_of catalogue.now) event.now) (rules_of (policies_of catalogue.now.natives) event.now.authority) }
+    ensures { result
+        ≡ list_all (specs.is_fit_rule (guards_of catalogue.now) event.now)
+        (rules_of (policies_of catalogue.now.natives) event.now.authority) }
 {
     let rules = event.rules(catalogue.natives());
     are_all_fit(catalogue, event, rules.as_slice())
 }
 
 fn has_bad_policy(catalogue: &Catalogue, event: &EventDef) -> bool
-    ensures { result ≡ specs.has_bad_policy (policies_of catalogue.now.natives) (guards_of catalogue.now) event.now }
+    ensures { result
+        ≡ specs.has_bad_policy (policies_of catalogue.now.natives)
+        (guards_of catalogue.now) event.now }
 {
     !(event.has_authority(catalogue.natives()) && are_rules_fit(catalogue, event))
 }
 
 /// The first event whose native authoriser isn't there, or whose rules impose a guard that can't serve it.
 pub(crate) fn bad_policy(events: &[EventDef], catalogue: &Catalogue) -> Option<usize>
-    ensures { result ≡ position (specs.has_bad_policy (policies_of catalogue.now.natives) (guards_of catalogue.now)) events.now }
+    ensures { result
+        ≡ position
+        (specs.has_bad_policy (policies_of catalogue.now.natives)
+        (guards_of catalogue.now)) events.now }
 {
     for (at, event) in events.iter().enumerate() {
         if has_bad_policy(catalogue, event) {

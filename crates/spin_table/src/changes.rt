@@ -1,6 +1,7 @@
 //! The bindings of an event after a command.
 
-ghost use Rattle.std.specs.Prelude.{◌≡◌, ◌≤◌, ◌<◌, ◌++◌, ◌==◌, if◌then◌else◌, not, [], ◌∷◌, IfOk, map, filter, length};
+ghost use Rattle.std.specs.Prelude.{◌≡◌, ◌≤◌, ◌<◌, ◌++◌, ◌==◌, if◌then◌else◌, not, [], ◌∷◌};
+ghost use Rattle.std.specs.Prelude.{IfOk, map, filter, length};
 ghost use Rattle.spin_policy.specs.Imposed.{imposed_guards, forced_place};
 ghost use Rattle.spin_table.specs.Steps as specs;
 
@@ -42,23 +43,6 @@ fn copy_numbers(alloc: Global, numbers: &[u16]) -> Result<Numbers, NoMemory>
     ensures { IfOk result (λ copy. copy ≡ numbers.now) }
 {
     Numbers::from_slice(alloc, numbers)
-}
-
-/// An equal binding.
-pub(crate) fn copy_binding(alloc: Global, binding: &Binding) -> Result<Binding, NoMemory>
-    ensures { IfOk result (λ copy. copy ≡ binding.now) }
-{
-    Ok(Binding {
-        number: binding.number,
-        requester: binding.requester,
-        handler: binding.handler,
-        own_guard: binding.own_guard,
-        imposed: copy_numbers(alloc, binding.imposed.as_slice())?,
-        place: binding.place,
-        before: binding.before,
-        after: binding.after,
-        mode: binding.mode,
-    })
 }
 
 /// The binding that the command installs under this number.
@@ -114,7 +98,7 @@ fn copy_bindings(alloc: Global, bindings: &[Binding]) -> Result<Bindings, NoMemo
 {
     let mut copy = Sequence::new(alloc);
     for binding in bindings {
-        copy.push(copy_binding(alloc, binding)?)?;
+        copy.push(binding.copy()?)?;
     }
     Ok(copy)
 }
@@ -125,7 +109,7 @@ fn copy_without(alloc: Global, bindings: &[Binding], target: u16) -> Result<Bind
     let mut copy = Sequence::new(alloc);
     for binding in bindings {
         if binding.number != target {
-            copy.push(copy_binding(alloc, binding)?)?;
+            copy.push(binding.copy()?)?;
         }
     }
     Ok(copy)
@@ -144,7 +128,7 @@ fn replaced_if(
     if binding.number == c.target {
         replaced(alloc, rules, verdict, c, binding)
     } else {
-        copy_binding(alloc, binding)
+        binding.copy()
     }
 }
 
@@ -155,7 +139,8 @@ fn copy_replaced(
     c: &Command,
     bindings: &[Binding],
 ) -> Result<Bindings, NoMemory>
-    ensures { IfOk result (λ copy. copy ≡ map (specs.replaced_at rules.now verdict c.now) bindings.now) }
+    ensures { IfOk result
+        (λ copy. copy ≡ map (specs.replaced_at rules.now verdict c.now) bindings.now) }
 {
     let mut copy = Sequence::new(alloc);
     for binding in bindings {
@@ -172,7 +157,8 @@ fn copy_and_install(
     c: &Command,
     bindings: &[Binding],
 ) -> Result<Bindings, NoMemory>
-    ensures { IfOk result (λ copy. copy ≡ bindings.now ++ specs.installed rules.now verdict number c.now ∷ []) }
+    ensures { IfOk result (λ copy.
+        copy ≡ bindings.now ++ specs.installed rules.now verdict number c.now ∷ []) }
 {
     let mut copy = copy_bindings(alloc, bindings)?;
     copy.push(installed(alloc, rules, verdict, number, c)?)?;
@@ -188,7 +174,10 @@ pub(crate) fn bindings_after(
     c: &Command,
     bindings: &[Binding],
 ) -> Result<Bindings, NoMemory>
-    ensures { IfOk result (λ after. after ≡ specs.bindings_after rules.now verdict number c.now c.now.op bindings.now) }
+    ensures { IfOk result (λ after.
+        after
+        ≡ specs.bindings_after rules.now verdict number c.now c.now.op
+        bindings.now) }
 {
     match c.op {
         Op::Install => copy_and_install(alloc, rules, verdict, number, c, bindings),

@@ -5,7 +5,7 @@ use spin_policy::Policy;
 use spin_values::{EventType, Sequence};
 
 /// Who answers for the owner of an event.
-#[derive(Drop)]
+#[derive(Drop, Debug)]
 pub enum Authority {
     /// Rules, of which the first that matches decides.
     Rules(Policy),
@@ -14,7 +14,7 @@ pub enum Authority {
 }
 
 /// An event of a setup.
-#[derive(Drop)]
+#[derive(Drop, Debug)]
 pub struct EventDef {
     /// What its handlers take and give.
     pub sig: EventType,

@@ -1,8 +1,8 @@
 //! Whether a command is refused.
 
-ghost use Rattle.std.specs.Prelude.{◌≡◌, ◌≤◌, ◌&&◌, IsTrue, not, length};
-ghost use Rattle.spin_word.specs.Commands.{target_is_used, guard_is_used, handler_is_used};
-ghost use Rattle.spin_policy.specs.Verdicts.{is_install, first_refusal, verdict_of};
+ghost use Rattle.std.specs.Prelude.{◌≡◌, ◌≤◌, ◌&&◌, IsTrue, not, length, MatchOption, Some, None};
+ghost use Rattle.spin_values.specs.First.{first_of};
+ghost use Rattle.spin_policy.specs.Verdicts.{is_install, verdict_of};
 ghost use Rattle.spin_objects.specs.Units.{handlers_of, guards_of, policies_of};
 ghost use Rattle.spin_policy.specs.Imposed.{forces_apart};
 ghost use Rattle.spin_table.specs.Setups.{rules_of, has_authority};
@@ -10,6 +10,7 @@ ghost use Rattle.spin_table.specs.Units as units;
 ghost use Rattle.spin_table.specs.Verdicts as verdicts;
 ghost use Rattle.spin_table.specs.Refusals as specs;
 ghost use Rattle.spin_table.specs.SetupOf.{data_of};
+ghost use Rattle.spin_table.specs.declared.setup.TheConstants.{MAX_LIVE};
 
 use crate::event::{Authority, EventDef};
 use crate::live::{find_binding, is_live, live_of, name_unknown};
@@ -19,29 +20,12 @@ use crate::units::{
     find_guard, find_handler, has_parameter_kinds, has_signature, has_wrong_mode, raises_down,
     sets_argument,
 };
-use spin_code::{Guards, Sincere};
+use spin_code::{Act, Guards, Sincere};
 use spin_objects::{Catalogue, NativeKind, Natives};
 use spin_place::Binding;
 use spin_policy::{Policy, Request, Verdict, judge};
+use spin_values::EventType;
 use spin_word::{Command, Mode, Op};
-
-fn uses_handler(op: Op) -> bool
-    ensures { result ≡ handler_is_used op }
-{
-    matches!(op, Op::Install | Op::Replace | Op::Default)
-}
-
-fn uses_guard(op: Op) -> bool
-    ensures { result ≡ guard_is_used op }
-{
-    matches!(op, Op::Install | Op::Replace)
-}
-
-fn uses_target(op: Op) -> bool
-    ensures { result ≡ target_is_used op }
-{
-    matches!(op, Op::Remove | Op::Replace)
-}
 
 fn is_install(op: Op) -> bool
     ensures { result ≡ is_install op }
@@ -52,39 +36,51 @@ fn is_install(op: Op) -> bool
 fn lacks_handler(catalogue: &Catalogue, c: &Command) -> bool
     ensures { result ≡ specs.lacks_handler (handlers_of catalogue.now) c.now }
 {
-    uses_handler(c.op) && (c.handler == 0 || c.handler > catalogue.handlers())
+    c.op.uses_handler() && (c.handler == 0 || c.handler > catalogue.handlers())
 }
 
 fn lacks_guard(catalogue: &Catalogue, c: &Command) -> bool
     ensures { result ≡ specs.lacks_guard (guards_of catalogue.now) c.now }
 {
-    uses_guard(c.op) && c.guard > catalogue.count()
+    c.op.uses_guard() && c.guard > catalogue.count()
 }
 
 fn lacks_binding(bindings: &[Binding], c: &Command) -> bool
     ensures { result ≡ specs.lacks_binding bindings.now c.now }
 {
-    uses_target(c.op) && !is_live(bindings, c.target)
+    c.op.uses_target() && !is_live(bindings, c.target)
         || name_unknown(bindings, &c.before)
         || name_unknown(bindings, &c.after)
 }
 
-fn has_wrong_signature(catalogue: &Catalogue, def: &EventDef, c: &Command) -> bool
-    ensures { result ≡ specs.of_handler (handlers_of catalogue.now) c.now (λ h. not (units.same_signature h.sig def.now.sig)) }
+// The signature and the act of the handler that the op uses, if it is there.
+fn used_handler<'a>(catalogue: &'a Catalogue, c: &Command) -> Option<(&'a EventType, &'a Act)>
+    ensures { let used = specs.used_handler (handlers_of catalogue.now) c.now in
+        MatchOption result (used ≡ None) (λ h. used ≡ Some (record { sig = h.0.now; act = h.1.now })) }
 {
-    if !uses_handler(c.op) {
-        return false;
+    if !c.op.uses_handler() {
+        return None;
     }
-    match find_handler(catalogue, c.handler) {
+    find_handler(catalogue, c.handler)
+}
+
+fn has_wrong_signature(catalogue: &Catalogue, def: &EventDef, c: &Command) -> bool
+    ensures { result
+        ≡ specs.of_handler (handlers_of catalogue.now) c.now
+        (λ h. not (units.same_signature h.sig def.now.sig)) }
+{
+    match used_handler(catalogue, c) {
         None => false,
         Some((sig, _)) => !has_signature(sig, &def.sig),
     }
 }
 
 fn has_wrong_kinds(catalogue: &Catalogue, def: &EventDef, c: &Command) -> bool
-    ensures { result ≡ specs.of_guard (guards_of catalogue.now) c.now (λ g. not (units.same_parameter_kinds g.sig def.now.sig)) }
+    ensures { result
+        ≡ specs.of_guard (guards_of catalogue.now) c.now
+        (λ g. not (units.same_parameter_kinds g.sig def.now.sig)) }
 {
-    if !uses_guard(c.op) {
+    if !c.op.uses_guard() {
         return false;
     }
     match find_guard(catalogue, c.guard) {
@@ -96,10 +92,7 @@ fn has_wrong_kinds(catalogue: &Catalogue, def: &EventDef, c: &Command) -> bool
 fn goes_down(catalogue: &Catalogue, c: &Command) -> bool
     ensures { result ≡ specs.goes_down (handlers_of catalogue.now) c.now }
 {
-    if !uses_handler(c.op) {
-        return false;
-    }
-    match find_handler(catalogue, c.handler) {
+    match used_handler(catalogue, c) {
         None => false,
         Some((_, act)) => raises_down(c.event, act),
     }
@@ -122,22 +115,18 @@ fn mode_of(bindings: &[Binding], c: &Command) -> Mode
 fn has_mode_fault(catalogue: &Catalogue, bindings: &[Binding], c: &Command) -> bool
     ensures { result ≡ specs.has_mode_fault (handlers_of catalogue.now) bindings.now c.now }
 {
-    if !uses_handler(c.op) {
-        return false;
-    }
-    match find_handler(catalogue, c.handler) {
+    match used_handler(catalogue, c) {
         None => false,
         Some((_, act)) => has_wrong_mode(mode_of(bindings, c), act),
     }
 }
 
 fn changes_an_argument(catalogue: &Catalogue, c: &Command) -> bool
-    ensures { result ≡ specs.of_handler (handlers_of catalogue.now) c.now (λ h. units.sets_argument h.act) }
+    ensures { result
+        ≡ specs.of_handler (handlers_of catalogue.now) c.now
+        (λ h. units.sets_argument h.act) }
 {
-    if !uses_handler(c.op) {
-        return false;
-    }
-    match find_handler(catalogue, c.handler) {
+    match used_handler(catalogue, c) {
         None => false,
         Some((_, act)) => sets_argument(act),
     }
@@ -146,14 +135,14 @@ fn changes_an_argument(catalogue: &Catalogue, c: &Command) -> bool
 fn target_owner(bindings: &[Binding], c: &Command) -> Option<u8>
     ensures { result ≡ (verdicts.request_of bindings.now c.now).target_owner }
 {
-    if !uses_target(c.op) {
+    if !c.op.uses_target() {
         return None;
     }
     find_binding(bindings, c.target).map(|binding| binding.requester)
 }
 
 fn request_of(bindings: &[Binding], c: &Command) -> Request
-    requires few { length bindings.now ≤ 64 }
+    requires few { length bindings.now ≤ MAX_LIVE }
     ensures { result ≡ verdicts.request_of bindings.now c.now }
 {
     Request {
@@ -191,7 +180,9 @@ impl EventDef {
     fn judge(&self, natives: &Natives, request: &Request) -> Verdict
         requires there { IsTrue (has_authority (policies_of natives.now) self.now.authority) }
         requires sincere { ⟦<Natives as Sincere>⟧.sincere natives.now }
-        ensures { result ≡ verdict_of (rules_of (policies_of natives.now) self.now.authority) request.now }
+        ensures { result
+            ≡ verdict_of (rules_of (policies_of natives.now) self.now.authority)
+            request.now }
     {
         match &self.authority {
             Authority::Rules(policy) => judge(policy, request),
@@ -212,14 +203,15 @@ pub(crate) fn rules<'a>(setup: &'a Setup, def: &'a EventDef) -> &'a Policy
 fn judged(setup: &Setup, def: &EventDef, request: &Request) -> Verdict
     requires there { IsTrue (has_authority (data_of setup.now).policies def.now.authority) }
     requires sincere { ⟦<Catalogue as Sincere>⟧.sincere setup.now.catalogue }
-    ensures { result ≡ verdict_of (rules_of (data_of setup.now).policies def.now.authority) request.now }
+    ensures { result
+        ≡ verdict_of (rules_of (data_of setup.now).policies def.now.authority) request.now }
 {
     def.judge(setup.catalogue().natives(), request)
 }
 
 /// What the event's owner answers to a command of its own or of another module.
 pub(crate) fn answer(setup: &Setup, def: &EventDef, bindings: &[Binding], c: &Command) -> Verdict
-    requires few { length bindings.now ≤ 64 }
+    requires few { length bindings.now ≤ MAX_LIVE }
     requires there { IsTrue (has_authority (data_of setup.now).policies def.now.authority) }
     requires sincere { ⟦<Catalogue as Sincere>⟧.sincere setup.now.catalogue }
     ensures { result ≡ verdicts.answer_to (data_of setup.now).policies def.now bindings.now c.now }
@@ -248,7 +240,12 @@ fn is_denied(verdict: Verdict) -> bool
 
 fn forces_a_change_apart(setup: &Setup, def: &EventDef, answer: Verdict, c: &Command) -> bool
     requires there { IsTrue (has_authority (data_of setup.now).policies def.now.authority) }
-    ensures { result ≡ (is_install c.now.op && forces_apart (rules_of (data_of setup.now).policies def.now.authority) answer && specs.of_handler (data_of setup.now).handlers c.now (λ h. units.sets_argument h.act)) }
+    ensures { result
+        ≡ (is_install c.now.op
+        && forces_apart (rules_of (data_of setup.now).policies def.now.authority)
+        answer
+        && specs.of_handler (data_of setup.now).handlers c.now
+        (λ h. units.sets_argument h.act)) }
 {
     is_install(c.op)
         && rules(setup, def).runs_apart(answer)
@@ -262,7 +259,10 @@ fn unit_refusal(
     bindings: &[Binding],
     c: &Command,
 ) -> Option<Refusal>
-    ensures { result ≡ first_refusal (specs.unit_refusals (handlers_of catalogue.now) (guards_of catalogue.now) def.now bindings.now c.now) }
+    ensures { result
+        ≡ first_of
+        (specs.unit_refusals (handlers_of catalogue.now) (guards_of catalogue.now)
+        def.now bindings.now c.now) }
 {
     if lacks_handler(catalogue, c) {
         return Some(Refusal::UnknownHandler);
@@ -292,10 +292,11 @@ fn owner_refusal(
     bindings: &[Binding],
     c: &Command,
 ) -> Option<Refusal>
-    requires few { length bindings.now ≤ 64 }
+    requires few { length bindings.now ≤ MAX_LIVE }
     requires there { IsTrue (has_authority (data_of setup.now).policies def.now.authority) }
     requires sincere { ⟦<Catalogue as Sincere>⟧.sincere setup.now.catalogue }
-    ensures { result ≡ first_refusal (specs.owner_refusals (data_of setup.now) def.now bindings.now c.now) }
+    ensures { result
+        ≡ first_of (specs.owner_refusals (data_of setup.now) def.now bindings.now c.now) }
 {
     let answer = answer(setup, def, bindings, c);
     if is_denied(answer) {
@@ -317,10 +318,10 @@ pub(crate) fn refusal(
     bindings: &[Binding],
     c: &Command,
 ) -> Option<Refusal>
-    requires few { length bindings.now ≤ 64 }
+    requires few { length bindings.now ≤ MAX_LIVE }
     requires there { IsTrue (has_authority (data_of setup.now).policies def.now.authority) }
     requires sincere { ⟦<Catalogue as Sincere>⟧.sincere setup.now.catalogue }
-    ensures { result ≡ first_refusal (specs.refusals_at (data_of setup.now) def.now bindings.now c.now) }
+    ensures { result ≡ first_of (specs.refusals_at (data_of setup.now) def.now bindings.now c.now) }
 {
     if u16::from(c.requester) >= setup.modules() {
         return Some(Refusal::UnknownModule);

@@ -1,6 +1,7 @@
 //! The live bindings of one event, and the plan by which they run.
 
-ghost use Rattle.std.specs.Prelude.{◌≡◌, ◌≤◌, ◌+◌, ◌++◌, ℕ, List, All, IfOk, OnOk, MatchResult, length};
+ghost use Rattle.std.specs.Prelude.{◌≡◌, ◌≤◌, ◌+◌, ◌++◌, ℕ, List, All, IfOk, OnOk};
+ghost use Rattle.std.specs.Prelude.{MatchResult, length};
 ghost use Rattle.std.specs.Option.{option_copied, option_to_list};
 ghost use Rattle.spin_place.specs.Orders.{AreDistinct};
 ghost use Rattle.spin_place.specs.Precedence.{numbers_of, IsTheOrder, HasLawfulOrder};
@@ -8,8 +9,9 @@ ghost use Rattle.spin_plan.specs.Next.{IsGuard};
 ghost use Rattle.spin_objects.specs.Units.{guards_of};
 ghost use Rattle.spin_table.specs.Orders.{arranged, IsOrderFault};
 ghost use Rattle.spin_table.specs.Steps.{OnRefused};
+ghost use Rattle.spin_table.specs.declared.setup.TheConstants.{MAX_LIVE};
 
-use crate::changes::{Bindings, copy_binding};
+use crate::changes::Bindings;
 use crate::live::find_binding;
 use crate::refusal::{Refusal, StepFault};
 use crate::setup::Setup;
@@ -41,12 +43,12 @@ impl Model for EventLists {
 }
 
 // Adds the binding, if there is one.
-fn push_found(alloc: Global, list: &mut Bindings, found: Option<&Binding>) -> Result<(), NoMemory>
+fn push_found(list: &mut Bindings, found: Option<&Binding>) -> Result<(), NoMemory>
     ensures { OnOk result (list.new ≡ list.old ++ option_to_list (option_copied found.entry)) }
 {
     match found {
         None => Ok(()),
-        Some(binding) => list.push(copy_binding(alloc, binding)?),
+        Some(binding) => list.push(binding.copy()?),
     }
 }
 
@@ -56,7 +58,7 @@ fn arrange(alloc: Global, bindings: &[Binding], numbers: &[u16]) -> Result<Bindi
 {
     let mut list = Sequence::new(alloc);
     for number in numbers {
-        push_found(alloc, &mut list, find_binding(bindings, *number))?;
+        push_found(&mut list, find_binding(bindings, *number))?;
     }
     Ok(list)
 }
@@ -83,10 +85,12 @@ impl EventLists {
         steps: &mut Steps<L>,
     ) -> Result<EventLists, StepFault>
         requires distinct { AreDistinct (numbers_of bindings) }
-        requires few { length bindings ≤ 64 }
+        requires few { length bindings ≤ MAX_LIVE }
         requires own { All (λ b. IsGuard (length (guards_of setup.now.catalogue)) b.own_guard) bindings }
-        requires imposed { All (λ b. All (IsGuard (length (guards_of setup.now.catalogue))) b.imposed) bindings }
-        ensures made { MatchResult result (λ made. (made ≡ bindings) × HasLawfulOrder bindings) (IsOrderFault bindings) }
+        requires imposed { All (λ b. All (IsGuard (length (guards_of setup.now.catalogue))) b.imposed)
+            bindings }
+        ensures made { MatchResult result (λ made. (made ≡ bindings) × HasLawfulOrder bindings)
+            (IsOrderFault bindings) }
         ensures ticks { steps.new ≤ steps.old + length bindings }
         ensures refused { OnRefused result (steps.new ≡ steps.old) }
     {

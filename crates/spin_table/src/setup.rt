@@ -1,9 +1,12 @@
 //! Setups: what never changes while commands come.
 
-ghost use Rattle.std.specs.Prelude.{◌≡◌, ◌<◌, ◌≤◌, length, slice_get, Some, Err, IfOk, IsOk, MatchOption};
+ghost use Rattle.std.specs.Prelude.{◌≡◌, ◌<◌, ◌≤◌, length, slice_get, Some, Err, IfOk, IsOk};
+ghost use Rattle.std.specs.Prelude.{MatchOption};
 ghost use Rattle.spin_table.specs.Catalogues.{data_from};
 ghost use Rattle.spin_table.specs.Faults as specs;
 ghost use Rattle.spin_table.specs.Faults.{IsSoundSetup};
+ghost use Rattle.spin_table.specs.declared.setup.TheConstants.{MAX_LIVE};
+ghost use Rattle.spin_word.specs.declared.command.TheConstants.{MAX_EVENTS};
 
 use crate::build::setup_fault;
 use crate::event::{EventDef, EventList};
@@ -17,9 +20,6 @@ pub const MAX_MODULES: u16 = 256;
 /// The greatest number of live bindings that a setup may allow an event.
 pub const MAX_LIVE: u16 = 64;
 
-/// The greatest number of events.
-pub const MAX_EVENTS: usize = 64;
-
 /// Modules, events, handlers and guards. Contracts see it as plain data, which is sound.
 #[derive(Drop)]
 pub struct Setup {
@@ -28,8 +28,8 @@ pub struct Setup {
     events: EventList,
     catalogue: Catalogue,
     ghost sound: { IsSoundSetup (data_from modules live events catalogue) },
-    ghost few_events: { length events ≤ 64 },
-    ghost few_live: { live ≤ 64 },
+    ghost few_events: { length events ≤ MAX_EVENTS },
+    ghost few_live: { live ≤ MAX_LIVE },
 }
 
 impl Setup {
@@ -46,7 +46,8 @@ impl Setup {
         catalogue: Catalogue,
     ) -> Result<Setup, SetupFault>
         requires sincere { ⟦<Catalogue as Sincere>⟧.sincere catalogue }
-        ensures fault { MatchOption (specs.setup_fault (data_from modules live events catalogue)) (IsOk result) (λ fault. result ≡ Err fault) }
+        ensures fault { MatchOption (specs.setup_fault (data_from modules live events catalogue))
+            (IsOk result) (λ fault. result ≡ Err fault) }
         ensures setup { IfOk result (λ setup. data_of setup ≡ data_from modules live events catalogue) }
         ensures catalogue { IfOk result (λ setup. setup.catalogue ≡ catalogue) }
         ensures sincere { IfOk result (λ setup. ⟦<Catalogue as Sincere>⟧.sincere setup.catalogue) }

@@ -3,7 +3,7 @@
 ghost use Rattle.std.specs.Prelude.{◌≡◌, MatchOption, Some, None};
 ghost use Rattle.std.specs.Option.{option_map};
 ghost use Rattle.std.specs.List.{list_any};
-ghost use Rattle.spin_table.specs.Setups.{unit_of};
+ghost use Rattle.spin_values.specs.First.{numbered};
 ghost use Rattle.spin_objects.specs.Units.{handlers_of, guards_of};
 ghost use Rattle.spin_table.specs.Units as specs;
 
@@ -68,14 +68,18 @@ pub(crate) fn has_wrong_mode(mode: Mode, act: &Act) -> bool
 }
 
 fn is_handler_for(event: u8, def: &EventDef, mode: Mode, sig: &EventType, act: &Act) -> bool
-    ensures { result ≡ specs.is_handler_for event def.now mode (record { sig = sig.now; act = act.now }) }
+    ensures { result
+        ≡ specs.is_handler_for event def.now mode
+        (record { sig = sig.now; act = act.now }) }
 {
     has_signature(sig, &def.sig) && !raises_down(event, act) && !has_wrong_mode(mode, act)
 }
 
 /// The signature and the act of the handler of that number, if it is there.
 pub(crate) fn find_handler(catalogue: &Catalogue, number: u16) -> Option<(&EventType, &Act)>
-    ensures { MatchOption result (unit_of (handlers_of catalogue.now) number ≡ None) (λ h. unit_of (handlers_of catalogue.now) number ≡ Some (record { sig = h.0.now; act = h.1.now })) }
+    ensures { MatchOption result (numbered (handlers_of catalogue.now) number ≡ None) (λ h.
+        numbered (handlers_of catalogue.now) number
+        ≡ Some (record { sig = h.0.now; act = h.1.now })) }
 {
     if number == 0 || number > catalogue.handlers() {
         return None;
@@ -85,7 +89,9 @@ pub(crate) fn find_handler(catalogue: &Catalogue, number: u16) -> Option<(&Event
 
 /// The signature of the guard of that number, if it is there.
 pub(crate) fn find_guard(catalogue: &Catalogue, number: u16) -> Option<&EventType>
-    ensures { MatchOption result (unit_of (guards_of catalogue.now) number ≡ None) (λ sig. option_map (λ g. g.sig) (unit_of (guards_of catalogue.now) number) ≡ Some sig.now) }
+    ensures { MatchOption result (numbered (guards_of catalogue.now) number ≡ None) (λ sig.
+        option_map (λ g. g.sig) (numbered (guards_of catalogue.now) number)
+        ≡ Some sig.now) }
 {
     if number == 0 || number > catalogue.count() {
         return None;

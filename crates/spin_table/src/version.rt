@@ -1,9 +1,11 @@
 //! Versions: states that never change, of which a command makes the next.
 
-ghost use Rattle.std.specs.Prelude.{◌≡◌, ◌≤◌, ◌<◌, ◌+◌, ℕ, List, [], map, IsTrue, IfOk, Some, None, MatchResult, length, slice_get, slice_set, IsSomeAnd};
+ghost use Rattle.std.specs.Prelude.{◌≡◌, ◌≤◌, ◌<◌, ◌+◌, ℕ, List, [], map, IsTrue, IfOk, Some};
+ghost use Rattle.std.specs.Prelude.{None, MatchResult, length, slice_get, slice_set};
+ghost use Rattle.std.specs.Prelude.{IsSomeAnd};
 ghost use Rattle.spin_word.specs.Commands.{is_command};
 ghost use Rattle.spin_place.specs.Precedence.{IsTheOrder, HasLawfulOrder};
-ghost use Rattle.spin_policy.specs.Verdicts.{first_refusal};
+ghost use Rattle.spin_values.specs.First.{first_of};
 ghost use Rattle.spin_table.specs.Setups.{has_authority};
 ghost use Rattle.spin_table.specs.Refusals.{refusals_at};
 ghost use Rattle.spin_table.specs.Steps as specs;
@@ -11,6 +13,8 @@ ghost use Rattle.spin_table.specs.Steps.{event_after, OnRefused};
 ghost use Rattle.spin_table.specs.Orders.{arranged, IsChangeFault};
 ghost use Rattle.spin_table.specs.Soundness.{IsSound, IsSoundEvent};
 ghost use Rattle.spin_table.specs.SetupOf.{data_of};
+ghost use Rattle.spin_table.specs.declared.setup.TheConstants.{MAX_LIVE};
+ghost use Rattle.spin_word.specs.declared.command.TheConstants.{MAX_PLACE};
 ghost use Rattle.spin_table.specs.States.{first_state, start_of};
 ghost use Rattle.std.specs.Arc.{arc_value};
 
@@ -83,15 +87,53 @@ impl EventSlot {
         place: u16,
         c: &Command,
     ) -> Result<Bindings, NoMemory>
-        requires room { place < 4096 }
-        requires few { length self.now.bindings ≤ 64 }
+        requires room { place < MAX_PLACE }
+        requires few { length self.now.bindings ≤ MAX_LIVE }
         requires there { IsTrue (has_authority (data_of setup.now).policies def.now.authority) }
         requires sincere { ⟦<Catalogue as Sincere>⟧.sincere setup.now.catalogue }
-        ensures { IfOk result (λ after. after ≡ (event_after (data_of setup.now).policies def.now (place + 1) c.now self.now).bindings) }
+        ensures { IfOk result (λ after.
+            after
+            ≡ (event_after (data_of setup.now).policies def.now (place + 1) c.now self.now).bindings) }
     {
         let bindings = self.lists.bindings();
         let verdict = answer(setup, def, bindings, c);
         bindings_after(alloc, rules(setup, def), verdict, place + 1, c, bindings)
+    }
+
+    // The same with lists that are made anew.
+    fn rebuilt<L: Ledger>(
+        &self,
+        alloc: Global,
+        setup: &Setup,
+        def: &EventDef,
+        place: u16,
+        c: &Command,
+        steps: &mut Steps<L>,
+    ) -> Result<EventSlot, StepFault>
+        requires sincere { ⟦<Catalogue as Sincere>⟧.sincere setup.now.catalogue }
+        requires room { place < MAX_PLACE }
+        requires event { slice_get (data_of setup.now).events c.now.event ≡ Some def.now }
+        requires sound { IsSoundEvent (data_of setup.now) place c.now.event def.now self.now }
+        requires passed { first_of (refusals_at (data_of setup.now) def.now self.now.bindings c.now) ≡ None }
+        ensures change { MatchResult result (λ next.
+            (next
+            ≡ event_after (data_of setup.now).policies def.now (place + 1) c.now
+            self.now) × HasLawfulOrder next.bindings)
+            (IsChangeFault (data_of setup.now).policies def.now (place + 1) c.now self.now) }
+        ensures ticks { steps.new
+            ≤ steps.old + length
+            (event_after (data_of setup.now).policies def.now (place + 1) c.now self.now).bindings }
+        ensures refused { OnRefused result (steps.new ≡ steps.old) }
+    {
+        let bindings = self.bindings_after(alloc, setup, def, place, c)?;
+        let lists = match EventLists::make(alloc, setup, bindings, steps) {
+            Ok(lists) => lists,
+            Err(fault) => return Err(fault),
+        };
+        Ok(EventSlot {
+            default: default_after(c, self.default),
+            lists: Arc::new(alloc, lists)?,
+        })
     }
 
     /// The slot after a command to which no refusal but a conflict applies. An installed binding has the number of
@@ -106,28 +148,31 @@ impl EventSlot {
         steps: &mut Steps<L>,
     ) -> Result<EventSlot, StepFault>
         requires sincere { ⟦<Catalogue as Sincere>⟧.sincere setup.now.catalogue }
-        requires room { place < 4096 }
+        requires room { place < MAX_PLACE }
         requires event { slice_get (data_of setup.now).events c.now.event ≡ Some def.now }
         requires sound { IsSoundEvent (data_of setup.now) place c.now.event def.now self.now }
-        requires passed { first_refusal (refusals_at (data_of setup.now) def.now self.now.bindings c.now) ≡ None }
-        ensures change { MatchResult result (λ next. (next ≡ event_after (data_of setup.now).policies def.now (place + 1) c.now self.now) × HasLawfulOrder next.bindings) (IsChangeFault (data_of setup.now).policies def.now (place + 1) c.now self.now) }
-        ensures ticks { steps.new ≤ steps.old + length (event_after (data_of setup.now).policies def.now (place + 1) c.now self.now).bindings }
+        requires passed { first_of (refusals_at (data_of setup.now) def.now self.now.bindings c.now) ≡ None }
+        ensures change { MatchResult result (λ next.
+            (next
+            ≡ event_after (data_of setup.now).policies def.now (place + 1) c.now
+            self.now) × HasLawfulOrder next.bindings)
+            (IsChangeFault (data_of setup.now).policies def.now (place + 1) c.now self.now) }
+        ensures ticks { steps.new
+            ≤ steps.old + length
+            (event_after (data_of setup.now).policies def.now (place + 1) c.now self.now).bindings }
         ensures refused { OnRefused result (steps.new ≡ steps.old) }
     {
-        let bindings = self.bindings_after(alloc, setup, def, place, c)?;
-        let lists = match EventLists::make(alloc, setup, bindings, steps) {
-            Ok(lists) => lists,
-            Err(fault) => return Err(fault),
-        };
-        Ok(EventSlot {
-            default: default_after(c, self.default),
-            lists: Arc::new(alloc, lists)?,
-        })
+        match c.op {
+            Op::Default => Ok(self.with_default(c.handler)?),
+            Op::NoDefault => Ok(self.with_default(0)?),
+            _ => self.rebuilt(alloc, setup, def, place, c, steps),
+        }
     }
 
     /// One more owner of the lists, with this default.
     fn with_default(&self, default: u16) -> Result<EventSlot, NoMemory>
-        ensures { IfOk result (λ slot. slot ≡ record { bindings = self.now.bindings; default = default }) }
+        ensures { IfOk result
+            (λ slot. slot ≡ record { bindings = self.now.bindings; default = default }) }
     {
         Ok(EventSlot {
             default,
@@ -222,7 +267,9 @@ impl Version {
     /// The plan of an event that is there: that of its bindings in the order in which they run.
     pub fn plan(&self, event: u8) -> &Plan
         requires { event < length self.now.events }
-        ensures { IsSomeAnd (slice_get self.now.events event) (λ e. (ns : List ℕ) → IsTheOrder e.bindings ns → result.now ≡ arranged e.bindings ns) }
+        ensures { IsSomeAnd (slice_get self.now.events event) (λ e.
+            (ns : List ℕ) → IsTheOrder e.bindings ns
+            → result.now ≡ arranged e.bindings ns) }
     {
         self.events.get(event as usize).lists.plan()
     }
@@ -232,8 +279,11 @@ impl Version {
     // The next version, in which this slot is the event's.
     fn with_event(&self, alloc: Global, event: u8, slot: EventSlot) -> Result<Version, NoMemory>
         requires there { event < length self.now.events }
-        requires room { self.now.place < 4096 }
-        ensures { IfOk result (λ v. v ≡ record { place = self.now.place + 1; events = slice_set self.now.events event slot }) }
+        requires room { self.now.place < MAX_PLACE }
+        ensures { IfOk result (λ v.
+            v
+            ≡ record
+            { place = self.now.place + 1; events = slice_set self.now.events event slot }) }
     {
         let mut events = share(alloc, self.events.as_slice())?;
         events.replace(event as usize, slot);
@@ -250,7 +300,8 @@ impl Version {
     /// one thing beside: an install adds a binding under the new place as its number, a remove takes the target out,
     /// a replace gives it another handler and other guards, and a default or a no-default sets the default.
     ///
-    /// The command's event gets lists made anew; those of all other events are shared. It ticks at most once per
+    /// The command's event gets lists made anew, unless its default alone changes; those of all other events are shared.
+    /// It ticks at most once per
     /// live binding that the event has in the new version, not at all where the command is refused, and at most 64
     /// times where there is no memory. It takes time linear in the event's plan, and quadratic in its bindings.
     pub fn after<L: Ledger>(
@@ -262,13 +313,14 @@ impl Version {
     ) -> Result<Version, StepFault>
         requires sincere { ⟦<Catalogue as Sincere>⟧.sincere setup.now.catalogue }
         requires valid { IsTrue (is_command c.now) }
-        requires room { self.now.place < 4096 }
+        requires room { self.now.place < MAX_PLACE }
         requires sound { IsSound (data_of setup.now) self.now }
         ensures answer { specs.IsAnswer (data_of setup.now) self.now c.now result }
         ensures sound { IfOk result (λ v. IsSound (data_of setup.now) v) }
-        ensures ok { IfOk result (λ v. steps.new ≤ steps.old + length (specs.bindings_at v c.now.event)) }
+        ensures ok { IfOk result
+            (λ v. steps.new ≤ steps.old + length (specs.bindings_at v c.now.event)) }
         ensures refused { OnRefused result (steps.new ≡ steps.old) }
-        ensures no_more { steps.new ≤ steps.old + 64 }
+        ensures no_more { steps.new ≤ steps.old + MAX_LIVE }
     {
         if c.event >= setup.events() {
             return Err(StepFault::Refused(Refusal::UnknownEvent));

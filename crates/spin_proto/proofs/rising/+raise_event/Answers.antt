@@ -16,8 +16,8 @@ turns-init g t c =
     let e = c.event-def.result.now in
     let b = bound_of c.plan-plan.result.now e.merge c.default_of-default.result in
     let serving = served d s a.event e c.plan-plan.result.now c.default_of-default.result c.requires.sound c.event-def.ensures c.default_of-default.ensures c.plan-plan.ensures a.setup.now.sound in
-    let from = begins (length s.events) a.event a.apart (units_in d) b c.start-progress.result a.args serving c.start-progress.ensures.from c.start-progress.ensures.answer in
-    ((λ bounds are. begins_owing (marks_of a.event (raised_after a.apart (units_in d) bounds a.event)) a.apart (units_in d) b c.start-progress.result a.args a.walk.now c.start-progress.ensures.from c.start-progress.ensures.answer), from.0, from.1)
+    let from = begins (length s.events) a.event a.runner (units_in d) b c.start-progress.result a.args serving c.start-progress.ensures.from c.start-progress.ensures.answer c.start-progress.ensures.args in
+    ((λ bounds are. begins_owing (marks_of a.event (raised_after a.runner (units_in d) bounds a.event)) a.runner (units_in d) b c.start-progress.result a.args a.walk.now c.start-progress.ensures.from c.start-progress.ensures.answer c.start-progress.ensures.args), from.0, from.1)
 
 pub step-requires-clause-there : goal.step-requires-clause-there
 step-requires-clause-there g t c =
@@ -36,8 +36,8 @@ returns-in-End g t c = λ bounds are.
     let b = bound_of c.plan-plan.result.now e.merge c.default_of-default.result in
     let here = bound_here d a.version.now a.event e c.plan-plan.result.now c.default_of-default.result c.requires.sound c.event-def.ensures c.default_of-default.ensures c.plan-plan.ensures bounds are in
     let stepped = rw c.catalogue-cat.ensures at c.in_ok-step.ensures in
-    comes_at a.apart (units_in d) bounds b a.event a.args (Some c.step.new.progress.answer) a.walk.now c.turns.walk here
-    (turn_end e.merge true _ _ (marks_of a.event (raised_after a.apart (units_in d) bounds a.event)) _ [] _ _ _ _ _ _ a.walk.now c.turns.walk (rw c.in-End.is at stepped) (c.turns.invariant.0 bounds are) c.turns.invariant.1)
+    comes_at a.runner (units_in d) bounds b a.event a.args (Some c.step.new.progress.answer) a.walk.now c.turns.walk here
+    (turn_end e.merge true _ _ (marks_of a.event (raised_after a.runner (units_in d) bounds a.event)) _ [] _ _ _ _ a.walk.now c.turns.walk (rw c.in-End.is at stepped) (c.turns.invariant.0 bounds are) c.turns.invariant.1)
 
 pub returns-in-Full : goal.returns-in-Full
 returns-in-Full g t c = λ bounds are.
@@ -47,8 +47,8 @@ returns-in-Full g t c = λ bounds are.
     let b = bound_of c.plan-plan.result.now e.merge c.default_of-default.result in
     let here = bound_here d a.version.now a.event e c.plan-plan.result.now c.default_of-default.result c.requires.sound c.event-def.ensures c.default_of-default.ensures c.plan-plan.ensures bounds are in
     let stepped = rw c.catalogue-cat.ensures at c.in_ok-step.ensures in
-    comes_at a.apart (units_in d) bounds b a.event a.args None a.walk.now c.turns.walk here
-    (turn_full a.event (raised_after a.apart (units_in d) bounds a.event) e.merge _ _ _ _ _ _ _ _ _ a.walk.now c.turns.walk (rw c.in-Full.is at stepped) (c.turns.invariant.0 bounds are))
+    comes_at a.runner (units_in d) bounds b a.event a.args None a.walk.now c.turns.walk here
+    (turn_full a.event (raised_after a.runner (units_in d) bounds a.event) e.merge _ _ _ _ _ _ _ a.walk.now c.turns.walk (rw c.in-Full.is at stepped) (c.turns.invariant.0 bounds are))
 
 pub returns-in_default : goal.returns-in_default
 returns-in_default g t c = λ bounds are.
@@ -57,21 +57,21 @@ returns-in_default g t c = λ bounds are.
     let e = c.event-def.result.now in
     let b = bound_of c.plan-plan.result.now e.merge c.default_of-default.result in
     let here = bound_here d a.version.now a.event e c.plan-plan.result.now c.default_of-default.result c.requires.sound c.event-def.ensures c.default_of-default.ensures c.plan-plan.ensures bounds are in
-    let empty = from_empty _ _ _ _ _ _ _ _ _ _ _ c.new-given.ensures (rw c.catalogue-cat.ensures at c.in_ok-step.ensures) in
+    let empty = from_empty _ _ _ _ _ _ _ _ _ c.new-given.ensures (rw c.catalogue-cat.ensures at c.in_ok-step.ensures) in
     let stepped = rw c.in-Ran.is at empty in
     let short = rw c.in_default.is at c.in_ok-ups-in-Ran.ensures in
-    comes_at a.apart (units_in d) bounds b a.event a.args None a.walk.now c.note_items.new.walk here
-    (turn_unnoted a.event (raised_after a.apart (units_in d) bounds a.event) _ _ _ _ _ _ _ _ _ _ a.walk.now c.turns.walk stepped (c.turns.invariant.0 bounds are) short)
+    comes_at a.runner (units_in d) bounds b a.event a.args None a.walk.now c.note_items.new.walk here
+    (turn_unnoted a.event (raised_after a.runner (units_in d) bounds a.event) _ _ _ _ _ _ _ _ a.walk.now c.turns.walk stepped (c.turns.invariant.0 bounds are) short)
 
 pub loop-up-init : goal.loop-up-init
 loop-up-init g t c =
     let a = c.args in
     let d = data_of a.setup.now in
-    let empty = from_empty _ _ _ _ _ _ _ _ _ _ _ c.new-given.ensures (rw c.catalogue-cat.ensures at c.in_ok-step.ensures) in
+    let empty = from_empty _ _ _ _ _ _ _ _ _ c.new-given.ensures (rw c.catalogue-cat.ensures at c.in_ok-step.ensures) in
     let stepped = rw c.in-Ran.is at empty in
     let notes = rw c.in-Some.is at c.in_ok-ups-in-Ran.ensures in
     let waiting = c.from-queue.ensures.0 ∙ c.into_vec.ensures in
-    ((λ bounds are. owes_all _ _), turn_waits (length a.version.now.events) a.event _ _ _ _ _ _ _ _ _ _ _ stepped c.turns.invariant.2 waiting notes.0)
+    ((λ bounds are. owes_all _ _), turn_waits (length a.version.now.events) a.event _ _ _ _ _ _ _ _ _ stepped c.turns.invariant.2 waiting notes.0)
 
 pub returns-in-None : goal.returns-in-None
 returns-in-None g t c = λ bounds are.
@@ -80,40 +80,40 @@ returns-in-None g t c = λ bounds are.
     let e = c.event-def.result.now in
     let b = bound_of c.plan-plan.result.now e.merge c.default_of-default.result in
     let here = bound_here d a.version.now a.event e c.plan-plan.result.now c.default_of-default.result c.requires.sound c.event-def.ensures c.default_of-default.ensures c.plan-plan.ensures bounds are in
-    let empty = from_empty _ _ _ _ _ _ _ _ _ _ _ c.new-given.ensures (rw c.catalogue-cat.ensures at c.in_ok-step.ensures) in
+    let empty = from_empty _ _ _ _ _ _ _ _ _ c.new-given.ensures (rw c.catalogue-cat.ensures at c.in_ok-step.ensures) in
     let stepped = rw c.in-Ran.is at empty in
     let notes = rw c.in-Some.is at c.in_ok-ups-in-Ran.ensures in
     let waiting = c.from-queue.ensures.0 ∙ c.into_vec.ensures in
     let came = rw c.in-None.is at c.in_ok-raise_event-in-Ran.ensures in
-    let short = follow_spent a.apart (units_in d) bounds (length a.version.now.events) a.event _ c.in-Some-pop_front.up _ c.pop_front.new.self.items _ _ _ c.raise_event.new.walk c.in-Some-pop_front.ensures.items c.loop-up.invariant.1 (c.loop-up.invariant.0 bounds are) c.in_ok-note-in-Ran.ensures (came bounds are) in
-    comes_at a.apart (units_in d) bounds b a.event a.args None a.walk.now c.raise_event.new.walk here
-    (turn_short a.event (raised_after a.apart (units_in d) bounds a.event) _ _ _ _ _ _ _ _ _ _ _ _ a.walk.now c.turns.walk c.note_items.new.walk stepped (c.turns.invariant.0 bounds are) waiting notes short)
+    let short = follow_spent a.runner (units_in d) bounds (length a.version.now.events) a.event _ c.in-Some-pop_front.up _ c.pop_front.new.self.items _ _ _ c.raise_event.new.walk c.in-Some-pop_front.ensures.items c.loop-up.invariant.1 (c.loop-up.invariant.0 bounds are) c.in_ok-note-in-Ran.ensures (came bounds are) in
+    comes_at a.runner (units_in d) bounds b a.event a.args None a.walk.now c.raise_event.new.walk here
+    (turn_short a.event (raised_after a.runner (units_in d) bounds a.event) _ _ _ _ _ _ _ _ _ _ a.walk.now c.turns.walk c.note_items.new.walk stepped (c.turns.invariant.0 bounds are) waiting notes short)
 
 pub loop-up-preserved : goal.loop-up-preserved
 loop-up-preserved g t c =
     let a = c.args in
     let came = rw c.in-Some-2.is at c.in_ok-raise_event-in-Ran.ensures in (
       (λ bounds are.
-          follow_on a.apart (units_in (data_of a.setup.now)) bounds (length a.version.now.events) a.event _ c.in-Some-pop_front.up _ c.pop_front.new.self.items c.in-Some-2.answer _ _ _ _ _
+          follow_on a.runner (units_in (data_of a.setup.now)) bounds (length a.version.now.events) a.event _ c.in-Some-pop_front.up _ c.pop_front.new.self.items c.in-Some-2.answer _ _ _ _ _
           c.in-Some-pop_front.ensures.items c.loop-up.invariant.1 (c.loop-up.invariant.0 bounds are) c.in_ok-note-in-Ran.ensures (came bounds are) c.in_ok-note-in-Some-2.ensures),
       rest_rises (length a.version.now.events) a.event c.in-Some-pop_front.up _ c.pop_front.new.self.items c.in-Some-pop_front.ensures.items c.loop-up.invariant.1,
     )
 
 pub turns-smaller : goal.turns-smaller
 turns-smaller g t c =
-    let empty = from_empty _ _ _ _ _ _ _ _ _ _ _ c.new-given.ensures (rw c.catalogue-cat.ensures at c.in_ok-step.ensures) in
+    let empty = from_empty _ _ _ _ _ _ _ _ _ c.new-given.ensures (rw c.catalogue-cat.ensures at c.in_ok-step.ensures) in
     let stepped = rw c.in-Ran.is at empty in
-    turn_shorter _ _ _ _ _ _ _ _ _ _ stepped
+    turn_shorter _ _ _ _ _ _ _ _ stepped
 
 pub turns-preserved : goal.turns-preserved
 turns-preserved g t c =
     let a = c.args in
     let d = data_of a.setup.now in
-    let empty = from_empty _ _ _ _ _ _ _ _ _ _ _ c.new-given.ensures (rw c.catalogue-cat.ensures at c.in_ok-step.ensures) in
+    let empty = from_empty _ _ _ _ _ _ _ _ _ c.new-given.ensures (rw c.catalogue-cat.ensures at c.in_ok-step.ensures) in
     let stepped = rw c.in-Ran.is at empty in
     let notes = rw c.in-Some.is at c.in_ok-ups-in-Ran.ensures in
     let waiting = c.from-queue.ensures.0 ∙ c.into_vec.ensures in (
-      (λ bounds are. turn_over a.event (raised_after a.apart (units_in d) bounds a.event) _ _ _ _ _ _ _ _ _ _ _ _ _ a.walk.now c.turns.walk c.note_items.new.walk c.loop-up.walk stepped (c.turns.invariant.0 bounds are) waiting notes (nothing_waits c.loop-up.queue.items _ c.in_default-pop_front.ensures.items c.in_default-pop_front.ensures.rest) (c.loop-up.invariant.0 bounds are)),
-      turn_answer _ _ _ _ _ _ _ _ _ _ _ stepped c.turns.invariant.1,
-      turn_rises (length a.version.now.events) a.event _ _ _ _ _ _ _ _ _ _ stepped c.turns.invariant.2,
+      (λ bounds are. turn_over a.event (raised_after a.runner (units_in d) bounds a.event) _ _ _ _ _ _ _ _ _ _ _ a.walk.now c.turns.walk c.note_items.new.walk c.loop-up.walk stepped (c.turns.invariant.0 bounds are) waiting notes (nothing_waits c.loop-up.queue.items _ c.in_default-pop_front.ensures.items c.in_default-pop_front.ensures.rest) (c.loop-up.invariant.0 bounds are)),
+      turn_answer _ _ _ _ _ _ _ _ _ stepped c.turns.invariant.1,
+      turn_rises (length a.version.now.events) a.event _ _ _ _ _ _ _ _ stepped c.turns.invariant.2,
     )

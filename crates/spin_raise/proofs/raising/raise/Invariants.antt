@@ -1,4 +1,14 @@
+use Rattle.std.proofs.Common.{length}
+use Rattle.spin_raise.specs.Firing.{units_of, as_found, fired}
+use Rattle.spin_raise.specs.Progress.{to_come}
+use Rattle.spin_raise.proofs.Goes.{Goes}
 use Rattle.spin_raise.proofs.raising.raise.Given as goal
 
-abbrev pub ghosts-raise_from : goal.ghosts-raise_from
-ghosts-raise_from g a = record { name = a.blank.name; parts = a.blank.parts }
+abbrev pub invariant-turns : goal.invariant-turns
+invariant-turns g l =
+    Goes l.bound.merge.now (fired l.runner (units_of l.cat) (as_found l.bound) l.fn.args)
+    (to_come l.runner (units_of l.cat) (as_found l.bound) l.progress)
+    l.initial.out l.fn.args l.progress l.out
+
+abbrev pub decreases-turns : goal.decreases-turns
+decreases-turns g l = length (to_come l.runner (units_of l.cat) (as_found l.bound) l.progress)

@@ -1,7 +1,7 @@
 use Rattle.std.proofs.Common.{◌≡◌, ◌≤◌, ◌+◌, ◌∙◌, length, sym, ap, subst, arith}
 use Rattle.std.specs.Prelude.{slice_get, Some, None}
 use Rattle.std.proofs.lemmas.Option.{slice_get_within}
-use Rattle.spin_policy.specs.Verdicts.{first_refusal}
+use Rattle.spin_values.specs.First.{first_of}
 use Rattle.spin_objects.specs.Units.{policies_of}
 use Rattle.spin_table.specs.SetupOf.{data_of}
 use Rattle.spin_table.specs.States.{State, EventState}
@@ -12,7 +12,7 @@ use Rattle.spin_table.specs.Soundness.{IsSound, IsSoundEvent}
 use Rattle.spin_table.specs.declared.refusal.Verdicted.TheVariants as verdicted
 use Rattle.spin_table.proofs.ImposedFit.{authority_of_setup}
 use Rattle.spin_table.proofs.Sound.{AreSound-step}
-use Rattle.spin_table.proofs.Stepping.{accepted, sound_after, orderly_for, answer_of_fault, slice_get-set_same}
+use Rattle.spin_table.proofs.Stepping.{accepted, unrefused, short_of_memory, sound_after, orderly_for, answer_of_fault, slice_get-set_same}
 use Rattle.spin_table.proofs.version.Version.after.Goals as goal
 
 pub refusal-requires : goal.refusal-requires
@@ -46,7 +46,7 @@ returns-in-Err-clause-answer g c =
     let t = c.get-slot.result.now in
     let read : slice_get s.events event ≡ Some t = subst (λ (s : State). slice_get s.events event ≡ Some t) c.self.view_is c.get-slot.ensures in
     let same : c.bindings.result.now ≡ t.bindings = c.bindings.ensures ∙ c.deref.ensures ∙ ap (λ (x : EventState). x.bindings) c.slot.view_is in
-    let none : first_refusal (refusals_at d e t.bindings c.args.c.now) ≡ None = subst (λ bs. first_refusal (refusals_at d e bs c.args.c.now) ≡ None) same (sym c.in-None.ensures) in
+    let none : first_of (refusals_at d e t.bindings c.args.c.now) ≡ None = subst (λ bs. first_of (refusals_at d e bs c.args.c.now) ≡ None) same (sym c.in-None.ensures) in
     let place : c.self.inside.place ≡ s.place = ap (λ (s : State). s.place) c.self.view_is in
     answer_of_fault d s c.args.c.now e t c.event-def.ensures read none c.in-Err.fault (subst (λ n. IsChangeFault (policies_of c.args.setup.now.catalogue.natives) e (n + 1) c.args.c.now t c.in-Err.fault) place c.in-Err.ensures.change)
 
@@ -59,12 +59,24 @@ returns-in-Err-clause-no_more g c =
     let t = c.get-slot.result.now in
     let read : slice_get s.events event ≡ Some t = subst (λ (s : State). slice_get s.events event ≡ Some t) c.self.view_is c.get-slot.ensures in
     let same : c.bindings.result.now ≡ t.bindings = c.bindings.ensures ∙ c.deref.ensures ∙ ap (λ (x : EventState). x.bindings) c.slot.view_is in
-    let none : first_refusal (refusals_at d e t.bindings c.args.c.now) ≡ None = subst (λ bs. first_refusal (refusals_at d e bs c.args.c.now) ≡ None) same (sym c.in-None.ensures) in
+    let none : first_of (refusals_at d e t.bindings c.args.c.now) ≡ None = subst (λ bs. first_of (refusals_at d e bs c.args.c.now) ≡ None) same (sym c.in-None.ensures) in
     let place : c.self.inside.place ≡ s.place = ap (λ (s : State). s.place) c.self.view_is in
     let each = subst (λ n. IsSoundEvent d n event e t) (sym place) (c.requires.sound.each event e t c.event-def.ensures read) in
     let after = AreSound-step d c.self.inside.place e t c.args.c.now c.args.setup.now.sound c.event-def.ensures each none in
     let few : length (event_after (policies_of c.args.setup.now.catalogue.natives) e (c.self.inside.place + 1) c.args.c.now t).bindings ≤ c.args.setup.now.live = after.few in
     omega (arith, c.after.ensures.ticks, few, c.args.setup.now.few_live)
+
+pub returns-in_err-with_event-in-None-clause-answer : goal.returns-in_err-with_event-in-None-clause-answer
+returns-in_err-with_event-in-None-clause-answer g c =
+    let d = data_of c.args.setup.now in
+    let s = c.args.self.now in
+    let event = c.args.c.now.event in
+    let e = c.event-def.result.now in
+    let t = c.get-slot.result.now in
+    let read : slice_get s.events event ≡ Some t = subst (λ (s : State). slice_get s.events event ≡ Some t) c.self.view_is c.get-slot.ensures in
+    let same : c.bindings.result.now ≡ t.bindings = c.bindings.ensures ∙ c.deref.ensures ∙ ap (λ (x : EventState). x.bindings) c.slot.view_is in
+    let none : first_of (refusals_at d e t.bindings c.args.c.now) ≡ None = subst (λ bs. first_of (refusals_at d e bs c.args.c.now) ≡ None) same (sym c.in-None.ensures) in
+    short_of_memory d s c.args.c.now c.from_residual.result c.from_residual.ensures.1 (unrefused d s c.args.c.now e t c.event-def.ensures read none)
 
 pub returns-in_err-with_event-in-None-clause-no_more : goal.returns-in_err-with_event-in-None-clause-no_more
 returns-in_err-with_event-in-None-clause-no_more g c =
@@ -75,7 +87,7 @@ returns-in_err-with_event-in-None-clause-no_more g c =
     let t = c.get-slot.result.now in
     let read : slice_get s.events event ≡ Some t = subst (λ (s : State). slice_get s.events event ≡ Some t) c.self.view_is c.get-slot.ensures in
     let same : c.bindings.result.now ≡ t.bindings = c.bindings.ensures ∙ c.deref.ensures ∙ ap (λ (x : EventState). x.bindings) c.slot.view_is in
-    let none : first_refusal (refusals_at d e t.bindings c.args.c.now) ≡ None = subst (λ bs. first_refusal (refusals_at d e bs c.args.c.now) ≡ None) same (sym c.in-None.ensures) in
+    let none : first_of (refusals_at d e t.bindings c.args.c.now) ≡ None = subst (λ bs. first_of (refusals_at d e bs c.args.c.now) ≡ None) same (sym c.in-None.ensures) in
     let place : c.self.inside.place ≡ s.place = ap (λ (s : State). s.place) c.self.view_is in
     let each = subst (λ n. IsSoundEvent d n event e t) (sym place) (c.requires.sound.each event e t c.event-def.ensures read) in
     let after = AreSound-step d c.self.inside.place e t c.args.c.now c.args.setup.now.sound c.event-def.ensures each none in
@@ -91,7 +103,7 @@ returns-in_ok-with_event-in-None-clause-answer g c =
     let t = c.get-slot.result.now in
     let read : slice_get s.events event ≡ Some t = subst (λ (s : State). slice_get s.events event ≡ Some t) c.self.view_is c.get-slot.ensures in
     let same : c.bindings.result.now ≡ t.bindings = c.bindings.ensures ∙ c.deref.ensures ∙ ap (λ (x : EventState). x.bindings) c.slot.view_is in
-    let none : first_refusal (refusals_at d e t.bindings c.args.c.now) ≡ None = subst (λ bs. first_refusal (refusals_at d e bs c.args.c.now) ≡ None) same (sym c.in-None.ensures) in
+    let none : first_of (refusals_at d e t.bindings c.args.c.now) ≡ None = subst (λ bs. first_of (refusals_at d e bs c.args.c.now) ≡ None) same (sym c.in-None.ensures) in
     let place : c.self.inside.place ≡ s.place = ap (λ (s : State). s.place) c.self.view_is in
     let is : c.in-Ok.changed ≡ event_after (policies_of c.args.setup.now.catalogue.natives) e (s.place + 1) c.args.c.now t = c.in-Ok.ensures.change.0 ∙ ap (λ n. event_after (policies_of c.args.setup.now.catalogue.natives) e (n + 1) c.args.c.now t) place in
     subst (IsStep d s c.args.c.now verdicted.Accepted) (sym c.in_ok-with_event-in-None.ensures)
@@ -106,7 +118,7 @@ returns-in_ok-with_event-in-None-clause-sound g c =
     let t = c.get-slot.result.now in
     let read : slice_get s.events event ≡ Some t = subst (λ (s : State). slice_get s.events event ≡ Some t) c.self.view_is c.get-slot.ensures in
     let same : c.bindings.result.now ≡ t.bindings = c.bindings.ensures ∙ c.deref.ensures ∙ ap (λ (x : EventState). x.bindings) c.slot.view_is in
-    let none : first_refusal (refusals_at d e t.bindings c.args.c.now) ≡ None = subst (λ bs. first_refusal (refusals_at d e bs c.args.c.now) ≡ None) same (sym c.in-None.ensures) in
+    let none : first_of (refusals_at d e t.bindings c.args.c.now) ≡ None = subst (λ bs. first_of (refusals_at d e bs c.args.c.now) ≡ None) same (sym c.in-None.ensures) in
     let place : c.self.inside.place ≡ s.place = ap (λ (s : State). s.place) c.self.view_is in
     let is : c.in-Ok.changed ≡ event_after (policies_of c.args.setup.now.catalogue.natives) e (s.place + 1) c.args.c.now t = c.in-Ok.ensures.change.0 ∙ ap (λ n. event_after (policies_of c.args.setup.now.catalogue.natives) e (n + 1) c.args.c.now t) place in
     subst (IsSound d) (sym c.in_ok-with_event-in-None.ensures)
@@ -121,7 +133,7 @@ returns-in_ok-with_event-in-None-clause-ok g c =
     let t = c.get-slot.result.now in
     let read : slice_get s.events event ≡ Some t = subst (λ (s : State). slice_get s.events event ≡ Some t) c.self.view_is c.get-slot.ensures in
     let same : c.bindings.result.now ≡ t.bindings = c.bindings.ensures ∙ c.deref.ensures ∙ ap (λ (x : EventState). x.bindings) c.slot.view_is in
-    let none : first_refusal (refusals_at d e t.bindings c.args.c.now) ≡ None = subst (λ bs. first_refusal (refusals_at d e bs c.args.c.now) ≡ None) same (sym c.in-None.ensures) in
+    let none : first_of (refusals_at d e t.bindings c.args.c.now) ≡ None = subst (λ bs. first_of (refusals_at d e bs c.args.c.now) ≡ None) same (sym c.in-None.ensures) in
     let place : c.self.inside.place ≡ s.place = ap (λ (s : State). s.place) c.self.view_is in
     let there : bindings_at c.in_ok-with_event-in-None.field-0 event ≡ c.in-Ok.changed.bindings =
     ap (λ (v : State). bindings_at v event) c.in_ok-with_event-in-None.ensures ∙ ap bindings_if (slice_get-set_same s.events event c.in-Ok.changed (slice_get_within s.events event t read)) in
@@ -137,7 +149,7 @@ returns-in_ok-with_event-in-None-clause-no_more g c =
     let t = c.get-slot.result.now in
     let read : slice_get s.events event ≡ Some t = subst (λ (s : State). slice_get s.events event ≡ Some t) c.self.view_is c.get-slot.ensures in
     let same : c.bindings.result.now ≡ t.bindings = c.bindings.ensures ∙ c.deref.ensures ∙ ap (λ (x : EventState). x.bindings) c.slot.view_is in
-    let none : first_refusal (refusals_at d e t.bindings c.args.c.now) ≡ None = subst (λ bs. first_refusal (refusals_at d e bs c.args.c.now) ≡ None) same (sym c.in-None.ensures) in
+    let none : first_of (refusals_at d e t.bindings c.args.c.now) ≡ None = subst (λ bs. first_of (refusals_at d e bs c.args.c.now) ≡ None) same (sym c.in-None.ensures) in
     let place : c.self.inside.place ≡ s.place = ap (λ (s : State). s.place) c.self.view_is in
     let each = subst (λ n. IsSoundEvent d n event e t) (sym place) (c.requires.sound.each event e t c.event-def.ensures read) in
     let after = AreSound-step d c.self.inside.place e t c.args.c.now c.args.setup.now.sound c.event-def.ensures each none in

@@ -1,4 +1,0 @@
-use Rattle.spin_raise.proofs.tests.raised.Given as goal
-
-abbrev pub ghosts-compiled : goal.ghosts-compiled
-ghosts-compiled a = record { name = a.blank.name; parts = a.blank.parts }
