@@ -14,9 +14,10 @@ use Rattle.spin_grammar.specs.declared.heads.Joint.{Joint}
 use Rattle.spin_grammar.specs.declared.heads.Joint.TheVariants as joint
 use Rattle.spin_grammar.specs.Grammar as grammar
 use Rattle.spin_grammar.specs.Grammar.{Atom, Fixed, Want, Expression}
-use Rattle.spin_grammar.specs.Heads.{sign, joint_word}
+use Rattle.spin_grammar.specs.Inner.Heads.{sign, joint_word}
 use Rattle.spin_grammar.specs.Forms.{expr_form, test_form, cmp_word}
-use Rattle.spin_grammar.specs.Reading.{Leads, Takes, IsWithin, Joins, Negates}
+use Rattle.spin_grammar.specs.Inner.Reading.{Leads, Takes, Joins, Negates}
+use Rattle.spin_grammar.specs.Lines.{IsWithin}
 use Rattle.spin_grammar.proofs.Parts.{leads_then, leads_with}
 
 nowhere : Box (Unit {0}) Global

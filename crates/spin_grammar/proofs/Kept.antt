@@ -8,7 +8,8 @@ use Rattle.std.proofs.lemmas.List.Folds.{list_any-append}
 use Rattle.std.proofs.lemmas.List.Concat.{flat_map-append}
 use Rattle.spin_grammar.specs.declared.fault.Fault.{Fault}
 use Rattle.spin_grammar.specs.Grammar.{Atom, Want}
-use Rattle.spin_grammar.specs.Reading.{Leads, Fails, IsWithin, IsKept, SoFar}
+use Rattle.spin_grammar.specs.Inner.Reading.{Leads, Fails, SoFar}
+use Rattle.spin_grammar.specs.Lines.{IsWithin, IsKept}
 use Rattle.spin_grammar.proofs.Parts.{leads_none, leads_then, fails_then}
 
 -- an expression that isn't kept is deep

@@ -6,7 +6,7 @@ use Rattle.spin_grammar.specs.declared.cause.Cause.TheVariants as cause
 use Rattle.spin_grammar.specs.declared.fault.Fault.{Fault}
 use Rattle.spin_grammar.specs.Spelling.{number, within, greatest}
 use Rattle.spin_grammar.specs.Grammar.{Want, Numeral, Number, Counted, Bindings, Rising, rising, accepts, may_end}
-use Rattle.spin_grammar.specs.Reading.{Opens, ReadsNumber}
+use Rattle.spin_grammar.specs.Inner.Reading.{Opens, ReadsNumber}
 use Rattle.spin_grammar.proofs.Parts.{leads_word, fails_word, fails_end}
 
 pub narrower : (low high n : ℕ) → high ≤ greatest → (o : Option ℕ) → Some n ≡ within 0 greatest o → low ≤ n → n ≤ high → within low high o ≡ Some n

@@ -5,7 +5,7 @@ use Rattle.spin_grammar.specs.declared.cause.Cause.TheVariants as cause
 use Rattle.spin_grammar.specs.declared.fault.Fault.{Fault}
 use Rattle.spin_grammar.specs.declared.fault.Fault.TheVariants.{Bad}
 use Rattle.spin_grammar.specs.Grammar.{Atom, Want, Reading, accepts, reads, then_read, may_end}
-use Rattle.spin_grammar.specs.Reading.{Leads, Fails}
+use Rattle.spin_grammar.specs.Inner.Reading.{Leads, Fails}
 
 pub then_read-nest : (a b : List Atom) (r : Reading) → then_read a (then_read b r) ≡ then_read (a ++ b) r
 then_read-nest a b (Ok c) = ap (λ (x : List Atom). Ok x) (sym (append_assoc a b c))

@@ -1,8 +1,8 @@
 -- Canonical words are words: they aren't empty, and all their bytes are printable and no blanks.
-use Rattle.std.proofs.Common.{◌≡◌, ℕ, zero, suc, ◌+◌, ◌-◌, ◌/◌, ◌%◌, ◌<◌, ◌≤◌, ◌^◌, ◌&&◌, ◌||◌, inl, inr, Bool, true, false, cond, eqb, leb, ltb, List, [], ◌∷◌, ◌++◌, length, take, drop, map, decimal, Option, Some, None, Ok, Err, codes, bytes_eq, refl, sym, ap, ◌∙◌, arith}
+use Rattle.std.proofs.Common.{◌≡◌, ℕ, zero, suc, ◌-◌, ◌/◌, ◌%◌, ◌<◌, ◌≤◌, ◌&&◌, inl, inr, Bool, true, false, cond, eqb, leb, List, [], ◌∷◌, ◌++◌, length, drop, map, decimal, Option, Ok, Err, codes, bytes_eq, refl, ap, ◌∙◌, arith}
 use Rattle.std.specs.Prelude.{slice_index}
 use Rattle.std.specs.List.{list_all, slice_split, flat_map, AllByRecursion}
-use Rattle.std.specs.Char.{digit_value, digit_char}
+use Rattle.std.specs.Char.{digit_char}
 use Rattle.std.specs.Str.Parse.{AllDigits}
 use Rattle.std.proofs.lemmas.Bool.Decides.{nat_tests}
 use Rattle.std.proofs.lemmas.Fmt.{digits_decimal, decimal_nonempty}
@@ -18,11 +18,13 @@ use Rattle.spin_values.specs.declared.types.Param.{Param}
 use Rattle.spin_values.specs.declared.types.EventType.{EventType}
 use Rattle.spin_grammar.specs.declared.cause.Cause.TheVariants as cause
 use Rattle.spin_grammar.specs.declared.kind.Kind as lines
-use Rattle.spin_grammar.specs.Spelling.{number, within, greatest, begins_with_digit, is_digit, is_name_byte, is_name, signature, guard_signature, hex_bytes}
+use Rattle.spin_grammar.specs.Spelling.{number, within, greatest, is_name_byte, is_name, signature, guard_signature, hex_bytes}
 use Rattle.spin_grammar.specs.Words.{is_blank, words}
-use Rattle.spin_grammar.specs.Grammar.{Atom, Fixed, Numeral, Argument, Called, Typed, Blob, Want, Number, Name, Signature, HandlerBody, GuardBody, Expression, Test, Part, Steps, LayerKind, Merge, Op, HandlerOrAny, Own, Effect, ForcedPlace, ForcedMode, Deed, Spot, Place, Mode, Values, Counted, Bindings, Rising, Exactly, Choices, expressions, tests, parts, steps, layers, merges, ops, owns, effects, forced_places, forced_modes, spots, places, modes, deeds, as_number, chosen, is_argument, as_signature, as_blob, accepts, may_end, reads}
+use Rattle.spin_grammar.specs.Grammar.{Atom, Fixed, Argument, Called, Want, Number, Name, Signature, HandlerBody, GuardBody, Expression, Test, Part, Steps, LayerKind, Merge, Op, HandlerOrAny, Own, Effect, ForcedPlace, ForcedMode, Deed, Spot, Place, Mode, Values, Counted, Bindings, Rising, Exactly, Choices, expressions, tests, parts, steps, layers, merges, ops, owns, effects, forced_places, forced_modes, spots, places, modes, deeds, as_number, chosen, is_argument, as_signature, as_blob, accepts, may_end, reads}
 use Rattle.spin_grammar.specs.Lines.{Line, form, wanted, Spells}
-use Rattle.spin_grammar.specs.Canonical.{letter, letters, params_word, signature_word, hex_digits, spell, line_of}
+use Rattle.spin_text.specs.Digits.{hex_digits, begins_with_digit}
+use Rattle.spin_text.specs.Words.{line_of}
+use Rattle.spin_grammar.specs.Canonical.{letter, letters, signature_word, spell}
 use Rattle.spin_grammar.proofs.Blanks.{some_word}
 use Rattle.spin_grammar.proofs.Signatures.{one_of, AreBytes, are_bytes}
 use Rattle.spin_grammar.proofs.Respelled.{own, is_printed, is_word, both, second, is_bounded, is_one, ok_same, by_number, by_count, by_rising, by_rise, by_signature, by_blob, is_small, small_argument, next_bounded, went, over, wanted_bounded}

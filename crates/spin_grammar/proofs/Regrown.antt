@@ -5,7 +5,7 @@ use Rattle.std.specs.List.{flat_map}
 use Rattle.std.proofs.lemmas.List.{append-nil}
 use Rattle.spin_grammar.specs.declared.fault.Fault.{Fault}
 use Rattle.spin_grammar.specs.Grammar.{Atom, Want}
-use Rattle.spin_grammar.specs.Reading.{Leads, Takes, Fails, Regrows, IsThere}
+use Rattle.spin_grammar.specs.Inner.Reading.{Leads, Takes, Fails, Regrows, IsThere}
 use Rattle.spin_grammar.proofs.Parts.{leads_none, leads_then, leads_with, fails_then, fails_next, fails_with}
 
 pub regrows_none : {A : Type 0} (form : A → List Atom) (want : Want) (n : ℕ) (old : List (List ℕ)) → Regrows form want n n old old

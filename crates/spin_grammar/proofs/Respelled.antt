@@ -13,9 +13,10 @@ use Rattle.std.proofs.lemmas.List.Folds.{list_all-append}
 use Rattle.spin_values.specs.declared.types.EventType.{EventType}
 use Rattle.spin_grammar.specs.declared.kind.Kind.{Kind}
 use Rattle.spin_grammar.specs.declared.kind.Kind.TheVariants as kind
-use Rattle.spin_grammar.specs.Spelling.{is_digit, numeral, number, within, greatest, begins_with_digit, is_name, signature, guard_signature, hex_bytes}
+use Rattle.spin_grammar.specs.Spelling.{is_digit, numeral, number, within, greatest, is_name, signature, guard_signature, hex_bytes}
 use Rattle.spin_grammar.specs.Grammar.{Atom, Fixed, Numeral, Argument, Called, Typed, Blob, Want, Number, Name, Signature, HandlerBody, GuardBody, Expression, Test, Part, Steps, LayerKind, Merge, Op, HandlerOrAny, Own, Effect, ForcedPlace, ForcedMode, Deed, Spot, Place, Mode, Values, Counted, Bindings, Rising, Exactly, Choices, expressions, tests, parts, steps, layers, merges, ops, owns, effects, forced_places, forced_modes, spots, places, modes, deeds, Step, as_number, chosen, is_argument, as_signature, as_blob, as_count, rising, as_rising, as_rise, accepts, may_end, Reading, then_read, reads}
 use Rattle.spin_grammar.specs.Lines.{Line, form, wanted, Spells}
+use Rattle.spin_text.specs.Digits.{begins_with_digit}
 use Rattle.spin_grammar.specs.Canonical.{spell}
 use Rattle.spin_grammar.proofs.Signatures.{one_of, signature_again, guard_signature_again, not_native, bytes_again}
 
@@ -50,11 +51,15 @@ number_back n h =
     let small : n < 2 ^ 64 = omega (arith, h) in
     rw (no_prefix (decimal n) (digits_decimal own n small)) (decimal_numeral n small)
 
+digit_first : (w : List ℕ) → begins_with_digit w ≡ (leb 48 (slice_index w 0) && leb (slice_index w 0) 57)
+digit_first [] = refl
+digit_first (b ∷ bs) = refl
+
 pub first_digit : (n : ℕ) → n ≤ greatest → begins_with_digit (decimal n) ≡ true
 first_digit n h =
     let small : n < 2 ^ 64 = omega (arith, h) in
     let r = digit_at (decimal n) 0 (digits_decimal own n small) (decimal_nonempty n small) in
-    grind (arith, nat_tests, r.0, r.1)
+    rw (digit_first (decimal n)) (grind (arith, nat_tests, r.0, r.1))
 
 pub no_bytes : (n : ℕ) → n ≤ greatest → eqb (slice_index (decimal n) 0) 120 ≡ false
 no_bytes n h =

@@ -11,7 +11,8 @@ use Rattle.spin_values.specs.declared.types.Kind.TheVariants as kind
 use Rattle.spin_values.specs.declared.types.Param.{Param}
 use Rattle.spin_values.specs.declared.types.EventType.{EventType}
 use Rattle.spin_grammar.specs.Spelling.{is_digit, is_letter, param_of, params_of, says_result, as_type, signature, guard_signature, hex_bytes}
-use Rattle.spin_grammar.specs.Canonical.{letter, letters, params_word, signature_word, hex_digits}
+use Rattle.spin_text.specs.Digits.{hex_digits}
+use Rattle.spin_grammar.specs.Canonical.{letter, letters, params_word, signature_word}
 
 -- ---- letters
 

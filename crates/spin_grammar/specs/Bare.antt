@@ -12,7 +12,9 @@ use Rattle.spin_code.specs.declared.act.ActStep.{ActStep}
 use Rattle.spin_code.specs.declared.act.ActStep.TheVariants as step
 use Rattle.spin_code.specs.declared.merge.Merge.{Merge}
 use Rattle.spin_code.specs.declared.merge.Merge.TheVariants as merge
-use Rattle.spin_grammar.specs.Lines.{Line, Modules, Event, Endpoint, Handler, NativeHandler, Guard, NativeGuard, Rules, Authoriser, Default, Lane, Barrier, Retire}
+use Rattle.spin_grammar.specs.Lines.{Line, Modules, Event, Endpoint, Handler, NativeHandler, Guard}
+use Rattle.spin_grammar.specs.Lines.{NativeGuard, Rules, Authoriser, Default, Lane, Barrier}
+use Rattle.spin_grammar.specs.Lines.{Retire}
 
 abbrev pub nowhere : Box (Unit {0}) Global
 nowhere = record { ptr = null_ptr; alloc = record { memory = record { seal = tt } }; value = tt }

@@ -1,11 +1,11 @@
 -- The canonical words of what words say.
-use Rattle.std.specs.Prelude.{ℕ, ◌/◌, ◌%◌, Bool, true, false, if◌then◌else◌, List, [], ◌∷◌, ◌++◌, map, decimal, codes}
-use Rattle.std.specs.List.{flat_map}
-use Rattle.std.specs.Char.{digit_char}
+use Rattle.std.specs.Prelude.{ℕ, Bool, true, false, if◌then◌else◌, List, [], ◌∷◌, ◌++◌, map}
+use Rattle.std.specs.Prelude.{decimal, codes}
 use Rattle.spin_values.specs.declared.types.Kind.{Kind}
 use Rattle.spin_values.specs.declared.types.Kind.TheVariants as kind
 use Rattle.spin_values.specs.declared.types.Param.{Param}
 use Rattle.spin_values.specs.declared.types.EventType.{EventType}
+use Rattle.spin_text.specs.Digits.{hex_digits}
 use Rattle.spin_grammar.specs.Grammar.{Atom, Fixed, Numeral, Argument, Called, Typed, Blob}
 
 abbrev pub letter : Kind → Bool → ℕ
@@ -22,11 +22,8 @@ params_word [] = codes "-"
 params_word (p ∷ ps) = letters (p ∷ ps)
 
 abbrev pub signature_word : EventType → List ℕ
-signature_word sig = if sig.gives then params_word sig.params ++ codes ":w" else params_word sig.params
-
--- two hexadecimal digits of each byte, in lower case
-abbrev pub hex_digits : List ℕ → List ℕ
-hex_digits bytes = flat_map (λ b. digit_char (b / 16) ∷ digit_char (b % 16) ∷ []) bytes
+signature_word sig =
+    if sig.gives then params_word sig.params ++ codes ":w" else params_word sig.params
 
 abbrev pub spell : Atom → List ℕ
 spell (Fixed w) = w
@@ -35,8 +32,3 @@ spell (Argument k) = 97 ∷ decimal k
 spell (Called w) = w
 spell (Typed sig) = signature_word sig
 spell (Blob bytes) = 120 ∷ hex_digits bytes
-
--- a line of words, with one space between them
-abbrev pub line_of : List (List ℕ) → List ℕ
-line_of [] = []
-line_of (w ∷ ws) = w ++ flat_map (λ v. 32 ∷ v) ws

@@ -1,11 +1,21 @@
 -- What may stand at each place of a line: the tables of the script's format.
-use Rattle.std.specs.Prelude.{ℕ, zero, suc, ◌+◌, ◌-◌, Bool, true, false, ◌&&◌, List, [], ◌∷◌, ◌++◌, length, replicate, Option, Some, None, Result, Ok, Err, nat_le, ◌==◌, if◌then◌else◌, slice_index, codes, drop}
+use Rattle.std.specs.Prelude.{ℕ, zero, suc, ◌+◌, ◌-◌, Bool, true, false, ◌&&◌, List, [], ◌∷◌, ◌++◌}
+use Rattle.std.specs.Prelude.{length, replicate, Option, Some, None, Result, Ok, Err, nat_le, ◌==◌}
+use Rattle.std.specs.Prelude.{if◌then◌else◌, slice_index, codes, drop}
 use Rattle.std.specs.List.{list_all}
 use Rattle.std.specs.Str.{bytes_eq}
 use Rattle.spin_values.specs.declared.types.EventType.{EventType}
+use Rattle.spin_values.specs.declared.types.TheConstants.{MAX_PARAMS}
+use Rattle.spin_grammar.specs.declared.limits.TheConstants.{LAST_ARGUMENT, MAX_OFFSET, MAX_WIDTH}
+use Rattle.spin_grammar.specs.declared.limits.TheConstants.{LAST_ENDPOINT, LAST_EVENT, MAX_PARTS}
+use Rattle.spin_grammar.specs.declared.limits.TheConstants.{MAX_QUOTA, MAX_IMPOSED, LAST_GUARD}
+use Rattle.spin_grammar.specs.declared.limits.TheConstants.{LAST_TARGET, LAST_PLACE, LAST_MODULE}
+use Rattle.spin_grammar.specs.declared.limits.TheConstants.{LAST_HANDLER, MAX_PACKETS, MAX_NAMED}
 use Rattle.spin_grammar.specs.declared.cause.Cause.{Cause}
 use Rattle.spin_grammar.specs.declared.cause.Cause.TheVariants as cause
-use Rattle.spin_grammar.specs.Spelling.{number, within, greatest, begins_with_digit, is_name, signature, guard_signature, hex_bytes}
+use Rattle.spin_text.specs.Digits.{begins_with_digit}
+use Rattle.spin_grammar.specs.Spelling.{number, within, greatest, is_name, signature}
+use Rattle.spin_grammar.specs.Spelling.{guard_signature, hex_bytes}
 
 -- What a word says.
 pub data Atom : Type 0 where
@@ -68,7 +78,7 @@ Choices = List (List ℕ × List Want)
 
 abbrev pub expressions : Choices
 expressions =
-    (codes "f", Number 0 7 ∷ Number 0 65535 ∷ Number 0 255 ∷ [])
+    (codes "f", Number 0 LAST_ARGUMENT ∷ Number 0 MAX_OFFSET ∷ Number 0 MAX_WIDTH ∷ [])
     ∷ (codes "+", Expression ∷ Expression ∷ [])
     ∷ (codes "&", Expression ∷ Expression ∷ [])
     ∷ (codes "|", Expression ∷ Expression ∷ [])
@@ -81,23 +91,29 @@ tests =
     ∷ (codes "!=", Expression ∷ Expression ∷ [])
     ∷ (codes "<", Expression ∷ Expression ∷ [])
     ∷ (codes "<=", Expression ∷ Expression ∷ [])
-    ∷ (codes "has", Number 0 7 ∷ Number 0 65535 ∷ [])
+    ∷ (codes "has", Number 0 LAST_ARGUMENT ∷ Number 0 MAX_OFFSET ∷ [])
     ∷ (codes "not", Test ∷ [])
     ∷ (codes "all", Test ∷ Test ∷ [])
     ∷ (codes "any", Test ∷ Test ∷ [])
     ∷ []
 
 abbrev pub parts : Choices
-parts = (codes "w", Expression ∷ []) ∷ (codes "b", Number 0 7 ∷ Number 0 65535 ∷ []) ∷ []
+parts =
+    (codes "w", Expression ∷ []) ∷ (codes "b", Number 0 LAST_ARGUMENT ∷ Number 0 MAX_OFFSET ∷ [])
+    ∷ []
 
 -- behind a step more steps may follow
 abbrev pub steps : Choices
 steps =
-    (codes "set", Number 0 7 ∷ Expression ∷ Steps ∷ [])
-    ∷ (codes "send", Number 0 63 ∷ Number 0 7 ∷ Number 0 65535 ∷ Steps ∷ [])
+    (codes "set", Number 0 LAST_ARGUMENT ∷ Expression ∷ Steps ∷ [])
+    ∷ (
+      codes "send",
+      Number 0 LAST_ENDPOINT ∷ Number 0 LAST_ARGUMENT ∷ Number 0 MAX_OFFSET ∷ Steps
+          ∷ [],
+    )
     ∷ (codes "result", Expression ∷ Steps ∷ [])
-    ∷ (codes "up", Number 0 63 ∷ Counted 0 8 Part ∷ Steps ∷ [])
-    ∷ (codes "layer", LayerKind ∷ Number 0 63 ∷ Steps ∷ [])
+    ∷ (codes "up", Number 0 LAST_EVENT ∷ Counted 0 MAX_PARTS Part ∷ Steps ∷ [])
+    ∷ (codes "layer", LayerKind ∷ Number 0 LAST_EVENT ∷ Steps ∷ [])
     ∷ []
 
 abbrev pub layers : Choices
@@ -107,7 +123,9 @@ abbrev pub merges : Choices
 merges = (codes "last", []) ∷ (codes "fold", Expression ∷ []) ∷ []
 
 abbrev pub ops : Choices
-ops = (codes "install", []) ∷ (codes "remove", []) ∷ (codes "replace", []) ∷ (codes "default", []) ∷ (codes "nodefault", []) ∷ (codes "any", []) ∷ []
+ops =
+    (codes "install", []) ∷ (codes "remove", []) ∷ (codes "replace", []) ∷ (codes "default", [])
+    ∷ (codes "nodefault", []) ∷ (codes "any", []) ∷ []
 
 abbrev pub owns : Choices
 owns = (codes "own", []) ∷ (codes "all", []) ∷ []
@@ -117,9 +135,13 @@ abbrev pub effects : ℕ → Choices
 effects version =
     (codes "allow", [])
     ∷ (codes "deny", [])
-    ∷ (codes "quota", Number 0 1000 ∷ [])
-    ∷ (codes "impose", Counted 1 4 (Number 1 1023) ∷ [])
-    ∷ (if nat_le 2 version then (codes "force", Counted 0 4 (Number 1 1023) ∷ ForcedPlace ∷ ForcedMode ∷ []) ∷ [] else [])
+    ∷ (codes "quota", Number 0 MAX_QUOTA ∷ [])
+    ∷ (codes "impose", Counted 1 MAX_IMPOSED (Number 1 LAST_GUARD) ∷ [])
+    ∷ (if nat_le 2 version then (
+      codes "force",
+      Counted 0 MAX_IMPOSED (Number 1 LAST_GUARD)
+          ∷ ForcedPlace ∷ ForcedMode ∷ [],
+    ) ∷ [] else [])
 
 abbrev pub forced_places : Choices
 forced_places = (codes "keep", []) ∷ (codes "first", []) ∷ (codes "last", []) ∷ []
@@ -128,7 +150,10 @@ abbrev pub forced_modes : Choices
 forced_modes = (codes "keep", []) ∷ (codes "async", []) ∷ []
 
 abbrev pub spots : Choices
-spots = (codes "free", []) ∷ (codes "first", []) ∷ (codes "last", []) ∷ (codes "before", Number 0 1023 ∷ []) ∷ (codes "after", Number 0 1023 ∷ []) ∷ []
+spots =
+    (codes "free", []) ∷ (codes "first", []) ∷ (codes "last", [])
+    ∷ (codes "before", Number 0 LAST_TARGET ∷ []) ∷ (codes "after", Number 0 LAST_TARGET ∷ [])
+    ∷ []
 
 abbrev pub places : Choices
 places = (codes "free", []) ∷ (codes "first", []) ∷ (codes "last", []) ∷ []
@@ -136,25 +161,38 @@ places = (codes "free", []) ∷ (codes "first", []) ∷ (codes "last", []) ∷ [
 abbrev pub modes : Choices
 modes = (codes "plain", []) ∷ (codes "filter", []) ∷ (codes "async", []) ∷ []
 
--- where a new binding goes: version 3 names up to four bindings before which and up to four after which it goes
+-- where a new binding goes: version 3 names up to four bindings before which and up to four after
+-- which it goes
 abbrev pub spot_wants : ℕ → List Want
 spot_wants version =
-    if version == 3 then Place ∷ Exactly (codes "before") ∷ Bindings ∷ Exactly (codes "after") ∷ Bindings ∷ [] else Spot ∷ []
+    if version == 3 then Place ∷ Exactly (codes "before") ∷ Bindings ∷ Exactly (codes "after")
+    ∷ Bindings ∷ [] else Spot ∷ []
 
 -- the greatest binding that may be named as a target
 abbrev pub last_target : ℕ → ℕ
-last_target version = if version == 3 then 4096 else 1023
+last_target version = if version == 3 then LAST_PLACE else LAST_TARGET
 
 abbrev pub deeds : ℕ → Choices
-deeds version =
-    (codes "install", Number 0 63 ∷ Number 0 255 ∷ Number 0 1023 ∷ Number 0 1023 ∷ (spot_wants version ++ Mode ∷ []))
-    ∷ (codes "remove", Number 0 63 ∷ Number 0 255 ∷ Number 0 (last_target version) ∷ [])
-    ∷ (codes "replace", Number 0 63 ∷ Number 0 255 ∷ Number 0 (last_target version) ∷ Number 0 1023 ∷ Number 0 1023 ∷ [])
-    ∷ (codes "default", Number 0 63 ∷ Number 0 255 ∷ Number 0 1023 ∷ [])
-    ∷ (codes "nodefault", Number 0 63 ∷ Number 0 255 ∷ [])
-    ∷ (codes "raise", Number 0 63 ∷ Values 8 ∷ [])
-    ∷ (codes "later", Number 0 63 ∷ Values 8 ∷ [])
-    ∷ (codes "packet", Number 0 63 ∷ Number 1 65536 ∷ [])
+deeds version = (
+  codes "install",
+  Number 0 LAST_EVENT ∷ Number 0 LAST_MODULE ∷ Number 0 LAST_HANDLER
+      ∷ Number 0 LAST_GUARD ∷ (spot_wants version ++ Mode ∷ []),
+)
+    ∷ (
+      codes "remove",
+      Number 0 LAST_EVENT ∷ Number 0 LAST_MODULE ∷ Number 0 (last_target version)
+          ∷ [],
+    )
+    ∷ (
+      codes "replace",
+      Number 0 LAST_EVENT ∷ Number 0 LAST_MODULE ∷ Number 0 (last_target version)
+          ∷ Number 0 LAST_HANDLER ∷ Number 0 LAST_GUARD ∷ [],
+    )
+    ∷ (codes "default", Number 0 LAST_EVENT ∷ Number 0 LAST_MODULE ∷ Number 0 LAST_HANDLER ∷ [])
+    ∷ (codes "nodefault", Number 0 LAST_EVENT ∷ Number 0 LAST_MODULE ∷ [])
+    ∷ (codes "raise", Number 0 LAST_EVENT ∷ Values MAX_PARAMS ∷ [])
+    ∷ (codes "later", Number 0 LAST_EVENT ∷ Values MAX_PARAMS ∷ [])
+    ∷ (codes "packet", Number 0 LAST_EVENT ∷ Number 1 MAX_PACKETS ∷ [])
     ∷ []
 
 -- ---- one word at its place
@@ -172,7 +210,9 @@ chosen w [] = Err cause.Word
 chosen w (c ∷ cs) = if bytes_eq w c.0 then Ok (Fixed w, c.1) else chosen w cs
 
 abbrev pub is_argument : List ℕ → Bool
-is_argument w = length w == 2 && (slice_index w 0 == 97 && (nat_le 48 (slice_index w 1) && nat_le (slice_index w 1) 55))
+is_argument w =
+    length w == 2 && (slice_index w 0 == 97 && (nat_le 48 (slice_index w 1) && nat_le
+    (slice_index w 1) 55))
 
 abbrev pub as_signature : Option EventType → List Want → Step
 as_signature None more = Err cause.Signature
@@ -203,8 +243,12 @@ unfoldable pub accepts : Want → List ℕ → Step
 accepts (Number low high) w = as_number (within low high (number w)) []
 accepts Name w = if is_name w then Ok (Called w, []) else Err cause.Name
 accepts Signature w = as_signature (signature w) []
-accepts HandlerBody w = if bytes_eq w (codes "native") then Ok (Fixed w, Name ∷ []) else as_signature (signature w) (Steps ∷ [])
-accepts GuardBody w = if bytes_eq w (codes "native") then Ok (Fixed w, Name ∷ []) else as_signature (guard_signature w) (Test ∷ [])
+accepts HandlerBody w =
+    if bytes_eq w (codes "native") then Ok (Fixed w, Name ∷ []) else as_signature (signature w)
+    (Steps ∷ [])
+accepts GuardBody w =
+    if bytes_eq w (codes "native") then Ok (Fixed w, Name ∷ []) else as_signature
+    (guard_signature w) (Test ∷ [])
 accepts Expression w =
     if begins_with_digit w then as_number (within 0 greatest (number w)) []
     else (if is_argument w then Ok (Argument (slice_index w 1 - 48), []) else chosen w expressions)
@@ -215,7 +259,8 @@ accepts LayerKind w = chosen w layers
 accepts Merge w = chosen w merges
 accepts Op w = chosen w ops
 accepts HandlerOrAny w =
-    if begins_with_digit w then as_number (within 1 1023 (number w)) [] else chosen w ((codes "any", []) ∷ [])
+    if begins_with_digit w then as_number (within 1 LAST_HANDLER (number w)) [] else chosen w
+    ((codes "any", []) ∷ [])
 accepts Own w = chosen w owns
 accepts (Effect version) w = chosen w (effects version)
 accepts ForcedPlace w = chosen w forced_places
@@ -226,10 +271,11 @@ accepts Place w = chosen w places
 accepts Mode w = chosen w modes
 accepts (Values zero) w = Err cause.End
 accepts (Values (suc k)) w =
-    if slice_index w 0 == 120 then as_blob (hex_bytes (drop 1 w)) (Values k ∷ []) else as_number (within 0 greatest (number w)) (Values k ∷ [])
+    if slice_index w 0 == 120 then as_blob (hex_bytes (drop 1 w)) (Values k ∷ []) else as_number
+    (within 0 greatest (number w)) (Values k ∷ [])
 accepts (Counted low high want) w = as_count (within low high (number w)) want
-accepts Bindings w = as_rising (within 0 4 (number w))
-accepts (Rising low more) w = as_rise (within low 4096 (number w)) more
+accepts Bindings w = as_rising (within 0 MAX_NAMED (number w))
+accepts (Rising low more) w = as_rise (within low LAST_PLACE (number w)) more
 accepts (Exactly word) w = chosen w ((word, []) ∷ [])
 
 -- ---- a whole line
@@ -251,4 +297,5 @@ then_read front (Err c) = Err c
 unfoldable pub reads : List Want → List (List ℕ) → Reading
 reads wants [] = if list_all may_end wants then Ok [] else Err cause.End
 reads [] (w ∷ ws) = Err cause.End
-reads (want ∷ wants) (w ∷ ws) = elim (accepts want w) [ Err c ↦ Err c | Ok p ↦ then_read (p.0 ∷ []) (reads (p.1 ++ wants) ws) ]
+reads (want ∷ wants) (w ∷ ws) =
+    elim (accepts want w) [ Err c ↦ Err c | Ok p ↦ then_read (p.0 ∷ []) (reads (p.1 ++ wants) ws) ]

@@ -16,10 +16,14 @@ OneLine = (l m : Line) → kind_of l ≡ kind_of m → form l ≡ form m → bar
 
 -- What is wrong with an act, a test or a merge doesn't depend on where its boxes lie.
 pub record ChecksAreBare : Type 0 where
-  pub acts : (steps : List ActStep) (sig : EventType) → act_check (record { steps = map bare_step steps }) sig ≡ act_check (record { steps = steps }) sig
+  pub acts : (steps : List ActStep) (sig : EventType)
+      → act_check (record { steps = map bare_step steps }) sig
+      ≡ act_check (record { steps = steps }) sig
   pub tests : (t : Test) (sig : EventType) → test_check (bare_test t) sig ≡ test_check t sig
   pub merges : (m : Merge) → merge_check (bare_merge m) ≡ merge_check m
 
 -- What a line's words say, its canonical words say too.
 abbrev pub LinesAreRespelled : Type 0
-LinesAreRespelled = (version : ℕ) (k : Kind) (ws : List (List ℕ)) (l : Line) → Spells version k ws l → Spells version k (map spell (form l)) l
+LinesAreRespelled =
+    (version : ℕ) (k : Kind) (ws : List (List ℕ)) (l : Line) → Spells version k ws l
+    → Spells version k (map spell (form l)) l

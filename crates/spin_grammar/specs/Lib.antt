@@ -2,10 +2,10 @@ pub mod Words
 pub mod Spelling
 pub mod Grammar
 pub mod Forms
-pub mod Heads
-pub mod Reading
 pub mod Tasks
 pub mod Lines
 pub mod Bare
 pub mod Laws
 pub mod Canonical
+pub mod Inner
+pub mod Limits

@@ -1,11 +1,14 @@
 -- What each line says, the words behind its first, and what is wanted there.
-use Rattle.std.specs.Prelude.{◌≡◌, ◌≤◌, ℕ, false, List, [], ◌∷◌, codes, Result, Ok, Err}
+use Rattle.std.specs.Prelude.{◌≡◌, ◌<◌, ◌≤◌, ℕ, Bool, true, false, nat_lt, List, [], ◌∷◌, codes}
+use Rattle.std.specs.Prelude.{Option, None, Some, Result, Ok, Err}
 use Rattle.std.specs.List.{list_any}
 use Rattle.spin_values.specs.declared.types.EventType.{EventType}
 use Rattle.spin_code.specs.declared.test.Test.{Test}
 use Rattle.spin_code.specs.declared.act.ActStep.{ActStep}
 use Rattle.spin_code.specs.declared.merge.Merge.{Merge}
-use Rattle.spin_code.specs.Size.{test_depth, is_step_deep}
+use Rattle.spin_code.specs.declared.merge.Merge.TheVariants as merge
+use Rattle.spin_code.specs.declared.depth.TheConstants.{MAX_DEPTH}
+use Rattle.spin_code.specs.Size.{expr_depth, test_depth, is_step_deep}
 use Rattle.spin_policy.specs.declared.rule.Rule.{Rule}
 use Rattle.spin_policy.specs.Verdicts.{has_wrong_guards}
 use Rattle.spin_grammar.specs.declared.cause.Cause.{Cause}
@@ -13,13 +16,15 @@ use Rattle.spin_grammar.specs.declared.fault.Fault.{Fault}
 use Rattle.spin_grammar.specs.declared.fault.Fault.TheVariants as fault
 use Rattle.spin_grammar.specs.declared.kind.Kind.{Kind}
 use Rattle.spin_grammar.specs.declared.kind.Kind.TheVariants as kind
+use Rattle.spin_grammar.specs.declared.limits.TheConstants.{MAX_MODULES, LAST_MODULE, LAST_EVENT}
+use Rattle.spin_grammar.specs.declared.limits.TheConstants.{LAST_ENDPOINT, LAST_HANDLER}
+use Rattle.spin_grammar.specs.declared.limits.TheConstants.{LAST_GUARD, LAST_LANE}
 use Rattle.spin_grammar.specs.declared.line.Said.{Said}
 use Rattle.spin_grammar.specs.declared.line.Said.TheVariants as said
 use Rattle.spin_grammar.specs.Grammar as grammar
 use Rattle.spin_grammar.specs.Grammar.{Atom, Fixed, Numeral, Called, Typed, Want, Number, reads}
 use Rattle.spin_grammar.specs.Forms.{Task, steps_form, test_form, merge_form, rule_form, task_form}
-use Rattle.spin_grammar.specs.Reading.{Takes, Fails, IsWithin, IsKept, is_merge_deep}
-use Rattle.spin_grammar.specs.Tasks.{IsTask, IsValidTask}
+use Rattle.spin_grammar.specs.Tasks.{Asks, IsValidOn}
 
 -- what a line says
 pub data Line : Type 0 where
@@ -71,58 +76,77 @@ kind_of (Retire p) = kind.Retire
 
 -- what is wanted behind the first word of a line, in a script of this version
 abbrev pub wanted : ℕ → Kind → List Want
-wanted version kind.Modules = Number 1 256 ∷ []
-wanted version kind.Event = Number 0 63 ∷ Number 0 255 ∷ grammar.Signature ∷ grammar.Merge ∷ []
-wanted version kind.Endpoint = Number 0 63 ∷ grammar.Name ∷ []
-wanted version kind.Handler = Number 1 1023 ∷ grammar.HandlerBody ∷ []
-wanted version kind.Guard = Number 1 1023 ∷ grammar.GuardBody ∷ []
-wanted version kind.Rule = Number 0 63 ∷ Number 0 255 ∷ Number 0 255 ∷ grammar.Op ∷ grammar.HandlerOrAny ∷ grammar.Own ∷ grammar.Effect version ∷ []
-wanted version kind.Authoriser = Number 0 63 ∷ grammar.Name ∷ []
-wanted version kind.Default = Number 0 63 ∷ Number 1 1023 ∷ []
-wanted version kind.Lane = Number 0 255 ∷ grammar.Deed version ∷ []
+wanted version kind.Modules = Number 1 MAX_MODULES ∷ []
+wanted version kind.Event =
+    Number 0 LAST_EVENT ∷ Number 0 LAST_MODULE ∷ grammar.Signature ∷ grammar.Merge ∷ []
+wanted version kind.Endpoint = Number 0 LAST_ENDPOINT ∷ grammar.Name ∷ []
+wanted version kind.Handler = Number 1 LAST_HANDLER ∷ grammar.HandlerBody ∷ []
+wanted version kind.Guard = Number 1 LAST_GUARD ∷ grammar.GuardBody ∷ []
+wanted version kind.Rule =
+    Number 0 LAST_EVENT ∷ Number 0 LAST_MODULE ∷ Number 0 LAST_MODULE ∷ grammar.Op
+    ∷ grammar.HandlerOrAny ∷ grammar.Own ∷ grammar.Effect version ∷ []
+wanted version kind.Authoriser = Number 0 LAST_EVENT ∷ grammar.Name ∷ []
+wanted version kind.Default = Number 0 LAST_EVENT ∷ Number 1 LAST_HANDLER ∷ []
+wanted version kind.Lane = Number 0 LAST_LANE ∷ grammar.Deed version ∷ []
 wanted version kind.Barrier = []
-wanted version kind.Retire = Number 0 63 ∷ []
+wanted version kind.Retire = Number 0 LAST_ENDPOINT ∷ []
 
 -- The words behind a line's first say this, in a script of this version.
 pub record Spells (version : ℕ) (k : Kind) (ws : List (List ℕ)) (l : Line) : Type 0 where
   pub kind : kind_of l ≡ k
   pub words : reads (wanted version k) ws ≡ Ok (form l)
 
--- What was read of a line stands for what the line says: it is that, but for what is too deep, which wasn't kept.
+-- ---- what is kept of a line
+
+-- what was read was kept where it is at most so deep, and passed over where it is deeper
+abbrev pub IsWithin : {A : Type 0} → (A → ℕ) → ℕ → Option A → A → Type 0
+IsWithin depth limit None a = limit < depth a
+IsWithin depth limit (Some kept) a = (kept ≡ a) × (depth a ≤ limit)
+
+-- what was read was kept where it isn't too deep
+abbrev pub IsKept : {A : Type 0} → (A → Bool) → Option A → A → Type 0
+IsKept is_deep None a = is_deep a ≡ true
+IsKept is_deep (Some kept) a = (kept ≡ a) × (is_deep a ≡ false)
+
+-- the expression of a fold is deeper than 8
+abbrev pub is_merge_deep : Merge → Bool
+is_merge_deep merge.Last = false
+is_merge_deep (merge.Fold e) = nat_lt MAX_DEPTH (expr_depth e)
+
+-- What was read of a line stands for what the line says: it is that, but for what is too deep,
+-- which wasn't kept.
 abbrev pub Stands : Said → Line → Type 0
 Stands (said.Modules n) l = l ≡ Modules n
-Stands (said.Event e owner sig o) l = (m : Merge) × (l ≡ Event e owner sig m) × IsKept is_merge_deep o m
+Stands (said.Event e owner sig o) l =
+    (m : Merge) × (l ≡ Event e owner sig m) × IsKept is_merge_deep o m
 Stands (said.Endpoint p name) l = l ≡ Endpoint p name
-Stands (said.Handler h sig o) l = (steps : List ActStep) × (l ≡ Handler h sig steps) × IsKept (list_any is_step_deep) o steps
+Stands (said.Handler h sig o) l =
+    (steps : List ActStep) × (l ≡ Handler h sig steps) × IsKept (list_any is_step_deep) o steps
 Stands (said.NativeHandler h name) l = l ≡ NativeHandler h name
-Stands (said.Guard g sig o) l = (t : Test) × (l ≡ Guard g sig t) × IsWithin test_depth 8 o t
+Stands (said.Guard g sig o) l = (t : Test) × (l ≡ Guard g sig t) × IsWithin test_depth MAX_DEPTH o t
 Stands (said.NativeGuard g name) l = l ≡ NativeGuard g name
 Stands (said.Rule e r) l = l ≡ Rules e r
 Stands (said.Authoriser e name) l = l ≡ Authoriser e name
 Stands (said.Default e h) l = l ≡ Default e h
-Stands (said.Lane lane task) l = (t : Task) × (l ≡ Lane lane t) × IsTask lane task t
+Stands (said.Lane lane w) l = (t : Task) × (l ≡ Lane lane t) × Asks lane w t
 Stands said.Barrier l = l ≡ Barrier
 Stands (said.Retire p) l = l ≡ Retire p
 
--- the front of old says a line of this kind, for which what was read stands
-abbrev pub GivesFront : ℕ → Kind → Result Said Fault → List (List ℕ) → List (List ℕ) → Type 0
-GivesFront version k (Ok s) old new = (l : Line) × (kind_of l ≡ k) × Takes (wanted version k) (form l) old new × Stands s l
-GivesFront version k (Err f) old new = Fails (wanted version k) f old
-
--- all words say a line of this kind, for which what was read stands, or this is the cause why they don't
+-- all words say a line of this kind, for which what was read stands, or this is the cause why they
+-- don't
 abbrev pub GivesLine : ℕ → Kind → List (List ℕ) → Result Said Fault → Type 0
 GivesLine version k ws (Ok s) = (l : Line) × Spells version k ws l × Stands s l
 GivesLine version k ws (Err f) = (c : Cause) → f ≡ fault.Bad c → reads (wanted version k) ws ≡ Err c
 
 -- what a line declares has the number of such a thing, and what it asks for is valid
 abbrev pub IsInRange : Said → Type 0
-IsInRange (said.Modules n) = (1 ≤ n) × (n ≤ 256)
-IsInRange (said.Event e owner sig o) = e ≤ 63
-IsInRange (said.Endpoint p name) = p ≤ 63
-IsInRange (said.Handler h sig o) = h ≤ 1023
-IsInRange (said.NativeHandler h name) = h ≤ 1023
-IsInRange (said.Guard g sig o) = g ≤ 1023
-IsInRange (said.NativeGuard g name) = g ≤ 1023
+IsInRange (said.Modules n) = (1 ≤ n) × (n ≤ MAX_MODULES)
+IsInRange (said.Event e owner sig o) = e ≤ LAST_EVENT
+IsInRange (said.Endpoint p name) = p ≤ LAST_ENDPOINT
+IsInRange (said.Handler h sig o) = h ≤ LAST_HANDLER
+IsInRange (said.NativeHandler h name) = h ≤ LAST_HANDLER
+IsInRange (said.Guard g sig o) = g ≤ LAST_GUARD
+IsInRange (said.NativeGuard g name) = g ≤ LAST_GUARD
 IsInRange (said.Rule e r) = has_wrong_guards r.effect ≡ false
-IsInRange (said.Lane lane task) = IsValidTask lane task
+IsInRange (said.Lane lane w) = IsValidOn lane w
 IsInRange s = Unit {0}

@@ -1,5 +1,7 @@
 -- How numbers, names, signatures and bytes are written.
-use Rattle.std.specs.Prelude.{ℕ, ◌+◌, ◌*◌, ◌-◌, Bool, true, false, ◌&&◌, ◌||◌, ◌==◌, nat_lt, nat_le, if◌then◌else◌, List, [], ◌∷◌, length, map, take, drop, Option, None, Some, slice_index, codes}
+use Rattle.std.specs.Prelude.{ℕ, ◌+◌, ◌*◌, ◌-◌, Bool, true, false, ◌&&◌, ◌||◌, ◌==◌, nat_lt}
+use Rattle.std.specs.Prelude.{nat_le, if◌then◌else◌, List, [], ◌∷◌, length, map, take, drop}
+use Rattle.std.specs.Prelude.{Option, None, Some, codes}
 use Rattle.std.specs.List.{list_all}
 use Rattle.std.specs.Option.{option_map}
 use Rattle.std.specs.Str.{bytes_eq}
@@ -8,6 +10,8 @@ use Rattle.std.specs.Char.{digit_value}
 use Rattle.spin_values.specs.declared.types.Kind.TheVariants as kind
 use Rattle.spin_values.specs.declared.types.Param.{Param}
 use Rattle.spin_values.specs.declared.types.EventType.{EventType}
+use Rattle.spin_values.specs.declared.types.TheConstants.{MAX_PARAMS}
+use Rattle.spin_grammar.specs.declared.limits.TheConstants.{MAX_NAME}
 
 -- ---- numbers
 
@@ -16,11 +20,15 @@ is_digit radix c = nat_lt (digit_value c) radix
 
 -- the number that digits stand for, of which there is at least one
 abbrev pub numeral : ℕ → List ℕ → Option ℕ
-numeral radix ds = if nat_lt 0 (length ds) && list_all (is_digit radix) ds then Some (digits_value radix ds) else None
+numeral radix ds =
+    if nat_lt 0 (length ds) && list_all (is_digit radix) ds then Some (digits_value radix ds) else
+    None
 
 -- decimal digits, or 0x and 1 to 16 hexadecimal digits of either case
 unfoldable pub number : List ℕ → Option ℕ
-number w = if bytes_eq (take 2 w) (codes "0x") then (if nat_le (length w) 18 then numeral 16 (drop 2 w) else None) else numeral 10 w
+number w =
+    if bytes_eq (take 2 w) (codes "0x") then (if nat_le (length w) 18 then numeral 16 (drop 2 w)
+    else None) else numeral 10 w
 
 -- the number, where it lies from low to high
 abbrev pub within : ℕ → ℕ → Option ℕ → Option ℕ
@@ -31,18 +39,15 @@ within low high (Some n) = if nat_le low n && nat_le n high then Some n else Non
 abbrev pub greatest : ℕ
 greatest = 18446744073709551615
 
-abbrev pub begins_with_digit : List ℕ → Bool
-begins_with_digit w = nat_le 48 (slice_index w 0) && nat_le (slice_index w 0) 57
-
 -- ---- names
 
 -- a letter, a digit, an underscore or a dot
 abbrev pub is_name_byte : ℕ → Bool
 is_name_byte c = is_digit 36 c || (c == 95) || (c == 46)
 
--- 1 to 16 of these bytes
+-- 1 to so many of these bytes
 abbrev pub is_name : List ℕ → Bool
-is_name w = nat_le 1 (length w) && nat_le (length w) 16 && list_all is_name_byte w
+is_name w = nat_le 1 (length w) && nat_le (length w) MAX_NAME && list_all is_name_byte w
 
 -- ---- signatures
 
@@ -52,13 +57,19 @@ is_letter c = (c == 119) || (c == 98) || (c == 87) || (c == 66)
 
 -- b and B are bytes, and W and B are var parameters where the case is a mark of that
 abbrev pub param_of : Bool → ℕ → Param
-param_of marks c = record { kind = if (c == 98) || (c == 66) then kind.Bytes else kind.Word; var = marks && ((c == 87) || (c == 66)) }
+param_of marks c =
+    record {
+      kind = if (c == 98) || (c == 66) then kind.Bytes else kind.Word;
+      var = marks &&
+          ((c == 87) || (c == 66));
+    }
 
 -- a dash is no parameters, and else there are 1 to 8 letters
 abbrev pub params_of : Bool → List ℕ → Option (List Param)
 params_of marks w =
     if bytes_eq w (codes "-") then Some []
-    else (if nat_le 1 (length w) && nat_le (length w) 8 && list_all is_letter w then Some (map (param_of marks) w) else None)
+    else (if nat_le 1 (length w) && nat_le (length w) MAX_PARAMS && list_all is_letter w then Some
+    (map (param_of marks) w) else None)
 
 -- the word ends with :w
 abbrev pub says_result : List ℕ → Bool
@@ -69,7 +80,9 @@ as_type gives None = None
 as_type gives (Some params) = Some (record { params = params; gives = gives })
 
 unfoldable pub signature : List ℕ → Option EventType
-signature w = if says_result w then as_type true (params_of true (take (length w - 2) w)) else as_type false (params_of true w)
+signature w =
+    if says_result w then as_type true (params_of true (take (length w - 2) w)) else as_type false
+    (params_of true w)
 
 -- of a guard, which gives no result, and for which the case doesn't matter
 unfoldable pub guard_signature : List ℕ → Option EventType
@@ -82,4 +95,5 @@ abbrev pub hex_bytes : List ℕ → Option (List ℕ)
 hex_bytes [] = Some []
 hex_bytes (a ∷ []) = None
 hex_bytes (a ∷ b ∷ more) =
-    if is_digit 16 a && is_digit 16 b then option_map (λ bytes. (16 * digit_value a + digit_value b) ∷ bytes) (hex_bytes more) else None
+    if is_digit 16 a && is_digit 16 b then option_map
+    (λ bytes. (16 * digit_value a + digit_value b) ∷ bytes) (hex_bytes more) else None

@@ -4,14 +4,15 @@ ghost use Rattle.std.specs.Prelude.{◌≡◌, ◌∷◌, ◌<◌, ◌≤◌, �
 ghost use Rattle.spin_code.specs.Size.{is_part_deep, is_step_deep};
 ghost use Rattle.spin_grammar.specs.Grammar as grammar;
 ghost use Rattle.spin_grammar.specs.Forms.{part_form, steps_form, merge_form};
-ghost use Rattle.spin_grammar.specs.Reading.{GivesSome, GivesParts, GivesHead, GivesStep, IsKept, is_merge_deep};
+ghost use Rattle.spin_grammar.specs.Inner.Reading.{GivesSome, GivesParts, GivesStep};
+ghost use Rattle.spin_grammar.specs.Lines.{IsKept, is_merge_deep};
 ghost use Rattle.std.specs.List.{list_any};
 
 use crate::expression::read_expression;
 use crate::fault::Fault;
-use crate::heads;
 use crate::heads::{MergeWord, PartWord, StepWord};
-use crate::leaves::{count_from, layer_word, merge_word, number_from, part_word};
+use crate::leaves::{count_from, layer_word, merge_word, number_from, part_word, step_word};
+use crate::limits::{LAST_ARGUMENT, LAST_ENDPOINT, LAST_EVENT, MAX_OFFSET, MAX_PARTS};
 use crate::words::Words;
 use spin_code::{ActStep, MAX_DEPTH, Merge, Part, Parts, Steplist};
 use std::alloc::Global;
@@ -20,7 +21,8 @@ use std::alloc::Global;
 #[tactic(auto, using(crate::proofs::Parts::failing))]
 fn read_part(alloc: Global, words: &mut Words) -> Result<Option<Part>, Fault>
     requires { length words.old < 2 ^ 31 }
-    ensures gives { GivesSome (IsKept is_part_deep) part_form (grammar.Part ∷ []) result words.old words.new }
+    ensures gives { GivesSome (IsKept is_part_deep) part_form (grammar.Part ∷ []) result words.old
+        words.new }
     ensures falls { length words.new ≤ length words.old }
 {
     match part_word(words)? {
@@ -29,8 +31,8 @@ fn read_part(alloc: Global, words: &mut Words) -> Result<Option<Part>, Fault>
             Some(word) => Ok(Some(Part::Word(word))),
         },
         PartWord::Bytes => {
-            let arg = number_from(words, 0, 7)? as u8;
-            let from = number_from(words, 0, 65535)? as u16;
+            let arg = number_from(words, 0, LAST_ARGUMENT)? as u8;
+            let from = number_from(words, 0, MAX_OFFSET)? as u16;
             Ok(Some(Part::Bytes { arg, from }))
         }
     }
@@ -56,21 +58,8 @@ fn read_parts(alloc: Global, words: &mut Words, count: u64) -> Result<Option<Par
     Ok(Some(parts))
 }
 
-/// Reads the first word of the next step; `None` at the line's end.
-#[tactic(auto, unfolding(crate::specs::Grammar::reads))]
-fn step_word(words: &mut Words) -> Result<Option<StepWord>, Fault>
-    ensures { GivesHead result words.old words.new }
-{
-    let Some(word) = words.next() else {
-        return Ok(None);
-    };
-    match heads::step_word(word) {
-        Ok(step) => Ok(Some(step)),
-        Err(cause) => Err(Fault::Bad(cause)),
-    }
-}
-
-/// Reads the rest of a step that begins with this word, and keeps the step where no expression of it is too deep.
+/// Reads the rest of a step that begins with this word, and keeps the step where no expression of
+/// it is too deep.
 #[tactic(auto, using(crate::proofs::Parts::failing))]
 fn read_step(alloc: Global, words: &mut Words, word: StepWord) -> Result<Option<ActStep>, Fault>
     requires { length words.old < 2 ^ 31 }
@@ -79,16 +68,16 @@ fn read_step(alloc: Global, words: &mut Words, word: StepWord) -> Result<Option<
 {
     match word {
         StepWord::Set => {
-            let arg = number_from(words, 0, 7)? as u8;
+            let arg = number_from(words, 0, LAST_ARGUMENT)? as u8;
             match read_expression(alloc, words, MAX_DEPTH)? {
                 None => Ok(None),
                 Some(to) => Ok(Some(ActStep::Set { arg, to })),
             }
         }
         StepWord::Send => {
-            let endpoint = number_from(words, 0, 63)? as u8;
-            let arg = number_from(words, 0, 7)? as u8;
-            let from = number_from(words, 0, 65535)? as u16;
+            let endpoint = number_from(words, 0, LAST_ENDPOINT)? as u8;
+            let arg = number_from(words, 0, LAST_ARGUMENT)? as u8;
+            let from = number_from(words, 0, MAX_OFFSET)? as u16;
             Ok(Some(ActStep::Send {
                 endpoint,
                 arg,
@@ -100,8 +89,8 @@ fn read_step(alloc: Global, words: &mut Words, word: StepWord) -> Result<Option<
             Some(result) => Ok(Some(ActStep::Result(result))),
         },
         StepWord::Up => {
-            let event = number_from(words, 0, 63)? as u8;
-            let count = count_from(words, 0, 8)?;
+            let event = number_from(words, 0, LAST_EVENT)? as u8;
+            let count = count_from(words, 0, MAX_PARTS)?;
             match read_parts(alloc, words, count)? {
                 None => Ok(None),
                 Some(parts) => Ok(Some(ActStep::Up { event, parts })),
@@ -109,7 +98,7 @@ fn read_step(alloc: Global, words: &mut Words, word: StepWord) -> Result<Option<
         }
         StepWord::Layer => {
             let kind = layer_word(words)?;
-            let event = number_from(words, 0, 63)? as u8;
+            let event = number_from(words, 0, LAST_EVENT)? as u8;
             Ok(Some(ActStep::Layer { kind, event }))
         }
     }
@@ -118,7 +107,8 @@ fn read_step(alloc: Global, words: &mut Words, word: StepWord) -> Result<Option<
 /// Reads all steps up to the line's end, and keeps them where no expression is too deep.
 pub(crate) fn read_steps(alloc: Global, words: &mut Words) -> Result<Option<Steplist>, Fault>
     requires { length words.old < 2 ^ 31 }
-    ensures { GivesSome (IsKept (list_any is_step_deep)) steps_form (grammar.Steps ∷ []) result words.old words.new }
+    ensures { GivesSome (IsKept (list_any is_step_deep)) steps_form (grammar.Steps ∷ []) result
+        words.old words.new }
 {
     let mut steps = Steplist::new(alloc);
     let mut deep = false;
@@ -138,7 +128,8 @@ pub(crate) fn read_steps(alloc: Global, words: &mut Words) -> Result<Option<Step
 #[tactic(auto, using(crate::proofs::Parts::failing))]
 pub(crate) fn read_merge(alloc: Global, words: &mut Words) -> Result<Option<Merge>, Fault>
     requires { length words.old < 2 ^ 31 }
-    ensures { GivesSome (IsKept is_merge_deep) merge_form (grammar.Merge ∷ []) result words.old words.new }
+    ensures { GivesSome (IsKept is_merge_deep) merge_form (grammar.Merge ∷ []) result words.old
+        words.new }
 {
     match merge_word(words)? {
         MergeWord::Last => Ok(Some(Merge::Last)),

@@ -4,14 +4,16 @@ ghost use Rattle.std.specs.Prelude.{◌≡◌, ◌∷◌, ◌<◌, ◌≤◌, �
 ghost use Rattle.spin_code.specs.Size.{expr_depth};
 ghost use Rattle.spin_grammar.specs.Grammar as grammar;
 ghost use Rattle.spin_grammar.specs.Grammar.{Number, Numeral};
-ghost use Rattle.spin_grammar.specs.Heads.{sign};
+ghost use Rattle.spin_grammar.specs.Inner.Heads.{sign};
 ghost use Rattle.spin_grammar.specs.Forms.{expr_form};
 ghost use Rattle.spin_grammar.specs.declared.fault.Fault.TheVariants.{NoMemory};
-ghost use Rattle.spin_grammar.specs.Reading.{Gives, GivesSome, IsWithin, IsThere, Skips, Joins};
+ghost use Rattle.spin_grammar.specs.Inner.Reading.{Gives, GivesSome, IsThere, Skips, Joins};
+ghost use Rattle.spin_grammar.specs.Lines.{IsWithin};
 
 use crate::fault::Fault;
 use crate::heads::{ExprWord, Operator};
 use crate::leaves::{expr_word, number_from};
+use crate::limits::{LAST_ARGUMENT, MAX_OFFSET, MAX_WIDTH};
 use crate::words::Words;
 use spin_code::Expr;
 use std::alloc::Global;
@@ -19,16 +21,19 @@ use std::alloc::Global;
 /// Reads what follows the word `f`: an argument, an offset and a width.
 #[tactic(auto, using(crate::proofs::Parts::failing))]
 pub(crate) fn field(words: &mut Words) -> Result<(u8, u16, u8), Fault>
-    ensures gives { Gives (λ f. Numeral f.0 ∷ Numeral f.1 ∷ Numeral f.2 ∷ []) (Number 0 7 ∷ Number 0 65535 ∷ Number 0 255 ∷ []) result words.old words.new }
+    ensures gives { Gives (λ f. Numeral f.0 ∷ Numeral f.1 ∷ Numeral f.2 ∷ [])
+        (Number 0 LAST_ARGUMENT ∷ Number 0 MAX_OFFSET ∷ Number 0 MAX_WIDTH ∷ []) result words.old
+        words.new }
     ensures falls { length words.new ≤ length words.old }
 {
-    let arg = number_from(words, 0, 7)? as u8;
-    let offset = number_from(words, 0, 65535)? as u16;
-    let width = number_from(words, 0, 255)? as u8;
+    let arg = number_from(words, 0, LAST_ARGUMENT)? as u8;
+    let offset = number_from(words, 0, MAX_OFFSET)? as u16;
+    let width = number_from(words, 0, MAX_WIDTH)? as u8;
     Ok((arg, offset, width))
 }
 
-/// Reads the first word of an expression, and what belongs to it alone, where so many expressions are wanted.
+/// Reads the first word of an expression, and what belongs to it alone, where so many expressions
+/// are wanted.
 /// Answers how many are wanted then.
 #[tactic(auto, using(crate::proofs::Parts::failing))]
 fn skip_head(words: &mut Words, wanted: u64) -> Result<u64, Fault>
@@ -36,7 +41,8 @@ fn skip_head(words: &mut Words, wanted: u64) -> Result<u64, Fault>
     requires room { wanted + length words.old < 2 ^ 64 }
     ensures skips { Skips expr_form grammar.Expression wanted result words.old words.new }
     ensures falls { length words.new ≤ length words.old }
-    ensures room { IfOk result (λ n. (length words.new < length words.old) × (n + length words.new ≤ wanted + length words.old)) }
+    ensures room { IfOk result (λ n. (length words.new < length words.old)
+        × (n + length words.new ≤ wanted + length words.old)) }
 {
     match expr_word(words)? {
         ExprWord::Const(_) => Ok(wanted - 1),
@@ -49,10 +55,12 @@ fn skip_head(words: &mut Words, wanted: u64) -> Result<u64, Fault>
     }
 }
 
-/// Reads an expression of any depth, and keeps nothing of it. It takes no stack: it counts what is still wanted.
+/// Reads an expression of any depth, and keeps nothing of it. It takes no stack: it counts what is
+/// still wanted.
 pub(crate) fn skip_expression(words: &mut Words) -> Result<(), Fault>
     requires { length words.old < 2 ^ 32 }
-    ensures gives { GivesSome IsThere expr_form (grammar.Expression ∷ []) result words.old words.new }
+    ensures gives { GivesSome IsThere expr_form (grammar.Expression ∷ []) result words.old
+        words.new }
     ensures falls { length words.new ≤ length words.old }
 {
     let mut wanted: u64 = 1;
@@ -69,7 +77,8 @@ fn join(
     left: Option<Expr>,
     right: Option<Expr>,
 ) -> Result<Option<Expr>, Fault>
-    ensures { MatchResult result (λ o. Joins expr_form expr_depth expr_form expr_depth (sign operator) left right o) (λ f. f ≡ NoMemory) }
+    ensures { MatchResult result (λ o. Joins expr_form expr_depth expr_form expr_depth
+        (sign operator) left right o) (λ f. f ≡ NoMemory) }
 {
     let (Some(left), Some(right)) = (left, right) else {
         return Ok(None);
@@ -83,7 +92,8 @@ fn join(
     }))
 }
 
-/// Reads an expression, and keeps it where it has at most so many levels. It goes no deeper into the stack than
+/// Reads an expression, and keeps it where it has at most so many levels. It goes no deeper into
+/// the stack than
 /// that, however deep the expression is.
 #[tactic(auto, using(crate::proofs::Parts::failing))]
 pub(crate) fn read_expression(
@@ -92,7 +102,8 @@ pub(crate) fn read_expression(
     limit: u8,
 ) -> Result<Option<Expr>, Fault>
     requires { length words.old < 2 ^ 32 }
-    ensures gives { GivesSome (IsWithin expr_depth limit) expr_form (grammar.Expression ∷ []) result words.old words.new }
+    ensures gives { GivesSome (IsWithin expr_depth limit) expr_form (grammar.Expression ∷ [])
+        result words.old words.new }
     ensures falls { length words.new ≤ length words.old }
 {
     if limit == 0 {

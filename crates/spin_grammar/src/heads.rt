@@ -1,11 +1,17 @@
-//! The words that begin something, one by one: each function finds what a word stands for at its place.
+//! The words that begin something, one by one: each function finds what a word stands for at its
+//! place.
 
 ghost use Rattle.std.specs.Prelude.{◌≡◌};
 ghost use Rattle.spin_grammar.specs.Grammar as grammar;
 ghost use Rattle.spin_grammar.specs.Grammar.{accepts};
-ghost use Rattle.spin_grammar.specs.Heads.{step_of, expr_next, test_next, part_next, step_next, layer_next, merge_next, op_next, handler_next, own_next, effect_next, forced_next, apart_next, spot_next, place_next, mode_next, deed_next};
+ghost use Rattle.spin_grammar.specs.Inner.Heads.{step_of, expr_next, test_next, part_next};
+ghost use Rattle.spin_grammar.specs.Inner.Heads.{step_next, layer_next, merge_next, op_next};
+ghost use Rattle.spin_grammar.specs.Inner.Heads.{handler_next, own_next, effect_next, forced_next};
+ghost use Rattle.spin_grammar.specs.Inner.Heads.{apart_next, spot_next, place_next, mode_next};
+ghost use Rattle.spin_grammar.specs.Inner.Heads.{deed_next};
 
 use crate::cause::Cause;
+use crate::limits::LAST_HANDLER;
 use crate::number::number;
 use spin_code::{Cmp, Layer};
 use spin_policy::{Forced, OpMatch};
@@ -144,28 +150,18 @@ pub enum DeedWord {
 pub(crate) fn expr_word(word: &[u8]) -> Result<ExprWord, Cause>
     ensures { step_of expr_next result ≡ accepts grammar.Expression word.now }
 {
-    if !word.is_empty() && word[0] >= b'0' && word[0] <= b'9' {
-        return match number(word) {
+    match word {
+        [b'0'..=b'9', ..] => match number(word) {
             Some(number) => Ok(ExprWord::Const(number)),
             None => Err(Cause::Number),
-        };
+        },
+        [b'a', digit @ b'0'..=b'7'] => Ok(ExprWord::Arg(*digit - b'0')),
+        b"f" => Ok(ExprWord::Field),
+        b"+" => Ok(ExprWord::Binary(Operator::Plus)),
+        b"&" => Ok(ExprWord::Binary(Operator::And)),
+        b"|" => Ok(ExprWord::Binary(Operator::Or)),
+        _ => Err(Cause::Word),
     }
-    if word.len() == 2 && word[0] == b'a' && word[1] >= b'0' && word[1] <= b'7' {
-        return Ok(ExprWord::Arg(word[1] - b'0'));
-    }
-    if word == b"f".as_slice() {
-        return Ok(ExprWord::Field);
-    }
-    if word == b"+".as_slice() {
-        return Ok(ExprWord::Binary(Operator::Plus));
-    }
-    if word == b"&".as_slice() {
-        return Ok(ExprWord::Binary(Operator::And));
-    }
-    if word == b"|".as_slice() {
-        return Ok(ExprWord::Binary(Operator::Or));
-    }
-    Err(Cause::Word)
 }
 
 /// The first word of a test.
@@ -173,34 +169,18 @@ pub(crate) fn expr_word(word: &[u8]) -> Result<ExprWord, Cause>
 pub(crate) fn test_word(word: &[u8]) -> Result<TestWord, Cause>
     ensures { step_of test_next result ≡ accepts grammar.Test word.now }
 {
-    if word == b"true".as_slice() {
-        return Ok(TestWord::True);
+    match word {
+        b"true" => Ok(TestWord::True),
+        b"==" => Ok(TestWord::Compare(Cmp::Eq)),
+        b"!=" => Ok(TestWord::Compare(Cmp::Ne)),
+        b"<" => Ok(TestWord::Compare(Cmp::Lt)),
+        b"<=" => Ok(TestWord::Compare(Cmp::Le)),
+        b"has" => Ok(TestWord::Has),
+        b"not" => Ok(TestWord::Not),
+        b"all" => Ok(TestWord::Pair(Joint::All)),
+        b"any" => Ok(TestWord::Pair(Joint::Any)),
+        _ => Err(Cause::Word),
     }
-    if word == b"==".as_slice() {
-        return Ok(TestWord::Compare(Cmp::Eq));
-    }
-    if word == b"!=".as_slice() {
-        return Ok(TestWord::Compare(Cmp::Ne));
-    }
-    if word == b"<".as_slice() {
-        return Ok(TestWord::Compare(Cmp::Lt));
-    }
-    if word == b"<=".as_slice() {
-        return Ok(TestWord::Compare(Cmp::Le));
-    }
-    if word == b"has".as_slice() {
-        return Ok(TestWord::Has);
-    }
-    if word == b"not".as_slice() {
-        return Ok(TestWord::Not);
-    }
-    if word == b"all".as_slice() {
-        return Ok(TestWord::Pair(Joint::All));
-    }
-    if word == b"any".as_slice() {
-        return Ok(TestWord::Pair(Joint::Any));
-    }
-    Err(Cause::Word)
 }
 
 /// The first word of a part.
@@ -208,13 +188,11 @@ pub(crate) fn test_word(word: &[u8]) -> Result<TestWord, Cause>
 pub(crate) fn part_word(word: &[u8]) -> Result<PartWord, Cause>
     ensures { step_of part_next result ≡ accepts grammar.Part word.now }
 {
-    if word == b"w".as_slice() {
-        return Ok(PartWord::Word);
+    match word {
+        b"w" => Ok(PartWord::Word),
+        b"b" => Ok(PartWord::Bytes),
+        _ => Err(Cause::Word),
     }
-    if word == b"b".as_slice() {
-        return Ok(PartWord::Bytes);
-    }
-    Err(Cause::Word)
 }
 
 /// The first word of a step.
@@ -222,22 +200,14 @@ pub(crate) fn part_word(word: &[u8]) -> Result<PartWord, Cause>
 pub(crate) fn step_word(word: &[u8]) -> Result<StepWord, Cause>
     ensures { step_of step_next result ≡ accepts grammar.Steps word.now }
 {
-    if word == b"set".as_slice() {
-        return Ok(StepWord::Set);
+    match word {
+        b"set" => Ok(StepWord::Set),
+        b"send" => Ok(StepWord::Send),
+        b"result" => Ok(StepWord::Result),
+        b"up" => Ok(StepWord::Up),
+        b"layer" => Ok(StepWord::Layer),
+        _ => Err(Cause::Word),
     }
-    if word == b"send".as_slice() {
-        return Ok(StepWord::Send);
-    }
-    if word == b"result".as_slice() {
-        return Ok(StepWord::Result);
-    }
-    if word == b"up".as_slice() {
-        return Ok(StepWord::Up);
-    }
-    if word == b"layer".as_slice() {
-        return Ok(StepWord::Layer);
-    }
-    Err(Cause::Word)
 }
 
 /// The headers that a layer step reads.
@@ -245,13 +215,11 @@ pub(crate) fn step_word(word: &[u8]) -> Result<StepWord, Cause>
 pub(crate) fn layer_word(word: &[u8]) -> Result<Layer, Cause>
     ensures { step_of layer_next result ≡ accepts grammar.LayerKind word.now }
 {
-    if word == b"ipv4".as_slice() {
-        return Ok(Layer::Ipv4);
+    match word {
+        b"ipv4" => Ok(Layer::Ipv4),
+        b"udp" => Ok(Layer::Udp),
+        _ => Err(Cause::Word),
     }
-    if word == b"udp".as_slice() {
-        return Ok(Layer::Udp);
-    }
-    Err(Cause::Word)
 }
 
 /// The first word of a merge.
@@ -259,13 +227,11 @@ pub(crate) fn layer_word(word: &[u8]) -> Result<Layer, Cause>
 pub(crate) fn merge_word(word: &[u8]) -> Result<MergeWord, Cause>
     ensures { step_of merge_next result ≡ accepts grammar.Merge word.now }
 {
-    if word == b"last".as_slice() {
-        return Ok(MergeWord::Last);
+    match word {
+        b"last" => Ok(MergeWord::Last),
+        b"fold" => Ok(MergeWord::Fold),
+        _ => Err(Cause::Word),
     }
-    if word == b"fold".as_slice() {
-        return Ok(MergeWord::Fold);
-    }
-    Err(Cause::Word)
 }
 
 /// The ops that a rule speaks of.
@@ -273,25 +239,15 @@ pub(crate) fn merge_word(word: &[u8]) -> Result<MergeWord, Cause>
 pub(crate) fn op_word(word: &[u8]) -> Result<OpMatch, Cause>
     ensures { step_of op_next result ≡ accepts grammar.Op word.now }
 {
-    if word == b"install".as_slice() {
-        return Ok(OpMatch::One(Op::Install));
+    match word {
+        b"install" => Ok(OpMatch::One(Op::Install)),
+        b"remove" => Ok(OpMatch::One(Op::Remove)),
+        b"replace" => Ok(OpMatch::One(Op::Replace)),
+        b"default" => Ok(OpMatch::One(Op::Default)),
+        b"nodefault" => Ok(OpMatch::One(Op::NoDefault)),
+        b"any" => Ok(OpMatch::Any),
+        _ => Err(Cause::Word),
     }
-    if word == b"remove".as_slice() {
-        return Ok(OpMatch::One(Op::Remove));
-    }
-    if word == b"replace".as_slice() {
-        return Ok(OpMatch::One(Op::Replace));
-    }
-    if word == b"default".as_slice() {
-        return Ok(OpMatch::One(Op::Default));
-    }
-    if word == b"nodefault".as_slice() {
-        return Ok(OpMatch::One(Op::NoDefault));
-    }
-    if word == b"any".as_slice() {
-        return Ok(OpMatch::Any);
-    }
-    Err(Cause::Word)
 }
 
 /// The handler that a rule speaks of.
@@ -299,16 +255,14 @@ pub(crate) fn op_word(word: &[u8]) -> Result<OpMatch, Cause>
 pub(crate) fn handler_word(word: &[u8]) -> Result<Option<u16>, Cause>
     ensures { step_of handler_next result ≡ accepts grammar.HandlerOrAny word.now }
 {
-    if !word.is_empty() && word[0] >= b'0' && word[0] <= b'9' {
-        return match number(word) {
-            Some(number) if number >= 1 && number <= 1023 => Ok(Some(number as u16)),
+    match word {
+        [b'0'..=b'9', ..] => match number(word) {
+            Some(number) if number >= 1 && number <= LAST_HANDLER => Ok(Some(number as u16)),
             _ => Err(Cause::Number),
-        };
+        },
+        b"any" => Ok(None),
+        _ => Err(Cause::Word),
     }
-    if word == b"any".as_slice() {
-        return Ok(None);
-    }
-    Err(Cause::Word)
 }
 
 /// Whether a rule speaks of own bindings only.
@@ -316,13 +270,11 @@ pub(crate) fn handler_word(word: &[u8]) -> Result<Option<u16>, Cause>
 pub(crate) fn own_word(word: &[u8]) -> Result<bool, Cause>
     ensures { step_of own_next result ≡ accepts grammar.Own word.now }
 {
-    if word == b"own".as_slice() {
-        return Ok(true);
+    match word {
+        b"own" => Ok(true),
+        b"all" => Ok(false),
+        _ => Err(Cause::Word),
     }
-    if word == b"all".as_slice() {
-        return Ok(false);
-    }
-    Err(Cause::Word)
 }
 
 /// The first word of an effect, in a script of this version.
@@ -330,22 +282,14 @@ pub(crate) fn own_word(word: &[u8]) -> Result<bool, Cause>
 pub(crate) fn effect_word(word: &[u8], version: u8) -> Result<EffectWord, Cause>
     ensures { step_of effect_next result ≡ accepts (grammar.Effect version) word.now }
 {
-    if word == b"allow".as_slice() {
-        return Ok(EffectWord::Allow);
+    match word {
+        b"allow" => Ok(EffectWord::Allow),
+        b"deny" => Ok(EffectWord::Deny),
+        b"quota" => Ok(EffectWord::Quota),
+        b"impose" => Ok(EffectWord::Impose),
+        b"force" if version >= 2 => Ok(EffectWord::Force),
+        _ => Err(Cause::Word),
     }
-    if word == b"deny".as_slice() {
-        return Ok(EffectWord::Deny);
-    }
-    if word == b"quota".as_slice() {
-        return Ok(EffectWord::Quota);
-    }
-    if word == b"impose".as_slice() {
-        return Ok(EffectWord::Impose);
-    }
-    if version >= 2 && word == b"force".as_slice() {
-        return Ok(EffectWord::Force);
-    }
-    Err(Cause::Word)
 }
 
 /// The place that a rule forces.
@@ -353,16 +297,12 @@ pub(crate) fn effect_word(word: &[u8], version: u8) -> Result<EffectWord, Cause>
 pub(crate) fn forced_word(word: &[u8]) -> Result<Forced, Cause>
     ensures { step_of forced_next result ≡ accepts grammar.ForcedPlace word.now }
 {
-    if word == b"keep".as_slice() {
-        return Ok(Forced::Keep);
+    match word {
+        b"keep" => Ok(Forced::Keep),
+        b"first" => Ok(Forced::First),
+        b"last" => Ok(Forced::Last),
+        _ => Err(Cause::Word),
     }
-    if word == b"first".as_slice() {
-        return Ok(Forced::First);
-    }
-    if word == b"last".as_slice() {
-        return Ok(Forced::Last);
-    }
-    Err(Cause::Word)
 }
 
 /// Whether a rule forces asynchronous running.
@@ -370,13 +310,11 @@ pub(crate) fn forced_word(word: &[u8]) -> Result<Forced, Cause>
 pub(crate) fn apart_word(word: &[u8]) -> Result<bool, Cause>
     ensures { step_of apart_next result ≡ accepts grammar.ForcedMode word.now }
 {
-    if word == b"keep".as_slice() {
-        return Ok(false);
+    match word {
+        b"keep" => Ok(false),
+        b"async" => Ok(true),
+        _ => Err(Cause::Word),
     }
-    if word == b"async".as_slice() {
-        return Ok(true);
-    }
-    Err(Cause::Word)
 }
 
 /// The first word of a place that may be before or after another binding.
@@ -384,22 +322,14 @@ pub(crate) fn apart_word(word: &[u8]) -> Result<bool, Cause>
 pub(crate) fn spot_word(word: &[u8]) -> Result<SpotWord, Cause>
     ensures { step_of spot_next result ≡ accepts grammar.Spot word.now }
 {
-    if word == b"free".as_slice() {
-        return Ok(SpotWord::At(Place::Free));
+    match word {
+        b"free" => Ok(SpotWord::At(Place::Free)),
+        b"first" => Ok(SpotWord::At(Place::First)),
+        b"last" => Ok(SpotWord::At(Place::Last)),
+        b"before" => Ok(SpotWord::Before),
+        b"after" => Ok(SpotWord::After),
+        _ => Err(Cause::Word),
     }
-    if word == b"first".as_slice() {
-        return Ok(SpotWord::At(Place::First));
-    }
-    if word == b"last".as_slice() {
-        return Ok(SpotWord::At(Place::Last));
-    }
-    if word == b"before".as_slice() {
-        return Ok(SpotWord::Before);
-    }
-    if word == b"after".as_slice() {
-        return Ok(SpotWord::After);
-    }
-    Err(Cause::Word)
 }
 
 /// A place apart from other bindings.
@@ -407,16 +337,12 @@ pub(crate) fn spot_word(word: &[u8]) -> Result<SpotWord, Cause>
 pub(crate) fn place_word(word: &[u8]) -> Result<Place, Cause>
     ensures { step_of place_next result ≡ accepts grammar.Place word.now }
 {
-    if word == b"free".as_slice() {
-        return Ok(Place::Free);
+    match word {
+        b"free" => Ok(Place::Free),
+        b"first" => Ok(Place::First),
+        b"last" => Ok(Place::Last),
+        _ => Err(Cause::Word),
     }
-    if word == b"first".as_slice() {
-        return Ok(Place::First);
-    }
-    if word == b"last".as_slice() {
-        return Ok(Place::Last);
-    }
-    Err(Cause::Word)
 }
 
 /// The mode of a binding.
@@ -424,16 +350,12 @@ pub(crate) fn place_word(word: &[u8]) -> Result<Place, Cause>
 pub(crate) fn mode_word(word: &[u8]) -> Result<Mode, Cause>
     ensures { step_of mode_next result ≡ accepts grammar.Mode word.now }
 {
-    if word == b"plain".as_slice() {
-        return Ok(Mode::Plain);
+    match word {
+        b"plain" => Ok(Mode::Plain),
+        b"filter" => Ok(Mode::Filter),
+        b"async" => Ok(Mode::Async),
+        _ => Err(Cause::Word),
     }
-    if word == b"filter".as_slice() {
-        return Ok(Mode::Filter);
-    }
-    if word == b"async".as_slice() {
-        return Ok(Mode::Async);
-    }
-    Err(Cause::Word)
 }
 
 /// The first word of a deed, in a script of this version.
@@ -441,29 +363,15 @@ pub(crate) fn mode_word(word: &[u8]) -> Result<Mode, Cause>
 pub(crate) fn deed_word(word: &[u8], version: u8) -> Result<DeedWord, Cause>
     ensures { step_of (deed_next version) result ≡ accepts (grammar.Deed version) word.now }
 {
-    if word == b"install".as_slice() {
-        return Ok(DeedWord::Install);
+    match word {
+        b"install" => Ok(DeedWord::Install),
+        b"remove" => Ok(DeedWord::Remove),
+        b"replace" => Ok(DeedWord::Replace),
+        b"default" => Ok(DeedWord::Default),
+        b"nodefault" => Ok(DeedWord::NoDefault),
+        b"raise" => Ok(DeedWord::Raise),
+        b"later" => Ok(DeedWord::Later),
+        b"packet" => Ok(DeedWord::Packet),
+        _ => Err(Cause::Word),
     }
-    if word == b"remove".as_slice() {
-        return Ok(DeedWord::Remove);
-    }
-    if word == b"replace".as_slice() {
-        return Ok(DeedWord::Replace);
-    }
-    if word == b"default".as_slice() {
-        return Ok(DeedWord::Default);
-    }
-    if word == b"nodefault".as_slice() {
-        return Ok(DeedWord::NoDefault);
-    }
-    if word == b"raise".as_slice() {
-        return Ok(DeedWord::Raise);
-    }
-    if word == b"later".as_slice() {
-        return Ok(DeedWord::Later);
-    }
-    if word == b"packet".as_slice() {
-        return Ok(DeedWord::Packet);
-    }
-    Err(Cause::Word)
 }

@@ -1,6 +1,7 @@
 //! The kinds of lines behind the first.
 
-/// What a line behind the first declares or asks for. The kinds stand in the order of their sections.
+/// What a line behind the first declares or asks for. The kinds stand in the order of their
+/// sections.
 #[derive(Clone, Copy, Debug, PartialEq, Eq)]
 pub enum Kind {
     /// The number of modules.

@@ -1,4 +1,5 @@
-//! Laws of the words of lines, which are functions without work so that their contracts can be cited.
+//! Laws of the words of lines, which are functions without work so that their contracts can be
+//! cited.
 
 ghost use Rattle.spin_grammar.specs.Laws.{OneLine, ChecksAreBare, LinesAreRespelled};
 

@@ -2,9 +2,13 @@
 
 ghost use Rattle.std.specs.Prelude.{◌≡◌, ◌<◌, ◌≤◌, ◌+◌, ◌∷◌, [], ℕ, length, replicate, IfOk};
 ghost use Rattle.spin_grammar.specs.Grammar as grammar;
-ghost use Rattle.spin_grammar.specs.Grammar.{Want, Fixed, Number, Numeral, Counted, Bindings, Rising, rising};
-ghost use Rattle.spin_grammar.specs.Heads.{expr_next, test_next, part_next, step_next, layer_next, merge_next, op_next, handler_next, own_next, effect_next, forced_next, apart_next, spot_next, place_next, mode_next, deed_next};
-ghost use Rattle.spin_grammar.specs.Reading.{Gives, Opens, ReadsNumber};
+ghost use Rattle.spin_grammar.specs.Grammar.{Want, Fixed, Number, Numeral, Counted, Bindings};
+ghost use Rattle.spin_grammar.specs.Grammar.{Rising, rising};
+ghost use Rattle.spin_grammar.specs.Inner.Heads.{expr_next, test_next, part_next, step_next};
+ghost use Rattle.spin_grammar.specs.Inner.Heads.{layer_next, merge_next, op_next, handler_next};
+ghost use Rattle.spin_grammar.specs.Inner.Heads.{own_next, effect_next, forced_next, apart_next};
+ghost use Rattle.spin_grammar.specs.Inner.Heads.{spot_next, place_next, mode_next, deed_next};
+ghost use Rattle.spin_grammar.specs.Inner.Reading.{Gives, Opens, GivesHead, ReadsNumber};
 
 use crate::cause::Cause;
 use crate::fault::Fault;
@@ -12,8 +16,9 @@ use crate::heads;
 use crate::heads::{
     DeedWord, EffectWord, ExprWord, MergeWord, PartWord, SpotWord, StepWord, TestWord,
 };
+use crate::limits::{LAST_PLACE, MAX_NAMED};
 use crate::number::number;
-use crate::words::Words;
+use crate::words::{Words, next_word};
 use spin_code::Layer;
 use spin_policy::{Forced, OpMatch};
 use spin_word::{Mode, Place};
@@ -24,10 +29,7 @@ fn read_number(words: &mut Words, low: u64, high: u64) -> Result<u64, Fault>
     ensures range { IfOk result (λ n. (low ≤ n) × (n ≤ high)) }
     ensures falls { length words.new ≤ length words.old }
 {
-    let Some(word) = words.next() else {
-        return Err(Fault::Bad(Cause::End));
-    };
-    let Some(number) = number(word) else {
+    let Some(number) = number(next_word(words)?) else {
         return Err(Fault::Bad(Cause::Number));
     };
     if number < low || number > high {
@@ -47,7 +49,8 @@ pub(crate) fn number_from(words: &mut Words, low: u64, high: u64) -> Result<u64,
 
 /// Reads the count, from low to high, of things that follow.
 pub(crate) fn count_from(words: &mut Words, low: u64, high: u64) -> Result<u64, Fault>
-    ensures opens { (want : Want) → Opens (λ n. (Numeral n, replicate n want)) (Counted low high want) result words.old words.new }
+    ensures opens { (want : Want) → Opens (λ n. (Numeral n, replicate n want))
+        (Counted low high want) result words.old words.new }
     ensures range { IfOk result (λ n. (low ≤ n) × (n ≤ high)) }
     ensures falls { length words.new ≤ length words.old }
 {
@@ -57,17 +60,18 @@ pub(crate) fn count_from(words: &mut Words, low: u64, high: u64) -> Result<u64, 
 /// Reads the count of bindings that follow.
 pub(crate) fn bindings_count(words: &mut Words) -> Result<u64, Fault>
     ensures opens { Opens (λ n. (Numeral n, rising 0 n)) Bindings result words.old words.new }
-    ensures range { IfOk result (λ n. n ≤ 4) }
+    ensures range { IfOk result (λ n. n ≤ MAX_NAMED) }
 {
-    read_number(words, 0, 4)
+    read_number(words, 0, MAX_NAMED)
 }
 
 /// Reads the number of a binding from low on.
 pub(crate) fn binding_from(words: &mut Words, low: u64) -> Result<u64, Fault>
-    ensures opens { (more : ℕ) → Opens (λ n. (Numeral n, rising (n + 1) more)) (Rising low more) result words.old words.new }
-    ensures range { IfOk result (λ n. (low ≤ n) × (n ≤ 4096)) }
+    ensures opens { (more : ℕ) → Opens (λ n. (Numeral n, rising (n + 1) more)) (Rising low more)
+        result words.old words.new }
+    ensures range { IfOk result (λ n. (low ≤ n) × (n ≤ LAST_PLACE)) }
 {
-    read_number(words, low, 4096)
+    read_number(words, low, LAST_PLACE)
 }
 
 /// Reads the first word of an expression.
@@ -77,13 +81,7 @@ pub(crate) fn expr_word(words: &mut Words) -> Result<ExprWord, Fault>
     ensures falls { length words.new ≤ length words.old }
     ensures less { IfOk result (λ _. length words.new < length words.old) }
 {
-    let Some(word) = words.next() else {
-        return Err(Fault::Bad(Cause::End));
-    };
-    match heads::expr_word(word) {
-        Ok(first) => Ok(first),
-        Err(cause) => Err(Fault::Bad(cause)),
-    }
+    Ok(heads::expr_word(next_word(words)?)?)
 }
 
 /// Reads the first word of a test.
@@ -93,13 +91,7 @@ pub(crate) fn test_word(words: &mut Words) -> Result<TestWord, Fault>
     ensures falls { length words.new ≤ length words.old }
     ensures less { IfOk result (λ _. length words.new < length words.old) }
 {
-    let Some(word) = words.next() else {
-        return Err(Fault::Bad(Cause::End));
-    };
-    match heads::test_word(word) {
-        Ok(first) => Ok(first),
-        Err(cause) => Err(Fault::Bad(cause)),
-    }
+    Ok(heads::test_word(next_word(words)?)?)
 }
 
 /// Reads the first word of a part.
@@ -108,12 +100,17 @@ pub(crate) fn part_word(words: &mut Words) -> Result<PartWord, Fault>
     ensures opens { Opens part_next grammar.Part result words.old words.new }
     ensures falls { length words.new ≤ length words.old }
 {
-    let Some(word) = words.next() else {
-        return Err(Fault::Bad(Cause::End));
-    };
-    match heads::part_word(word) {
-        Ok(first) => Ok(first),
-        Err(cause) => Err(Fault::Bad(cause)),
+    Ok(heads::part_word(next_word(words)?)?)
+}
+
+/// Reads the first word of the next step; `None` at the line's end.
+#[tactic(auto, unfolding(crate::specs::Grammar::reads))]
+pub(crate) fn step_word(words: &mut Words) -> Result<Option<StepWord>, Fault>
+    ensures { GivesHead result words.old words.new }
+{
+    match words.next() {
+        None => Ok(None),
+        Some(word) => Ok(Some(heads::step_word(word)?)),
     }
 }
 
@@ -123,13 +120,7 @@ pub(crate) fn layer_word(words: &mut Words) -> Result<Layer, Fault>
     ensures opens { Opens layer_next grammar.LayerKind result words.old words.new }
     ensures falls { length words.new ≤ length words.old }
 {
-    let Some(word) = words.next() else {
-        return Err(Fault::Bad(Cause::End));
-    };
-    match heads::layer_word(word) {
-        Ok(first) => Ok(first),
-        Err(cause) => Err(Fault::Bad(cause)),
-    }
+    Ok(heads::layer_word(next_word(words)?)?)
 }
 
 /// Reads the first word of a merge.
@@ -138,13 +129,7 @@ pub(crate) fn merge_word(words: &mut Words) -> Result<MergeWord, Fault>
     ensures opens { Opens merge_next grammar.Merge result words.old words.new }
     ensures falls { length words.new ≤ length words.old }
 {
-    let Some(word) = words.next() else {
-        return Err(Fault::Bad(Cause::End));
-    };
-    match heads::merge_word(word) {
-        Ok(first) => Ok(first),
-        Err(cause) => Err(Fault::Bad(cause)),
-    }
+    Ok(heads::merge_word(next_word(words)?)?)
 }
 
 /// Reads the ops that a rule speaks of.
@@ -153,13 +138,7 @@ pub(crate) fn op_word(words: &mut Words) -> Result<OpMatch, Fault>
     ensures opens { Opens op_next grammar.Op result words.old words.new }
     ensures falls { length words.new ≤ length words.old }
 {
-    let Some(word) = words.next() else {
-        return Err(Fault::Bad(Cause::End));
-    };
-    match heads::op_word(word) {
-        Ok(first) => Ok(first),
-        Err(cause) => Err(Fault::Bad(cause)),
-    }
+    Ok(heads::op_word(next_word(words)?)?)
 }
 
 /// Reads the handler that a rule speaks of.
@@ -168,13 +147,7 @@ pub(crate) fn handler_word(words: &mut Words) -> Result<Option<u16>, Fault>
     ensures opens { Opens handler_next grammar.HandlerOrAny result words.old words.new }
     ensures falls { length words.new ≤ length words.old }
 {
-    let Some(word) = words.next() else {
-        return Err(Fault::Bad(Cause::End));
-    };
-    match heads::handler_word(word) {
-        Ok(first) => Ok(first),
-        Err(cause) => Err(Fault::Bad(cause)),
-    }
+    Ok(heads::handler_word(next_word(words)?)?)
 }
 
 /// Reads whether a rule speaks of own bindings only.
@@ -183,13 +156,7 @@ pub(crate) fn own_word(words: &mut Words) -> Result<bool, Fault>
     ensures opens { Opens own_next grammar.Own result words.old words.new }
     ensures falls { length words.new ≤ length words.old }
 {
-    let Some(word) = words.next() else {
-        return Err(Fault::Bad(Cause::End));
-    };
-    match heads::own_word(word) {
-        Ok(first) => Ok(first),
-        Err(cause) => Err(Fault::Bad(cause)),
-    }
+    Ok(heads::own_word(next_word(words)?)?)
 }
 
 /// Reads the first word of an effect, in a script of this version.
@@ -198,13 +165,7 @@ pub(crate) fn effect_word(words: &mut Words, version: u8) -> Result<EffectWord, 
     ensures opens { Opens effect_next (grammar.Effect version) result words.old words.new }
     ensures falls { length words.new ≤ length words.old }
 {
-    let Some(word) = words.next() else {
-        return Err(Fault::Bad(Cause::End));
-    };
-    match heads::effect_word(word, version) {
-        Ok(first) => Ok(first),
-        Err(cause) => Err(Fault::Bad(cause)),
-    }
+    Ok(heads::effect_word(next_word(words)?, version)?)
 }
 
 /// Reads the place that a rule forces.
@@ -213,13 +174,7 @@ pub(crate) fn forced_word(words: &mut Words) -> Result<Forced, Fault>
     ensures opens { Opens forced_next grammar.ForcedPlace result words.old words.new }
     ensures falls { length words.new ≤ length words.old }
 {
-    let Some(word) = words.next() else {
-        return Err(Fault::Bad(Cause::End));
-    };
-    match heads::forced_word(word) {
-        Ok(first) => Ok(first),
-        Err(cause) => Err(Fault::Bad(cause)),
-    }
+    Ok(heads::forced_word(next_word(words)?)?)
 }
 
 /// Reads whether a rule forces asynchronous running.
@@ -228,13 +183,7 @@ pub(crate) fn apart_word(words: &mut Words) -> Result<bool, Fault>
     ensures opens { Opens apart_next grammar.ForcedMode result words.old words.new }
     ensures falls { length words.new ≤ length words.old }
 {
-    let Some(word) = words.next() else {
-        return Err(Fault::Bad(Cause::End));
-    };
-    match heads::apart_word(word) {
-        Ok(first) => Ok(first),
-        Err(cause) => Err(Fault::Bad(cause)),
-    }
+    Ok(heads::apart_word(next_word(words)?)?)
 }
 
 /// Reads the first word of a place that may be before or after another binding.
@@ -243,13 +192,7 @@ pub(crate) fn spot_word(words: &mut Words) -> Result<SpotWord, Fault>
     ensures opens { Opens spot_next grammar.Spot result words.old words.new }
     ensures falls { length words.new ≤ length words.old }
 {
-    let Some(word) = words.next() else {
-        return Err(Fault::Bad(Cause::End));
-    };
-    match heads::spot_word(word) {
-        Ok(first) => Ok(first),
-        Err(cause) => Err(Fault::Bad(cause)),
-    }
+    Ok(heads::spot_word(next_word(words)?)?)
 }
 
 /// Reads a place apart from other bindings.
@@ -258,13 +201,7 @@ pub(crate) fn place_word(words: &mut Words) -> Result<Place, Fault>
     ensures opens { Opens place_next grammar.Place result words.old words.new }
     ensures falls { length words.new ≤ length words.old }
 {
-    let Some(word) = words.next() else {
-        return Err(Fault::Bad(Cause::End));
-    };
-    match heads::place_word(word) {
-        Ok(first) => Ok(first),
-        Err(cause) => Err(Fault::Bad(cause)),
-    }
+    Ok(heads::place_word(next_word(words)?)?)
 }
 
 /// Reads the mode of a binding.
@@ -273,13 +210,7 @@ pub(crate) fn mode_word(words: &mut Words) -> Result<Mode, Fault>
     ensures opens { Opens mode_next grammar.Mode result words.old words.new }
     ensures falls { length words.new ≤ length words.old }
 {
-    let Some(word) = words.next() else {
-        return Err(Fault::Bad(Cause::End));
-    };
-    match heads::mode_word(word) {
-        Ok(first) => Ok(first),
-        Err(cause) => Err(Fault::Bad(cause)),
-    }
+    Ok(heads::mode_word(next_word(words)?)?)
 }
 
 /// Reads the first word of a deed, in a script of this version.
@@ -288,26 +219,19 @@ pub(crate) fn deed_word(words: &mut Words, version: u8) -> Result<DeedWord, Faul
     ensures opens { Opens (deed_next version) (grammar.Deed version) result words.old words.new }
     ensures falls { length words.new ≤ length words.old }
 {
-    let Some(word) = words.next() else {
-        return Err(Fault::Bad(Cause::End));
-    };
-    match heads::deed_word(word, version) {
-        Ok(first) => Ok(first),
-        Err(cause) => Err(Fault::Bad(cause)),
-    }
+    Ok(heads::deed_word(next_word(words)?, version)?)
 }
 
 /// Reads just this word.
 #[tactic(auto, unfolding(crate::specs::Grammar::reads, crate::specs::Grammar::accepts))]
 pub(crate) fn exactly(words: &mut Words, wanted: &[u8]) -> Result<(), Fault>
-    ensures opens { Opens (λ _. (Fixed wanted.now, [])) (grammar.Exactly wanted.now) result words.old words.new }
+    ensures opens { Opens (λ _. (Fixed wanted.now, [])) (grammar.Exactly wanted.now) result
+        words.old words.new }
     ensures falls { length words.new ≤ length words.old }
 {
-    let Some(word) = words.next() else {
-        return Err(Fault::Bad(Cause::End));
-    };
-    if word != wanted {
-        return Err(Fault::Bad(Cause::Word));
+    if next_word(words)? == wanted {
+        Ok(())
+    } else {
+        Err(Fault::Bad(Cause::Word))
     }
-    Ok(())
 }

@@ -1,40 +1,53 @@
 //! The lines of scripts: the words that they are made of, and what the words say.
 //!
-//! The format is read from left to right: what is wanted at a place, and the word there, fix what is wanted next.
-//! So a table says which words there are ([`heads`] has one function for each row group), and a line is read in
+//! The format is read from left to right: what is wanted at a place, and the word there, fix what
+//! is wanted next.
+//! So a table says which words there are ([`heads`] has one function for each row group), and a
+//! line is read in
 //! one pass, without recursion on its depth. Only what isn't too deep is kept.
 //!
 //! - [`breaks`] takes the lines off a text, [`words`] the words off a line;
+//! - [`limits`] has the limits of numbers, names and texts;
 //! - [`number`] and [`names`] read numbers, names, signatures and bytes;
 //! - [`leaves`] reads what a single word says, over [`heads`];
-//! - [`expression`], [`test`], [`act`], [`rule`] and [`task`] read what several words say;
+//! - [`expression`], [`test`], [`act`], [`rule`] and [`work`] read what several words say;
 //! - [`line`] reads a whole line of a [`kind`], and [`laws`] says that its words say one thing;
 //! - [`cause`] has why a line isn't in the grammar, [`fault`] that or want of memory.
+//!
+//! The definitions stand in `specs/`: the table in `Grammar.antt`, over `Words.antt` and
+//! `Spelling.antt`; what a
+//! line says in `Lines.antt`, over `Forms.antt` and `Tasks.antt`; its canonical words in
+//! `Canonical.antt`; the
+//! laws in `Laws.antt`, over `Bare.antt`. What only private functions cite stands in `specs/Inner`.
 #![tactic(auto)]
 
-pub mod act;
-pub mod breaks;
-pub mod cause;
-pub mod expression;
-pub mod fault;
-pub mod heads;
-pub mod kind;
-pub mod laws;
-pub mod leaves;
-pub mod line;
-pub mod names;
-pub mod number;
-pub mod rule;
-pub mod task;
-pub mod test;
-#[cfg(test)]
-mod tests;
-pub mod words;
+mod act;
+mod breaks;
+mod cause;
+mod expression;
+mod fault;
+mod heads;
+mod kind;
+mod laws;
+mod leaves;
+mod limits;
+mod line;
+mod names;
+mod number;
+mod rule;
+mod test;
+mod words;
+mod work;
 
 pub use breaks::Lines;
 pub use cause::Cause;
 pub use fault::Fault;
 pub use kind::Kind;
+pub use laws::{checks_are_bare, lines_are_one, lines_are_respelled};
+pub use limits::{
+    LAST_ARGUMENT, LAST_ENDPOINT, LAST_EVENT, LAST_GUARD, LAST_HANDLER, LAST_LANE, LAST_MODULE,
+    LAST_PLACE, LAST_TARGET, MAX_IMPOSED, MAX_MODULES, MAX_NAME, MAX_NAMED, MAX_OFFSET,
+    MAX_PACKETS, MAX_PARTS, MAX_QUOTA, MAX_TEXT, MAX_WIDTH,
+};
 pub use line::{Said, read_line};
-pub use task::Task;
 pub use words::Words;

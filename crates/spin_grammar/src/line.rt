@@ -2,7 +2,8 @@
 
 ghost use Rattle.std.specs.Prelude.{◌≡◌, ◌<◌, ◌^◌, [], ℕ, length, Ok, Err, IfOk, MatchResult};
 ghost use Rattle.spin_grammar.specs.Grammar.{reads};
-ghost use Rattle.spin_grammar.specs.Lines.{GivesFront, GivesLine, IsInRange};
+ghost use Rattle.spin_grammar.specs.Lines.{GivesLine, IsInRange};
+ghost use Rattle.spin_grammar.specs.Inner.Fronts.{GivesFront};
 ghost use Rattle.spin_grammar.specs.declared.kind.Kind.TheVariants as kind;
 
 use crate::act::{read_merge, read_steps};
@@ -10,18 +11,22 @@ use crate::cause::Cause;
 use crate::fault::Fault;
 use crate::kind::Kind;
 use crate::leaves::number_from;
+use crate::limits::{
+    LAST_ENDPOINT, LAST_EVENT, LAST_GUARD, LAST_HANDLER, LAST_LANE, LAST_MODULE, MAX_MODULES,
+};
 use crate::names::{guard_body, handler_body, read_name, read_signature};
 use crate::rule::read_rule;
-use crate::task::{Task, read_task};
 use crate::test::read_test;
 use crate::words::Words;
+use crate::work::read_work;
 use spin_code::{MAX_DEPTH, Merge, Steplist, Test};
 use spin_policy::Rule;
 use spin_values::{EventType, Text};
+use spin_word::Work;
 use std::alloc::Global;
 
 /// What a line says. What is too deep to be kept is `None`.
-#[derive(Drop)]
+#[derive(Drop, Debug)]
 pub enum Said {
     /// The number of modules.
     Modules(u16),
@@ -100,8 +105,8 @@ pub enum Said {
     Lane {
         /// The lane.
         lane: u8,
-        /// The deed.
-        task: Task,
+        /// What it asks for.
+        work: Work,
     },
     /// The end of a segment.
     Barrier,
@@ -114,7 +119,7 @@ fn modules_line(words: &mut Words) -> Result<Said, Fault>
     ensures gives { (version : ℕ) → GivesFront version kind.Modules result words.old words.new }
     ensures ranges { IfOk result IsInRange }
 {
-    Ok(Said::Modules(number_from(words, 1, 256)? as u16))
+    Ok(Said::Modules(number_from(words, 1, MAX_MODULES)? as u16))
 }
 
 #[tactic(auto, using(crate::proofs::Parts::failing))]
@@ -123,8 +128,8 @@ fn event_line(alloc: Global, words: &mut Words) -> Result<Said, Fault>
     ensures gives { (version : ℕ) → GivesFront version kind.Event result words.old words.new }
     ensures ranges { IfOk result IsInRange }
 {
-    let number = number_from(words, 0, 63)? as u8;
-    let owner = number_from(words, 0, 255)? as u8;
+    let number = number_from(words, 0, LAST_EVENT)? as u8;
+    let owner = number_from(words, 0, LAST_MODULE)? as u8;
     let sig = read_signature(alloc, words)?;
     let merge = read_merge(alloc, words)?;
     Ok(Said::Event {
@@ -140,7 +145,7 @@ fn endpoint_line(alloc: Global, words: &mut Words) -> Result<Said, Fault>
     ensures gives { (version : ℕ) → GivesFront version kind.Endpoint result words.old words.new }
     ensures ranges { IfOk result IsInRange }
 {
-    let number = number_from(words, 0, 63)? as u8;
+    let number = number_from(words, 0, LAST_ENDPOINT)? as u8;
     let name = read_name(alloc, words)?;
     Ok(Said::Endpoint { number, name })
 }
@@ -151,7 +156,7 @@ fn handler_line(alloc: Global, words: &mut Words) -> Result<Said, Fault>
     ensures gives { (version : ℕ) → GivesFront version kind.Handler result words.old words.new }
     ensures ranges { IfOk result IsInRange }
 {
-    let number = number_from(words, 1, 1023)? as u16;
+    let number = number_from(words, 1, LAST_HANDLER)? as u16;
     match handler_body(alloc, words)? {
         None => {
             let name = read_name(alloc, words)?;
@@ -170,7 +175,7 @@ fn guard_line(alloc: Global, words: &mut Words) -> Result<Said, Fault>
     ensures gives { (version : ℕ) → GivesFront version kind.Guard result words.old words.new }
     ensures ranges { IfOk result IsInRange }
 {
-    let number = number_from(words, 1, 1023)? as u16;
+    let number = number_from(words, 1, LAST_GUARD)? as u16;
     match guard_body(alloc, words)? {
         None => {
             let name = read_name(alloc, words)?;
@@ -188,7 +193,7 @@ fn rule_line(alloc: Global, words: &mut Words, version: u8) -> Result<Said, Faul
     ensures gives { GivesFront version kind.Rule result words.old words.new }
     ensures ranges { IfOk result IsInRange }
 {
-    let event = number_from(words, 0, 63)? as u8;
+    let event = number_from(words, 0, LAST_EVENT)? as u8;
     let rule = read_rule(alloc, words, version)?;
     Ok(Said::Rule { event, rule })
 }
@@ -198,7 +203,7 @@ fn authoriser_line(alloc: Global, words: &mut Words) -> Result<Said, Fault>
     ensures gives { (version : ℕ) → GivesFront version kind.Authoriser result words.old words.new }
     ensures ranges { IfOk result IsInRange }
 {
-    let event = number_from(words, 0, 63)? as u8;
+    let event = number_from(words, 0, LAST_EVENT)? as u8;
     let name = read_name(alloc, words)?;
     Ok(Said::Authoriser { event, name })
 }
@@ -208,8 +213,8 @@ fn default_line(words: &mut Words) -> Result<Said, Fault>
     ensures gives { (version : ℕ) → GivesFront version kind.Default result words.old words.new }
     ensures ranges { IfOk result IsInRange }
 {
-    let event = number_from(words, 0, 63)? as u8;
-    let handler = number_from(words, 1, 1023)? as u16;
+    let event = number_from(words, 0, LAST_EVENT)? as u8;
+    let handler = number_from(words, 1, LAST_HANDLER)? as u16;
     Ok(Said::Default { event, handler })
 }
 
@@ -218,9 +223,9 @@ fn lane_line(alloc: Global, words: &mut Words, version: u8) -> Result<Said, Faul
     ensures gives { GivesFront version kind.Lane result words.old words.new }
     ensures ranges { IfOk result IsInRange }
 {
-    let lane = number_from(words, 0, 255)? as u8;
-    let task = read_task(alloc, words, version, lane)?;
-    Ok(Said::Lane { lane, task })
+    let lane = number_from(words, 0, LAST_LANE)? as u8;
+    let work = read_work(alloc, words, version, lane)?;
+    Ok(Said::Lane { lane, work })
 }
 
 #[tactic(auto, using(crate::proofs::Parts::failing))]
@@ -228,7 +233,7 @@ fn retire_line(words: &mut Words) -> Result<Said, Fault>
     ensures gives { (version : ℕ) → GivesFront version kind.Retire result words.old words.new }
     ensures ranges { IfOk result IsInRange }
 {
-    Ok(Said::Retire(number_from(words, 0, 63)? as u8))
+    Ok(Said::Retire(number_from(words, 0, LAST_ENDPOINT)? as u8))
 }
 
 /// Reads a line of this kind up to what it has to say.
@@ -255,7 +260,8 @@ fn read_front(alloc: Global, words: &mut Words, version: u8, kind: Kind) -> Resu
 /// The end of a line.
 #[tactic(auto, unfolding(crate::specs::Grammar::reads))]
 fn finish(words: &mut Words) -> Result<(), Cause>
-    ensures { MatchResult result (λ _. reads [] words.old ≡ Ok []) (λ c. reads [] words.old ≡ Err c) }
+    ensures { MatchResult result (λ _. reads [] words.old ≡ Ok [])
+        (λ c. reads [] words.old ≡ Err c) }
 {
     match words.next() {
         None => Ok(()),
@@ -265,7 +271,8 @@ fn finish(words: &mut Words) -> Result<(), Cause>
 
 /// Reads the words behind the first of a line of this kind, in a script of this version.
 ///
-/// The refusal is the cause of the first word that can't stand at its place, or of the line's end. It takes time
+/// The refusal is the cause of the first word that can't stand at its place, or of the line's end.
+/// It takes time
 /// and memory linear in the line, and no stack that grows with it.
 pub fn read_line(alloc: Global, words: &mut Words, version: u8, kind: Kind) -> Result<Said, Fault>
     requires { length words.old < 2 ^ 31 }

@@ -1,18 +1,22 @@
 //! Names, signatures and bytes.
 
-ghost use Rattle.std.specs.Prelude.{◌≡◌, ◌∷◌, ◌≤◌, [], length, IfOk, MatchOption, if◌then◌else◌, Some, None};
+ghost use Rattle.std.specs.Prelude.{◌≡◌, ◌∷◌, ◌≤◌, [], length, IfOk, MatchOption, if◌then◌else◌};
+ghost use Rattle.std.specs.Prelude.{Some, None};
 ghost use Rattle.std.specs.List.{list_all};
 ghost use Rattle.spin_grammar.specs.Grammar as grammar;
 ghost use Rattle.spin_grammar.specs.Grammar.{Called, Typed};
-ghost use Rattle.spin_grammar.specs.Spelling.{is_name_byte, is_name, is_letter, param_of, params_of, as_type, signature, guard_signature, hex_bytes};
-ghost use Rattle.spin_grammar.specs.Reading.{Gives, Opens};
-ghost use Rattle.spin_grammar.specs.Heads.{handler_body_next, guard_body_next};
+ghost use Rattle.spin_grammar.specs.Spelling.{is_name_byte, is_name, is_letter, param_of};
+ghost use Rattle.spin_grammar.specs.Spelling.{params_of, as_type, signature, guard_signature};
+ghost use Rattle.spin_grammar.specs.Spelling.{hex_bytes};
+ghost use Rattle.spin_grammar.specs.Inner.Reading.{Gives, Opens};
+ghost use Rattle.spin_grammar.specs.Inner.Heads.{handler_body_next, guard_body_next};
 
 use crate::cause::Cause;
 use crate::fault::Fault;
+use crate::limits::MAX_NAME;
 use crate::number::digit;
-use crate::words::Words;
-use spin_values::{EventType, Kind, NoMemory, Octets, Param, Params, Text};
+use crate::words::{Words, next_word};
+use spin_values::{EventType, Kind, MAX_PARAMS, NoMemory, Octets, Param, Params, Text};
 use std::alloc::Global;
 
 fn is_name_byte(byte: u8) -> bool
@@ -30,25 +34,25 @@ fn has_name_bytes(word: &[u8]) -> bool
 fn is_name(word: &[u8]) -> bool
     ensures { result ≡ is_name word.now }
 {
-    !word.is_empty() && word.len() <= 16 && has_name_bytes(word)
+    !word.is_empty() && word.len() <= MAX_NAME && has_name_bytes(word)
 }
 
-/// Reads a name: 1 to 16 letters, digits, underscores and dots.
+/// Reads a name: 1 to [`MAX_NAME`] letters, digits, underscores and dots.
 #[tactic(auto, unfolding(crate::specs::Grammar::reads, crate::specs::Grammar::accepts))]
 pub(crate) fn read_name(alloc: Global, words: &mut Words) -> Result<Text, Fault>
-    ensures gives { Gives (λ name. Called name ∷ []) (grammar.Name ∷ []) result words.old words.new }
+    ensures gives { Gives (λ name. Called name ∷ []) (grammar.Name ∷ [])
+        result words.old words.new }
     ensures falls { length words.new ≤ length words.old }
 {
-    let Some(word) = words.next() else {
-        return Err(Fault::Bad(Cause::End));
-    };
+    let word = next_word(words)?;
     if !is_name(word) {
         return Err(Fault::Bad(Cause::Name));
     }
     Ok(Text::from_bytes(alloc, word)?)
 }
 
-/// The parameter that a letter stands for. The case is a mark of a var parameter only where `marks` is set.
+/// The parameter that a letter stands for. The case is a mark of a var parameter only where
+/// `marks` is set.
 fn param(letter: u8, marks: bool) -> Option<Param>
     ensures { result ≡ if is_letter letter then Some (param_of marks letter) else None }
 {
@@ -73,7 +77,8 @@ fn param(letter: u8, marks: bool) -> Option<Param>
     }
 }
 
-/// The parameters that a word stands for: a dash is none, and else there are 1 to 8 letters.
+/// The parameters that a word stands for: a dash is none, and else there are up to [`MAX_PARAMS`]
+/// letters.
 fn params(alloc: Global, word: &[u8], marks: bool) -> Result<Option<Params>, NoMemory>
     ensures { IfOk result (λ params. params ≡ params_of marks word.now) }
 {
@@ -81,7 +86,7 @@ fn params(alloc: Global, word: &[u8], marks: bool) -> Result<Option<Params>, NoM
     if word == b"-".as_slice() {
         return Ok(Some(params));
     }
-    if word.is_empty() || word.len() > 8 {
+    if word.is_empty() || word.len() > MAX_PARAMS {
         return Ok(None);
     }
     for letter in word {
@@ -116,7 +121,8 @@ pub(crate) fn signature(alloc: Global, word: &[u8]) -> Result<Option<EventType>,
     Ok(typed(params(alloc, word, true)?, false))
 }
 
-/// The signature of a guard that a word stands for, if it is one. It gives no result, and the case doesn't matter.
+/// The signature of a guard that a word stands for, if it is one. It gives no result, and the case
+/// doesn't matter.
 #[tactic(auto, unfolding(crate::specs::Spelling::guard_signature))]
 pub(crate) fn guard_signature(alloc: Global, word: &[u8]) -> Result<Option<EventType>, NoMemory>
     ensures { IfOk result (λ sig. sig ≡ guard_signature word.now) }
@@ -133,12 +139,11 @@ pub(crate) fn guard_signature(alloc: Global, word: &[u8]) -> Result<Option<Event
 /// Reads a signature.
 #[tactic(auto, unfolding(crate::specs::Grammar::reads, crate::specs::Grammar::accepts))]
 pub(crate) fn read_signature(alloc: Global, words: &mut Words) -> Result<EventType, Fault>
-    ensures gives { Gives (λ sig. Typed sig ∷ []) (grammar.Signature ∷ []) result words.old words.new }
+    ensures gives { Gives (λ sig. Typed sig ∷ []) (grammar.Signature ∷ []) result words.old
+        words.new }
     ensures falls { length words.new ≤ length words.old }
 {
-    let Some(word) = words.next() else {
-        return Err(Fault::Bad(Cause::End));
-    };
+    let word = next_word(words)?;
     match signature(alloc, word)? {
         Some(sig) => Ok(sig),
         None => Err(Fault::Bad(Cause::Signature)),
@@ -151,9 +156,7 @@ pub(crate) fn handler_body(alloc: Global, words: &mut Words) -> Result<Option<Ev
     ensures opens { Opens handler_body_next grammar.HandlerBody result words.old words.new }
     ensures falls { length words.new ≤ length words.old }
 {
-    let Some(word) = words.next() else {
-        return Err(Fault::Bad(Cause::End));
-    };
+    let word = next_word(words)?;
     if word == b"native".as_slice() {
         return Ok(None);
     }
@@ -169,9 +172,7 @@ pub(crate) fn guard_body(alloc: Global, words: &mut Words) -> Result<Option<Even
     ensures opens { Opens guard_body_next grammar.GuardBody result words.old words.new }
     ensures falls { length words.new ≤ length words.old }
 {
-    let Some(word) = words.next() else {
-        return Err(Fault::Bad(Cause::End));
-    };
+    let word = next_word(words)?;
     if word == b"native".as_slice() {
         return Ok(None);
     }

@@ -5,27 +5,29 @@ ghost use Rattle.spin_policy.specs.Verdicts.{has_wrong_guards};
 ghost use Rattle.spin_grammar.specs.Grammar as grammar;
 ghost use Rattle.spin_grammar.specs.Grammar.{Number, Counted};
 ghost use Rattle.spin_grammar.specs.Forms.{counted_form, effect_form, rule_form};
-ghost use Rattle.spin_grammar.specs.Reading.{Gives};
+ghost use Rattle.spin_grammar.specs.Inner.Reading.{Gives};
 
 use crate::fault::Fault;
 use crate::heads::EffectWord;
 use crate::leaves::{
     apart_word, count_from, effect_word, forced_word, handler_word, number_from, op_word, own_word,
 };
+use crate::limits::{LAST_GUARD, LAST_MODULE, MAX_IMPOSED, MAX_QUOTA};
 use crate::words::Words;
 use spin_policy::{Effect, Rule};
 use spin_values::Numbers;
 use std::alloc::Global;
 
-/// Reads the numbers of guards behind their count, which is from low to 4.
+/// Reads the numbers of guards behind their count, which is from low to [`MAX_IMPOSED`].
 fn read_guards(alloc: Global, words: &mut Words, low: u64) -> Result<Numbers, Fault>
-    ensures gives { Gives counted_form (Counted low 4 (Number 1 1023) ∷ []) result words.old words.new }
-    ensures few { IfOk result (λ guards. (low ≤ length guards) × (length guards ≤ 4)) }
+    ensures gives { Gives counted_form (Counted low MAX_IMPOSED (Number 1 LAST_GUARD) ∷ []) result
+        words.old words.new }
+    ensures few { IfOk result (λ guards. (low ≤ length guards) × (length guards ≤ MAX_IMPOSED)) }
 {
-    let count = count_from(words, low, 4)?;
+    let count = count_from(words, low, MAX_IMPOSED)?;
     let mut guards = Numbers::new(alloc);
     for _ in 0..count {
-        guards.push(number_from(words, 1, 1023)? as u16)?;
+        guards.push(number_from(words, 1, LAST_GUARD)? as u16)?;
     }
     Ok(guards)
 }
@@ -39,7 +41,7 @@ fn read_effect(alloc: Global, words: &mut Words, version: u8) -> Result<Effect, 
     match effect_word(words, version)? {
         EffectWord::Allow => Ok(Effect::Allow),
         EffectWord::Deny => Ok(Effect::Deny),
-        EffectWord::Quota => Ok(Effect::Quota(number_from(words, 0, 1000)? as u16)),
+        EffectWord::Quota => Ok(Effect::Quota(number_from(words, 0, MAX_QUOTA)? as u16)),
         EffectWord::Impose => Ok(Effect::Impose(read_guards(alloc, words, 1)?)),
         EffectWord::Force => {
             let guards = read_guards(alloc, words, 0)?;
@@ -57,11 +59,13 @@ fn read_effect(alloc: Global, words: &mut Words, version: u8) -> Result<Effect, 
 /// Reads a rule, in a script of this version.
 #[tactic(auto, using(crate::proofs::Parts::failing))]
 pub(crate) fn read_rule(alloc: Global, words: &mut Words, version: u8) -> Result<Rule, Fault>
-    ensures gives { Gives rule_form (Number 0 255 ∷ Number 0 255 ∷ grammar.Op ∷ grammar.HandlerOrAny ∷ grammar.Own ∷ grammar.Effect version ∷ []) result words.old words.new }
+    ensures gives { Gives rule_form (Number 0 LAST_MODULE ∷ Number 0 LAST_MODULE ∷ grammar.Op
+        ∷ grammar.HandlerOrAny ∷ grammar.Own ∷ grammar.Effect version ∷ []) result words.old
+        words.new }
     ensures few { IfOk result (λ rule. has_wrong_guards rule.effect ≡ false) }
 {
-    let low = number_from(words, 0, 255)? as u8;
-    let high = number_from(words, 0, 255)? as u8;
+    let low = number_from(words, 0, LAST_MODULE)? as u8;
+    let high = number_from(words, 0, LAST_MODULE)? as u8;
     let op = op_word(words)?;
     let handler = handler_word(words)?;
     let own_only = own_word(words)?;

@@ -5,14 +5,17 @@ ghost use Rattle.spin_code.specs.Size.{expr_depth, test_depth};
 ghost use Rattle.spin_grammar.specs.declared.fault.Fault.TheVariants.{NoMemory};
 ghost use Rattle.spin_grammar.specs.Grammar as grammar;
 ghost use Rattle.spin_grammar.specs.Grammar.{Number, Numeral};
-ghost use Rattle.spin_grammar.specs.Heads.{joint_word};
+ghost use Rattle.spin_grammar.specs.Inner.Heads.{joint_word};
 ghost use Rattle.spin_grammar.specs.Forms.{expr_form, test_form, cmp_word};
-ghost use Rattle.spin_grammar.specs.Reading.{Gives, GivesSome, IsWithin, IsThere, Skips, Joins, Negates};
+ghost use Rattle.spin_grammar.specs.Inner.Reading.{Gives, GivesSome, IsThere, Skips, Joins};
+ghost use Rattle.spin_grammar.specs.Inner.Reading.{Negates};
+ghost use Rattle.spin_grammar.specs.Lines.{IsWithin};
 
 use crate::expression::{read_expression, skip_expression};
 use crate::fault::Fault;
 use crate::heads::{Joint, TestWord};
 use crate::leaves::{number_from, test_word};
+use crate::limits::{LAST_ARGUMENT, MAX_OFFSET};
 use crate::words::Words;
 use spin_code::{Cmp, Expr, Test};
 use std::alloc::Global;
@@ -20,15 +23,17 @@ use std::alloc::Global;
 /// Reads what follows the word `has`: an argument and a length.
 #[tactic(auto, using(crate::proofs::Parts::failing))]
 fn has(words: &mut Words) -> Result<(u8, u16), Fault>
-    ensures gives { Gives (λ h. Numeral h.0 ∷ Numeral h.1 ∷ []) (Number 0 7 ∷ Number 0 65535 ∷ []) result words.old words.new }
+    ensures gives { Gives (λ h. Numeral h.0 ∷ Numeral h.1 ∷ [])
+        (Number 0 LAST_ARGUMENT ∷ Number 0 MAX_OFFSET ∷ []) result words.old words.new }
     ensures falls { length words.new ≤ length words.old }
 {
-    let arg = number_from(words, 0, 7)? as u8;
-    let length = number_from(words, 0, 65535)? as u16;
+    let arg = number_from(words, 0, LAST_ARGUMENT)? as u8;
+    let length = number_from(words, 0, MAX_OFFSET)? as u16;
     Ok((arg, length))
 }
 
-/// Reads the first word of a test, and what belongs to it alone, where so many tests are wanted. Answers how many
+/// Reads the first word of a test, and what belongs to it alone, where so many tests are wanted.
+/// Answers how many
 /// are wanted then.
 #[tactic(auto, using(crate::proofs::Parts::failing))]
 fn skip_test_head(words: &mut Words, wanted: u64) -> Result<u64, Fault>
@@ -36,7 +41,8 @@ fn skip_test_head(words: &mut Words, wanted: u64) -> Result<u64, Fault>
     requires room { wanted + length words.old < 2 ^ 32 }
     ensures skips { Skips test_form grammar.Test wanted result words.old words.new }
     ensures falls { length words.new ≤ length words.old }
-    ensures room { IfOk result (λ n. (length words.new < length words.old) × (n + length words.new ≤ wanted + length words.old)) }
+    ensures room { IfOk result (λ n. (length words.new < length words.old)
+        × (n + length words.new ≤ wanted + length words.old)) }
 {
     match test_word(words)? {
         TestWord::True => Ok(wanted - 1),
@@ -54,7 +60,8 @@ fn skip_test_head(words: &mut Words, wanted: u64) -> Result<u64, Fault>
     }
 }
 
-/// Reads a test of any depth, and keeps nothing of it. It takes no stack: it counts what is still wanted.
+/// Reads a test of any depth, and keeps nothing of it. It takes no stack: it counts what is still
+/// wanted.
 fn skip_test(words: &mut Words) -> Result<(), Fault>
     requires { length words.old < 2 ^ 31 }
     ensures gives { GivesSome IsThere test_form (grammar.Test ∷ []) result words.old words.new }
@@ -84,7 +91,8 @@ fn pair(
     left: Option<Test>,
     right: Option<Test>,
 ) -> Result<Option<Test>, Fault>
-    ensures { MatchResult result (λ o. Joins test_form test_depth test_form test_depth (joint_word joint) left right o) (λ f. f ≡ NoMemory) }
+    ensures { MatchResult result (λ o. Joins test_form test_depth test_form test_depth
+        (joint_word joint) left right o) (λ f. f ≡ NoMemory) }
 {
     let (Some(left), Some(right)) = (left, right) else {
         return Ok(None);
@@ -107,12 +115,14 @@ fn negate(alloc: Global, test: Option<Test>) -> Result<Option<Test>, Fault>
     }
 }
 
-/// Reads a test, and keeps it where it has at most so many levels, those of its expressions among them. It goes no
+/// Reads a test, and keeps it where it has at most so many levels, those of its expressions among
+/// them. It goes no
 /// deeper into the stack than that, however deep the test is.
 #[tactic(auto, using(crate::proofs::Parts::failing))]
 pub(crate) fn read_test(alloc: Global, words: &mut Words, limit: u8) -> Result<Option<Test>, Fault>
     requires { length words.old < 2 ^ 31 }
-    ensures gives { GivesSome (IsWithin test_depth limit) test_form (grammar.Test ∷ []) result words.old words.new }
+    ensures gives { GivesSome (IsWithin test_depth limit) test_form (grammar.Test ∷ []) result
+        words.old words.new }
     ensures falls { length words.new ≤ length words.old }
 {
     if limit == 0 {

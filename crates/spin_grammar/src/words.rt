@@ -1,6 +1,11 @@
-ghost use Rattle.std.specs.Prelude.{◌≡◌, ◌+◌, ◌<◌, ◌≤◌, ◌==◌, ◌||◌, true, false, length, slice_index, List, ℕ, [], ◌∷◌, MatchOption};
+ghost use Rattle.std.specs.Prelude.{◌≡◌, ◌+◌, ◌<◌, ◌≤◌, ◌==◌, ◌||◌, true, false, length};
+ghost use Rattle.std.specs.Prelude.{slice_index, List, ℕ, [], ◌∷◌, MatchOption, MatchResult};
 ghost use Rattle.spin_grammar.specs.Words.{is_blank, words};
+ghost use Rattle.spin_grammar.specs.declared.cause.Cause.TheVariants.{End};
+ghost use Rattle.spin_grammar.specs.declared.fault.Fault.TheVariants.{Bad};
 
+use crate::cause::Cause;
+use crate::fault::Fault;
 use std::marker::Model;
 
 fn is_blank(byte: u8) -> bool
@@ -40,7 +45,7 @@ fn word_len(line: &[u8]) -> usize
 }
 
 /// The words of a line that are still to be read.
-#[derive(Drop)]
+#[derive(Drop, Debug)]
 pub struct Words<'a> {
     rest: &'a [u8],
 }
@@ -60,16 +65,10 @@ impl<'a> Words<'a> {
         Words { rest: line }
     }
 
-    /// The same words once more.
-    pub fn again(&self) -> Words<'a>
-        ensures { result ≡ self.now }
-    {
-        Words { rest: self.rest }
-    }
-
     /// The next word.
     pub fn next(&mut self) -> Option<&'a [u8]>
-        ensures { MatchOption result ((self.old ≡ []) × (self.new ≡ [])) (λ w. self.old ≡ w.now ∷ self.new) }
+        ensures { MatchOption result ((self.old ≡ []) × (self.new ≡ []))
+            (λ w. self.old ≡ w.now ∷ self.new) }
     {
         let line = without_blanks(self.rest);
         self.rest = line;
@@ -79,5 +78,16 @@ impl<'a> Words<'a> {
         let (word, rest) = line.split_at(word_len(line));
         self.rest = rest;
         Some(word)
+    }
+}
+
+/// The next word, where the line hasn't ended.
+pub(crate) fn next_word<'a>(words: &mut Words<'a>) -> Result<&'a [u8], Fault>
+    ensures { MatchResult result (λ w. words.old ≡ w.now ∷ words.new)
+        (λ f. (f ≡ Bad End) × (words.old ≡ []) × (words.new ≡ [])) }
+{
+    match words.next() {
+        Some(word) => Ok(word),
+        None => Err(Fault::Bad(Cause::End)),
     }
 }

@@ -9,7 +9,7 @@ use Rattle.spin_table.specs.Setups.{SetupData}
 use Rattle.spin_table.specs.States.{State}
 use Rattle.spin_table.specs.Refusals.{refusal_of}
 use Rattle.spin_table.specs.Steps.{ChangesTo, IsStep}
-use Rattle.spin_proto.specs.declared.deed.Deed.{Deed}
+use Rattle.spin_word.specs.declared.work.Deed.{Deed}
 use Rattle.spin_proto.specs.declared.deed.JobCall.{JobCall}
 use Rattle.spin_proto.specs.declared.reply.Reply.{Reply}
 use Rattle.spin_proto.proofs.Bounds.{bounds_unique}

@@ -8,7 +8,7 @@ use Rattle.std.proofs.lemmas.Bool.Decides.{nat_tests}
 use Rattle.std.proofs.lemmas.List.{append-nil, append_cancel_right}
 use Rattle.std.proofs.lemmas.List.Splits.{slice_split_at, slice_split_none}
 use Rattle.std.proofs.lemmas.List.Elements.{All-from_recursion}
-use Rattle.spin_report.specs.Words.{Word, spaced, line_of, text_of}
+use Rattle.spin_text.specs.Words.{Word, spaced, line_of, text_of}
 
 -- neither a space nor a line feed
 abbrev pub is_plain : ℕ → Bool

@@ -15,7 +15,7 @@ use Rattle.spin_table.specs.declared.refusal.Verdicted.{Verdicted}
 use Rattle.spin_table.specs.declared.refusal.Verdicted.TheVariants as verdicted
 use Rattle.spin_raise.specs.declared.answer.Answer.{Answer}
 use Rattle.spin_raise.specs.declared.answer.Answer.TheVariants as answer
-use Rattle.spin_proto.specs.declared.deed.Deed.TheVariants as deed
+use Rattle.spin_word.specs.declared.work.Deed.TheVariants as deed
 use Rattle.spin_proto.specs.declared.reply.Step.{Step}
 use Rattle.spin_proto.specs.declared.reply.Step.TheVariants as step
 use Rattle.spin_proto.specs.declared.reply.Reply.{Reply}
@@ -23,12 +23,12 @@ use Rattle.spin_proto.specs.declared.reply.Reply.TheVariants as reply
 use Rattle.spin_report.specs.declared.entry.What.{What}
 use Rattle.spin_report.specs.declared.entry.What.TheVariants as what
 use Rattle.spin_report.specs.declared.entry.Entry.{Entry}
-use Rattle.spin_report.specs.Words.{Word}
+use Rattle.spin_text.specs.Words.{Word}
 use Rattle.spin_report.specs.Verdicts.{op_word, refusal_number, refusal_name, refusal_numbers, verdict_words}
 use Rattle.spin_report.specs.Replies.{answer_words, fault_word, step_words, reply_words}
 use Rattle.spin_report.specs.Lines.{what_words, line_word, entry_words, entry_line, JobSeen, job_words, job_line}
 use Rattle.spin_report.specs.Histories.{Retired, SegmentSeen, CaptureSeen, HistorySeen, retire_words, retire_line, segment_words, segment_line, lost_words, lost_line, losses, lost_lines, segment_lines, capture_words, end_words, end_line, report_lines, entries_of}
-use Rattle.spin_report.specs.Laws.{begins_with_digit}
+use Rattle.spin_text.specs.Digits.{begins_with_digit}
 use Rattle.spin_report.proofs.Plain.{IsWord, AreWords, IsDigit, IsLine, each_append, each_map, each_flat_map, decimal_digits, decimal_some, decimal_word, dotted_word, words_line}
 
 -- ---- each word is a word

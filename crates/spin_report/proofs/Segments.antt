@@ -9,7 +9,8 @@ use Rattle.std.proofs.lemmas.List.Elements.{filter-append, All-from_recursion}
 use Rattle.std.proofs.lemmas.List.Splits.{slice_split_at, slice_split_none}
 use Rattle.spin_report.specs.Lines.{entry_line, job_line}
 use Rattle.spin_report.specs.Histories.{SegmentSeen, HistorySeen, first_line, retire_line, segment_line, lost_line, losses, lost_lines, end_line, report_lines, entries_of}
-use Rattle.spin_report.specs.Laws.{begins_with_digit, segment_entries}
+use Rattle.spin_text.specs.Digits.{begins_with_digit}
+use Rattle.spin_report.specs.Laws.{segment_entries}
 use Rattle.spin_report.proofs.Plain.{each_append, each_map}
 use Rattle.spin_report.proofs.ReportLines.{lines_at, none_pass, all_pass, entry_begins}
 

@@ -6,19 +6,20 @@ use Rattle.std.proofs.lemmas.List.Elements.{All-head, All-tail}
 use Rattle.std.proofs.lemmas.List.Sorted.{Contains-permutation}
 use Rattle.spin_table.specs.Setups.{SetupData}
 use Rattle.spin_table.specs.States.{State}
-use Rattle.spin_proto.specs.declared.deed.Deed.{Deed}
+use Rattle.spin_word.specs.declared.work.Deed.{Deed}
 use Rattle.spin_proto.specs.declared.deed.JobCall.{JobCall}
 use Rattle.spin_proto.specs.Replies.{IsDeedReply}
 use Rattle.spin_report.specs.declared.entry.What.{What}
 use Rattle.spin_report.specs.declared.entry.What.TheVariants as what
 use Rattle.spin_report.specs.declared.entry.Entry.{Entry}
-use Rattle.spin_report.specs.Words.{Word}
+use Rattle.spin_text.specs.Words.{Word}
 use Rattle.spin_report.specs.Lines.{what_words, entry_line, JobSeen}
 use Rattle.spin_report.specs.Histories.{HistorySeen, report_lines, report_text, entries_of}
 use Rattle.spin_report.specs.Legal.{Answers, IsLegal}
 use Rattle.spin_report.specs.Jobs.{calls_of, job_of, AreJobsFrom, AreJobs}
 use Rattle.spin_report.specs.Asked.{Numbered, asked_by, asked_of, AreApart}
-use Rattle.spin_report.specs.Laws.{begins_with_digit, numbers_named, HasNumbers, ReportTells}
+use Rattle.spin_text.specs.Digits.{begins_with_digit}
+use Rattle.spin_report.specs.Laws.{numbers_named, HasNumbers, ReportTells}
 use Rattle.spin_report.proofs.Plain.{same_lines}
 use Rattle.spin_report.proofs.ReportLines.{report_are_lines, digits_tell}
 use Rattle.spin_report.proofs.Told.{SameHead, same_head, same_verdict}

@@ -14,7 +14,7 @@ use Rattle.spin_table.specs.declared.refusal.Refusal.TheVariants as refusal
 use Rattle.spin_table.specs.declared.refusal.Verdicted.{Verdicted}
 use Rattle.spin_table.specs.declared.refusal.Verdicted.TheVariants as verdicted
 use Rattle.spin_report.specs.declared.entry.Entry.{Entry}
-use Rattle.spin_report.specs.Words.{Word}
+use Rattle.spin_text.specs.Words.{Word}
 use Rattle.spin_report.specs.Verdicts.{refusal_number, refusal_numbers, verdict_numbers, verdict_words}
 use Rattle.spin_report.specs.Lines.{what_words, line_word, entry_words, entry_line}
 use Rattle.spin_report.specs.Laws.{HasNumbers}

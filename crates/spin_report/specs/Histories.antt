@@ -2,7 +2,7 @@
 use Rattle.std.specs.Prelude.{ℕ, Bool, not, ◌==◌, if◌then◌else◌, List, [], ◌∷◌, ◌++◌, map, filter, Option, Some, None, decimal, codes}
 use Rattle.std.specs.List.{flat_map, enumerate_from}
 use Rattle.spin_report.specs.declared.entry.Entry.{Entry}
-use Rattle.spin_report.specs.Words.{Word, line_of, text_of}
+use Rattle.spin_text.specs.Words.{Word, line_of, text_of}
 use Rattle.spin_report.specs.Lines.{JobSeen, entry_line, job_line}
 
 -- an endpoint that is retired, and whether one stood under its name
@@ -35,7 +35,8 @@ abbrev pub first_line : List ℕ
 first_line = codes "report 1"
 
 abbrev pub retire_words : Retired → List Word
-retire_words r = codes "retire" ∷ decimal r.endpoint ∷ (if r.stood then codes "ok" else codes "unknown") ∷ []
+retire_words r =
+    codes "retire" ∷ decimal r.endpoint ∷ (if r.stood then codes "ok" else codes "unknown") ∷ []
 
 abbrev pub retire_line : Retired → List ℕ
 retire_line r = line_of (retire_words r)
@@ -74,7 +75,10 @@ segment_lines number s =
 abbrev pub capture_words : Option CaptureSeen → List Word
 capture_words None = []
 capture_words (Some c) =
-    codes "records" ∷ decimal c.records ∷ codes "used" ∷ decimal c.used ∷ codes "cut" ∷ decimal c.cut ∷ []
+    codes "records" ∷ decimal c.records
+    ∷ codes "used" ∷ decimal c.used
+    ∷ codes "cut" ∷ decimal c.cut
+    ∷ []
 
 -- the log's length at the end, and what became of a capture
 abbrev pub end_words : ℕ → Option CaptureSeen → List Word

@@ -1,5 +1,6 @@
 -- What a report tells.
-use Rattle.std.specs.Prelude.{◌≡◌, ◌<◌, ◌^◌, ℕ, Bool, false, ◌&&◌, ◌==◌, nat_le, List, [], ◌∷◌, map, filter, All, IsPermutation}
+use Rattle.std.specs.Prelude.{◌≡◌, ◌<◌, ◌^◌, ℕ, ◌==◌, List, [], map, filter, All, IsPermutation}
+use Rattle.spin_text.specs.Digits.{begins_with_digit}
 use Rattle.spin_table.specs.Setups.{SetupData}
 use Rattle.spin_table.specs.States.{State}
 use Rattle.spin_report.specs.declared.entry.What.{What}
@@ -11,13 +12,10 @@ use Rattle.spin_report.specs.Histories.{HistorySeen, report_lines, report_text, 
 use Rattle.spin_report.specs.Jobs.{AreJobs}
 use Rattle.spin_report.specs.Asked.{Numbered, asked_of, AreApart, IsHistory}
 
-abbrev pub begins_with_digit : List ℕ → Bool
-begins_with_digit [] = false
-begins_with_digit (b ∷ bs) = nat_le 48 b && nat_le b 57
-
 -- The lines that begin with a digit are just those of the entries, in order.
 abbrev pub DigitsTellEntries : Type 0
-DigitsTellEntries = (h : HistorySeen) → filter begins_with_digit (report_lines h) ≡ map entry_line (entries_of h)
+DigitsTellEntries =
+    (h : HistorySeen) → filter begins_with_digit (report_lines h) ≡ map entry_line (entries_of h)
 
 abbrev pub numbers_named : What → List ℕ
 numbers_named (what.Command command verdict) = verdict_numbers verdict
@@ -55,5 +53,6 @@ abbrev pub LanesAnswer : Type 0
 LanesAnswer =
     (lanes : ℕ) (asked : List Numbered) (entries : List Entry)
     → All (λ n. n.lane < lanes) asked → All (λ e. e.lane < lanes) entries
-    → ((k : ℕ) → k < lanes → map asked_of (filter (λ e. e.lane == k) entries) ≡ filter (λ n. n.lane == k) asked)
+    → ((k : ℕ) → k < lanes
+    → map asked_of (filter (λ e. e.lane == k) entries) ≡ filter (λ n. n.lane == k) asked)
     → IsPermutation (map asked_of entries) asked

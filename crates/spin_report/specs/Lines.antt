@@ -1,13 +1,13 @@
 -- The lines of entries and of jobs, without their line feeds.
 use Rattle.std.specs.Prelude.{ℕ, ◌==◌, if◌then◌else◌, List, ◌∷◌, ◌++◌, decimal, codes}
-use Rattle.spin_proto.specs.declared.deed.Deed.{Deed}
-use Rattle.spin_proto.specs.declared.deed.Deed.TheVariants as deed
+use Rattle.spin_word.specs.declared.work.Deed.{Deed}
+use Rattle.spin_word.specs.declared.work.Deed.TheVariants as deed
 use Rattle.spin_proto.specs.declared.deed.Job.{Job}
 use Rattle.spin_proto.specs.declared.reply.Reply.{Reply}
 use Rattle.spin_report.specs.declared.entry.What.{What}
 use Rattle.spin_report.specs.declared.entry.What.TheVariants as what
 use Rattle.spin_report.specs.declared.entry.Entry.{Entry}
-use Rattle.spin_report.specs.Words.{Word, line_of}
+use Rattle.spin_text.specs.Words.{Word, line_of}
 use Rattle.spin_report.specs.Verdicts.{op_word, verdict_words}
 use Rattle.spin_report.specs.Replies.{reply_words}
 
@@ -25,7 +25,8 @@ abbrev pub line_word : ℕ → ℕ → Word
 line_word line part = if part == 0 then decimal line else decimal line ++ 46 ∷ decimal part
 
 abbrev pub entry_words : Entry → List Word
-entry_words e = decimal e.place ∷ decimal e.lane ∷ line_word e.line e.part ∷ what_words e.part e.what
+entry_words e =
+    decimal e.place ∷ decimal e.lane ∷ line_word e.line e.part ∷ what_words e.part e.what
 
 abbrev pub entry_line : Entry → List ℕ
 entry_line e = line_of (entry_words e)
@@ -51,7 +52,9 @@ job_seen job reply = record {
 }
 
 abbrev pub job_words : JobSeen → List Word
-job_words j = codes "job" ∷ decimal j.place ∷ decimal j.lane ∷ line_word j.line j.part ∷ decimal j.index ∷ reply_words j.reply
+job_words j =
+    codes "job" ∷ decimal j.place ∷ decimal j.lane ∷ line_word j.line j.part ∷ decimal j.index
+    ∷ reply_words j.reply
 
 abbrev pub job_line : JobSeen → List ℕ
 job_line j = line_of (job_words j)

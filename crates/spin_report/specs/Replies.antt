@@ -9,7 +9,7 @@ use Rattle.spin_proto.specs.declared.reply.Step.{Step}
 use Rattle.spin_proto.specs.declared.reply.Step.TheVariants as step
 use Rattle.spin_proto.specs.declared.reply.Reply.{Reply}
 use Rattle.spin_proto.specs.declared.reply.Reply.TheVariants as reply
-use Rattle.spin_report.specs.Words.{Word}
+use Rattle.spin_text.specs.Words.{Word}
 
 abbrev pub answer_words : Answer → List Word
 answer_words (answer.Value value) = codes "value" ∷ decimal value ∷ []
@@ -32,14 +32,16 @@ fault_word fault.UdpLength = codes "udp_length"
 abbrev pub step_words : Step → List Word
 step_words (step.Run event number) = codes "run" ∷ decimal event ∷ decimal number ∷ []
 step_words (step.Result value) = codes "result" ∷ decimal value ∷ []
-step_words (step.Send endpoint bytes) = codes "send" ∷ decimal endpoint ∷ decimal (length bytes) ∷ []
+step_words (step.Send endpoint bytes) =
+    codes "send" ∷ decimal endpoint ∷ decimal (length bytes) ∷ []
 step_words (step.Up event) = codes "up" ∷ decimal event ∷ []
 step_words (step.Back answer) = codes "back" ∷ answer_words answer
 step_words (step.Dropped fault) = codes "drop" ∷ fault_word fault ∷ []
 step_words (step.Job event number) = codes "job" ∷ decimal event ∷ decimal number ∷ []
 
 abbrev pub reply_words : Reply → List Word
-reply_words (reply.Ran answer trace jobs) = flat_map step_words trace ++ (codes "=" ∷ answer_words answer)
+reply_words (reply.Ran answer trace jobs) =
+    flat_map step_words trace ++ (codes "=" ∷ answer_words answer)
 reply_words (reply.Queued call) = codes "queued" ∷ []
 reply_words reply.UnknownEvent = codes "refused" ∷ codes "1" ∷ codes "unknown_event" ∷ []
 reply_words reply.WrongArgs = codes "refused" ∷ codes "2" ∷ codes "wrong_args" ∷ []

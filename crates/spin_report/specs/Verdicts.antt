@@ -6,7 +6,7 @@ use Rattle.spin_table.specs.declared.refusal.Refusal.{Refusal}
 use Rattle.spin_table.specs.declared.refusal.Refusal.TheVariants as refusal
 use Rattle.spin_table.specs.declared.refusal.Verdicted.{Verdicted}
 use Rattle.spin_table.specs.declared.refusal.Verdicted.TheVariants as verdicted
-use Rattle.spin_report.specs.Words.{Word}
+use Rattle.spin_text.specs.Words.{Word}
 
 abbrev pub op_word : Op → Word
 op_word op.Install = codes "install"

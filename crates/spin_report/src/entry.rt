@@ -1,9 +1,9 @@
 //! Entries of a history: what was asked, by which lane and line, and what it answered.
 
-use spin_proto::{Deed, Reply};
+use spin_proto::Reply;
 use spin_table::Verdicted;
 use spin_values::Sequence;
-use spin_word::Command;
+use spin_word::{Command, Deed};
 
 /// What was asked, and its answer.
 #[derive(PartialEq, Drop, Debug)]

@@ -1,21 +1,17 @@
 //! The report of a run: the line of each entry of a history, and of each job.
 //!
-//! - [`entry`] is an entry of a history: where it stands, what was asked, and what it answered;
-//! - `putting` writes words and numbers, `verdict` what became of a command, and `reply` what a deed or a job came to;
-//! - [`text`] appends whole lines;
-//! - [`law`] says that a report tells one history from all others.
+//! - `entry` is an entry of a history: where it stands, what was asked, and what it answered;
+//! - `verdict` writes what became of a command, and `reply` what a deed or a job came to;
+//! - `text` appends whole lines;
+//! - `law` says that a report tells one history from all others.
 #![tactic(auto)]
 
-pub mod entry;
-pub mod law;
-mod putting;
+mod entry;
+mod law;
 mod reply;
-pub mod text;
+mod text;
 mod verdict;
 
 pub use entry::{Entries, Entry, What};
 pub use law::report_tells;
 pub use text::{end_text, entry_text, job_text, segment_text};
-
-#[cfg(test)]
-mod tests;

@@ -2,13 +2,13 @@
 
 ghost use Rattle.std.specs.Prelude.{◌≡◌, ◌++◌, ◌∷◌, [], decimal, codes, OnOk};
 ghost use Rattle.std.specs.List.{flat_map};
-ghost use Rattle.spin_report.specs.Words.{spaced};
+ghost use Rattle.spin_text.specs.Words.{spaced};
 ghost use Rattle.spin_report.specs.Replies.{answer_words, fault_word, step_words, reply_words};
 
-use crate::putting::{put_number, put_word};
 use spin_headers::HeaderFault;
 use spin_proto::{Reply, Step};
 use spin_raise::Answer;
+use spin_text::{put_number, put_word};
 use spin_values::{NoMemory, Octets};
 
 fn put_answer(out: &mut Octets, answer: Answer) -> Result<(), NoMemory>
@@ -45,7 +45,8 @@ fn fault_word(fault: HeaderFault) -> &'static [u8]
 
 /// Appends a word and two numbers.
 fn put_pair(out: &mut Octets, word: &[u8], first: u64, second: u64) -> Result<(), NoMemory>
-    ensures { OnOk result (out.new ≡ out.old ++ spaced (word.now ∷ decimal first ∷ decimal second ∷ [])) }
+    ensures { let words = word.now ∷ decimal first ∷ decimal second ∷ [] in
+        OnOk result (out.new ≡ out.old ++ spaced words) }
 {
     put_word(out, word)?;
     put_number(out, first)?;
@@ -91,7 +92,8 @@ fn put_trace(out: &mut Octets, trace: &[Step]) -> Result<(), NoMemory>
 
 /// Appends a refusal of a deed: its number and its name.
 fn put_refused(out: &mut Octets, number: &[u8], name: &[u8]) -> Result<(), NoMemory>
-    ensures { OnOk result (out.new ≡ out.old ++ spaced (codes "refused" ∷ number.now ∷ name.now ∷ [])) }
+    ensures { let words = codes "refused" ∷ number.now ∷ name.now ∷ [] in
+        OnOk result (out.new ≡ out.old ++ spaced words) }
 {
     put_word(out, b"refused")?;
     put_word(out, number)?;

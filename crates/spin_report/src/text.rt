@@ -1,16 +1,17 @@
 //! Whole lines.
 
 ghost use Rattle.std.specs.Prelude.{◌≡◌, ◌++◌, ◌∷◌, [], None, OnOk, OnErr};
-ghost use Rattle.spin_report.specs.Words.{spaced, line_of, ended};
+ghost use Rattle.spin_text.specs.Words.{spaced, line_of, ended};
 ghost use Rattle.spin_report.specs.Lines.{line_word, what_words, entry_words, job_words, entry_line, job_line, job_seen};
 ghost use Rattle.spin_report.specs.Histories.{segment_line, end_line};
 
 use crate::entry::{Entry, What};
-use crate::putting::{put_digits, put_number, put_word};
 use crate::reply::put_reply;
 use crate::verdict::{op_word, put_verdict};
-use spin_proto::{Deed, Job, Reply};
+use spin_proto::{Job, Reply};
+use spin_text::{put_decimal, put_line, put_number, put_word};
 use spin_values::{NoMemory, Octets};
+use spin_word::Deed;
 
 /// Appends the number of a line, and of its part where it is a line of packets.
 fn put_line_word(out: &mut Octets, line: u32, part: u32) -> Result<(), NoMemory>
@@ -19,7 +20,7 @@ fn put_line_word(out: &mut Octets, line: u32, part: u32) -> Result<(), NoMemory>
     put_number(out, u64::from(line))?;
     if part != 0 {
         out.push(b'.')?;
-        put_digits(out, u64::from(part))?;
+        put_decimal(out, u64::from(part))?;
     }
     Ok(())
 }
@@ -50,7 +51,7 @@ fn put_what(out: &mut Octets, part: u32, what: &What) -> Result<(), NoMemory>
 fn put_entry(out: &mut Octets, entry: &Entry) -> Result<(), NoMemory>
     ensures { OnOk result (out.new ≡ out.old ++ entry_line entry.now) }
 {
-    put_digits(out, u64::from(entry.place))?;
+    put_decimal(out, u64::from(entry.place))?;
     put_number(out, u64::from(entry.lane))?;
     put_line_word(out, entry.line, entry.part)?;
     put_what(out, entry.part, &entry.what)
@@ -91,8 +92,7 @@ pub fn segment_text(number: u32, start: u16, out: &mut Octets) -> Result<(), NoM
 {
     let mut line = Octets::new(out.allocator());
     put_segment(&mut line, number, start)?;
-    line.push(b'\n')?;
-    out.append(&mut line)
+    put_line(out, line)
 }
 
 /// Appends the last line of the report of a run without a capture: how many commands were accepted in all. After want
@@ -103,8 +103,7 @@ pub fn end_text(length: u16, out: &mut Octets) -> Result<(), NoMemory>
 {
     let mut line = Octets::new(out.allocator());
     put_end(&mut line, length)?;
-    line.push(b'\n')?;
-    out.append(&mut line)
+    put_line(out, line)
 }
 
 /// Appends the line of an entry: its place, its lane, its line, what was asked and what that came to. The line of a
@@ -116,8 +115,7 @@ pub fn entry_text(entry: &Entry, out: &mut Octets) -> Result<(), NoMemory>
 {
     let mut line = Octets::new(out.allocator());
     put_entry(&mut line, entry)?;
-    line.push(b'\n')?;
-    out.append(&mut line)
+    put_line(out, line)
 }
 
 /// Appends the line of a job with its reply: the place, the lane and the line of the entry that left it, which of the
@@ -129,6 +127,5 @@ pub fn job_text(job: &Job, reply: &Reply, out: &mut Octets) -> Result<(), NoMemo
 {
     let mut line = Octets::new(out.allocator());
     put_job(&mut line, job, reply)?;
-    line.push(b'\n')?;
-    out.append(&mut line)
+    put_line(out, line)
 }

@@ -1,11 +1,11 @@
 //! The words of a command and of what became of it.
 
 ghost use Rattle.std.specs.Prelude.{◌≡◌, ◌++◌, OnOk};
-ghost use Rattle.spin_report.specs.Words.{spaced};
+ghost use Rattle.spin_text.specs.Words.{spaced};
 ghost use Rattle.spin_report.specs.Verdicts.{op_word, refusal_number, refusal_name, refusal_words, verdict_words};
 
-use crate::putting::{put_number, put_numbers, put_word};
 use spin_table::{Refusal, Verdicted};
+use spin_text::{put_number, put_numbers, put_word};
 use spin_values::{NoMemory, Octets};
 use spin_word::Op;
 

@@ -13,11 +13,12 @@ use Rattle.spin_objects.specs.Adding.{refusal}
 use Rattle.spin_table.specs.declared.event.EventDef.{EventDef}
 use Rattle.spin_grammar.specs.declared.cause.Cause.{Cause}
 use Rattle.spin_grammar.specs.Lines as said
-use Rattle.spin_grammar.specs.Reading.{IsKept}
+use Rattle.spin_grammar.specs.Lines.{IsKept}
 use Rattle.spin_script.specs.declared.draft.Draft.{Draft}
 use Rattle.spin_script.specs.States.{NativeData, after}
-use Rattle.spin_script.specs.Checks.{first_of, checked, step_checks}
-use Rattle.spin_script.specs.Drafts.{state}
+use Rattle.spin_values.specs.First.{first_of}
+use Rattle.spin_script.specs.Checks.{checked, step_checks}
+use Rattle.spin_script.specs.Inner.Drafts.{state}
 
 -- what was kept is what was read
 pub kept_is : {A : Type 0} (is_deep : A → Bool) (o : Option A) (a kept : A) → o ≡ Some a → IsKept is_deep o kept → a ≡ kept

@@ -7,7 +7,8 @@ use Rattle.spin_table.specs.declared.event.EventDef.{EventDef}
 use Rattle.spin_grammar.specs.Lines.{Line, kind_of}
 use Rattle.spin_script.specs.Sections.{section, is_out_of_order}
 use Rattle.spin_script.specs.States.{State, NativeData, with_event, after}
-use Rattle.spin_script.specs.Checks.{first_of, checks}
+use Rattle.spin_values.specs.First.{first_of}
+use Rattle.spin_script.specs.Checks.{checks}
 use Rattle.spin_script.specs.RoundTrip.{Fits}
 use Rattle.spin_script.proofs.Runs.{Runs}
 

@@ -6,10 +6,11 @@ use Rattle.std.proofs.lemmas.List.Elements.{All-nil, All-push, All-same}
 use Rattle.std.proofs.lemmas.List.Sums.{sum_by-append}
 use Rattle.spin_script.specs.declared.script.Line.{Line}
 use Rattle.spin_script.specs.declared.script.Segment.{Segment}
-use Rattle.spin_script.specs.declared.script.Work.{Work}
-use Rattle.spin_script.specs.declared.script.Work.TheVariants as work
+use Rattle.spin_word.specs.declared.work.Work.{Work}
+use Rattle.spin_word.specs.declared.work.Work.TheVariants as work
 use Rattle.spin_script.specs.States.{command_count, empty_segment}
-use Rattle.spin_script.specs.Soundness.{lines_in, IsValidWork, is_command_work, HasCommands}
+use Rattle.spin_script.specs.Soundness.{lines_in, IsValidWork, is_command_work}
+use Rattle.spin_script.specs.Inner.Sound.{HasCommands}
 
 -- the lane lines of segments, of which the last goes on
 last_lines : (ended : List Segment) (s : Segment) → lines_in (ended ++ s ∷ []) ≡ lines_in ended ++ s.lines

@@ -18,7 +18,7 @@ use Rattle.spin_script.specs.States.{State, NativeData, ScriptData, start, nativ
 use Rattle.spin_script.specs.Language.{most_bytes, IsScript}
 use Rattle.spin_script.specs.Canonical.{event_line, endpoint_line, lane_line, segment_lines, segments_lines, lines_of, version_text, text_of, canonical_of}
 use Rattle.spin_script.specs.RoundTrip.{CanBeSaid, Fits, is_version, unnumbered_line, unnumbered_segment, unnumbered, ComesBack, ScriptsComeBack}
-use Rattle.spin_script.specs.Declaring.{bodies_after, checks_after, HasCome}
+use Rattle.spin_script.specs.Inner.Declaring.{bodies_after, checks_after, HasCome}
 use Rattle.spin_script.proofs.Numberless.{bare, bare_after, bare_script}
 use Rattle.spin_script.proofs.Reread.{same_version, some_version, lines_read}
 use Rattle.spin_script.proofs.Rewritten.{opening, came, made, makes, small_enough}

@@ -17,7 +17,8 @@ use Rattle.spin_grammar.specs.Lines.{Line, kind_of}
 use Rattle.spin_script.specs.declared.script.Segment.{Segment}
 use Rattle.spin_script.specs.Sections.{section, is_out_of_order}
 use Rattle.spin_script.specs.States.{State, NativeData, with_event}
-use Rattle.spin_script.specs.Checks.{first_of, checks}
+use Rattle.spin_values.specs.First.{first_of}
+use Rattle.spin_script.specs.Checks.{checks}
 use Rattle.spin_script.specs.Canonical.{event_line, endpoint_line, handler_line, guard_line, authority_lines, default_lines, lane_line, segment_lines, segments_lines}
 use Rattle.spin_script.specs.RoundTrip.{Fits}
 use Rattle.spin_script.proofs.Apart.{Change, cons_event, all_lines, all_both}

@@ -12,11 +12,11 @@ use Rattle.spin_script.specs.Sections.{is_out_of_order}
 use Rattle.spin_script.specs.declared.script.Script.{Script}
 use Rattle.spin_script.specs.States.{NativeData, State, ScriptData, natives_seen, start, script_in}
 use Rattle.spin_script.specs.Language.{Begins, Says, head}
-use Rattle.spin_script.specs.Reader.{AddsSaid}
+use Rattle.spin_script.specs.Inner.Reader.{AddsSaid}
 use Rattle.spin_script.specs.Scripts.{script_seen}
 use Rattle.spin_script.specs.Canonical.{canonical_of, canonical}
 use Rattle.spin_script.specs.RoundTrip.{Fits, is_version, ComesBack}
-use Rattle.spin_script.specs.Declaring.{Grows, HasCome, IsDeclared}
+use Rattle.spin_script.specs.Inner.Declaring.{Grows, HasCome, IsDeclared}
 use Rattle.spin_script.proofs.Heads.{stands, opens}
 use Rattle.spin_script.proofs.Rewritten.{fits}
 use Rattle.spin_script.proofs.Reread.{same_version}

@@ -15,7 +15,8 @@ use Rattle.spin_grammar.specs.Grammar.{Atom, Fixed, Numeral, Want, Number, Choic
 use Rattle.spin_grammar.specs.Forms as forms
 use Rattle.spin_grammar.specs.Forms.{Spot, Task, padded, place_word, mode_word, counted_form, spot_form, task_form}
 use Rattle.spin_grammar.proofs.Respelled.{ok_same, by_number, by_rising, by_rise, chosen_word, went, over}
-use Rattle.spin_script.specs.States.{work_of}
+use Rattle.spin_grammar.specs.Tasks.{work_of}
+use Rattle.spin_script.specs.States.{}
 use Rattle.spin_script.specs.Canonical.{named, narrow_spot, task_of}
 use Rattle.spin_script.specs.RoundTrip.{DeedsAreBack}
 

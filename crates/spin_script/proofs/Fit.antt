@@ -24,7 +24,7 @@ use Rattle.spin_table.specs.Setups.{rules_if, rules_of, has_authority}
 use Rattle.spin_table.specs.Units.{is_fit_handler, is_fit_default}
 use Rattle.spin_table.specs.Faults.{has_bad_owner, has_bad_merge, part_kind, takes_parts, takes_layer, is_step_fit, raises_amiss, is_fit_rule, has_bad_policy}
 use Rattle.spin_script.specs.States.{new_event, given_rules, is_native, with_rule, with_authoriser, with_default}
-use Rattle.spin_script.specs.Soundness.{Each, IsFit}
+use Rattle.spin_script.specs.Inner.Sound.{Each, IsFit}
 use Rattle.spin_script.proofs.Each.{each_none, each_push, each_set, read_same, all_same}
 
 pub fit_none : (rules : List (List Rule)) → IsFit rules 1 [] [] []

@@ -11,8 +11,9 @@ use Rattle.spin_grammar.specs.declared.fault.Fault.{Fault}
 use Rattle.spin_grammar.specs.declared.fault.Fault.TheVariants as fault
 use Rattle.spin_grammar.specs.Lines.{Line}
 use Rattle.spin_script.specs.States.{State, NativeData, given_rules, is_native}
-use Rattle.spin_script.specs.Checks.{first_of, checks, rule_checks, speaks_of_unknown}
-use Rattle.spin_script.specs.Reader.{Adds}
+use Rattle.spin_values.specs.First.{first_of}
+use Rattle.spin_script.specs.Checks.{checks, rule_checks, speaks_of_unknown}
+use Rattle.spin_script.specs.Inner.Reader.{Adds}
 
 -- a fault that is a cause is that cause
 pub cause_is : (c d : Cause) → fault.Bad c ≡ fault.Bad d → Some c ≡ Some d

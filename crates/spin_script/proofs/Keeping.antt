@@ -2,43 +2,31 @@
 use Rattle.std.proofs.Common.{◌≡◌, ◌≤◌, ℕ, Bool, true, false, List, [], ◌∷◌, Option, Some, None, Result, Ok, Err, IfOk, refl, sym, ap, subst, ◌∙◌, arith}
 use Rattle.std.specs.Prelude.{◌==◌, if◌then◌else◌, slice_index, IsTrue}
 use Rattle.std.specs.List.{list_all}
-use Rattle.spin_word.specs.declared.command.Command.{Command}
-use Rattle.spin_word.specs.Commands.{is_command}
+use Rattle.spin_word.specs.declared.work.Work.{Work}
+use Rattle.spin_word.specs.declared.work.Work.TheVariants as work
 use Rattle.spin_grammar.specs.declared.cause.Cause.TheVariants as cause
 use Rattle.spin_grammar.specs.declared.fault.Fault.{Fault}
 use Rattle.spin_grammar.specs.declared.kind.Kind.{Kind}
 use Rattle.spin_grammar.specs.declared.line.Said.{Said}
 use Rattle.spin_grammar.specs.declared.line.Said.TheVariants as said
-use Rattle.spin_grammar.specs.declared.task.Task as code
-use Rattle.spin_grammar.specs.declared.task.Task.TheVariants as task
-use Rattle.spin_grammar.specs.Forms.{Task, Install, Remove, Replace, Default, NoDefault, Raise, Later, Packet}
-use Rattle.spin_grammar.specs.Tasks.{IsTask, IsValidTask}
+use Rattle.spin_grammar.specs.Tasks.{IsValidOn}
 use Rattle.spin_grammar.specs.Lines.{Line, Stands, GivesLine, IsInRange, kind_of}
 use Rattle.spin_grammar.specs.Words.{words}
 use Rattle.spin_script.specs.Sections.{first_words, look_up, is_out_of_order}
-use Rattle.spin_script.specs.States.{NativeData, State, work_of}
+use Rattle.spin_grammar.specs.Tasks.{work_of}
+use Rattle.spin_script.specs.States.{NativeData, State}
 use Rattle.spin_script.specs.Language.{Skipped, Says, is_allowed, version_of, first_head, kind_head, words_head, head}
-use Rattle.spin_script.specs.Reader.{AddsSaid}
-use Rattle.spin_script.specs.Soundness.{IsValidWork, IsSound}
+use Rattle.spin_script.specs.Inner.Reader.{AddsSaid}
+use Rattle.spin_script.specs.Soundness.{IsValidWork}
+use Rattle.spin_script.specs.Inner.Sound.{IsSound}
 use Rattle.spin_script.proofs.Sound.{IsLineInRange, sound_after}
 
 -- ---- ranges
 
-valid_command : (c d : Command) (lane : ℕ) → (lane ≤ 15 → IsTrue (is_command c)) → c ≡ d → lane ≤ 7 → IsTrue (is_command d)
-valid_command c d lane valid same there = subst (λ (e : Command). IsTrue (is_command e)) same (valid (omega arith))
-
-valid_work : (lane : ℕ) (r : code.Task) (t : Task) → IsValidTask lane r → IsTask lane r t → lane ≤ 7 → IsValidWork (work_of lane t)
-valid_work lane (task.Command c) (Install e m h g s md) valid is there = valid_command c _ lane valid is there
-valid_work lane (task.Command c) (Remove e m n) valid is there = valid_command c _ lane valid is there
-valid_work lane (task.Command c) (Replace e m n h g) valid is there = valid_command c _ lane valid is there
-valid_work lane (task.Command c) (Default e m h) valid is there = valid_command c _ lane valid is there
-valid_work lane (task.Command c) (NoDefault e m) valid is there = valid_command c _ lane valid is there
-valid_work lane (task.Command c) (Raise e args) valid is there = tt
-valid_work lane (task.Command c) (Later e args) valid is there = tt
-valid_work lane (task.Command c) (Packet e k) valid is there = tt
-valid_work lane (task.Raise e args) t valid is there = subst (λ (u : Task). IsValidWork (work_of lane u)) (sym is) tt
-valid_work lane (task.Later e args) t valid is there = subst (λ (u : Task). IsValidWork (work_of lane u)) (sym is) tt
-valid_work lane (task.Packet e k) t valid is there = subst (λ (u : Task). IsValidWork (work_of lane u)) (sym is) tt
+valid_work : (lane : ℕ) (w : Work) → IsValidOn lane w → lane ≤ 7 → IsValidWork w
+valid_work lane (work.Command c) valid there = valid (omega arith)
+valid_work lane (work.Deed d) valid there = tt
+valid_work lane (work.Packet e k) valid there = tt
 
 line_in_range : (r : Said) (l : Line) → IsInRange r → Stands r l → IsLineInRange l
 line_in_range (said.Modules n) l range is = subst IsLineInRange (sym is) range
@@ -51,7 +39,7 @@ line_in_range (said.NativeGuard g name) l range is = subst IsLineInRange (sym is
 line_in_range (said.Rule e r) l range is = subst IsLineInRange (sym is) tt
 line_in_range (said.Authoriser e name) l range is = subst IsLineInRange (sym is) tt
 line_in_range (said.Default e h) l range is = subst IsLineInRange (sym is) tt
-line_in_range (said.Lane lane r) l range is = subst IsLineInRange (sym is.1) (valid_work lane r is.0 range is.2)
+line_in_range (said.Lane lane w) l range is = subst IsLineInRange (sym is.1) (λ (there : lane ≤ 7). subst IsValidWork is.2 (valid_work lane w range there))
 line_in_range said.Barrier l range is = subst IsLineInRange (sym is) tt
 line_in_range (said.Retire p) l range is = subst IsLineInRange (sym is) tt
 

@@ -27,3 +27,7 @@ pub mod Placed
 pub mod Back
 pub mod Bodies
 pub mod Declaring
+mod Lined
+pub mod Sayable
+mod SayableLines
+mod There

@@ -5,7 +5,8 @@ use Rattle.spin_grammar.specs.Lines as line
 use Rattle.spin_grammar.specs.Lines.{Line}
 use Rattle.spin_script.specs.declared.script.Line as script
 use Rattle.spin_script.specs.declared.script.Segment.{Segment}
-use Rattle.spin_script.specs.States.{State, NativeData, after, with_handler, with_guard, with_authority, work_of, native_at, script_in}
+use Rattle.spin_grammar.specs.Tasks.{work_of}
+use Rattle.spin_script.specs.States.{State, NativeData, after, with_handler, with_guard, with_authority, native_at, script_in}
 use Rattle.spin_script.specs.Checks.{checks}
 use Rattle.spin_script.specs.RoundTrip.{unnumbered_line, unnumbered_segment, unnumbered}
 

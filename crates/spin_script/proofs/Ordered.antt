@@ -7,7 +7,7 @@ use Rattle.spin_objects.specs.Units.{HandlerUnit}
 use Rattle.spin_table.specs.declared.event.EventDef.{EventDef}
 use Rattle.spin_table.specs.declared.event.Authority.TheVariants as authority
 use Rattle.spin_script.specs.States.{new_event}
-use Rattle.spin_script.specs.Soundness.{IsOrdered}
+use Rattle.spin_script.specs.Inner.Sound.{IsOrdered}
 use Rattle.spin_script.proofs.Each.{each_none, each_push, each_set}
 
 pub ordered_none : IsOrdered 0 [] []

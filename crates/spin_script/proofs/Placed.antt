@@ -19,7 +19,8 @@ use Rattle.spin_grammar.specs.Lines as line
 use Rattle.spin_grammar.specs.Lines.{Line, kind_of}
 use Rattle.spin_script.specs.Sections.{section, is_out_of_order}
 use Rattle.spin_script.specs.States.{State, NativeData, start, native_at, given_rules, is_native, with_event, with_rule, with_authoriser, with_default, with_authority, after}
-use Rattle.spin_script.specs.Checks.{first_of, imposes_unknown, speaks_of_unknown, rule_checks, policy_at, authoriser_checks, cannot_serve, default_checks}
+use Rattle.spin_values.specs.First.{first_of}
+use Rattle.spin_script.specs.Checks.{imposes_unknown, speaks_of_unknown, rule_checks, policy_at, authoriser_checks, cannot_serve, default_checks}
 use Rattle.spin_script.specs.Canonical.{event_line, authority_lines}
 use Rattle.spin_script.specs.RoundTrip.{Fits}
 use Rattle.spin_script.proofs.Declared.{declarations_back}

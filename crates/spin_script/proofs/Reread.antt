@@ -8,7 +8,8 @@ use Rattle.std.proofs.lemmas.Fmt.{decimal_digit}
 use Rattle.std.proofs.lemmas.List.Folds.{flat_map-map}
 use Rattle.spin_grammar.specs.declared.kind.Kind.{Kind}
 use Rattle.spin_grammar.specs.declared.kind.Kind.TheVariants as kind
-use Rattle.spin_grammar.specs.Canonical.{spell, line_of}
+use Rattle.spin_text.specs.Words.{line_of}
+use Rattle.spin_grammar.specs.Canonical.{spell}
 use Rattle.spin_grammar.specs.Lines as line
 use Rattle.spin_grammar.specs.Lines.{Line, form, kind_of}
 use Rattle.spin_grammar.proofs.Respelled.{line_respelled}

@@ -10,7 +10,8 @@ use Rattle.spin_grammar.specs.Grammar.{reads}
 use Rattle.spin_grammar.specs.Lines.{Line, form, kind_of, wanted, Spells}
 use Rattle.spin_script.specs.Sections.{is_out_of_order}
 use Rattle.spin_script.specs.States.{State, NativeData, ScriptData, start, after, script_in}
-use Rattle.spin_script.specs.Checks.{first_of, checks}
+use Rattle.spin_values.specs.First.{first_of}
+use Rattle.spin_script.specs.Checks.{checks}
 use Rattle.spin_script.specs.Language.{Head, Skipped, Begins, Says, head, Passes, Outcome, ended, most_bytes, ComesTo, IsScript}
 use Rattle.spin_script.specs.Canonical.{version_text, text_of}
 use Rattle.spin_script.specs.RoundTrip.{Fits, LeadTo, is_version, unnumbered, ScriptsCanBeWritten}

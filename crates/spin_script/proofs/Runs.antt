@@ -13,7 +13,8 @@ use Rattle.spin_script.specs.declared.script.Line as script
 use Rattle.spin_script.specs.declared.script.Segment.{Segment}
 use Rattle.spin_script.specs.Sections.{section, is_retire, is_out_of_order}
 use Rattle.spin_script.specs.States.{State, NativeData, native_at, after, with_handler, with_guard, with_authority}
-use Rattle.spin_script.specs.Checks.{first_of, checks, native_checks, policy_at, authoriser_checks}
+use Rattle.spin_values.specs.First.{first_of}
+use Rattle.spin_script.specs.Checks.{checks, native_checks, policy_at, authoriser_checks}
 use Rattle.spin_script.specs.RoundTrip.{Fits, LeadTo, unnumbered_line, unnumbered_segment}
 use Rattle.spin_script.proofs.Numberless.{bare, bare_after}
 use Rattle.spin_script.proofs.Rewritten.{fits}

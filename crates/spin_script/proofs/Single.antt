@@ -10,7 +10,8 @@ use Rattle.spin_grammar.specs.Bare.{bare_line}
 use Rattle.spin_grammar.specs.Lines.{Line, form, wanted, Spells}
 use Rattle.spin_grammar.proofs.Single.{one_line}
 use Rattle.spin_script.specs.States.{State, NativeData, start, script_in, after}
-use Rattle.spin_script.specs.Checks.{first_of, checks}
+use Rattle.spin_values.specs.First.{first_of}
+use Rattle.spin_script.specs.Checks.{checks}
 use Rattle.spin_script.specs.Language.{Head, Skipped, Begins, Says, head, SaysWell, SaysIll, Passes, IsRefused, Outcome, ended, ComesTo, IsScript, most_bytes}
 use Rattle.spin_script.specs.Laws.{AreOne}
 use Rattle.spin_script.proofs.Growing.{bare_state, bare_natives, checks_same, after_same}

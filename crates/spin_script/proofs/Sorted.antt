@@ -23,11 +23,13 @@ use Rattle.spin_grammar.specs.Lines.{Line, kind_of}
 use Rattle.spin_script.specs.declared.script.Line as script
 use Rattle.spin_script.specs.declared.script.Segment.{Segment}
 use Rattle.spin_script.specs.Sections.{section}
-use Rattle.spin_script.specs.States.{State, NativeData, start, new_event, native_at, work_of, empty_segment, with_handler, with_guard, after}
-use Rattle.spin_script.specs.Checks.{first_of, checks}
+use Rattle.spin_grammar.specs.Tasks.{work_of}
+use Rattle.spin_script.specs.States.{State, NativeData, start, new_event, native_at, empty_segment, with_handler, with_guard, after}
+use Rattle.spin_values.specs.First.{first_of}
+use Rattle.spin_script.specs.Checks.{checks}
 use Rattle.spin_script.specs.Canonical.{event_line, endpoint_line, handler_line, guard_line, lane_line, segment_lines, segments_lines}
 use Rattle.spin_script.specs.RoundTrip.{Fits}
-use Rattle.spin_script.specs.Declaring.{with_body, with_check}
+use Rattle.spin_script.specs.Inner.Declaring.{with_body, with_check}
 use Rattle.spin_script.proofs.Deeds.{deeds_back}
 use Rattle.spin_script.proofs.Declared.{declarations_back}
 use Rattle.spin_script.proofs.Runs.{Runs, runs_last, in_order, in_sections, refused}

@@ -22,11 +22,14 @@ use Rattle.spin_grammar.specs.declared.kind.Kind.TheVariants as kind
 use Rattle.spin_grammar.specs.Lines as line
 use Rattle.spin_grammar.specs.Lines.{kind_of}
 use Rattle.spin_script.specs.declared.script.Line.{Line}
-use Rattle.spin_script.specs.declared.script.Work.{Work}
+use Rattle.spin_word.specs.declared.work.Work.{Work}
 use Rattle.spin_script.specs.Sections.{section, is_retire, is_out_of_order}
-use Rattle.spin_script.specs.States.{NativeData, State, policies, start, after, with_rule, with_authoriser, with_default, with_handler, with_guard, with_authority, with_work, is_native, given_rules, native_at, work_of, command_count, deed_count, setup_in}
-use Rattle.spin_script.specs.Checks.{first_of, checks, checked, step_checks, native_checks, rule_checks, policy_at, authoriser_checks, cannot_serve, default_checks, most_commands, most_deeds, is_full, names_unknown, imposes_unknown, speaks_of_unknown}
-use Rattle.spin_script.specs.Soundness.{IsSound, IsValidWork}
+use Rattle.spin_grammar.specs.Tasks.{work_of}
+use Rattle.spin_script.specs.States.{NativeData, State, policies, start, after, with_rule, with_authoriser, with_default, with_handler, with_guard, with_authority, with_work, is_native, given_rules, native_at, command_count, deed_count, setup_in}
+use Rattle.spin_values.specs.First.{first_of}
+use Rattle.spin_script.specs.Checks.{checks, checked, step_checks, native_checks, rule_checks, policy_at, authoriser_checks, cannot_serve, default_checks, most_commands, most_deeds, is_full, names_unknown, imposes_unknown, speaks_of_unknown}
+use Rattle.spin_script.specs.Soundness.{IsValidWork}
+use Rattle.spin_script.specs.Inner.Sound.{IsSound}
 use Rattle.spin_script.proofs.Each.{each_position, each_numbered}
 use Rattle.spin_script.proofs.Fit.{fit_none, fit_modules, fit_event, fit_handler, fit_guard, fit_rule, fit_authoriser, fit_default}
 use Rattle.spin_script.proofs.Ordered.{ordered_none, ordered_on, ordered_event, ordered_handler, ordered_set, ordered_last}
@@ -207,7 +210,7 @@ sound_after n s number (line.Authoriser k name) range order none x =
 sound_after n s number (line.Default k h) range order none x = default_set n s k h (slice_get s.events k) refl none x
 sound_after n s number (line.Lane lane t) range order none x =
     let full = none_of (is_full s.version s.commands s.deeds (work_of lane t)) cause.Limit _ none in
-    let wide = none_of (nat_lt 7 lane) cause.Lane None full.1 in
+    let wide = none_of (nat_le 8 lane) cause.Lane None full.1 in
     let there : lane ≤ 7 = let w = wide.0 in grind (arith, nat_tests, w) in
     work_added n s number lane (work_of lane t) full.0 (range there) (in_section kind.Lane s.section s.begins order) x
 sound_after n s number line.Barrier range order none x =

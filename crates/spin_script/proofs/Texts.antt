@@ -6,7 +6,7 @@ use Rattle.std.proofs.lemmas.Bool.Decides.{nat_tests}
 use Rattle.std.proofs.lemmas.List.Elements.{All-from_recursion}
 use Rattle.std.proofs.lemmas.List.Folds.{list_all-append}
 use Rattle.std.proofs.lemmas.List.Splits.{slice_split_at, length-slice_split}
-use Rattle.spin_grammar.specs.Canonical.{line_of}
+use Rattle.spin_text.specs.Words.{line_of}
 use Rattle.spin_grammar.proofs.Respelled.{is_printed, both, second}
 use Rattle.spin_grammar.proofs.Printed.{IsWord, printed_bytes}
 use Rattle.spin_script.specs.Language.{is_allowed}

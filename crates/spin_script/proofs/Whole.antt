@@ -14,7 +14,7 @@ use Rattle.spin_script.specs.declared.script.ScriptFault.{ScriptFault}
 use Rattle.spin_script.specs.declared.script.ScriptFault.TheVariants as refusal
 use Rattle.spin_script.specs.States.{NativeData, State, ScriptData, start, script_in}
 use Rattle.spin_script.specs.Language.{Says, Outcome, head, Passes, IsRefused, ended, ComesTo, IsScript}
-use Rattle.spin_script.specs.Reader.{AddsSaid, GivesSaid, GivesState}
+use Rattle.spin_script.specs.Inner.Reader.{AddsSaid, GivesSaid, GivesState}
 use Rattle.spin_script.specs.Scripts.{cause_number, script_seen, IsBad}
 
 -- a line that was read, and was added or not

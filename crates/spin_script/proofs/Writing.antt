@@ -1,5 +1,5 @@
 -- What is written of a script, part by part.
-use Rattle.std.proofs.Common.{◌≡◌, ◌+◌, ◌-◌, ℕ, zero, suc, inl, inr, Bool, true, false, cond, eqb, ltb, List, [], ◌∷◌, ◌++◌, length, take, map, Option, None, Some, refl, sym, ap, subst, ◌∙◌, append_assoc, codes, arith}
+use Rattle.std.proofs.Common.{◌≡◌, ◌+◌, ◌-◌, ℕ, zero, suc, inl, inr, Bool, true, false, cond, eqb, ltb, List, [], ◌∷◌, ◌++◌, length, take, map, decimal, Option, None, Some, refl, sym, ap, subst, ◌∙◌, append_assoc, codes, arith}
 use Rattle.std.specs.Prelude.{slice_get, not, position, IsSomeAnd}
 use Rattle.std.specs.List.{flat_map, enumerate_from, position_or_len}
 use Rattle.std.specs.Option.{option_map, option_map_or}
@@ -21,13 +21,30 @@ use Rattle.spin_objects.specs.declared.unit.Check.TheVariants as check
 use Rattle.spin_objects.specs.Units.{HandlerUnit, GuardUnit, Named, unit_of_body, unit_of_check, native_of_body, native_of_check, numbered}
 use Rattle.spin_table.specs.declared.event.Authority.{Authority}
 use Rattle.spin_table.specs.declared.event.Authority.TheVariants as authority
-use Rattle.spin_grammar.specs.Grammar.{Typed}
+use Rattle.spin_grammar.specs.Grammar.{Numeral, Typed}
+use Rattle.spin_text.specs.Words.{spaced}
+use Rattle.spin_grammar.specs.Forms.{counted_form}
 use Rattle.spin_grammar.specs.Canonical.{params_word, signature_word}
 use Rattle.spin_grammar.specs.Lines as line
 use Rattle.spin_grammar.specs.Lines.{Line}
 use Rattle.spin_grammar.proofs.Signatures.{one_of}
 use Rattle.spin_script.specs.States.{NativeData}
 use Rattle.spin_script.specs.Canonical.{spoken, line_text, text_of, marked, by_value, name_at, handler_line, guard_line, authority_lines, named}
+
+-- numbers as words
+numbers_spoken : (ns : List ℕ) → spaced (map decimal ns) ≡ spoken (map Numeral ns)
+numbers_spoken [] = refl
+numbers_spoken (n ∷ ns) = ap (λ (t : List ℕ). 32 ∷ (decimal n ++ t)) (numbers_spoken ns)
+
+-- numbers behind their count
+pub counted_spoken : (out one new ns : List ℕ) → one ≡ out ++ spaced (decimal (length ns) ∷ []) → new ≡ one ++ spaced (map decimal ns) → new ≡ out ++ spoken (counted_form ns)
+counted_spoken out one new ns first more =
+    let count : List ℕ = decimal (length ns) in
+    more
+    ∙ ap (λ (t : List ℕ). t ++ spaced (map decimal ns)) first
+    ∙ append_assoc out (spaced (count ∷ [])) (spaced (map decimal ns))
+    ∙ ap (λ (t : List ℕ). out ++ (32 ∷ (t ++ spaced (map decimal ns)))) (append-nil count)
+    ∙ ap (λ (t : List ℕ). out ++ (32 ∷ (count ++ t))) (numbers_spoken ns)
 
 -- ---- numbered things, one by one
 

@@ -17,20 +17,21 @@ use Rattle.spin_objects.specs.Units.{Named}
 use Rattle.spin_table.specs.declared.event.EventDef.{EventDef}
 use Rattle.spin_table.specs.declared.event.Authority.{Authority}
 use Rattle.spin_table.specs.declared.event.Authority.TheVariants as authority
-use Rattle.spin_proto.specs.declared.deed.Deed.{Deed}
-use Rattle.spin_proto.specs.declared.deed.Deed.TheVariants as deed
+use Rattle.spin_word.specs.declared.work.Deed.{Deed}
+use Rattle.spin_word.specs.declared.work.Deed.TheVariants as deed
 use Rattle.spin_grammar.specs.declared.kind.Kind.{Kind}
 use Rattle.spin_grammar.specs.declared.kind.Kind.TheVariants as kind
 use Rattle.spin_grammar.specs.Grammar.{Atom}
 use Rattle.spin_grammar.specs.Forms as forms
 use Rattle.spin_grammar.specs.Forms.{Task, Spot}
-use Rattle.spin_grammar.specs.Canonical.{spell, line_of}
+use Rattle.spin_text.specs.Words.{Word, spaced, line_of, ended}
+use Rattle.spin_grammar.specs.Canonical.{spell}
 use Rattle.spin_grammar.specs.Lines as line
 use Rattle.spin_grammar.specs.Lines.{form, kind_of}
 use Rattle.spin_script.specs.declared.script.Line.{Line}
 use Rattle.spin_script.specs.declared.script.Segment.{Segment}
-use Rattle.spin_script.specs.declared.script.Work.{Work}
-use Rattle.spin_script.specs.declared.script.Work.TheVariants as work
+use Rattle.spin_word.specs.declared.work.Work.{Work}
+use Rattle.spin_word.specs.declared.work.Work.TheVariants as work
 use Rattle.spin_script.specs.declared.script.Script.{Script}
 use Rattle.spin_script.specs.States.{NativeData, ScriptData, natives_seen}
 use Rattle.spin_script.specs.Scripts.{script_seen}
@@ -38,7 +39,7 @@ use Rattle.spin_script.specs.Scripts.{script_seen}
 -- ---- lines as texts
 
 -- the first word of such a line
-abbrev pub first_word : Kind → List ℕ
+abbrev pub first_word : Kind → Word
 first_word kind.Modules = codes "modules"
 first_word kind.Event = codes "event"
 first_word kind.Endpoint = codes "endpoint"
@@ -53,22 +54,22 @@ first_word kind.Retire = codes "retire"
 
 -- canonical words, each with a space before it
 abbrev pub spoken : List Atom → List ℕ
-spoken atoms = flat_map (λ w. 32 ∷ w) (map spell atoms)
+spoken atoms = spaced (map spell atoms)
 
 -- the canonical words of a line
-abbrev pub words_of : line.Line → List (List ℕ)
+abbrev pub words_of : line.Line → List Word
 words_of l = first_word (kind_of l) ∷ map spell (form l)
 
 -- a line, ended by a line feed
 abbrev pub line_text : line.Line → List ℕ
-line_text l = line_of (words_of l) ++ 10 ∷ []
+line_text l = ended (line_of (words_of l))
 
 abbrev pub text_of : List line.Line → List ℕ
 text_of lines = flat_map line_text lines
 
 -- the first line
 abbrev pub version_text : ℕ → List ℕ
-version_text version = line_of (codes "spin" ∷ decimal version ∷ []) ++ 10 ∷ []
+version_text version = ended (line_of (codes "spin" ∷ decimal version ∷ []))
 
 -- ---- declarations
 
@@ -101,7 +102,8 @@ guard_line n number (check.Native native) = line.NativeGuard number (name_at n.g
 -- who answers for the owner of that event
 abbrev pub authority_lines : NativeData → ℕ → Authority → List line.Line
 authority_lines n event (authority.Rules rules) = map (line.Rules event) rules
-authority_lines n event (authority.Native native) = line.Authoriser event (name_at n.authorisers native) ∷ []
+authority_lines n event (authority.Native native) =
+    line.Authoriser event (name_at n.authorisers native) ∷ []
 
 abbrev pub default_lines : (event handler : ℕ) → List line.Line
 default_lines event handler = if handler == 0 then [] else line.Default event handler ∷ []
@@ -115,7 +117,9 @@ named (n ∷ ns) = if n == no_number then [] else n ∷ named ns
 
 -- versions 1 and 2 name one other binding at most
 abbrev pub narrow_spot : Place → (before after : ℕ) → Spot
-narrow_spot p before after = if before == no_number then (if after == no_number then forms.At p else forms.After after) else forms.Before before
+narrow_spot p before after =
+    if before == no_number then (if after == no_number then forms.At p else forms.After after)
+    else forms.Before before
 
 abbrev pub spot_of : (version : ℕ) → Command → Spot
 spot_of version c =
@@ -123,7 +127,8 @@ spot_of version c =
     else narrow_spot c.place (slice_index c.before 0) (slice_index c.after 0)
 
 abbrev pub command_task : (version : ℕ) → Op → Command → Task
-command_task version op.Install c = forms.Install c.event c.requester c.handler c.guard (spot_of version c) c.mode
+command_task version op.Install c =
+    forms.Install c.event c.requester c.handler c.guard (spot_of version c) c.mode
 command_task version op.Remove c = forms.Remove c.event c.requester c.target
 command_task version op.Replace c = forms.Replace c.event c.requester c.target c.handler c.guard
 command_task version op.Default c = forms.Default c.event c.requester c.handler
@@ -148,7 +153,8 @@ segment_lines version s = map line.Retire s.retires ++ map (lane_line version) s
 -- a barrier stands between segments
 abbrev pub segments_lines : (version : ℕ) → List Segment → List line.Line
 segments_lines version [] = []
-segments_lines version (s ∷ more) = segment_lines version s ++ flat_map (λ t. line.Barrier ∷ segment_lines version t) more
+segments_lines version (s ∷ more) =
+    segment_lines version s ++ flat_map (λ t. line.Barrier ∷ segment_lines version t) more
 
 -- ---- scripts
 
@@ -160,13 +166,17 @@ lines_of n bodies checks d =
     ++ map endpoint_line (enumerate_from 0 d.endpoints)
     ++ map (λ (p : ℕ × Body). handler_line n p.0 p.1) (enumerate_from 1 bodies)
     ++ map (λ (p : ℕ × Check). guard_line n p.0 p.1) (enumerate_from 1 checks)
-    ++ flat_map (λ (p : ℕ × EventDef). authority_lines n p.0 p.1.authority) (enumerate_from 0 d.setup.events)
-    ++ flat_map (λ (p : ℕ × EventDef). default_lines p.0 p.1.first_default) (enumerate_from 0 d.setup.events)
+    ++ flat_map (λ (p : ℕ × EventDef). authority_lines n p.0 p.1.authority)
+    (enumerate_from 0 d.setup.events)
+    ++ flat_map (λ (p : ℕ × EventDef). default_lines p.0 p.1.first_default)
+    (enumerate_from 0 d.setup.events)
     ++ segments_lines d.version d.segments)
 
 abbrev pub canonical_of : NativeData → List Body → List Check → ScriptData → List ℕ
 canonical_of n bodies checks d = version_text d.version ++ text_of (lines_of n bodies checks d)
 
-abbrev pub canonical : {A C E : Type 0} {B : A → Type 0} {D : C → Type 0} {F : E → Type 0} → Script A C E B D F → List ℕ
+abbrev pub canonical : {A C E : Type 0} {B : A → Type 0} {D : C → Type 0} {F : E → Type 0}
+    → Script A C E B D F → List ℕ
 canonical s =
-    canonical_of (natives_seen s.setup.catalogue.natives) s.setup.catalogue.bodies s.setup.catalogue.checks (script_seen s)
+    canonical_of (natives_seen s.setup.catalogue.natives) s.setup.catalogue.bodies
+    s.setup.catalogue.checks (script_seen s)

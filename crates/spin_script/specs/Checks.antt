@@ -1,4 +1,4 @@
--- Why a line is bad whose words can stand: the first of these conditions that holds.
+-- Why a line is bad whose words can stand: `first_of` the causes whose conditions hold.
 use Rattle.std.specs.Prelude.{ℕ, ◌+◌, Bool, true, false, not, ◌||◌, ◌==◌, nat_lt, nat_le, if◌then◌else◌, List, [], ◌∷◌, length, Option, Some, None, Result, Ok, Err, is_none, slice_get, bytes_eq}
 use Rattle.std.specs.List.{list_all, list_any}
 use Rattle.std.specs.Option.{option_map_or}
@@ -17,14 +17,13 @@ use Rattle.spin_table.specs.Units.{is_fit_handler}
 use Rattle.spin_table.specs.Faults.{is_step_fit, is_fit_rule}
 use Rattle.spin_grammar.specs.declared.cause.Cause.{Cause}
 use Rattle.spin_grammar.specs.declared.cause.Cause.TheVariants as cause
-use Rattle.spin_script.specs.declared.script.Work.{Work}
+use Rattle.spin_word.specs.declared.command.TheConstants.{MAX_PLACE, MAX_LANES}
+use Rattle.spin_policy.specs.declared.policy.TheConstants.{MAX_RULES}
+use Rattle.spin_script.specs.declared.lanes.TheConstants.{MAX_DEEDS, MAX_EARLY_COMMANDS}
+use Rattle.spin_word.specs.declared.work.Work.{Work}
 use Rattle.spin_grammar.specs.Lines as line
-use Rattle.spin_script.specs.States.{State, NativeData, native_at, policies, given_rules, is_native, work_of, command_count, deed_count}
-
--- the first cause whose condition holds
-abbrev pub first_of : List (Bool × Cause) → Option Cause
-first_of [] = None
-first_of (check ∷ others) = if check.0 then Some check.1 else first_of others
+use Rattle.spin_grammar.specs.Tasks.{work_of}
+use Rattle.spin_script.specs.States.{State, NativeData, native_at, policies, given_rules, is_native, command_count, deed_count}
 
 -- the cause that a fault of an act, a test or a merge is
 abbrev pub act_cause : ActFault → Cause
@@ -55,7 +54,8 @@ imposes_unknown guards r = list_any (nat_lt guards) (effect_guards r.effect)
 
 -- the handler or a guard of the rule isn't there
 abbrev pub speaks_of_unknown : (handlers guards : ℕ) → Rule → Bool
-speaks_of_unknown handlers guards r = option_map_or (nat_lt handlers) r.handler false || imposes_unknown guards r
+speaks_of_unknown handlers guards r =
+    option_map_or (nat_lt handlers) r.handler false || imposes_unknown guards r
 
 -- ---- each kind of line
 
@@ -69,12 +69,13 @@ step_checks endpoints events steps =
 -- of the native handler of that index
 abbrev pub native_checks : NativeData → State → Option ℕ → List (Bool × Cause)
 native_checks n s None = (true, cause.Native) ∷ []
-native_checks n s (Some native) = step_checks (length s.endpoints) s.events (handler_if (slice_get n.handlers native)).act.steps
+native_checks n s (Some native) =
+    step_checks (length s.endpoints) s.events (handler_if (slice_get n.handlers native)).act.steps
 
 abbrev pub rule_checks : State → Rule → Option EventDef → List (Bool × Cause)
 rule_checks s r None = (true, cause.Undeclared) ∷ []
 rule_checks s r (Some e) =
-    (nat_le 16 (length (given_rules e.authority)), cause.Limit)
+    (nat_le MAX_RULES (length (given_rules e.authority)), cause.Limit)
     ∷ (speaks_of_unknown (length s.handlers) (length s.guards) r, cause.Undeclared)
     ∷ (not (is_fit_rule s.guards e r) || is_native e.authority, cause.Mismatch)
     ∷ []
@@ -89,7 +90,11 @@ abbrev pub authoriser_checks : State → Option (List Rule) → Option EventDef 
 authoriser_checks s policy None = (true, cause.Undeclared) ∷ []
 authoriser_checks s policy (Some e) =
     (list_any (imposes_unknown (length s.guards)) (rules_if policy), cause.Undeclared)
-    ∷ (not (length (given_rules e.authority) == 0) || not (list_all (is_fit_rule s.guards e) (rules_if policy)), cause.Mismatch)
+    ∷ (
+      not (length (given_rules e.authority) == 0)
+          || not (list_all (is_fit_rule s.guards e) (rules_if policy)),
+      cause.Mismatch,
+    )
     ∷ (is_none policy, cause.Native)
     ∷ (is_native e.authority, cause.Repeated)
     ∷ []
@@ -108,33 +113,42 @@ default_checks s event handler (Some e) =
 
 -- the greatest number of command lines, and of deeds
 abbrev pub most_commands : ℕ → ℕ
-most_commands version = if version == 3 then 4096 else 1000
+most_commands version = if version == 3 then MAX_PLACE else MAX_EARLY_COMMANDS
 
 abbrev pub most_deeds : ℕ
-most_deeds = 65536
+most_deeds = MAX_DEEDS
 
 -- there are as many command lines or deeds as there may be
 abbrev pub is_full : (version commands deeds : ℕ) → Work → Bool
-is_full version commands deeds w = nat_lt (most_commands version) (commands + command_count w) || nat_lt most_deeds (deeds + deed_count w)
+is_full version commands deeds w =
+    nat_lt (most_commands version) (commands + command_count w)
+    || nat_lt most_deeds (deeds + deed_count w)
 
 abbrev pub checks : NativeData → State → line.Line → List (Bool × Cause)
 checks n s (line.Modules count) = []
 checks n s (line.Event e owner sig m) =
-    (not (e == length s.events), cause.Next) ∷ checked (merge_check m) ((nat_le s.modules owner, cause.Undeclared) ∷ [])
+    (not (e == length s.events), cause.Next)
+    ∷ checked (merge_check m) ((nat_le s.modules owner, cause.Undeclared) ∷ [])
 checks n s (line.Endpoint p name) =
-    (not (p == length s.endpoints), cause.Next) ∷ (list_any (λ known. bytes_eq known name) s.endpoints, cause.Repeated) ∷ []
+    (not (p == length s.endpoints), cause.Next)
+    ∷ (list_any (λ known. bytes_eq known name) s.endpoints, cause.Repeated) ∷ []
 checks n s (line.Handler h sig steps) =
-    (not (h == length s.handlers + 1), cause.Next) ∷ checked (act_check (record { steps = steps }) sig) (step_checks (length s.endpoints) s.events steps)
+    (not (h == length s.handlers + 1), cause.Next)
+    ∷ checked (act_check (record { steps = steps }) sig)
+    (step_checks (length s.endpoints) s.events steps)
 checks n s (line.NativeHandler h name) =
     (not (h == length s.handlers + 1), cause.Next) ∷ native_checks n s (native_at name n.handlers)
 checks n s (line.Guard g sig t) =
     (not (g == length s.guards + 1), cause.Next) ∷ checked (test_check t sig) []
 checks n s (line.NativeGuard g name) =
-    (not (g == length s.guards + 1), cause.Next) ∷ (is_none (native_at name n.guards), cause.Native) ∷ []
+    (not (g == length s.guards + 1), cause.Next) ∷ (is_none (native_at name n.guards), cause.Native)
+    ∷ []
 checks n s (line.Rules e r) = rule_checks s r (slice_get s.events e)
-checks n s (line.Authoriser e name) = authoriser_checks s (policy_at n (native_at name n.authorisers)) (slice_get s.events e)
+checks n s (line.Authoriser e name) =
+    authoriser_checks s (policy_at n (native_at name n.authorisers)) (slice_get s.events e)
 checks n s (line.Default e h) = default_checks s e h (slice_get s.events e)
 checks n s (line.Lane l t) =
-    (is_full s.version s.commands s.deeds (work_of l t), cause.Limit) ∷ (nat_lt 7 l, cause.Lane) ∷ []
+    (is_full s.version s.commands s.deeds (work_of l t), cause.Limit)
+    ∷ (nat_le MAX_LANES l, cause.Lane) ∷ []
 checks n s line.Barrier = []
 checks n s (line.Retire p) = (nat_le (length s.endpoints) p, cause.Undeclared) ∷ []

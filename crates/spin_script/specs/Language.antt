@@ -9,9 +9,11 @@ use Rattle.spin_grammar.specs.Words.{words}
 use Rattle.spin_grammar.specs.Grammar.{reads}
 use Rattle.spin_grammar.specs.declared.kind.Kind.{Kind}
 use Rattle.spin_grammar.specs.Lines.{Line, Spells, wanted}
+use Rattle.spin_grammar.specs.declared.limits.TheConstants.{MAX_TEXT}
 use Rattle.spin_script.specs.Sections.{first_words, look_up, is_out_of_order}
 use Rattle.spin_script.specs.States.{State, NativeData, ScriptData, start, after, script_in}
-use Rattle.spin_script.specs.Checks.{first_of, checks}
+use Rattle.spin_values.specs.First.{first_of}
+use Rattle.spin_script.specs.Checks.{checks}
 
 -- ---- a line as a whole
 
@@ -28,11 +30,14 @@ is_allowed b = (b == 9) || nat_le 32 b && nat_le b 126
 
 abbrev pub version_word : List ℕ → Option ℕ
 version_word w =
-    if bytes_eq w (codes "1") then Some 1 else (if bytes_eq w (codes "2") then Some 2 else (if bytes_eq w (codes "3") then Some 3 else None))
+    if bytes_eq w (codes "1") then Some 1
+    else (if bytes_eq w (codes "2") then Some 2
+    else (if bytes_eq w (codes "3") then Some 3 else None))
 
 -- the version that the words of the first line name
 abbrev pub version_of : List (List ℕ) → Option ℕ
-version_of (first ∷ second ∷ []) = if bytes_eq first (codes "spin") then version_word second else None
+version_of (first ∷ second ∷ []) =
+    if bytes_eq first (codes "spin") then version_word second else None
 version_of ws = None
 
 abbrev pub first_head : Option ℕ → Result Head Cause
@@ -41,14 +46,16 @@ first_head (Some version) = Ok (Begins version)
 
 abbrev pub kind_head : State → Option Kind → List (List ℕ) → Result Head Cause
 kind_head s None ws = Err cause.Keyword
-kind_head s (Some k) ws = if is_out_of_order k s.section s.begins then Err cause.Order else Ok (Says k ws)
+kind_head s (Some k) ws =
+    if is_out_of_order k s.section s.begins then Err cause.Order else Ok (Says k ws)
 
 -- where a first word begins with a number sign, the line is skipped
 abbrev pub words_head : State → List (List ℕ) → Result Head Cause
 words_head s [] = Ok Skipped
 words_head s (w ∷ ws) =
     if slice_index w 0 == 35 then Ok Skipped
-    else (if s.version == 0 then first_head (version_of (w ∷ ws)) else kind_head s (look_up w first_words) ws)
+    else (if s.version == 0 then first_head (version_of (w ∷ ws))
+    else kind_head s (look_up w first_words) ws)
 
 -- causes 2 to 5
 unfoldable pub head : State → List ℕ → Result Head Cause
@@ -58,11 +65,14 @@ head s line = if list_all is_allowed line then words_head s (words line) else Er
 
 -- the words say something that can stand behind s, and t is the script with it
 abbrev pub SaysWell : NativeData → State → ℕ → Kind → List (List ℕ) → State → Type 0
-SaysWell n s number k ws t = (l : Line) × Spells s.version k ws l × (first_of (checks n s l) ≡ None) × (t ≡ after n s number l)
+SaysWell n s number k ws t =
+    (l : Line) × Spells s.version k ws l × (first_of (checks n s l) ≡ None)
+    × (t ≡ after n s number l)
 
 -- a word can't stand where it does, or the words say something that can't stand behind s
 abbrev pub SaysIll : NativeData → State → Kind → List (List ℕ) → Cause → Type 0
-SaysIll n s k ws c = (reads (wanted s.version k) ws ≡ Err c) ⊎ ((l : Line) × Spells s.version k ws l × (first_of (checks n s l) ≡ Some c))
+SaysIll n s k ws c = (reads (wanted s.version k) ws ≡ Err c)
+    ⊎ ((l : Line) × Spells s.version k ws l × (first_of (checks n s l) ≡ Some c))
 
 abbrev pub Passes : NativeData → State → ℕ → Result Head Cause → State → Type 0
 Passes n s number (Err c) t = ⊥
@@ -95,8 +105,9 @@ ComesTo n s number (line ∷ more) o =
 
 -- the greatest length of a text
 abbrev pub most_bytes : ℕ
-most_bytes = 1048576
+most_bytes = MAX_TEXT
 
 -- What a text comes to, where these natives may be named.
 abbrev pub IsScript : NativeData → List ℕ → Outcome → Type 0
-IsScript n text o = MatchBool (nat_lt most_bytes (length text)) (o ≡ Err (0, cause.TooLarge)) (ComesTo n start 1 (lines text) o)
+IsScript n text o = MatchBool (nat_lt most_bytes (length text)) (o ≡ Err (0, cause.TooLarge))
+    (ComesTo n start 1 (lines text) o)

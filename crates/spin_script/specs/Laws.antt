@@ -19,7 +19,11 @@ abbrev pub bare_guard : GuardUnit → GuardUnit
 bare_guard g = record g { test = bare_test g.test }
 
 abbrev pub bare_setup : SetupData → SetupData
-bare_setup d = record d { events = map bare_event d.events; handlers = map bare_handler d.handlers; guards = map bare_guard d.guards }
+bare_setup d = record d {
+  events = map bare_event d.events;
+  handlers = map bare_handler d.handlers;
+  guards = map bare_guard d.guards;
+}
 
 abbrev pub bare_script : ScriptData → ScriptData
 bare_script s = record s { setup = bare_setup s.setup }
@@ -32,4 +36,9 @@ AreOne o p = ⊥
 
 -- A text comes to one thing.
 abbrev pub OneOutcome : Type 0
-OneOutcome = (n : NativeData) (text : List ℕ) (o p : Outcome) → IsScript n text o → IsScript n text p → AreOne o p
+OneOutcome = (n : NativeData) (text : List ℕ) (o p : Outcome) → IsScript n text o
+    → IsScript n text p → AreOne o p
+
+-- Each text comes to something: it is a script, or has a first bad line and its cause.
+abbrev pub SomeOutcome : Type 0
+SomeOutcome = (n : NativeData) (text : List ℕ) → (o : Outcome) × IsScript n text o

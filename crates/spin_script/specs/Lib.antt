@@ -2,11 +2,11 @@ pub mod Sections
 pub mod States
 pub mod Checks
 pub mod Language
-pub mod Drafts
-pub mod Reader
 pub mod Scripts
 pub mod Soundness
+pub mod Segments
 pub mod Laws
 pub mod Canonical
 pub mod RoundTrip
-pub mod Declaring
+pub mod Inner
+pub mod Limits

@@ -13,8 +13,10 @@ use Rattle.spin_grammar.specs.Lines.{Line, Guard, NativeHandler, NativeGuard, Au
 use Rattle.spin_script.specs.declared.script.Line as script
 use Rattle.spin_script.specs.declared.script.Segment.{Segment}
 use Rattle.spin_script.specs.Sections.{is_out_of_order}
-use Rattle.spin_script.specs.States.{State, NativeData, ScriptData, native_at, start, work_of, after}
-use Rattle.spin_script.specs.Checks.{first_of, checks}
+use Rattle.spin_grammar.specs.Tasks.{work_of}
+use Rattle.spin_script.specs.States.{State, NativeData, ScriptData, native_at, start, after}
+use Rattle.spin_values.specs.First.{first_of}
+use Rattle.spin_script.specs.Checks.{checks}
 use Rattle.spin_script.specs.Language.{Outcome, ended, most_bytes, IsScript}
 use Rattle.spin_script.specs.Canonical.{handler_line, guard_line, authority_lines, task_of, version_text, text_of, canonical_of}
 
@@ -48,14 +50,20 @@ WrittenLinesAreRead =
 
 -- What is written of the deed of a lane line is just that deed.
 abbrev pub DeedsAreBack : Type 0
-DeedsAreBack = (version lane : ℕ) (t : Task) → CanBeSaid version (Lane lane t) → task_of version (work_of lane t) ≡ t
+DeedsAreBack = (version lane : ℕ) (t : Task) → CanBeSaid version (Lane lane t)
+    → task_of version (work_of lane t) ≡ t
 
 -- What is written of a guard is what its line said; and each native is written by the name that it was found by.
 pub record DeclarationsAreBack : Type 0 where
-  pub guards : (version : ℕ) (n : NativeData) (g : ℕ) (sig : EventType) (t : Test) → CanBeSaid version (Guard g sig t) → guard_line n g (check.Coded sig t) ≡ Guard g sig t
-  pub native_handlers : (n : NativeData) (h : ℕ) (name : List ℕ) (k : ℕ) → native_at name n.handlers ≡ Some k → handler_line n h (body.Native k) ≡ NativeHandler h name
-  pub native_guards : (n : NativeData) (g : ℕ) (name : List ℕ) (k : ℕ) → native_at name n.guards ≡ Some k → guard_line n g (check.Native k) ≡ NativeGuard g name
-  pub authorisers : (n : NativeData) (e : ℕ) (name : List ℕ) (k : ℕ) → native_at name n.authorisers ≡ Some k → authority_lines n e (authority.Native k) ≡ Authoriser e name ∷ []
+  pub guards : (version : ℕ) (n : NativeData) (g : ℕ) (sig : EventType) (t : Test)
+      → CanBeSaid version (Guard g sig t) → guard_line n g (check.Coded sig t) ≡ Guard g sig t
+  pub native_handlers : (n : NativeData) (h : ℕ) (name : List ℕ) (k : ℕ)
+      → native_at name n.handlers ≡ Some k → handler_line n h (body.Native k) ≡ NativeHandler h name
+  pub native_guards : (n : NativeData) (g : ℕ) (name : List ℕ) (k : ℕ)
+      → native_at name n.guards ≡ Some k → guard_line n g (check.Native k) ≡ NativeGuard g name
+  pub authorisers : (n : NativeData) (e : ℕ) (name : List ℕ) (k : ℕ)
+      → native_at name n.authorisers ≡ Some k
+      → authority_lines n e (authority.Native k) ≡ Authoriser e name ∷ []
 
 -- ---- whole scripts
 
@@ -71,7 +79,8 @@ unnumbered d = record d { segments = map unnumbered_segment d.segments }
 
 -- The text is read as that script, but for the numbers of its lines, unless it is too large.
 abbrev pub ComesBack : NativeData → (text : List ℕ) → ScriptData → Type 0
-ComesBack n text d = length text ≤ most_bytes → (e : ScriptData) × IsScript n text (Ok e) × (unnumbered e ≡ unnumbered d)
+ComesBack n text d = length text ≤ most_bytes
+    → (e : ScriptData) × IsScript n text (Ok e) × (unnumbered e ≡ unnumbered d)
 
 -- Each script that is read can be written: some lines, written so, are read as it, but for the numbers of its lines.
 abbrev pub ScriptsCanBeWritten : Type 0
@@ -83,5 +92,7 @@ ScriptsCanBeWritten =
 abbrev pub ScriptsComeBack : Type 0
 ScriptsComeBack =
     (n : NativeData) (text : List ℕ) (d : ScriptData) → IsScript n text (Ok d)
-    → (bodies : List Body) × (checks : List Check) × (map (unit_of_body n.handlers) bodies ≡ d.setup.handlers) × (map (unit_of_check n.guards) checks ≡ d.setup.guards)
+    → (bodies : List Body) × (checks : List Check)
+    × (map (unit_of_body n.handlers) bodies ≡ d.setup.handlers)
+    × (map (unit_of_check n.guards) checks ≡ d.setup.guards)
     × ComesBack n (canonical_of n bodies checks d) d

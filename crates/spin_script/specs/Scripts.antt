@@ -1,14 +1,13 @@
 -- Scripts as they are answered.
 use Rattle.std.specs.Prelude.{◌≡◌, ℕ, List, Result, Ok, Err}
-use Rattle.std.specs.Str.Lines.{lines}
 use Rattle.spin_table.specs.SetupOf.{data_of}
 use Rattle.spin_grammar.specs.declared.cause.Cause.{Cause}
 use Rattle.spin_grammar.specs.declared.cause.Cause.TheVariants as cause
 use Rattle.spin_script.specs.declared.script.Script.{Script}
 use Rattle.spin_script.specs.declared.script.ScriptFault.{ScriptFault}
 use Rattle.spin_script.specs.declared.script.ScriptFault.TheVariants as fault
-use Rattle.spin_script.specs.States.{State, NativeData, ScriptData, start}
-use Rattle.spin_script.specs.Language.{Outcome, IsScript, ComesTo, ended}
+use Rattle.spin_script.specs.States.{NativeData, ScriptData}
+use Rattle.spin_script.specs.Language.{IsScript}
 
 -- the causes are numbered from 1
 abbrev pub cause_number : Cause → ℕ
@@ -37,7 +36,8 @@ cause_number cause.Native = 22
 cause_number cause.Repeated = 23
 cause_number cause.Lane = 24
 
-abbrev pub script_seen : {A C E : Type 0} {B : A → Type 0} {D : C → Type 0} {F : E → Type 0} → Script A C E B D F → ScriptData
+abbrev pub script_seen : {A C E : Type 0} {B : A → Type 0} {D : C → Type 0} {F : E → Type 0}
+    → Script A C E B D F → ScriptData
 script_seen s = record {
   setup = data_of s.setup;
   version = s.version;
@@ -48,15 +48,12 @@ script_seen s = record {
 
 -- the text is bad at that line for the cause of that number
 abbrev pub IsBad : NativeData → List ℕ → ScriptFault → Type 0
-IsBad n text (fault.Bad line number) = (c : Cause) × IsScript n text (Err (line, c)) × (number ≡ cause_number c)
+IsBad n text (fault.Bad line number) =
+    (c : Cause) × IsScript n text (Err (line, c)) × (number ≡ cause_number c)
 IsBad n text fault.NoMemory = Unit {0}
 
 -- the answer to a text is what it comes to; want of memory comes at any time
-abbrev pub GivesScript : {A C E : Type 0} {B : A → Type 0} {D : C → Type 0} {F : E → Type 0} → NativeData → List ℕ → Result (Script A C E B D F) ScriptFault → Type 0
+abbrev pub GivesScript : {A C E : Type 0} {B : A → Type 0} {D : C → Type 0} {F : E → Type 0}
+    → NativeData → List ℕ → Result (Script A C E B D F) ScriptFault → Type 0
 GivesScript n text (Ok script) = IsScript n text (Ok (script_seen script))
 GivesScript n text (Err f) = IsBad n text f
-
--- all lines were read, and what the text comes to is what s comes to; or the text is bad
-abbrev pub GivesDraft : {A : Type 0} → NativeData → List ℕ → Result A ScriptFault → State → Type 0
-GivesDraft n text (Ok a) s = (o : Outcome) → o ≡ ended n s → ComesTo n start 1 (lines text) o
-GivesDraft n text (Err f) s = IsBad n text f

@@ -3,7 +3,6 @@ use Rattle.std.specs.Prelude.{ℕ, ◌+◌, ◌==◌, max, Bool, true, false, if
 use Rattle.std.specs.Option.{option_map_or}
 use Rattle.spin_values.specs.declared.types.EventType.{EventType}
 use Rattle.spin_code.specs.declared.merge.Merge.{Merge}
-use Rattle.spin_word.specs.declared.command.Op.TheVariants as op
 use Rattle.spin_policy.specs.declared.rule.Rule.{Rule}
 use Rattle.spin_objects.specs.declared.natives.Natives.{Natives}
 use Rattle.spin_objects.specs.Units.{HandlerUnit, GuardUnit, Named, native_handlers, native_guards, native_authorisers, index_of, handler_if, guard_if}
@@ -11,13 +10,10 @@ use Rattle.spin_table.specs.declared.event.EventDef.{EventDef}
 use Rattle.spin_table.specs.declared.event.Authority.{Authority}
 use Rattle.spin_table.specs.declared.event.Authority.TheVariants as authority
 use Rattle.spin_table.specs.Setups.{SetupData}
-use Rattle.spin_proto.specs.declared.deed.Deed.TheVariants as deed
-use Rattle.spin_grammar.specs.Forms as forms
-use Rattle.spin_grammar.specs.Forms.{Task, spot_place, spot_before, spot_after}
-use Rattle.spin_grammar.specs.Tasks.{bare_command}
+use Rattle.spin_grammar.specs.Tasks.{work_of}
 use Rattle.spin_script.specs.declared.script.Segment.{Segment}
-use Rattle.spin_script.specs.declared.script.Work.{Work}
-use Rattle.spin_script.specs.declared.script.Work.TheVariants as work
+use Rattle.spin_word.specs.declared.work.Work.{Work}
+use Rattle.spin_word.specs.declared.work.Work.TheVariants as work
 use Rattle.spin_grammar.specs.Lines as line
 
 -- ---- the natives that a script may name
@@ -27,8 +23,14 @@ pub record NativeData : Type 0 where
   pub guards : List (Named GuardUnit)
   pub authorisers : List (Named (List Rule))
 
-abbrev pub natives_seen : {A C E : Type 0} {B : A → Type 0} {D : C → Type 0} {F : E → Type 0} → Natives A C E B D F → NativeData
-natives_seen n = record { handlers = native_handlers n; guards = native_guards n; authorisers = native_authorisers n }
+abbrev pub natives_seen : {A C E : Type 0} {B : A → Type 0} {D : C → Type 0} {F : E → Type 0}
+    → Natives A C E B D F → NativeData
+natives_seen n = record {
+  handlers = native_handlers n;
+  guards = native_guards n;
+  authorisers =
+      native_authorisers n;
+}
 
 -- the index of the native of that name
 abbrev pub native_at : {X : Type 0} → List ℕ → List (Named X) → Option ℕ
@@ -85,7 +87,14 @@ start = record {
 
 -- an event without rules and without a default
 abbrev pub new_event : (owner : ℕ) → EventType → Merge → EventDef
-new_event owner sig m = record { sig = sig; owner = owner; merge = m; first_default = 0; authority = authority.Rules [] }
+new_event owner sig m = record {
+  sig = sig;
+  owner = owner;
+  merge = m;
+  first_default = 0;
+  authority =
+      authority.Rules [];
+}
 
 -- the rules that were given, of which a native authoriser has none
 abbrev pub given_rules : Authority → List Rule
@@ -98,7 +107,8 @@ is_native (authority.Native native) = true
 
 -- the event of that number changed so, where it is there
 abbrev pub with_event : (EventDef → EventDef) → ℕ → List EventDef → List EventDef
-with_event change event events = option_map_or (λ e. slice_set events event (change e)) (slice_get events event) events
+with_event change event events =
+    option_map_or (λ e. slice_set events event (change e)) (slice_get events event) events
 
 abbrev pub with_rule : Rule → EventDef → EventDef
 with_rule r e = record e { authority = authority.Rules (given_rules e.authority ++ r ∷ []) }
@@ -108,18 +118,6 @@ with_authoriser native e = record e { authority = authority.Native native }
 
 abbrev pub with_default : ℕ → EventDef → EventDef
 with_default handler e = record e { first_default = handler }
-
--- what a lane is to do
-abbrev pub work_of : ℕ → Task → Work
-work_of lane (forms.Install e m h g s md) =
-    work.Command (record (bare_command op.Install lane e m) { handler = h; guard = g; place = spot_place s; before = spot_before s; after = spot_after s; mode = md })
-work_of lane (forms.Remove e m n) = work.Command (record (bare_command op.Remove lane e m) { target = n })
-work_of lane (forms.Replace e m n h g) = work.Command (record (bare_command op.Replace lane e m) { target = n; handler = h; guard = g })
-work_of lane (forms.Default e m h) = work.Command (record (bare_command op.Default lane e m) { handler = h })
-work_of lane (forms.NoDefault e m) = work.Command (bare_command op.NoDefault lane e m)
-work_of lane (forms.Raise e args) = work.Deed (deed.Raise e args)
-work_of lane (forms.Later e args) = work.Deed (deed.Later e args)
-work_of lane (forms.Packet e n) = work.Packet e n
 
 -- how many command lines and how many deeds a lane line counts for
 abbrev pub command_count : Work → ℕ
@@ -135,7 +133,11 @@ abbrev pub with_work : State → ℕ → ℕ → Work → State
 with_work s number lane w = record s {
   section = 8;
   begins = false;
-  segment = record { retires = s.segment.retires; lines = s.segment.lines ++ record { number = number; lane = lane; work = w } ∷ [] };
+  segment = record {
+    retires = s.segment.retires;
+    lines =
+        s.segment.lines ++ record { number = number; lane = lane; work = w } ∷ [];
+  };
   commands = s.commands + command_count w;
   deeds = s.deeds + deed_count w;
   lanes = max s.lanes (lane + 1);
@@ -143,32 +145,57 @@ with_work s number lane w = record s {
 
 abbrev pub with_authority : State → ℕ → Option ℕ → State
 with_authority s event None = s
-with_authority s event (Some native) = record s { section = 6; events = with_event (with_authoriser native) event s.events }
+with_authority s event (Some native) =
+    record s { section = 6; events = with_event (with_authoriser native) event s.events }
 
 abbrev pub with_handler : NativeData → State → Option ℕ → State
 with_handler n s None = s
-with_handler n s (Some native) = record s { section = 4; handlers = s.handlers ++ handler_if (slice_get n.handlers native) ∷ [] }
+with_handler n s (Some native) =
+    record s { section = 4; handlers = s.handlers ++ handler_if (slice_get n.handlers native) ∷ [] }
 
 abbrev pub with_guard : NativeData → State → Option ℕ → State
 with_guard n s None = s
-with_guard n s (Some native) = record s { section = 5; guards = s.guards ++ guard_if (slice_get n.guards native) ∷ [] }
+with_guard n s (Some native) =
+    record s { section = 5; guards = s.guards ++ guard_if (slice_get n.guards native) ∷ [] }
 
 -- the script up to this line, which has that number in the text
 abbrev pub after : NativeData → State → ℕ → line.Line → State
 after n s number (line.Modules count) = record s { section = 1; modules = count }
-after n s number (line.Event e owner sig m) = record s { section = 2; events = s.events ++ new_event owner sig m ∷ [] }
-after n s number (line.Endpoint p name) = record s { section = 3; endpoints = s.endpoints ++ name ∷ [] }
-after n s number (line.Handler h sig steps) = record s { section = 4; handlers = s.handlers ++ record { sig = sig; act = record { steps = steps } } ∷ [] }
+after n s number (line.Event e owner sig m) =
+    record s { section = 2; events = s.events ++ new_event owner sig m ∷ [] }
+after n s number (line.Endpoint p name) =
+    record s { section = 3; endpoints = s.endpoints ++ name ∷ [] }
+after n s number (line.Handler h sig steps) =
+    record s {
+      section = 4;
+      handlers =
+          s.handlers ++ record { sig = sig; act = record { steps = steps } } ∷ [];
+    }
 after n s number (line.NativeHandler h name) = with_handler n s (native_at name n.handlers)
-after n s number (line.Guard g sig t) = record s { section = 5; guards = s.guards ++ record { sig = sig; test = t } ∷ [] }
+after n s number (line.Guard g sig t) =
+    record s { section = 5; guards = s.guards ++ record { sig = sig; test = t } ∷ [] }
 after n s number (line.NativeGuard g name) = with_guard n s (native_at name n.guards)
-after n s number (line.Rules e r) = record s { section = 6; events = with_event (with_rule r) e s.events }
+after n s number (line.Rules e r) =
+    record s { section = 6; events = with_event (with_rule r) e s.events }
 after n s number (line.Authoriser e name) = with_authority s e (native_at name n.authorisers)
-after n s number (line.Default e h) = record s { section = 7; events = with_event (with_default h) e s.events }
+after n s number (line.Default e h) =
+    record s { section = 7; events = with_event (with_default h) e s.events }
 after n s number (line.Lane l t) = with_work s number l (work_of l t)
-after n s number line.Barrier = record s { section = 8; begins = true; ended = s.ended ++ s.segment ∷ []; segment = empty_segment }
+after n s number line.Barrier =
+    record s {
+      section = 8;
+      begins = true;
+      ended = s.ended ++ s.segment ∷ [];
+      segment =
+          empty_segment;
+    }
 after n s number (line.Retire p) =
-    record s { section = 8; begins = true; segment = record { retires = s.segment.retires ++ p ∷ []; lines = s.segment.lines } }
+    record s {
+      section = 8;
+      begins = true;
+      segment =
+          record { retires = s.segment.retires ++ p ∷ []; lines = s.segment.lines };
+    }
 
 -- ---- what a script comes to
 

@@ -5,11 +5,11 @@ ghost use Rattle.std.specs.List.{list_any};
 ghost use Rattle.spin_code.specs.declared.merge.Merge.{Merge};
 ghost use Rattle.spin_objects.specs.Units.{HandlerUnit, GuardUnit};
 ghost use Rattle.spin_grammar.specs.Lines as said;
-ghost use Rattle.spin_grammar.specs.Reading.{IsKept, is_merge_deep};
+ghost use Rattle.spin_grammar.specs.Lines.{IsKept, is_merge_deep};
 ghost use Rattle.spin_script.specs.States.{NativeData};
 ghost use Rattle.spin_script.specs.Checks as specs;
-ghost use Rattle.spin_script.specs.Drafts.{state};
-ghost use Rattle.spin_script.specs.Reader.{Adds};
+ghost use Rattle.spin_script.specs.Inner.Drafts.{state};
+ghost use Rattle.spin_script.specs.Inner.Reader.{Adds};
 
 use crate::draft::Draft;
 use spin_code::{ActFault, Merge, check_merge};
@@ -35,7 +35,9 @@ pub(crate) fn act_cause(fault: ActFault) -> Cause
 
 /// Sets the number of modules.
 pub(crate) fn add_modules(draft: &mut Draft, modules: u16) -> Result<(), Fault>
-    ensures { (n : NativeData) (handlers : List HandlerUnit) (guards : List GuardUnit) (number : ℕ) → Adds n (state draft.old handlers guards) number (said.Modules modules) result (state draft.new handlers guards) }
+    ensures { (n : NativeData) (handlers : List HandlerUnit) (guards : List GuardUnit) (number : ℕ)
+        → Adds n (state draft.old handlers guards) number (said.Modules modules) result
+        (state draft.new handlers guards) }
 {
     draft.modules = modules;
     draft.section = 1;
@@ -51,7 +53,10 @@ pub(crate) fn add_event(
     sig: EventType,
     merge: Option<Merge>,
 ) -> Result<(), Fault>
-    ensures { (n : NativeData) (handlers : List HandlerUnit) (guards : List GuardUnit) (number : ℕ) (m : Merge) → IsKept is_merge_deep merge m → Adds n (state draft.old handlers guards) number (said.Event event owner sig m) result (state draft.new handlers guards) }
+    ensures { (n : NativeData) (handlers : List HandlerUnit) (guards : List GuardUnit) (number : ℕ)
+        (m : Merge) → IsKept is_merge_deep merge m
+        → Adds n (state draft.old handlers guards) number (said.Event event owner sig m) result
+        (state draft.new handlers guards) }
 {
     if usize::from(event) != draft.events.len() {
         return Err(Fault::Bad(Cause::Next));
@@ -91,7 +96,9 @@ fn is_endpoint(endpoints: &[Text], name: &[u8]) -> bool
 
 /// Adds an endpoint.
 pub(crate) fn add_endpoint(draft: &mut Draft, endpoint: u8, name: Text) -> Result<(), Fault>
-    ensures { (n : NativeData) (handlers : List HandlerUnit) (guards : List GuardUnit) (number : ℕ) → Adds n (state draft.old handlers guards) number (said.Endpoint endpoint name) result (state draft.new handlers guards) }
+    ensures { (n : NativeData) (handlers : List HandlerUnit) (guards : List GuardUnit) (number : ℕ)
+        → Adds n (state draft.old handlers guards) number (said.Endpoint endpoint name) result
+        (state draft.new handlers guards) }
 {
     if usize::from(endpoint) != draft.endpoints.len() {
         return Err(Fault::Bad(Cause::Next));

@@ -50,7 +50,7 @@ impl Segment {
 impl Draft {
     ghost use Rattle.std.specs.Prelude.{◌≡◌, []};
     ghost use Rattle.spin_script.specs.States.{start};
-    ghost use Rattle.spin_script.specs.Drafts.{state};
+    ghost use Rattle.spin_script.specs.Inner.Drafts.{state};
 
     /// No line.
     pub(crate) fn new(alloc: Global) -> Draft

@@ -5,12 +5,11 @@ ghost use Rattle.std.specs.List.{list_all};
 ghost use Rattle.spin_objects.specs.Units.{HandlerUnit, GuardUnit};
 ghost use Rattle.spin_script.specs.Sections.{look_up, first_words, section, is_retire, is_out_of_order};
 ghost use Rattle.spin_script.specs.Language.{head, is_allowed, version_word, version_of};
-ghost use Rattle.spin_script.specs.Drafts.{state};
-ghost use Rattle.spin_script.specs.Reader.{head_seen, HasRoom};
+ghost use Rattle.spin_script.specs.Inner.Drafts.{state};
+ghost use Rattle.spin_script.specs.Inner.Reader.{head_seen, HasRoom};
 
 use crate::draft::Draft;
-use spin_grammar::kind::Kind;
-use spin_grammar::{Cause, Words};
+use spin_grammar::{Cause, Kind, Words};
 
 /// What a line is.
 #[derive(Drop)]
@@ -136,7 +135,8 @@ fn version_of(words: &mut Words) -> Option<u8>
 /// What the line is, behind this draft.
 #[tactic(auto, unfolding(crate::specs::Language::head))]
 pub(crate) fn find_head<'a>(draft: &Draft, line: &'a [u8]) -> Result<Found<'a>, Cause>
-    ensures head { (handlers : List HandlerUnit) (guards : List GuardUnit) → head_seen result ≡ head (state draft.now handlers guards) line.now }
+    ensures head { (handlers : List HandlerUnit) (guards : List GuardUnit)
+        → head_seen result ≡ head (state draft.now handlers guards) line.now }
     ensures room { HasRoom result (length line.now + 1) }
 {
     if !all_allowed(line) {

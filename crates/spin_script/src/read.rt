@@ -1,16 +1,21 @@
 //! Reading whole scripts.
 
 ghost use Rattle.std.specs.Prelude.{◌≡◌, false, ◌<◌, ◌≤◌, ◌^◌, ◌==◌, [], length, IfOk};
+ghost use Rattle.spin_word.specs.declared.command.TheConstants.{MAX_PLACE};
+ghost use Rattle.spin_grammar.specs.declared.limits.TheConstants.{MAX_TEXT};
 ghost use Rattle.spin_script.specs.Sections.{is_out_of_order};
 ghost use Rattle.spin_script.specs.States.{start, natives_seen, most_live, script_in};
-ghost use Rattle.spin_script.specs.Drafts.{so_far};
-ghost use Rattle.spin_script.specs.Reader.{AddsSaid, GivesSaid, GivesState};
-ghost use Rattle.spin_script.specs.Scripts.{cause_number, script_seen, GivesDraft, GivesScript};
-ghost use Rattle.spin_script.specs.Soundness.{IsSound, AreValid, command_lines};
+ghost use Rattle.spin_script.specs.Inner.Drafts.{so_far};
+ghost use Rattle.spin_script.specs.Inner.Reader.{AddsSaid, GivesSaid, GivesState};
+ghost use Rattle.spin_script.specs.Scripts.{cause_number, script_seen, GivesScript};
+ghost use Rattle.spin_script.specs.Inner.Reader.{GivesDraft};
+ghost use Rattle.spin_script.specs.Soundness.{AreValid, command_lines};
+ghost use Rattle.spin_script.specs.Inner.Sound.{IsSound};
+ghost use Rattle.spin_script.specs.Segments.{IsOrderly};
 ghost use Rattle.spin_grammar.specs.Lines.{Line, Stands, IsInRange};
 ghost use Rattle.spin_script.specs.Canonical.{canonical};
 ghost use Rattle.spin_script.specs.RoundTrip.{ComesBack};
-ghost use Rattle.spin_script.specs.Declaring.{Grows, IsDeclared};
+ghost use Rattle.spin_script.specs.Inner.Declaring.{Grows, IsDeclared};
 
 use crate::declare::{add_endpoint, add_event, add_modules};
 use crate::draft::Draft;
@@ -20,17 +25,11 @@ use crate::rules::{add_authoriser, add_default, add_rule};
 use crate::script::{Script, ScriptFault};
 use crate::units::{add_guard, add_handler, add_native_guard, add_native_handler};
 use spin_code::Sincere;
-use spin_grammar::breaks::Lines;
-use spin_grammar::kind::Kind;
-use spin_grammar::line::{Said, read_line};
-use spin_grammar::{Cause, Fault, Words};
+use spin_grammar::{Cause, Fault, Kind, Lines, MAX_TEXT, Said, Words, read_line};
 use spin_objects::{Catalogue, Natives};
 use spin_table::{EventList, Setup};
 use spin_values::NoMemory;
 use std::alloc::Global;
-
-/// The greatest length of a script in bytes.
-pub const MAX_BYTES: usize = 1_048_576;
 
 /// Adds a line that was read.
 fn add(
@@ -44,8 +43,11 @@ fn add(
     requires sincere { ⟦<Catalogue as Sincere>⟧.sincere catalogue.old }
     ensures sincere { ⟦<Catalogue as Sincere>⟧.sincere catalogue.new }
     ensures natives { catalogue.new.natives ≡ catalogue.old.natives }
-    ensures adds { AddsSaid (natives_seen catalogue.old.natives) (so_far draft.old catalogue.old) number said result (so_far draft.new catalogue.new) }
-    ensures grows { (l : Line) → Stands said l → Grows (natives_seen catalogue.old.natives) catalogue.old.bodies catalogue.old.checks l result catalogue.new.bodies catalogue.new.checks }
+    ensures adds { AddsSaid (natives_seen catalogue.old.natives)
+        (so_far draft.old catalogue.old) number said result (so_far draft.new catalogue.new) }
+    ensures grows { (l : Line) → Stands said l
+        → Grows (natives_seen catalogue.old.natives) catalogue.old.bodies catalogue.old.checks l
+        result catalogue.new.bodies catalogue.new.checks }
 {
     match said {
         Said::Modules(modules) => add_modules(draft, modules),
@@ -63,7 +65,7 @@ fn add(
         Said::Rule { event, rule } => add_rule(draft, catalogue, event, rule),
         Said::Authoriser { event, name } => add_authoriser(draft, catalogue, event, name),
         Said::Default { event, handler } => add_default(draft, catalogue, event, handler),
-        Said::Lane { lane, task } => add_lane(draft, number, lane, task),
+        Said::Lane { lane, work } => add_lane(draft, number, lane, work),
         Said::Barrier => add_barrier(alloc, draft),
         Said::Retire(endpoint) => add_retire(draft, endpoint),
     }
@@ -83,13 +85,18 @@ fn say(
     requires order { is_out_of_order kind draft.old.section draft.old.begins ≡ false }
     requires begun { (draft.old.version == 0) ≡ false }
     requires sound { IsSound (natives_seen catalogue.old.natives) (so_far draft.old catalogue.old) }
-    requires declared { IsDeclared (natives_seen catalogue.old.natives) (so_far draft.old catalogue.old) catalogue.old.bodies catalogue.old.checks }
+    requires declared { IsDeclared (natives_seen catalogue.old.natives)
+        (so_far draft.old catalogue.old) catalogue.old.bodies catalogue.old.checks }
     requires sincere { ⟦<Catalogue as Sincere>⟧.sincere catalogue.old }
     ensures sincere { ⟦<Catalogue as Sincere>⟧.sincere catalogue.new }
     ensures natives { catalogue.new.natives ≡ catalogue.old.natives }
-    ensures sound { IfOk result (λ _. IsSound (natives_seen catalogue.old.natives) (so_far draft.new catalogue.new)) }
-    ensures declared { IfOk result (λ _. IsDeclared (natives_seen catalogue.old.natives) (so_far draft.new catalogue.new) catalogue.new.bodies catalogue.new.checks) }
-    ensures gives { GivesSaid (natives_seen catalogue.old.natives) (so_far draft.old catalogue.old) number kind words.old result (so_far draft.new catalogue.new) }
+    ensures sound { IfOk result (λ _. IsSound (natives_seen catalogue.old.natives)
+        (so_far draft.new catalogue.new)) }
+    ensures declared { IfOk result (λ _. IsDeclared (natives_seen catalogue.old.natives)
+        (so_far draft.new catalogue.new) catalogue.new.bodies catalogue.new.checks) }
+    ensures gives { GivesSaid (natives_seen catalogue.old.natives)
+        (so_far draft.old catalogue.old) number kind words.old result
+        (so_far draft.new catalogue.new) }
 {
     let said = read_line(alloc, words, draft.version, kind)?;
     add(alloc, draft, catalogue, said, number)
@@ -106,24 +113,26 @@ fn take_line(
 ) -> Result<(), Fault>
     requires short { length line.now < 2 ^ 30 }
     requires sound { IsSound (natives_seen catalogue.old.natives) (so_far draft.old catalogue.old) }
-    requires declared { IsDeclared (natives_seen catalogue.old.natives) (so_far draft.old catalogue.old) catalogue.old.bodies catalogue.old.checks }
+    requires declared { IsDeclared (natives_seen catalogue.old.natives)
+        (so_far draft.old catalogue.old) catalogue.old.bodies catalogue.old.checks }
     requires sincere { ⟦<Catalogue as Sincere>⟧.sincere catalogue.old }
     ensures sincere { ⟦<Catalogue as Sincere>⟧.sincere catalogue.new }
     ensures natives { catalogue.new.natives ≡ catalogue.old.natives }
-    ensures sound { IfOk result (λ _. IsSound (natives_seen catalogue.old.natives) (so_far draft.new catalogue.new)) }
-    ensures declared { IfOk result (λ _. IsDeclared (natives_seen catalogue.old.natives) (so_far draft.new catalogue.new) catalogue.new.bodies catalogue.new.checks) }
-    ensures gives { GivesState (natives_seen catalogue.old.natives) (so_far draft.old catalogue.old) number line.now result (so_far draft.new catalogue.new) }
+    ensures sound { IfOk result (λ _. IsSound (natives_seen catalogue.old.natives)
+        (so_far draft.new catalogue.new)) }
+    ensures declared { IfOk result (λ _. IsDeclared (natives_seen catalogue.old.natives)
+        (so_far draft.new catalogue.new) catalogue.new.bodies catalogue.new.checks) }
+    ensures gives { GivesState (natives_seen catalogue.old.natives)
+        (so_far draft.old catalogue.old) number line.now result (so_far draft.new catalogue.new) }
 {
-    match find_head(draft, line) {
-        Err(cause) => Err(Fault::Bad(cause)),
-        Ok(Found::Skipped) => Ok(()),
-        Ok(Found::Begins(version)) => {
+    let found = find_head(draft, line)?;
+    match found {
+        Found::Skipped => Ok(()),
+        Found::Begins(version) => {
             draft.version = version;
             Ok(())
         }
-        Ok(Found::Says(kind, mut words)) => {
-            say(alloc, draft, catalogue, &mut words, kind, number)
-        }
+        Found::Says(kind, mut words) => say(alloc, draft, catalogue, &mut words, kind, number),
     }
 }
 
@@ -152,16 +161,19 @@ fn read_lines(
     draft: &mut Draft,
     catalogue: &mut Catalogue,
 ) -> Result<(), ScriptFault>
-    requires short { length text.now ≤ 1048576 }
+    requires short { length text.now ≤ MAX_TEXT }
     requires start { so_far draft.old catalogue.old ≡ start }
     requires bodies { catalogue.old.bodies ≡ [] }
     requires checks { catalogue.old.checks ≡ [] }
     requires sincere { ⟦<Catalogue as Sincere>⟧.sincere catalogue.old }
     ensures sincere { ⟦<Catalogue as Sincere>⟧.sincere catalogue.new }
     ensures natives { catalogue.new.natives ≡ catalogue.old.natives }
-    ensures sound { IfOk result (λ _. IsSound (natives_seen catalogue.old.natives) (so_far draft.new catalogue.new)) }
-    ensures declared { IfOk result (λ _. IsDeclared (natives_seen catalogue.old.natives) (so_far draft.new catalogue.new) catalogue.new.bodies catalogue.new.checks) }
-    ensures gives { GivesDraft (natives_seen catalogue.old.natives) text.now result (so_far draft.new catalogue.new) }
+    ensures sound { IfOk result (λ _. IsSound (natives_seen catalogue.old.natives)
+        (so_far draft.new catalogue.new)) }
+    ensures declared { IfOk result (λ _. IsDeclared (natives_seen catalogue.old.natives)
+        (so_far draft.new catalogue.new) catalogue.new.bodies catalogue.new.checks) }
+    ensures gives { GivesDraft (natives_seen catalogue.old.natives) text.now result
+        (so_far draft.new catalogue.new) }
 {
     let mut lines = Lines::new(text);
     let mut number: u32 = 0;
@@ -189,7 +201,8 @@ fn build(draft: Draft, catalogue: Catalogue) -> Result<Script, NoMemory>
     requires sincere { ⟦<Catalogue as Sincere>⟧.sincere catalogue }
     ensures catalogue { IfOk result (λ s. s.setup.catalogue ≡ catalogue) }
     ensures sincere { IfOk result (λ s. ⟦<Catalogue as Sincere>⟧.sincere s.setup.catalogue) }
-    ensures script { IfOk result (λ s. script_seen s ≡ script_in (natives_seen catalogue.natives) (so_far draft catalogue)) }
+    ensures script { IfOk result (λ s. script_seen s
+        ≡ script_in (natives_seen catalogue.natives) (so_far draft catalogue)) }
 {
     let mut segments = draft.ended;
     segments.push(draft.segment)?;
@@ -211,22 +224,26 @@ fn build(draft: Draft, catalogue: Catalogue) -> Result<Script, NoMemory>
 ///
 /// [`ScriptFault::Bad`] comes exactly where the text isn't in the language: its line is the first that can't stand
 /// behind the lines before it, counted from 1, and its cause the number of the first [`Cause`] that applies there, or 0
-/// and 1 where the text is over [`MAX_BYTES`]. Of a script each command is valid, and at most 4,096 lines are commands.
+/// and 1 where the text is over [`MAX_TEXT`]. Of a script each command is valid, and at most 4,096 lines are commands.
+/// It is orderly: the numbers of its lines rise; it has 1 to 8 lanes, each line is of one of them and its command of that
+/// lane; it has at most 65,536 deeds; its endpoints have names that differ, and those that are retired or sent to are there.
 /// After a refusal the natives are dropped. It takes time and memory linear in the text, and no stack that grows with
 /// it.
 ///
 /// What [`write_script`](crate::write_script) writes of the script is read again as that script, but for the numbers of
-/// its lines, unless it is over [`MAX_BYTES`].
+/// its lines, unless it is over [`MAX_TEXT`].
 pub fn read_script(alloc: Global, text: &[u8], natives: Natives) -> Result<Script, ScriptFault>
     requires sincere { ⟦<Natives as Sincere>⟧.sincere natives }
     ensures script { GivesScript (natives_seen natives) text.now result }
     ensures natives { IfOk result (λ s. s.setup.catalogue.natives ≡ natives) }
     ensures sincere { IfOk result (λ s. ⟦<Catalogue as Sincere>⟧.sincere s.setup.catalogue) }
     ensures valid { IfOk result (λ s. AreValid s.segments) }
-    ensures few { IfOk result (λ s. command_lines s.segments ≤ 4096) }
-    ensures back { IfOk result (λ s. ComesBack (natives_seen natives) (canonical s) (script_seen s)) }
+    ensures few { IfOk result (λ s. command_lines s.segments ≤ MAX_PLACE) }
+    ensures orderly { IfOk result (λ s. IsOrderly (script_seen s)) }
+    ensures back { IfOk result
+        (λ s. ComesBack (natives_seen natives) (canonical s) (script_seen s)) }
 {
-    if text.len() > MAX_BYTES {
+    if text.len() > MAX_TEXT {
         return Err(bad(0, Cause::TooLarge));
     }
     let mut draft = Draft::new(alloc);

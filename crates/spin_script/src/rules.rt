@@ -4,6 +4,7 @@ ghost use Rattle.std.specs.Prelude.{◌≡◌, ◌<◌, ◌≤◌, ℕ, false, n
 ghost use Rattle.std.specs.List.{list_any};
 ghost use Rattle.std.specs.Option.{option_map_or};
 ghost use Rattle.spin_policy.specs.declared.rule.Rule.{Rule};
+ghost use Rattle.spin_policy.specs.declared.policy.TheConstants.{MAX_RULES};
 ghost use Rattle.spin_policy.specs.Verdicts.{has_wrong_guards};
 ghost use Rattle.spin_table.specs.Setups.{rules_if};
 ghost use Rattle.spin_grammar.specs.Lines as said;
@@ -11,25 +12,25 @@ ghost use Rattle.spin_grammar.specs.declared.fault.Fault.TheVariants as fault;
 ghost use Rattle.spin_script.specs.States.{NativeData, natives_seen, policies, given_rules, with_event, with_rule, with_authoriser, with_default};
 ghost use Rattle.spin_script.specs.States as states;
 ghost use Rattle.spin_script.specs.Checks as specs;
-ghost use Rattle.spin_script.specs.Checks.{first_of, rule_checks, authoriser_checks, default_checks};
+ghost use Rattle.spin_values.specs.First.{first_of};
+ghost use Rattle.spin_script.specs.Checks.{rule_checks, authoriser_checks, default_checks};
 ghost use Rattle.spin_script.specs.declared.draft.Draft.{Draft};
-ghost use Rattle.spin_script.specs.Drafts.{so_far};
-ghost use Rattle.spin_script.specs.Reader.{Adds, Judges};
+ghost use Rattle.spin_script.specs.Inner.Drafts.{so_far};
+ghost use Rattle.spin_script.specs.Inner.Reader.{Adds, Judges};
 
 use crate::draft::Draft;
 use crate::units::guard_count;
 use spin_grammar::{Cause, Fault};
 use spin_objects::{Catalogue, NativeKind};
 use spin_policy::{MAX_RULES, Policy, PolicyFault, Rule};
-use spin_table::build::{are_all_fit, is_fit_rule};
-use spin_table::units::is_fit_handler;
-use spin_table::{Authority, EventDef};
+use spin_table::{Authority, EventDef, are_all_fit, is_fit_handler, is_fit_rule};
 use spin_values::Text;
 use spin_word::Mode;
 
 /// The event of that number, if there is one.
 fn event_at(draft: &Draft, event: u8) -> Option<&EventDef>
-    ensures { MatchOption result (slice_get draft.now.events.items event ≡ None) (λ def. slice_get draft.now.events.items event ≡ Some def.now) }
+    ensures { MatchOption result (slice_get draft.now.events.items event ≡ None)
+        (λ def. slice_get draft.now.events.items event ≡ Some def.now) }
 {
     draft.events.get(usize::from(event))
 }
@@ -84,7 +85,8 @@ fn is_native(authority: &Authority) -> bool
 
 /// Why the rule can't be the event's next one.
 fn rule_cause(catalogue: &Catalogue, def: &EventDef, rule: &Rule) -> Option<Cause>
-    ensures { (draft : Draft) → result ≡ first_of (rule_checks (so_far draft catalogue.now) rule.now (Some def.now)) }
+    ensures { (draft : Draft) → result ≡ first_of
+        (rule_checks (so_far draft catalogue.now) rule.now (Some def.now)) }
 {
     if rule_count(&def.authority) >= MAX_RULES {
         return Some(Cause::Limit);
@@ -101,7 +103,7 @@ fn rule_cause(catalogue: &Catalogue, def: &EventDef, rule: &Rule) -> Option<Caus
 /// Adds a rule to those that were given, which are no more than 15.
 fn add_to(def: &mut EventDef, rule: Rule) -> Result<(), Fault>
     requires guards { has_wrong_guards rule.effect ≡ false }
-    requires few { length (given_rules def.old.authority) < 16 }
+    requires few { length (given_rules def.old.authority) < MAX_RULES }
     requires rules { states.is_native def.old.authority ≡ false }
     ensures added { OnOk result (def.new ≡ with_rule rule def.old) }
     ensures refused { IfErr result (λ f. f ≡ fault.NoMemory) }
@@ -119,9 +121,12 @@ fn add_to(def: &mut EventDef, rule: Rule) -> Result<(), Fault>
 /// Adds a rule to those that were given for the event, which are no more than 15.
 fn push_rule(events: &mut Vec<EventDef>, event: u8, rule: Rule) -> Result<(), Fault>
     requires guards { has_wrong_guards rule.effect ≡ false }
-    requires few { IfSome (slice_get events.old.items event) (λ def. length (given_rules def.authority) < 16) }
-    requires rules { IfSome (slice_get events.old.items event) (λ def. states.is_native def.authority ≡ false) }
-    ensures added { OnOk result (events.new.items ≡ with_event (with_rule rule) event events.old.items) }
+    requires few { IfSome (slice_get events.old.items event)
+        (λ def. length (given_rules def.authority) < MAX_RULES) }
+    requires rules { IfSome (slice_get events.old.items event)
+        (λ def. states.is_native def.authority ≡ false) }
+    ensures added { OnOk result
+        (events.new.items ≡ with_event (with_rule rule) event events.old.items) }
     ensures refused { IfErr result (λ f. f ≡ fault.NoMemory) }
 {
     let Some(def) = events.get_mut(usize::from(event)) else {
@@ -138,7 +143,9 @@ pub(crate) fn add_rule(
     rule: Rule,
 ) -> Result<(), Fault>
     requires { has_wrong_guards rule.effect ≡ false }
-    ensures { (number : ℕ) → Adds (natives_seen catalogue.now.natives) (so_far draft.old catalogue.now) number (said.Rules event rule) result (so_far draft.new catalogue.now) }
+    ensures { (number : ℕ) → Adds (natives_seen catalogue.now.natives)
+        (so_far draft.old catalogue.now) number (said.Rules event rule) result
+        (so_far draft.new catalogue.now) }
 {
     let Some(def) = event_at(draft, event) else {
         return Err(Fault::Bad(Cause::Undeclared));
@@ -172,7 +179,9 @@ fn any_imposes_unknown(guards: u16, rules: &[Rule]) -> bool
 /// The native authoriser of that index, or why it can't answer for the event.
 fn next_authoriser(catalogue: &Catalogue, def: &EventDef, native: Option<u16>) -> Result<u16, Cause>
     requires { IfSome native (λ at. at < length (policies (natives_seen catalogue.now.natives))) }
-    ensures { (draft : Draft) → Judges (λ at. native ≡ Some at) (first_of (authoriser_checks (so_far draft catalogue.now) (specs.policy_at (natives_seen catalogue.now.natives) native) (Some def.now))) result }
+    ensures { (draft : Draft) → Judges (λ at. native ≡ Some at)
+        (first_of (authoriser_checks (so_far draft catalogue.now)
+        (specs.policy_at (natives_seen catalogue.now.natives) native) (Some def.now))) result }
 {
     let rules = policy_rules(catalogue, native);
     if any_imposes_unknown(guard_count(catalogue), rules) {
@@ -206,7 +215,9 @@ pub(crate) fn add_authoriser(
     event: u8,
     name: Text,
 ) -> Result<(), Fault>
-    ensures { (number : ℕ) → Adds (natives_seen catalogue.now.natives) (so_far draft.old catalogue.now) number (said.Authoriser event name) result (so_far draft.new catalogue.now) }
+    ensures { (number : ℕ) → Adds (natives_seen catalogue.now.natives)
+        (so_far draft.old catalogue.now) number (said.Authoriser event name) result
+        (so_far draft.new catalogue.now) }
 {
     let Some(def) = event_at(draft, event) else {
         return Err(Fault::Bad(Cause::Undeclared));
@@ -221,7 +232,8 @@ pub(crate) fn add_authoriser(
 /// Why the handler can't be the event's first default.
 #[tactic(auto, unfolding(crate::specs::Checks::cannot_serve))]
 fn default_cause(catalogue: &Catalogue, event: u8, def: &EventDef, handler: u16) -> Option<Cause>
-    ensures { (draft : Draft) → result ≡ first_of (default_checks (so_far draft catalogue.now) event handler (Some def.now)) }
+    ensures { (draft : Draft) → result ≡ first_of
+        (default_checks (so_far draft catalogue.now) event handler (Some def.now)) }
 {
     if handler > catalogue.handlers() {
         return Some(Cause::Undeclared);
@@ -251,7 +263,9 @@ pub(crate) fn add_default(
     event: u8,
     handler: u16,
 ) -> Result<(), Fault>
-    ensures { (number : ℕ) → Adds (natives_seen catalogue.now.natives) (so_far draft.old catalogue.now) number (said.Default event handler) result (so_far draft.new catalogue.now) }
+    ensures { (number : ℕ) → Adds (natives_seen catalogue.now.natives)
+        (so_far draft.old catalogue.now) number (said.Default event handler) result
+        (so_far draft.new catalogue.now) }
 {
     let Some(def) = event_at(draft, event) else {
         return Err(Fault::Bad(Cause::Undeclared));

@@ -2,27 +2,10 @@
 
 ghost use Rattle.std.specs.Prelude.{◌≡◌};
 
-use spin_proto::Deed;
 use spin_table::Setup;
 use spin_values::{NoMemory, Numbers, Sequence, Texts};
-use spin_word::Command;
+use spin_word::Work;
 use thiserror::Error;
-
-/// What a lane line asks for.
-#[derive(PartialEq, Drop, Debug)]
-pub enum Work {
-    /// A change of an event's bindings.
-    Command(Command),
-    /// A raise, now or as a job.
-    Deed(Deed),
-    /// A raise with each of the next records of the capture.
-    Packet {
-        /// The number of the event.
-        event: u8,
-        /// At most how many records, from 1 to 65,536.
-        count: u32,
-    },
-}
 
 /// A lane line.
 #[derive(PartialEq, Drop, Debug)]

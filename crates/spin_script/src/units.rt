@@ -9,13 +9,14 @@ ghost use Rattle.spin_code.specs.Size.{test_depth, is_step_deep};
 ghost use Rattle.spin_objects.specs.Units.{HandlerUnit, GuardUnit, handlers_of, guards_of, native_handlers, native_guards, unit_of_body, unit_of_check};
 ghost use Rattle.spin_objects.specs.Adding.{handler_refusal, guard_refusal};
 ghost use Rattle.spin_grammar.specs.Lines as said;
-ghost use Rattle.spin_grammar.specs.Reading.{IsKept, IsWithin};
+ghost use Rattle.spin_grammar.specs.Lines.{IsKept, IsWithin};
 ghost use Rattle.spin_script.specs.States.{State, NativeData, natives_seen};
 ghost use Rattle.spin_script.specs.Checks as specs;
-ghost use Rattle.spin_script.specs.Checks.{first_of, checked, step_checks, checks};
-ghost use Rattle.spin_script.specs.Drafts.{state, so_far};
-ghost use Rattle.spin_script.specs.Reader.{Adds, Judges};
-ghost use Rattle.spin_script.specs.Declaring.{Grows};
+ghost use Rattle.spin_values.specs.First.{first_of};
+ghost use Rattle.spin_script.specs.Checks.{checked, step_checks, checks};
+ghost use Rattle.spin_script.specs.Inner.Drafts.{state, so_far};
+ghost use Rattle.spin_script.specs.Inner.Reader.{Adds, Judges};
+ghost use Rattle.spin_script.specs.Inner.Declaring.{Grows};
 ghost use Rattle.spin_grammar.specs.declared.fault.Fault.TheVariants as fault;
 
 use crate::declare::act_cause;
@@ -23,8 +24,7 @@ use crate::draft::Draft;
 use spin_code::{Act, ActStep, Guards, Sincere, Steplist, Test, check_act, check_test};
 use spin_grammar::{Cause, Fault};
 use spin_objects::{Body, Catalogue, CatalogueFault, Check, NativeKind};
-use spin_table::EventDef;
-use spin_table::build::raises_fit;
+use spin_table::{EventDef, raises_fit};
 use spin_values::{EventType, Text};
 
 fn names_unknown(endpoints: usize, events: usize, step: &ActStep) -> bool
@@ -70,13 +70,15 @@ pub(crate) fn guard_count(catalogue: &Catalogue) -> u16
 /// Adds a handler that isn't refused.
 fn keep_handler(catalogue: &mut Catalogue, body: Body) -> Result<(), Fault>
     requires sincere { ⟦<Catalogue as Sincere>⟧.sincere catalogue.old }
-    requires fit { handler_refusal body (length (native_handlers catalogue.old.natives)) (length (handlers_of catalogue.old)) ≡ None }
+    requires fit { handler_refusal body (length (native_handlers catalogue.old.natives))
+        (length (handlers_of catalogue.old)) ≡ None }
     ensures sincere { ⟦<Catalogue as Sincere>⟧.sincere catalogue.new }
     ensures natives { catalogue.new.natives ≡ catalogue.old.natives }
     ensures guards { guards_of catalogue.new ≡ guards_of catalogue.old }
     ensures bodies { IfOk result (λ _. catalogue.new.bodies ≡ catalogue.old.bodies ++ body ∷ []) }
     ensures checks { IfOk result (λ _. catalogue.new.checks ≡ catalogue.old.checks) }
-    ensures added { IfOk result (λ _. handlers_of catalogue.new ≡ handlers_of catalogue.old ++ unit_of_body (native_handlers catalogue.old.natives) body ∷ []) }
+    ensures added { IfOk result (λ _. handlers_of catalogue.new ≡ handlers_of catalogue.old
+        ++ unit_of_body (native_handlers catalogue.old.natives) body ∷ []) }
     ensures refused { IfErr result (λ f. f ≡ fault.NoMemory) }
 {
     match catalogue.add_handler(body) {
@@ -89,13 +91,15 @@ fn keep_handler(catalogue: &mut Catalogue, body: Body) -> Result<(), Fault>
 /// Adds a guard that isn't refused.
 fn keep_guard(catalogue: &mut Catalogue, check: Check) -> Result<(), Fault>
     requires sincere { ⟦<Catalogue as Sincere>⟧.sincere catalogue.old }
-    requires fit { guard_refusal check (length (native_guards catalogue.old.natives)) (length (guards_of catalogue.old)) ≡ None }
+    requires fit { guard_refusal check (length (native_guards catalogue.old.natives))
+        (length (guards_of catalogue.old)) ≡ None }
     ensures sincere { ⟦<Catalogue as Sincere>⟧.sincere catalogue.new }
     ensures natives { catalogue.new.natives ≡ catalogue.old.natives }
     ensures handlers { handlers_of catalogue.new ≡ handlers_of catalogue.old }
     ensures checks { IfOk result (λ _. catalogue.new.checks ≡ catalogue.old.checks ++ check ∷ []) }
     ensures bodies { IfOk result (λ _. catalogue.new.bodies ≡ catalogue.old.bodies) }
-    ensures added { IfOk result (λ _. guards_of catalogue.new ≡ guards_of catalogue.old ++ unit_of_check (native_guards catalogue.old.natives) check ∷ []) }
+    ensures added { IfOk result (λ _. guards_of catalogue.new ≡ guards_of catalogue.old
+        ++ unit_of_check (native_guards catalogue.old.natives) check ∷ []) }
     ensures refused { IfErr result (λ f. f ≡ fault.NoMemory) }
 {
     match catalogue.add_guard(check) {
@@ -107,7 +111,8 @@ fn keep_guard(catalogue: &mut Catalogue, check: Check) -> Result<(), Fault>
 
 /// Why the act can't be that of a handler of this signature, where its steps send to and raise what is declared so far.
 fn act_fault(endpoints: usize, events: &[EventDef], sig: &EventType, act: &Act) -> Option<Cause>
-    ensures first { result ≡ first_of (checked (act_check act.now sig.now) (step_checks endpoints events.now act.now.steps)) }
+    ensures first { result ≡ first_of (checked (act_check act.now sig.now)
+        (step_checks endpoints events.now act.now.steps)) }
     ensures right { MatchOption result (act_check act.now sig.now ≡ Ok tt) (λ _. ⊤) }
 {
     if let Err(fault) = check_act(act, sig) {
@@ -125,7 +130,10 @@ fn next_act(
     steps: Option<Steplist>,
 ) -> Result<Act, Cause>
     requires { handlers ≤ 1023 }
-    ensures first { (n : NativeData) (hs : List HandlerUnit) (gs : List GuardUnit) (kept : List ActStep) → length hs ≡ handlers → IsKept (list_any is_step_deep) steps kept → Judges (λ act. act.steps ≡ kept) (first_of (checks n (state draft.now hs gs) (said.Handler handler sig.now kept))) result }
+    ensures first { (n : NativeData) (hs : List HandlerUnit) (gs : List GuardUnit) (kept : List ActStep)
+        → length hs ≡ handlers → IsKept (list_any is_step_deep) steps kept
+        → Judges (λ act. act.steps ≡ kept)
+        (first_of (checks n (state draft.now hs gs) (said.Handler handler sig.now kept))) result }
     ensures next { IfOk result (λ _. handler ≡ handlers + 1) }
     ensures right { IfOk result (λ act. act_check act sig.now ≡ Ok tt) }
 {
@@ -154,8 +162,12 @@ pub(crate) fn add_handler(
     requires sincere { ⟦<Catalogue as Sincere>⟧.sincere catalogue.old }
     ensures sincere { ⟦<Catalogue as Sincere>⟧.sincere catalogue.new }
     ensures natives { catalogue.new.natives ≡ catalogue.old.natives }
-    ensures adds { (number : ℕ) (kept : List ActStep) → IsKept (list_any is_step_deep) steps kept → Adds (natives_seen catalogue.old.natives) (so_far draft.old catalogue.old) number (said.Handler handler sig kept) result (so_far draft.new catalogue.new) }
-    ensures grows { (kept : List ActStep) → IsKept (list_any is_step_deep) steps kept → Grows (natives_seen catalogue.old.natives) catalogue.old.bodies catalogue.old.checks (said.Handler handler sig kept) result catalogue.new.bodies catalogue.new.checks }
+    ensures adds { (number : ℕ) (kept : List ActStep) → IsKept (list_any is_step_deep) steps kept
+        → Adds (natives_seen catalogue.old.natives) (so_far draft.old catalogue.old) number
+        (said.Handler handler sig kept) result (so_far draft.new catalogue.new) }
+    ensures grows { (kept : List ActStep) → IsKept (list_any is_step_deep) steps kept
+        → Grows (natives_seen catalogue.old.natives) catalogue.old.bodies catalogue.old.checks
+        (said.Handler handler sig kept) result catalogue.new.bodies catalogue.new.checks }
 {
     let act = next_act(draft, catalogue.handlers(), handler, &sig, steps)?;
     keep_handler(catalogue, Body::Coded(sig, act))?;
@@ -167,7 +179,8 @@ pub(crate) fn add_handler(
 fn last_act(catalogue: &Catalogue, handler: u16) -> &Act
     requires some { 0 < handler }
     requires last { handler ≡ length (handlers_of catalogue.now) }
-    ensures { (units : List HandlerUnit) (unit : HandlerUnit) → handlers_of catalogue.now ≡ units ++ unit ∷ [] → result.now ≡ unit.act }
+    ensures { (units : List HandlerUnit) (unit : HandlerUnit)
+        → handlers_of catalogue.now ≡ units ++ unit ∷ [] → result.now ≡ unit.act }
 {
     catalogue.act_of(handler)
 }
@@ -183,8 +196,11 @@ pub(crate) fn add_native_handler(
     requires sincere { ⟦<Catalogue as Sincere>⟧.sincere catalogue.old }
     ensures sincere { ⟦<Catalogue as Sincere>⟧.sincere catalogue.new }
     ensures natives { catalogue.new.natives ≡ catalogue.old.natives }
-    ensures adds { (number : ℕ) → Adds (natives_seen catalogue.old.natives) (so_far draft.old catalogue.old) number (said.NativeHandler handler name) result (so_far draft.new catalogue.new) }
-    ensures grows { Grows (natives_seen catalogue.old.natives) catalogue.old.bodies catalogue.old.checks (said.NativeHandler handler name) result catalogue.new.bodies catalogue.new.checks }
+    ensures adds { (number : ℕ) → Adds (natives_seen catalogue.old.natives)
+        (so_far draft.old catalogue.old) number (said.NativeHandler handler name) result
+        (so_far draft.new catalogue.new) }
+    ensures grows { Grows (natives_seen catalogue.old.natives) catalogue.old.bodies catalogue.old.checks
+        (said.NativeHandler handler name) result catalogue.new.bodies catalogue.new.checks }
 {
     if handler != catalogue.handlers() + 1 {
         return Err(Fault::Bad(Cause::Next));
@@ -204,7 +220,9 @@ pub(crate) fn add_native_handler(
 /// The test for the next guard, or why it can't be that.
 fn next_test(guards: u16, guard: u16, sig: &EventType, test: Option<Test>) -> Result<Test, Cause>
     requires { guards ≤ 1023 }
-    ensures first { (n : NativeData) (s : State) (kept : Test) → length s.guards ≡ guards → IsWithin test_depth 8 test kept → Judges (λ t. t ≡ kept) (first_of (checks n s (said.Guard guard sig.now kept))) result }
+    ensures first { (n : NativeData) (s : State) (kept : Test) → length s.guards ≡ guards
+        → IsWithin test_depth 8 test kept
+        → Judges (λ t. t ≡ kept) (first_of (checks n s (said.Guard guard sig.now kept))) result }
     ensures next { IfOk result (λ _. guard ≡ guards + 1) }
     ensures right { IfOk result (λ t. test_check t sig.now ≡ Ok tt) }
 {
@@ -232,8 +250,12 @@ pub(crate) fn add_guard(
     requires sincere { ⟦<Catalogue as Sincere>⟧.sincere catalogue.old }
     ensures sincere { ⟦<Catalogue as Sincere>⟧.sincere catalogue.new }
     ensures natives { catalogue.new.natives ≡ catalogue.old.natives }
-    ensures adds { (number : ℕ) (kept : Test) → IsWithin test_depth 8 test kept → Adds (natives_seen catalogue.old.natives) (so_far draft.old catalogue.old) number (said.Guard guard sig kept) result (so_far draft.new catalogue.new) }
-    ensures grows { (kept : Test) → IsWithin test_depth 8 test kept → Grows (natives_seen catalogue.old.natives) catalogue.old.bodies catalogue.old.checks (said.Guard guard sig kept) result catalogue.new.bodies catalogue.new.checks }
+    ensures adds { (number : ℕ) (kept : Test) → IsWithin test_depth 8 test kept
+        → Adds (natives_seen catalogue.old.natives) (so_far draft.old catalogue.old) number
+        (said.Guard guard sig kept) result (so_far draft.new catalogue.new) }
+    ensures grows { (kept : Test) → IsWithin test_depth 8 test kept
+        → Grows (natives_seen catalogue.old.natives) catalogue.old.bodies catalogue.old.checks
+        (said.Guard guard sig kept) result catalogue.new.bodies catalogue.new.checks }
 {
     let test = next_test(guard_count(catalogue), guard, &sig, test)?;
     keep_guard(catalogue, Check::Coded(sig, test))?;
@@ -252,8 +274,11 @@ pub(crate) fn add_native_guard(
     requires sincere { ⟦<Catalogue as Sincere>⟧.sincere catalogue.old }
     ensures sincere { ⟦<Catalogue as Sincere>⟧.sincere catalogue.new }
     ensures natives { catalogue.new.natives ≡ catalogue.old.natives }
-    ensures adds { (number : ℕ) → Adds (natives_seen catalogue.old.natives) (so_far draft.old catalogue.old) number (said.NativeGuard guard name) result (so_far draft.new catalogue.new) }
-    ensures grows { Grows (natives_seen catalogue.old.natives) catalogue.old.bodies catalogue.old.checks (said.NativeGuard guard name) result catalogue.new.bodies catalogue.new.checks }
+    ensures adds { (number : ℕ) → Adds (natives_seen catalogue.old.natives)
+        (so_far draft.old catalogue.old) number (said.NativeGuard guard name) result
+        (so_far draft.new catalogue.new) }
+    ensures grows { Grows (natives_seen catalogue.old.natives) catalogue.old.bodies catalogue.old.checks
+        (said.NativeGuard guard name) result catalogue.new.bodies catalogue.new.checks }
 {
     if guard != guard_count(catalogue) + 1 {
         return Err(Fault::Bad(Cause::Next));

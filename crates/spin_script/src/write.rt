@@ -17,37 +17,38 @@ use crate::script::{Line, Script, Segment};
 use declared::{put_defaults, put_endpoints, put_events, put_guards, put_handlers};
 use deeds::put_work;
 use rules::put_authorities;
+use spin_text::{end_line, put_number};
 use spin_values::{NoMemory, Octets};
 use std::alloc::Global;
-use words::{begin, end, put_number};
 
 /// Appends the first line, and the line that says how many modules there are.
 fn put_head(out: &mut Octets, version: u8, modules: u16) -> Result<(), NoMemory>
-    ensures { OnOk result (out.new ≡ out.old ++ version_text version ++ line_text (said.Modules modules)) }
+    ensures { OnOk result
+        (out.new ≡ out.old ++ version_text version ++ line_text (said.Modules modules)) }
 {
-    begin(out, b"spin")?;
+    out.extend_from_slice(b"spin")?;
     put_number(out, u64::from(version))?;
-    end(out)?;
-    begin(out, b"modules")?;
+    end_line(out)?;
+    out.extend_from_slice(b"modules")?;
     put_number(out, u64::from(modules))?;
-    end(out)
+    end_line(out)
 }
 
 fn put_retire(out: &mut Octets, endpoint: u16) -> Result<(), NoMemory>
     ensures { OnOk result (out.new ≡ out.old ++ line_text (said.Retire endpoint)) }
 {
-    begin(out, b"retire")?;
+    out.extend_from_slice(b"retire")?;
     put_number(out, u64::from(endpoint))?;
-    end(out)
+    end_line(out)
 }
 
 fn put_line(out: &mut Octets, version: u8, line: &Line) -> Result<(), NoMemory>
     ensures { OnOk result (out.new ≡ out.old ++ line_text (specs.lane_line version line.now)) }
 {
-    begin(out, b"lane")?;
+    out.extend_from_slice(b"lane")?;
     put_number(out, u64::from(line.lane))?;
     put_work(out, version, &line.work)?;
-    end(out)
+    end_line(out)
 }
 
 fn put_retires(out: &mut Octets, endpoints: &[u16]) -> Result<(), NoMemory>
@@ -77,11 +78,12 @@ fn put_segment(out: &mut Octets, version: u8, segment: &Segment) -> Result<(), N
 
 /// Appends segments, each behind a barrier.
 fn put_later_segments(out: &mut Octets, version: u8, segments: &[Segment]) -> Result<(), NoMemory>
-    ensures { OnOk result (out.new ≡ out.old ++ text_of (flat_map (λ s. said.Barrier ∷ segment_lines version s) segments.now)) }
+    ensures { OnOk result (out.new ≡ out.old
+        ++ text_of (flat_map (λ s. said.Barrier ∷ segment_lines version s) segments.now)) }
 {
     for segment in segments {
-        begin(out, b"barrier")?;
-        end(out)?;
+        out.extend_from_slice(b"barrier")?;
+        end_line(out)?;
         put_segment(out, version, segment)?;
     }
     Ok(())

@@ -5,8 +5,9 @@ ghost use Rattle.std.specs.List.{flat_map};
 ghost use Rattle.spin_grammar.specs.Forms.{cmp_word, layer_word, expr_form, test_form, part_form, step_form, steps_form, merge_form};
 ghost use Rattle.spin_script.specs.Canonical.{spoken};
 
-use crate::write::words::{put_argument, put_number, put_word};
+use crate::write::words::put_argument;
 use spin_code::{ActStep, Cmp, Expr, Layer, Merge, Part, Test};
+use spin_text::{put_number, put_word};
 use spin_values::{NoMemory, Octets};
 
 /// Appends an expression. It goes as deep into the stack as the expression is deep.

@@ -7,12 +7,11 @@ ghost use Rattle.spin_grammar.specs.Forms.{op_word, place_word, mode_word, spot_
 ghost use Rattle.spin_script.specs.Canonical.{spoken, narrow_spot, spot_of, command_task, deed_task, task_of};
 ghost use Rattle.spin_script.specs.Canonical as specs;
 
-use crate::script::Work;
 use crate::write::rules::{op_word, put_counted};
-use crate::write::words::{put_bytes, put_number, put_word};
-use spin_proto::Deed;
+use crate::write::words::put_bytes;
+use spin_text::{put_number, put_word};
 use spin_values::{NoMemory, Octets, Value};
-use spin_word::{Command, Mode, NO_BINDING, Op, Place};
+use spin_word::{Command, Deed, Mode, NO_BINDING, Op, Place, Work};
 
 fn place_word(place: Place) -> &'static [u8]
     ensures { result.now ≡ place_word place }
@@ -54,7 +53,8 @@ fn named(bindings: &[u16]) -> &[u16]
 
 /// Appends a place that names one other binding at most.
 fn put_narrow_spot(out: &mut Octets, place: Place, before: u16, after: u16) -> Result<(), NoMemory>
-    ensures { OnOk result (out.new ≡ out.old ++ spoken (spot_form (narrow_spot place before after))) }
+    ensures { OnOk result
+        (out.new ≡ out.old ++ spoken (spot_form (narrow_spot place before after))) }
 {
     if before != NO_BINDING {
         put_word(out, b"before")?;
@@ -83,7 +83,9 @@ fn put_spot(out: &mut Octets, version: u8, command: &Command) -> Result<(), NoMe
 
 /// Appends an op, and the event and the module that each command names.
 fn put_front(out: &mut Octets, command: &Command) -> Result<(), NoMemory>
-    ensures { OnOk result (out.new ≡ out.old ++ spoken (Fixed (op_word command.now.op) ∷ Numeral command.now.event ∷ Numeral command.now.requester ∷ [])) }
+    ensures { OnOk result (out.new ≡ out.old
+        ++ spoken (Fixed (op_word command.now.op) ∷ Numeral command.now.event
+        ∷ Numeral command.now.requester ∷ [])) }
 {
     put_word(out, op_word(command.op))?;
     put_number(out, u64::from(command.event))?;
@@ -92,7 +94,8 @@ fn put_front(out: &mut Octets, command: &Command) -> Result<(), NoMemory>
 
 /// Appends a command, in a script of this version.
 fn put_command(out: &mut Octets, version: u8, command: &Command) -> Result<(), NoMemory>
-    ensures { OnOk result (out.new ≡ out.old ++ spoken (task_form (command_task version command.now.op command.now))) }
+    ensures { OnOk result (out.new ≡ out.old
+        ++ spoken (task_form (command_task version command.now.op command.now))) }
 {
     put_front(out, command)?;
     match command.op {

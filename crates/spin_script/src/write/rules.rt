@@ -10,10 +10,11 @@ ghost use Rattle.spin_grammar.specs.Lines as said;
 ghost use Rattle.spin_script.specs.States.{natives_seen};
 ghost use Rattle.spin_script.specs.Canonical.{spoken, line_text, text_of, authority_lines};
 
-use crate::write::words::{begin, end, put_name, put_number, put_numbers, put_word};
+use crate::write::words::put_name;
 use spin_objects::{NativeKind, Natives};
 use spin_policy::{Effect, Forced, OpMatch, Rule};
 use spin_table::{Authority, Setup};
+use spin_text::{end_line, put_number, put_numbers, put_word};
 use spin_values::{NoMemory, Octets, Text};
 use spin_word::Op;
 
@@ -119,10 +120,10 @@ fn put_rule_words(out: &mut Octets, rule: &Rule) -> Result<(), NoMemory>
 fn put_rule(out: &mut Octets, event: u8, rule: &Rule) -> Result<(), NoMemory>
     ensures { OnOk result (out.new ≡ out.old ++ line_text (said.Rules event rule.now)) }
 {
-    begin(out, b"rule")?;
+    out.extend_from_slice(b"rule")?;
     put_number(out, u64::from(event))?;
     put_rule_words(out, rule)?;
-    end(out)
+    end_line(out)
 }
 
 fn put_rules(out: &mut Octets, event: u8, rules: &[Rule]) -> Result<(), NoMemory>
@@ -137,10 +138,10 @@ fn put_rules(out: &mut Octets, event: u8, rules: &[Rule]) -> Result<(), NoMemory
 fn put_authoriser(out: &mut Octets, event: u8, name: &Text) -> Result<(), NoMemory>
     ensures { OnOk result (out.new ≡ out.old ++ line_text (said.Authoriser event name.now)) }
 {
-    begin(out, b"authoriser")?;
+    out.extend_from_slice(b"authoriser")?;
     put_number(out, u64::from(event))?;
     put_name(out, name)?;
-    end(out)
+    end_line(out)
 }
 
 /// Appends the lines of who answers for the owner of an event.
@@ -151,7 +152,8 @@ fn put_authority(
     authority: &Authority,
 ) -> Result<(), NoMemory>
     requires { IsTrue (has_authority (policies_of natives.now) authority.now) }
-    ensures { OnOk result (out.new ≡ out.old ++ text_of (authority_lines (natives_seen natives.now) event authority.now)) }
+    ensures { OnOk result (out.new ≡ out.old
+        ++ text_of (authority_lines (natives_seen natives.now) event authority.now)) }
 {
     match authority {
         Authority::Rules(policy) => put_rules(out, event, policy.as_slice()),
@@ -164,7 +166,10 @@ fn put_authority(
 
 /// Appends the lines of who answers for the owners of all events.
 pub(super) fn put_authorities(out: &mut Octets, setup: &Setup) -> Result<(), NoMemory>
-    ensures { OnOk result (out.new ≡ out.old ++ text_of (flat_map (λ p. authority_lines (natives_seen setup.now.catalogue.natives) p.0 p.1.authority) (enumerate_from 0 (data_of setup.now).events))) }
+    ensures { OnOk result (out.new ≡ out.old
+        ++ text_of (flat_map (λ p.
+        authority_lines (natives_seen setup.now.catalogue.natives) p.0 p.1.authority)
+        (enumerate_from 0 (data_of setup.now).events))) }
 {
     for event in 0..setup.events() {
         let def = setup.event(event);

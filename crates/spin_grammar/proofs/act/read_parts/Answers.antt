@@ -5,7 +5,8 @@ use Rattle.spin_code.specs.Size.{is_part_deep}
 use Rattle.spin_grammar.specs.declared.fault.Fault.{Fault}
 use Rattle.spin_grammar.specs.Grammar as grammar
 use Rattle.spin_grammar.specs.Forms.{part_form}
-use Rattle.spin_grammar.specs.Reading.{Takes, Fails, IsKept, SoFar}
+use Rattle.spin_grammar.specs.Inner.Reading.{Takes, Fails, SoFar}
+use Rattle.spin_grammar.specs.Lines.{IsKept}
 use Rattle.spin_grammar.proofs.Parts.{leads_with, fails_head}
 use Rattle.spin_grammar.proofs.Kept.{so_far_none, so_far_kept, so_far_deep, so_far_fails}
 use Rattle.spin_grammar.proofs.act.read_parts.Goals as goal

@@ -2,7 +2,7 @@ use Rattle.std.proofs.Common.{◌≤◌, ◌-◌, length, replicate}
 use Rattle.spin_code.specs.Size.{is_part_deep}
 use Rattle.spin_grammar.specs.Grammar.{Part}
 use Rattle.spin_grammar.specs.Forms.{part_form}
-use Rattle.spin_grammar.specs.Reading.{SoFar}
+use Rattle.spin_grammar.specs.Inner.Reading.{SoFar}
 use Rattle.spin_grammar.proofs.act.read_parts.Given as goal
 
 abbrev pub invariant-loop : goal.invariant-loop

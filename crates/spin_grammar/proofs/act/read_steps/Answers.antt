@@ -6,9 +6,9 @@ use Rattle.spin_code.specs.declared.act.ActStep.{ActStep}
 use Rattle.spin_code.specs.Size.{is_step_deep}
 use Rattle.spin_grammar.specs.declared.heads.StepWord.{StepWord}
 use Rattle.spin_grammar.specs.Grammar.{Atom, Steps}
-use Rattle.spin_grammar.specs.Heads.{step_next}
+use Rattle.spin_grammar.specs.Inner.Heads.{step_next}
 use Rattle.spin_grammar.specs.Forms.{step_form, steps_form}
-use Rattle.spin_grammar.specs.Reading.{Leads}
+use Rattle.spin_grammar.specs.Inner.Reading.{Leads}
 use Rattle.spin_grammar.proofs.Parts.{leads_then, leads_over, fails_then}
 use Rattle.spin_grammar.proofs.Kept.{so_far_none, so_far_kept, so_far_deep, so_far_fails}
 use Rattle.spin_grammar.proofs.act.read_steps.Goals as goal

@@ -2,7 +2,7 @@ use Rattle.std.proofs.Common.{ℕ, ◌≤◌, [], ◌∷◌, length}
 use Rattle.spin_code.specs.Size.{is_step_deep}
 use Rattle.spin_grammar.specs.Grammar.{Steps}
 use Rattle.spin_grammar.specs.Forms.{step_form}
-use Rattle.spin_grammar.specs.Reading.{SoFar}
+use Rattle.spin_grammar.specs.Inner.Reading.{SoFar}
 use Rattle.spin_grammar.proofs.act.read_steps.Given as goal
 
 abbrev pub invariant-loop-steps : goal.invariant-loop-steps

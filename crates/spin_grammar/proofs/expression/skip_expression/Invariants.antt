@@ -1,7 +1,7 @@
 use Rattle.std.proofs.Common.{◌<◌, ◌≤◌, ◌+◌, ◌^◌, length}
 use Rattle.spin_grammar.specs.Grammar.{Expression}
 use Rattle.spin_grammar.specs.Forms.{expr_form}
-use Rattle.spin_grammar.specs.Reading.{Regrows}
+use Rattle.spin_grammar.specs.Inner.Reading.{Regrows}
 use Rattle.spin_grammar.proofs.expression.skip_expression.Given as goal
 
 abbrev pub invariant-loop-wanted : goal.invariant-loop-wanted

@@ -5,7 +5,7 @@ use Rattle.spin_grammar.specs.declared.cause.Cause.{Cause}
 use Rattle.spin_grammar.specs.declared.fault.Fault.{Fault}
 use Rattle.spin_grammar.specs.declared.fault.Fault.TheVariants.{Bad}
 use Rattle.spin_grammar.specs.Grammar.{Want, reads}
-use Rattle.spin_grammar.specs.Reading.{Fails}
+use Rattle.spin_grammar.specs.Inner.Reading.{Fails}
 use Rattle.spin_grammar.proofs.line.read_line.Goals as goal
 
 failed : (wants : List Want) (f : Fault) (old : List (List ℕ)) → Fails wants f old → (c : Cause) → f ≡ Bad c → reads wants old ≡ Err c

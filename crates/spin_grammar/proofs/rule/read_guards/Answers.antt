@@ -3,7 +3,7 @@ use Rattle.std.proofs.lemmas.List.{map_push}
 use Rattle.std.proofs.lemmas.Result.{err_from_is_err_and}
 use Rattle.spin_grammar.specs.declared.fault.Fault.{Fault}
 use Rattle.spin_grammar.specs.Grammar.{Number, Numeral, Counted}
-use Rattle.spin_grammar.specs.Reading.{Leads, Takes, Fails}
+use Rattle.spin_grammar.specs.Inner.Reading.{Leads, Takes, Fails}
 use Rattle.spin_grammar.proofs.Parts.{leads_then, leads_with, fails_then, fails_head}
 use Rattle.spin_grammar.proofs.rule.read_guards.Goals as goal
 

@@ -1,6 +1,6 @@
 use Rattle.std.proofs.Common.{◌≡◌, ◌-◌, [], ◌∷◌, length, map, replicate}
 use Rattle.spin_grammar.specs.Grammar.{Number, Numeral, Counted}
-use Rattle.spin_grammar.specs.Reading.{Leads}
+use Rattle.spin_grammar.specs.Inner.Reading.{Leads}
 use Rattle.spin_grammar.proofs.rule.read_guards.Given as goal
 
 abbrev pub invariant-loop : goal.invariant-loop

@@ -1,7 +1,7 @@
 use Rattle.std.proofs.Common.{◌<◌, ◌≤◌, ◌+◌, ◌^◌, length}
 use Rattle.spin_grammar.specs.Grammar.{Test}
 use Rattle.spin_grammar.specs.Forms.{test_form}
-use Rattle.spin_grammar.specs.Reading.{Regrows}
+use Rattle.spin_grammar.specs.Inner.Reading.{Regrows}
 use Rattle.spin_grammar.proofs.test.skip_test.Given as goal
 
 abbrev pub invariant-loop-wanted : goal.invariant-loop-wanted

@@ -1,6 +1,6 @@
 use Rattle.std.proofs.Common.{◌≡◌, ◌++◌, take}
 use Rattle.std.specs.List.{flat_map}
-use Rattle.spin_report.specs.Words.{spaced}
+use Rattle.spin_text.specs.Words.{spaced}
 use Rattle.spin_report.specs.Replies.{step_words}
 use Rattle.spin_report.proofs.reply.put_trace.Given as goal
 

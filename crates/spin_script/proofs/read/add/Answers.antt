@@ -3,8 +3,8 @@ use Rattle.spin_grammar.specs.declared.fault.Fault.{Fault}
 use Rattle.spin_grammar.specs.declared.line.Said.{Said}
 use Rattle.spin_grammar.specs.Lines.{Line}
 use Rattle.spin_script.specs.States.{NativeData, State, natives_seen}
-use Rattle.spin_script.specs.Drafts.{so_far}
-use Rattle.spin_script.specs.Reader.{Adds, AddsSaid}
+use Rattle.spin_script.specs.Inner.Drafts.{so_far}
+use Rattle.spin_script.specs.Inner.Reader.{Adds, AddsSaid}
 use Rattle.spin_script.proofs.read.add.Goals as goal
 
 -- what was added is the line

@@ -2,7 +2,7 @@ use Rattle.std.proofs.Common.{ℕ, List, ap, ◌∙◌}
 use Rattle.spin_table.specs.declared.event.EventDef.{EventDef}
 use Rattle.spin_table.specs.Catalogues.{data_from}
 use Rattle.spin_script.specs.States.{natives_seen}
-use Rattle.spin_script.specs.Drafts.{so_far}
+use Rattle.spin_script.specs.Inner.Drafts.{so_far}
 use Rattle.spin_script.proofs.Sound.{never_err}
 use Rattle.spin_script.proofs.read.build.Goals as goal
 

@@ -1,6 +1,6 @@
 use Rattle.std.proofs.Common.{◌+◌, ap}
 use Rattle.spin_script.specs.States.{natives_seen}
-use Rattle.spin_script.specs.Drafts.{so_far}
+use Rattle.spin_script.specs.Inner.Drafts.{so_far}
 use Rattle.spin_script.proofs.Whole.{bad_at, bad_next}
 use Rattle.spin_script.proofs.read.read_lines.Goals as goal
 

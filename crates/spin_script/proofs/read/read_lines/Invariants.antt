@@ -2,9 +2,9 @@ use Rattle.std.proofs.Common.{◌≡◌, ◌+◌, ◌≤◌, length}
 use Rattle.std.specs.Str.Lines.{lines}
 use Rattle.spin_script.specs.States.{natives_seen, start}
 use Rattle.spin_script.specs.Language.{Outcome, ComesTo}
-use Rattle.spin_script.specs.Drafts.{so_far}
-use Rattle.spin_script.specs.Soundness.{IsSound}
-use Rattle.spin_script.specs.Declaring.{IsDeclared}
+use Rattle.spin_script.specs.Inner.Drafts.{so_far}
+use Rattle.spin_script.specs.Inner.Sound.{IsSound}
+use Rattle.spin_script.specs.Inner.Declaring.{IsDeclared}
 use Rattle.spin_script.proofs.read.read_lines.Given as goal
 
 -- what the lines that are left come to behind the script so far is what the text comes to

@@ -1,5 +1,5 @@
 use Rattle.spin_script.specs.States.{natives_seen}
-use Rattle.spin_script.specs.Drafts.{so_far}
+use Rattle.spin_script.specs.Inner.Drafts.{so_far}
 use Rattle.spin_script.proofs.Keeping.{said_sound}
 use Rattle.spin_script.proofs.Declaring.{said_declared}
 use Rattle.spin_script.proofs.read.say.Goals as goal

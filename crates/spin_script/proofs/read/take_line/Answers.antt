@@ -1,27 +1,27 @@
 use Rattle.std.proofs.Common.{sym}
 use Rattle.spin_objects.specs.Units.{handlers_of, guards_of}
 use Rattle.spin_script.specs.States.{natives_seen}
-use Rattle.spin_script.specs.Drafts.{so_far}
+use Rattle.spin_script.specs.Inner.Drafts.{so_far}
 use Rattle.spin_script.proofs.Keeping.{head_in_order}
 use Rattle.spin_script.proofs.Declaring.{begun_declared, says_begun}
 use Rattle.spin_script.proofs.read.take_line.Goals as goal
 
 pub say-requires-clause-order : goal.say-requires-clause-order
 say-requires-clause-order g c =
-    let seen = c.in-Ok-Says.ensures.head (handlers_of c.args.catalogue.now) (guards_of c.args.catalogue.now) in
-    let says = rw c.in-Ok-Says.field-0-is at seen in
-    head_in_order (so_far c.args.draft.now c.args.catalogue.now) c.args.line.now c.in-Ok-Says.kind _ (sym says)
+    let seen = c.in_ok-found.ensures.head (handlers_of c.args.catalogue.now) (guards_of c.args.catalogue.now) in
+    let says = rw c.in-Says.is at seen in
+    head_in_order (so_far c.args.draft.now c.args.catalogue.now) c.args.line.now c.in-Says.kind _ (sym says)
 
 pub say-requires-clause-begun : goal.say-requires-clause-begun
 say-requires-clause-begun g c =
     let old = c.args.catalogue.now in
-    let seen = c.in-Ok-Says.ensures.head (handlers_of old) (guards_of old) in
-    let says = rw c.in-Ok-Says.field-0-is at seen in
-    says_begun (natives_seen old.natives) (so_far c.args.draft.now old) old.bodies old.checks c.args.line.now c.in-Ok-Says.kind _ (sym says) c.requires.declared
+    let seen = c.in_ok-found.ensures.head (handlers_of old) (guards_of old) in
+    let says = rw c.in-Says.is at seen in
+    says_begun (natives_seen old.natives) (so_far c.args.draft.now old) old.bodies old.checks c.args.line.now c.in-Says.kind _ (sym says) c.requires.declared
 
-pub returns-in-Ok-Begins-clause-declared : goal.returns-in-Ok-Begins-clause-declared
-returns-in-Ok-Begins-clause-declared g c =
+pub returns-in-Begins-clause-declared : goal.returns-in-Begins-clause-declared
+returns-in-Begins-clause-declared g c =
     let old = c.args.catalogue.now in
-    let seen = c.in-Ok-Begins.ensures.head (handlers_of old) (guards_of old) in
-    let begins = rw c.in-Ok-Begins.field-0-is at seen in
-    begun_declared (natives_seen old.natives) (so_far c.args.draft.now old) old.bodies old.checks c.args.line.now c.in-Ok-Begins.version (sym begins) c.requires.declared
+    let seen = c.in_ok-found.ensures.head (handlers_of old) (guards_of old) in
+    let begins = rw c.in-Begins.is at seen in
+    begun_declared (natives_seen old.natives) (so_far c.args.draft.now old) old.bodies old.checks c.args.line.now c.in-Begins.version (sym begins) c.requires.declared

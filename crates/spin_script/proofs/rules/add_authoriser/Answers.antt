@@ -2,8 +2,9 @@ use Rattle.std.proofs.Common.{◌≡◌, ℕ, Option, Some, refl, sym, ap, subst
 use Rattle.spin_objects.specs.Units.{native_authorisers}
 use Rattle.spin_grammar.specs.Lines as said
 use Rattle.spin_script.specs.States.{native_at, natives_seen}
-use Rattle.spin_script.specs.Checks.{first_of, authoriser_checks, policy_at}
-use Rattle.spin_script.specs.Drafts.{so_far}
+use Rattle.spin_values.specs.First.{first_of}
+use Rattle.spin_script.specs.Checks.{authoriser_checks, policy_at}
+use Rattle.spin_script.specs.Inner.Drafts.{so_far}
 use Rattle.spin_script.proofs.Judged.{refused}
 use Rattle.spin_script.proofs.rules.add_authoriser.Goals as goal
 

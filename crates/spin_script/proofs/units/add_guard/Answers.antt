@@ -5,7 +5,7 @@ use Rattle.spin_code.specs.Check.{test_check}
 use Rattle.spin_grammar.specs.Lines as said
 use Rattle.spin_objects.specs.Units.{handlers_of, guards_of}
 use Rattle.spin_script.specs.States.{natives_seen}
-use Rattle.spin_script.specs.Drafts.{so_far}
+use Rattle.spin_script.specs.Inner.Drafts.{so_far}
 use Rattle.spin_script.proofs.Judged.{refused}
 use Rattle.spin_script.proofs.Added.{next_fits, guard_added}
 use Rattle.spin_script.proofs.units.add_guard.Goals as goal

@@ -1,0 +1,14 @@
+use Rattle.std.proofs.Common.{refl}
+use Rattle.spin_grammar.specs.Forms.{Replace}
+use Rattle.spin_grammar.proofs.Parts.{takes_then}
+use Rattle.spin_grammar.proofs.work.read_replace.Goals as goal
+
+pub returns-clause-gives : goal.returns-clause-gives
+returns-clause-gives c =
+    let target = rw c.last_target.ensures.last at c.in_ok-command.ensures.gives in (
+      Replace c.in_ok-event.field-0 c.in_ok-requester.field-0 c.in_ok-command.field-0 c.in_ok-command-2.field-0 c.in_ok-command-3.field-0,
+      _,
+      refl,
+      takes_then _ _ _ _ _ _ _ c.in_ok-event.ensures.gives (takes_then _ _ _ _ _ _ _ c.in_ok-requester.ensures.gives (takes_then _ _ _ _ _ _ _ target (takes_then _ _ _ _ _ _ _ c.in_ok-command-2.ensures.gives c.in_ok-command-3.ensures.gives))),
+      rw c.bare-command.ensures refl,
+    )

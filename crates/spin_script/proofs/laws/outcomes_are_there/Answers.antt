@@ -1,0 +1,5 @@
+use Rattle.spin_script.proofs.There.{some_outcome}
+use Rattle.spin_script.proofs.laws.outcomes_are_there.Goals as goal
+
+pub returns : goal.returns
+returns c = some_outcome
