@@ -1,0 +1,12 @@
+use Rattle.std.proofs.Common.{◌-◌, length}
+use Rattle.spin_word.specs.declared.command.TheConstants.{MAX_PLACE}
+use Rattle.spin_table.specs.SetupOf.{data_of}
+use Rattle.spin_seat.specs.Seats.{IsSeatOf}
+use Rattle.spin_seat.specs.Calls.{ReadsOn}
+use Rattle.spin_seat.proofs.seat.Seat.pin.Given as goal
+
+abbrev pub invariant-loop-self : goal.invariant-loop-self
+invariant-loop-self g l = ReadsOn l.initial.self.pen l.self.pen × IsSeatOf (data_of l.hub.setup) l.self
+
+abbrev pub decreases-loop-self : goal.decreases-loop-self
+decreases-loop-self g l = MAX_PLACE - length l.self.pen.front

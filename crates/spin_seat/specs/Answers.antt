@@ -1,0 +1,65 @@
+-- What seats answer, and when a list of answers is a history of the plain dispatcher.
+use Rattle.std.specs.Prelude.{◌≡◌, ℕ, ◌-◌, ◌≤◌, Bool, if◌then◌else◌, List, [], ◌∷◌, take, length, Option, None, Some, is_some}
+use Rattle.spin_word.specs.declared.row.Row.{Row}
+use Rattle.spin_word.specs.declared.command.Command.{Command}
+use Rattle.spin_word.specs.Rows.{row_of}
+use Rattle.spin_table.specs.declared.refusal.Verdicted.{Verdicted}
+use Rattle.spin_table.specs.declared.refusal.Verdicted.TheVariants.{Accepted, Refused}
+use Rattle.spin_table.specs.Setups.{SetupData}
+use Rattle.spin_table.specs.States.{State}
+use Rattle.spin_table.specs.Steps.{IsStep}
+use Rattle.spin_word.specs.declared.work.Deed.{Deed}
+use Rattle.spin_proto.specs.declared.reply.Reply.{Reply}
+use Rattle.spin_proto.specs.Replies.{IsDeedReply}
+use Rattle.spin_seat.specs.Replay.{IsReplay}
+
+-- what was asked of a seat, with what it said: a command with its verdict, or a deed with its reply
+pub data Said : Type 0 where
+  command : Command → Verdicted → Said
+  deed : Deed → Reply → Said
+
+-- an answer of a seat: its lane, its place, and what was asked and said
+pub record Answer : Type 0 where
+  pub lane : ℕ
+  pub place : ℕ
+  pub said : Said
+
+-- the row that an accepted command has in the log; a refused one and a deed have none
+abbrev pub row_published : Said → Option Row
+row_published (command c Accepted) = Some (row_of c)
+row_published (command c (Refused refusal)) = None
+row_published (deed asked reply) = None
+
+abbrev pub is_accepted : Said → Bool
+is_accepted said = is_some (row_published said)
+
+-- What was asked at the first state has this answer, and leads to the second: an accepted command
+-- to the next state, a refused one or a deed to the same.
+abbrev pub LeadsTo : SetupData → State → Said → State → Type 0
+LeadsTo d s (command c verdict) next = IsStep d s c verdict next
+LeadsTo d s (deed asked reply) next = IsDeedReply d s asked reply × (next ≡ s)
+
+-- how many rows the log has before the answer: up to its place, but for the row of an accepted
+-- command
+abbrev pub rows_before : Answer → ℕ
+rows_before answer = if is_accepted answer.said then answer.place - 1 else answer.place
+
+-- in this log the answer is that of the plain dispatcher: it leads from the replay of the rows
+-- before it to that of the rows up to its place
+pub record IsAnswerIn (d : SetupData) (log : List Row) (answer : Answer) : Type 0 where
+  pub before : State
+  pub after : State
+  pub reached : answer.place ≤ length log
+  pub replay_before : IsReplay d (take (rows_before answer) log) before
+  pub replay_after : IsReplay d (take answer.place log) after
+  pub leads : LeadsTo d before answer.said after
+
+-- each answer follows on the state that those before it made, and has the place of the state to
+-- which it leads
+abbrev pub IsLegal : SetupData → State → List Answer → State → Type 0
+IsLegal d s [] last = last ≡ s
+IsLegal d s (answer ∷ answers) last =
+    (next : State)
+    × LeadsTo d s answer.said next
+    × (answer.place ≡ next.place)
+    × IsLegal d next answers last

@@ -1,0 +1,42 @@
+-- The state after the rows of a log.
+use Rattle.std.specs.Prelude.{◌≡◌, ℕ, List, [], ◌∷◌, ◌++◌}
+use Rattle.spin_word.specs.declared.row.Row.{Row}
+use Rattle.spin_word.specs.declared.command.Command.{Command}
+use Rattle.spin_word.specs.Rows.{StandsFor, lane_of}
+use Rattle.spin_table.specs.declared.refusal.Verdicted.{Verdicted}
+use Rattle.spin_table.specs.declared.refusal.Verdicted.TheVariants as verdicted
+use Rattle.spin_table.specs.Setups.{SetupData}
+use Rattle.spin_table.specs.States.{State, start_of}
+use Rattle.spin_table.specs.Steps.{IsStep}
+
+-- the command of the row has this verdict at the state, and leaves that one
+abbrev pub IsRowStep : SetupData → State → Row → Verdicted → State → Type 0
+IsRowStep d s row v next = (c : Command) × StandsFor row c × IsStep d s c v next
+
+-- the commands of the rows, one after another, lead from a state to this one. A refused one leaves
+-- it
+abbrev pub IsReplayFrom : SetupData → State → List Row → State → Type 0
+IsReplayFrom d s [] last = last ≡ s
+IsReplayFrom d s (row ∷ rows) last =
+    (v : Verdicted) × (next : State) × IsRowStep d s row v next × IsReplayFrom d next rows last
+
+-- the same from the start
+abbrev pub IsReplay : SetupData → List Row → State → Type 0
+IsReplay d rows last = IsReplayFrom d (start_of d) rows last
+
+-- the command of the row is accepted after these rows
+abbrev pub IsAcceptedAfter : SetupData → List Row → Row → Type 0
+IsAcceptedAfter d front row =
+    (s : State) × IsReplay d front s × ((next : State) × IsRowStep d s row verdicted.Accepted next)
+
+-- each row is accepted after the rows before it
+abbrev pub IsClean : SetupData → List Row → Type 0
+IsClean d log =
+    (front : List Row) (row : Row) (rest : List Row)
+    → log ≡ front ++ row ∷ rest → IsAcceptedAfter d front row
+
+-- the same of the rows of one lane
+abbrev pub IsCleanFor : SetupData → ℕ → List Row → Type 0
+IsCleanFor d lane log =
+    (front : List Row) (row : Row) (rest : List Row)
+    → log ≡ front ++ row ∷ rest → lane_of row ≡ lane → IsAcceptedAfter d front row

@@ -1,0 +1,35 @@
+-- The answers of all seats as one list.
+use Rattle.std.specs.Prelude.{◌≡◌, ℕ, ◌+◌, ◌*◌, ◌<◌, ◌==◌, if◌then◌else◌, List, filter, length, slice_index_or, All}
+use Rattle.core.specs.List.Sorted.{IsNonDecreasingBy}
+use Rattle.spin_word.specs.declared.row.Row.{Row}
+use Rattle.spin_table.specs.Setups.{SetupData}
+use Rattle.spin_table.specs.States.{State, start_of}
+use Rattle.spin_seat.specs.Replay.{IsReplay}
+use Rattle.spin_seat.specs.Seats.{SeatValue}
+use Rattle.spin_seat.specs.Answers.{Answer, is_accepted, IsLegal}
+use Rattle.spin_seat.specs.Runs.{Ran, new_of}
+
+-- where an answer stands among others: by place, and at one place the accepted command first
+abbrev pub rank : Answer → ℕ
+rank answer = 2 * answer.place + (if is_accepted answer.said then 0 else 1)
+
+-- the list has the answers of each lane in their own order and nothing else, and stands in the
+-- order of places
+pub record IsWeave (lanes : ℕ) (trails : ℕ → List Answer) (woven : List Answer) : Type 0 where
+  pub each : (k : ℕ) → k < lanes → filter (λ answer. answer.lane == k) woven ≡ trails k
+  pub lanes_are : All (λ answer. answer.lane < lanes) woven
+  pub order : IsNonDecreasingBy rank woven
+
+-- these are all answers of each seat since it was new
+abbrev pub HaveAnswered : SetupData → List SeatValue → (ℕ → List Answer) → Type 0
+HaveAnswered d seats trails =
+    (k : ℕ) (seat : SeatValue) → k < length seats
+    → Ran d (new_of (slice_index_or seats k seat).pen) (trails k) (slice_index_or seats k seat).pen
+
+-- All that the seats have answered, as one list in the order of places, is a history of the plain
+-- dispatcher, which leads from the start to the replay of the log.
+abbrev pub AnswersAreLegal : SetupData → List SeatValue → List Row → Type 0
+AnswersAreLegal d seats log =
+    (trails : ℕ → List Answer) (woven : List Answer)
+    → HaveAnswered d seats trails → IsWeave (length seats) trails woven
+    → (last : State) × IsReplay d log last × IsLegal d (start_of d) woven last

@@ -1,0 +1,110 @@
+//! What all seats share.
+
+ghost use Rattle.std.specs.Prelude.{◌≡◌, ◌<◌, ◌≤◌, List, All, map, length, IfOk, OnOk, MatchResult};
+ghost use Rattle.spin_word.specs.declared.command.TheConstants.{MAX_LANES, MAX_PLACE};
+ghost use Rattle.spin_log.specs.Rows.{IsCommandBelow};
+ghost use Rattle.spin_log.specs.History.{Moment};
+ghost use Rattle.spin_log.specs.Pens.{IsSamePen, with_front, StandsIn, IsHistory, new_pens};
+ghost use Rattle.spin_log.specs.Steps.{longer};
+ghost use Rattle.spin_table.specs.SetupOf.{data_of};
+ghost use Rattle.spin_seat.specs.Replay.{IsClean};
+ghost use Rattle.spin_seat.specs.Seats.{IsSeatOf, AreOfLanes};
+ghost use Rattle.spin_seat.specs.Weaves.{AnswersAreLegal};
+
+use crate::seat::{Seat, Seats};
+use crate::seats::{pens_of, seats_of};
+use spin_code::Sincere;
+use spin_log::{Log, Rows};
+use spin_objects::Catalogue;
+use spin_table::Setup;
+use spin_values::NoMemory;
+use std::alloc::Global;
+
+/// The log, and the setup that never changes. Seats share it by reference.
+#[derive(Drop)]
+pub struct Hub {
+    pub(crate) log: Log,
+    pub(crate) setup: Setup,
+}
+
+impl Hub {
+    /// One seat for each lane, from 1 lane to [`MAX_LANES`](spin_word::MAX_LANES): the k-th, from
+    /// 0, is that of lane k, and is new, at the start version, which they share. After want of
+    /// memory the setup is gone.
+    pub fn new(alloc: Global, setup: Setup, lanes: u8) -> Result<(Hub, Seats), NoMemory>
+        requires some { 0 < lanes }
+        requires few { lanes ≤ MAX_LANES }
+        ensures setup { IfOk result (λ made. made.0.setup ≡ setup) }
+        ensures lanes { IfOk result (λ made. made.0.log.lanes ≡ lanes) }
+        ensures pens { IfOk result (λ made. map (λ seat. seat.pen) made.1 ≡ new_pens made.0.log.id lanes) }
+        ensures seats { IfOk result (λ made. All (IsSeatOf (data_of setup)) made.1) }
+        ensures own { IfOk result (λ made. All (λ seat. seat.pen.log ≡ made.0.log.id) made.1) }
+        ensures all { IfOk result (λ made. length made.1 ≡ lanes) }
+        ensures order { IfOk result (λ made. AreOfLanes 0 made.1) }
+    {
+        let (log, pens) = Log::new(alloc, lanes)?;
+        let seats = seats_of(alloc, &setup, pens)?;
+        Ok((Hub { log, setup }, seats))
+    }
+
+    /// The setup. It takes no memory.
+    pub fn setup(&self) -> &Setup
+        ensures { result.now ≡ self.now.setup }
+    {
+        &self.setup
+    }
+
+    /// Lets two seats know what each other knows: of the two fronts one begins the other, and
+    /// afterwards both seats have the longer one and share its version. Own rows and pins stay.
+    /// After want of memory both fronts are as before. It waits for nobody, and applies at most one
+    /// row for each seat. The seats' log is the hub's, the seats are those of the hub's setup, and
+    /// the catalogue's objects do what they were handed in with.
+    pub fn meet(&self, alloc: Global, a: &mut Seat, b: &mut Seat) -> Result<(), NoMemory>
+        requires sincere { ⟦<Catalogue as Sincere>⟧.sincere self.now.setup.catalogue }
+        requires log_a { a.old.pen.log ≡ self.now.log.id }
+        requires log_b { b.old.pen.log ≡ self.now.log.id }
+        requires seat_a { IsSeatOf (data_of self.now.setup) a.old }
+        requires seat_b { IsSeatOf (data_of self.now.setup) b.old }
+        ensures seat_a { IsSeatOf (data_of self.now.setup) a.new }
+        ensures seat_b { IsSeatOf (data_of self.now.setup) b.new }
+        ensures a { let front = longer a.old.pen.front b.old.pen.front in
+            MatchResult result
+            (λ _. a.new.pen ≡ with_front a.old.pen front)
+            (λ _. a.new.pen ≡ a.old.pen) }
+        ensures b { let front = longer a.old.pen.front b.old.pen.front in
+            MatchResult result
+            (λ _. b.new.pen ≡ with_front b.old.pen front)
+            (λ _. b.new.pen ≡ b.old.pen) }
+        ensures same { IsSamePen a.old.pen a.new.pen × IsSamePen b.old.pen b.new.pen }
+        ensures state { OnOk result (a.new.state ≡ b.new.state) }
+    {
+        a.apply(alloc, self)?;
+        b.apply(alloc, self)?;
+        if a.front() < b.front() {
+            a.learn(self, b)
+        } else {
+            b.learn(self, a)
+        }
+    }
+
+    /// The whole log, from all seats of the hub, the k-th being that of lane k. It is clean: each
+    /// row was accepted at its own place. And all that the seats have answered, as one list in the
+    /// order of places, is a legal history of the plain dispatcher, up to the replay of the log.
+    /// After want of memory hub and seats are gone. It takes time linear in the log.
+    pub fn close(self, alloc: Global, seats: Seats) -> Result<Rows, NoMemory>
+        requires own { All (λ seat. seat.pen.log ≡ self.log.id) seats }
+        requires seats { All (IsSeatOf (data_of self.setup)) seats }
+        requires all { length seats ≡ self.log.lanes }
+        requires order { AreOfLanes 0 seats }
+        ensures clean { IfOk result (λ log. IsClean (data_of self.setup) log) }
+        ensures legal { IfOk result (λ log. AnswersAreLegal (data_of self.setup) seats log) }
+        ensures each { IfOk result (λ log. All (λ seat. StandsIn log seat.pen) seats) }
+        ensures history { let pens = map (λ seat. seat.pen) seats in
+            IfOk result (λ log. (moments : List Moment) × IsHistory log pens moments) }
+        ensures rows { IfOk result (λ log. All (IsCommandBelow self.log.lanes) log × (length log ≤ MAX_PLACE)) }
+    {
+        let pens = pens_of(&self, alloc, seats)?;
+        let Hub { log, setup: _setup } = self;
+        log.close(alloc, pens)
+    }
+}

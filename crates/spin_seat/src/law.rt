@@ -1,0 +1,15 @@
+//! The laws by which the answers of all seats are one history.
+
+ghost use Rattle.spin_seat.specs.Laws.{AnswersStand, CleanByLanes, ReplayIsOne, WeavesAreLegal};
+
+/// The laws of seats. Rows have one replay, so seats that know the same rows have the same state.
+/// What is right in a front is right in every log that the front begins. A log is clean where each
+/// lane's rows were accepted in the front of its pen. And of lanes that began at one front, the
+/// answers of all, as one list in the order of places, are a legal history from the replay of that
+/// front to that of the log. It does nothing.
+pub fn seats_answer_one_history()
+    ensures replay { ReplayIsOne }
+    ensures front { AnswersStand }
+    ensures clean { CleanByLanes }
+    ensures weave { WeavesAreLegal }
+{}
