@@ -1,0 +1,37 @@
+-- A worker in the middle of its run.
+use Rattle.std.proofs.Common.{◌≡◌, ℕ, suc, ◌<◌, List, [], ◌∷◌, ◌++◌, All, sym, subst, arith}
+use Rattle.std.proofs.lemmas.List.{map-append}
+use Rattle.std.proofs.lemmas.List.Elements.{All-nil, All-cons, All-push}
+use Rattle.spin_jobs.specs.declared.claim.Claim.{Claim}
+use Rattle.spin_jobs.specs.declared.worker.Done.{Done}
+use Rattle.spin_jobs.specs.declared.worker.Worker.{Worker}
+use Rattle.spin_jobs.specs.Claims.{Took}
+use Rattle.spin_jobs.specs.Jobs.{Outcomes}
+use Rattle.spin_jobs.specs.Inner.Workers.{IsRight, StandsForOne, numbers}
+
+-- it has claimed the numbers of what it did, and then this one
+pub record Works (may : Outcomes) (count : ℕ) (w : Worker) (number : ℕ) : Type 0 where
+  pub seat : StandsForOne w.seat
+  pub right : All (IsRight may count) w.done.items
+  pub claimed : w.seat.me.0.claimed ≡ numbers w.done.items ++ number ∷ []
+
+-- the numbers of what was done rightly are all of jobs
+pub numbers_right : (may : Outcomes) (count : ℕ) (done : List Done) → All (IsRight may count) done → All (λ x. x < count) (numbers done)
+numbers_right may count [] h = All-nil (λ x. x < count)
+numbers_right may count (d ∷ ds) h = All-cons (λ x. x < count) d.number (numbers ds) ((h 0 d (omega arith)).0) (numbers_right may count ds (λ k e lt. h (suc k) e (omega arith)))
+
+pub numbers_push : (done : List Done) (d : Done) → numbers (done ++ d ∷ []) ≡ numbers done ++ d.number ∷ []
+numbers_push done d = map-append (λ e. e.number) done (d ∷ [])
+
+pub last_of_all : (P : ℕ → Type 0) (xs : List ℕ) (n : ℕ) → All P (xs ++ n ∷ []) → P n
+last_of_all P [] n h = h 0 n (omega arith)
+last_of_all P (x ∷ xs) n h = last_of_all P xs n (λ k d lt. h (suc k) d (omega arith))
+
+-- where its last number is a job's, all its numbers are
+pub all_of_jobs : (may : Outcomes) (count : ℕ) (w : Worker) (number : ℕ) → Works may count w number → number < count → All (λ x. x < count) w.seat.me.0.claimed
+all_of_jobs may count w number k lt =
+    subst (All (λ x. x < count)) (sym k.claimed) (All-push (λ x. x < count) (numbers w.done.items) number (numbers_right may count w.done.items k.right) lt)
+
+-- its next number is greater
+pub rises : (may : Outcomes) (count : ℕ) (w : Worker) (number next : ℕ) (after : Claim) → Works may count w number → Took w.seat.me.0 next after → number < next
+rises may count w number next after k t = last_of_all (λ x. x < next) (numbers w.done.items) number (subst (All (λ x. x < next)) k.claimed t.1)

@@ -1,0 +1,3 @@
+-- What invariants and the contracts of private functions cite alone.
+pub mod Places
+pub mod Workers
