@@ -1,16 +1,17 @@
 -- What the end of the top call rests on.
 use Rattle.std.proofs.Common.{◌≡◌, ◌<◌, ◌+◌, ℕ, Option, Some, None, List, [], ◌∷◌, ◌++◌, length, take, map, refl, sym, ap, subst, ◌∙◌, arith, inl, inr, IfSome}
 use Rattle.std.specs.List.{flat_map, enumerate_from}
-use Rattle.std.proofs.lemmas.List.{append-nil, length-append}
+use Rattle.std.proofs.Math.ListN.{replicate}
+use Rattle.std.proofs.lemmas.List.{append-nil, length-append, length-replicate}
 use Rattle.std.proofs.Math.Seq.{take-append-add}
 use Rattle.std.specs.Io.KnownBytes.{Appends}
 use Rattle.spin_outside.specs.Counts.{Rose}
-use Rattle.spin_outside.specs.Files.{File, content, IsWholeFile}
+use Rattle.spin_outside.specs.Files.{File, IsWholeFile}
 use Rattle.spin_outside.specs.Seen.{SinkSeen}
 use Rattle.spin_table.specs.Setups.{SetupData}
 use Rattle.spin_script.specs.declared.script.Line.{Line}
 use Rattle.spin_report.specs.declared.entry.Entry.{Entry}
-use Rattle.spin_report.specs.Words.{ended, text_of}
+use Rattle.spin_text.specs.Words.{ended, text_of}
 use Rattle.spin_report.specs.Lines.{entry_line}
 use Rattle.spin_report.specs.Histories.{SegmentSeen, first_line, segment_line, segment_lines, end_line, report_lines, report_text}
 use Rattle.spin_script.specs.States.{NativeData}
@@ -20,7 +21,7 @@ use Rattle.spin_main.specs.Lanes.{IsLaneHistory, one_segment, later_lines, joine
 use Rattle.spin_script.specs.declared.script.ScriptFault.{ScriptFault}
 use Rattle.spin_script.specs.declared.script.ScriptFault.TheVariants as fault
 use Rattle.spin_main.specs.Words.{IsRun}
-use Rattle.spin_main.specs.Statuses.{Outside, ShelfStood, Tells, WritesReport, CutsReport, IsContent, IsRefused, HasCause, stop_line, end_by}
+use Rattle.spin_main.specs.Statuses.{Outside, ShelfStood, Tells, WritesReport, CutsReport, IsContent, IsOver, IsRefused, HasCause, stop_line, end_by}
 use Rattle.spin_main.proofs.Joining.{Appends-append}
 
 -- nothing was to be written
@@ -73,14 +74,12 @@ report_is entries end =
     ap (λ xs. ended first_line ++ xs) (joined-ended (later_lines entries end)) ∙ ap text_of (sym (lines_are entries end))
 
 -- the content that was read is bad
-pub refused_script : (natives : NativeData) (files : Option (List File)) (name text : List ℕ) (line cause : ℕ) → IfSome files (λ held. content held name ≡ Some text) → IsBadAt natives text line cause → IsRefused natives files name line cause
-refused_script natives None name text line cause read bad = tt
-refused_script natives (Some held) name text line cause read bad = (text, read, bad)
+pub refused_script : (natives : NativeData) (files : Option (List File)) (name text : List ℕ) (line cause : ℕ) → IsContent files name text → IsBadAt natives text line cause → IsRefused natives files name line cause
+refused_script natives files name text line cause read bad = (text, read, bad)
 
 -- a text that is too large is bad as a whole
-pub too_large_script : (natives : NativeData) → ((text : List ℕ) → 1048576 < length text → IsBad natives text (fault.Bad 0 1)) → (files : Option (List File)) (name : List ℕ) → IfSome files (λ held. (text : List ℕ) × (content held name ≡ Some text) × (1048576 < length text)) → IsRefused natives files name 0 1
-too_large_script natives large None name found = tt
-too_large_script natives large (Some held) name found = (found.0, found.1, inl (large found.0 found.2))
+pub too_large_script : (natives : NativeData) → ((text : List ℕ) → 1048576 < length text → IsBad natives text (fault.Bad 0 1)) → (files : Option (List File)) (name : List ℕ) → IsOver 1048576 files name → IsRefused natives files name 0 1
+too_large_script natives large files name over = (over.0, over.1, inl (large over.0 over.2))
 
 -- the reader's fault ends the call so
 pub fault_cause : (natives : NativeData) (before after : Outside) (words : List (List ℕ)) (name text : List ℕ) (fault : ScriptFault) → IsBad natives text fault → IsRun words name → ShelfStood before.shelf after.shelf → IsContent before.shelf.files name text → Tells before.sink after.sink (stop_line (end_by fault)) → HasCause natives before after words (end_by fault)
@@ -106,8 +105,11 @@ report_cut d ls a b c entries end lines n history is first short others =
 pub Rose-stood : (a b c : ℕ) → Rose a b → c ≡ b → Rose a c
 Rose-stood a b c rose same = subst (λ (n : ℕ). Rose a n) (sym same) rose
 
--- what is too much to take is more than the limit
-pub too_large_file : (files : Option (List File)) (name : List ℕ) (left : Option (List ℕ)) (limit : ℕ) → IsWholeFile files name left → IfSome left (λ bytes. limit < length bytes) → IfSome files (λ held. (bytes : List ℕ) × (content held name ≡ Some bytes) × (limit < length bytes))
-too_large_file None name left limit whole large = tt
+-- what is too much to take is more than the limit; of a shelf that doesn't tell, any text of more bytes may be there
+pub too_large_file : (files : Option (List File)) (name : List ℕ) (left : Option (List ℕ)) (limit : ℕ) → IsWholeFile files name left → IfSome left (λ bytes. limit < length bytes) → IsOver limit files name
+too_large_file None name left limit whole large =
+    let byte : ℕ = 0 in
+    let long : length (replicate (limit + 1) byte) ≡ limit + 1 = length-replicate (limit + 1) byte in
+    (replicate (limit + 1) byte, tt, omega (arith, long))
 too_large_file (Some held) name left limit whole large =
     (whole.0, whole.1, let P : Option (List ℕ) → Type 0 = λ o. IfSome o (λ bytes. limit < length bytes) in subst P whole.2 large)

@@ -1,6 +1,6 @@
 -- A lane whose commands and rules have no handler run asynchronously, and whose raises are for now, leaves no job.
 use Rattle.std.proofs.Common.{◌≡◌, ◌+◌, ◌-◌, ◌==◌, ◌||◌, ◌&&◌, ℕ, suc, zero, Bool, true, false, not, cond, Option, Some, None, List, [], ◌∷◌, map, refl, sym, ap, subst, ◌∙◌}
-use Rattle.std.specs.Prelude.{slice_get, MatchOption}
+use Rattle.std.specs.Prelude.{slice_get, MatchOption, ⊤}
 use Rattle.std.specs.List.{All, list_any}
 use Rattle.std.specs.Option.{option_map_or}
 use Rattle.std.proofs.lemmas.List.Elements.{All-nil, All-cons, All-head, All-tail, All-append, All-push, All-set, All-map, All-filter}
@@ -26,9 +26,11 @@ use Rattle.spin_table.specs.Refusals.{refusal_of}
 use Rattle.spin_table.specs.Orders.{arranged}
 use Rattle.spin_table.specs.Steps.{IsStep, ChangesTo, state_after, events_after, event_after, bindings_after, installed, replaced, replaced_at, mode_under}
 use Rattle.spin_table.proofs.Arranged.{All-arranged}
+use Rattle.spin_raise.specs.declared.bound.Runner.TheVariants as runner
 use Rattle.spin_raise.specs.Firing.{Bound, is_async}
-use Rattle.spin_proto.specs.declared.deed.Deed.{Deed}
-use Rattle.spin_proto.specs.declared.deed.Deed.TheVariants as deed
+use Rattle.spin_word.specs.declared.work.Deed.{Deed}
+use Rattle.spin_word.specs.declared.work.Deed.TheVariants as deed
+use Rattle.spin_proto.specs.declared.reply.TheConstants.{MAX_RUNS}
 use Rattle.spin_proto.specs.declared.reply.Reply.{Reply}
 use Rattle.spin_proto.specs.declared.reply.Reply.TheVariants as reply
 use Rattle.spin_proto.specs.Whole.{raised}
@@ -37,11 +39,11 @@ use Rattle.spin_proto.proofs.Calls.{EachMay, EventsMay, raised_calls, no_calls_l
 use Rattle.spin_report.specs.declared.entry.What.{What}
 use Rattle.spin_report.specs.declared.entry.What.TheVariants as what
 use Rattle.spin_report.specs.declared.entry.Entry.{Entry}
-use Rattle.spin_report.specs.Asked.{Asked, OfCommand, OfDeed, Numbered, asked_of, asked_by}
+use Rattle.spin_report.specs.Asked.{Numbered, asked_of, asked_by}
 use Rattle.spin_report.specs.Legal.{Answers, IsLegal}
 use Rattle.spin_report.specs.Jobs.{calls_of, AreJobs, AreJobsFrom}
-use Rattle.spin_script.specs.declared.script.Work.{Work}
-use Rattle.spin_script.specs.declared.script.Work.TheVariants as work
+use Rattle.spin_word.specs.declared.work.Work.{Work}
+use Rattle.spin_word.specs.declared.work.Work.TheVariants as work
 use Rattle.spin_script.specs.declared.script.Line.{Line}
 use Rattle.spin_main.specs.Lanes as lanes
 use Rattle.spin_main.specs.Lanes.{IsForOneLane, is_later, asked_at, asked_in}
@@ -75,7 +77,7 @@ effect_within (r ∷ rules) (suc at) none = effect_within rules at (either_false
 
 numbered_within : (rules : List Rule) (number : ℕ) → list_any (λ (rule : Rule). effect_apart rule.effect) rules ≡ false → effect_apart (numbered_effect rules number) ≡ false
 numbered_within rules number none =
-    elim (number == 0) as (λ t. effect_apart (cond t effect.Allow (option_map_or (λ (rule : Rule). rule.effect) (slice_get rules (number - 1)) effect.Allow)) ≡ false) [
+    elim (number == 0) as (λ t. effect_apart (option_map_or (λ (rule : Rule). rule.effect) (cond t None (slice_get rules (number - 1))) effect.Allow) ≡ false) [
       | true ↦ refl
       | false ↦ effect_within rules (number - 1) none
     ]
@@ -143,11 +145,11 @@ never : (a : Bool) → a ≡ false → (a && true) ≡ true → ⊥
 never true is e = cc
 never false is e = cc
 
-each_may : (bs : List Binding) → All IsWithin bs → EachMay (λ number. ⊥) false bs
+each_may : (bs : List Binding) → All IsWithin bs → EachMay (λ number. ⊥) runner.Raiser bs
 each_may [] all = tt
 each_may (b ∷ bs) all = ((λ e. never (is_async b.mode) (All-head IsWithin b bs all) e), each_may bs (All-tail IsWithin b bs all))
 
-events_may : (es : List EventDef) (ts : List EventState) (bounds : List Bound) (from : ℕ) → AreBounds es ts bounds → All AreWithin ts → EventsMay (λ event number. ⊥) false from bounds
+events_may : (es : List EventDef) (ts : List EventState) (bounds : List Bound) (from : ℕ) → AreBounds es ts bounds → All AreWithin ts → EventsMay (λ event number. ⊥) runner.Raiser from bounds
 events_may [] [] [] from h all = tt
 events_may [] [] (b ∷ bs) from h all = absurd h
 events_may [] (t ∷ ts) bounds from h all = absurd h
@@ -155,7 +157,7 @@ events_may (e ∷ es) [] bounds from h all = absurd h
 events_may (e ∷ es) (t ∷ ts) [] from h all = absurd h
 events_may (e ∷ es) (t ∷ ts) (b ∷ bs) from (first, rest) all =
     let may = each_may (arranged t.bindings first.0) (All-arranged IsWithin t.bindings first.0 (All-head AreWithin t ts all)) in
-    (subst (λ (b : Bound). EachMay (λ number. ⊥) false b.bindings) (sym first.2) may, events_may es ts bs (suc from) rest (All-tail AreWithin t ts all))
+    (subst (λ (b : Bound). EachMay (λ number. ⊥) runner.Raiser b.bindings) (sym first.2) may, events_may es ts bs (suc from) rest (All-tail AreWithin t ts all))
 
 fit_calls : (types : List EventType) (event : ℕ) (args : List Value) (answer : Reply) → calls_left answer ≡ [] → calls_left (reply_if_fit types event args answer) ≡ []
 fit_calls types event args answer none =
@@ -166,16 +168,17 @@ fit_calls types event args answer none =
 
 deed_calls : (d : SetupData) (s : State) (asked : Deed) (answer : Reply) → is_later asked ≡ false → IsTogether s → IsDeedReply d s asked answer → calls_left answer ≡ []
 deed_calls d s (deed.Raise event args) answer now all (bounds, are, is) =
-    let none = no_calls_left 4096 (raised false (units_in d) bounds 0 event args) (raised_calls (λ event number. ⊥) false (units_in d) bounds 0 (events_may d.events s.events bounds 0 are all) event args) in
+    let none = no_calls_left MAX_RUNS (raised runner.Raiser (units_in d) bounds 0 event args) (raised_calls (λ event number. ⊥) runner.Raiser (units_in d) bounds 0 (events_may d.events s.events bounds 0 are all) event args) in
     ap calls_left is ∙ fit_calls (types_in d) event args _ none
 deed_calls d s (deed.Later event args) answer now all is = cc
 
 -- ---- histories
 
 -- it has nothing run later
-abbrev IsNow : Asked → Type 0
-IsNow (OfCommand c) = is_async c.mode ≡ false
-IsNow (OfDeed asked) = is_later asked ≡ false
+abbrev IsNow : Work → Type 0
+IsNow (work.Command c) = is_async c.mode ≡ false
+IsNow (work.Deed asked) = is_later asked ≡ false
+IsNow (work.Packet event count) = ⊤
 
 abbrev AsksNow : Numbered → Type 0
 AsksNow n = IsNow n.asked
@@ -196,8 +199,8 @@ entries_jobless d s last (entry ∷ entries) unforced all legal now =
 -- ---- lines
 
 work_now : (lane line : ℕ) (w : Work) → IsForOneLane w → All AsksNow (map (λ asked. record { lane = lane; line = line; part = 0; asked = asked }) (lanes.asked_by w))
-work_now lane line (work.Command c) for = All-cons AsksNow (record { lane = lane; line = line; part = 0; asked = OfCommand c }) [] for.1 (All-nil AsksNow)
-work_now lane line (work.Deed asked) for = All-cons AsksNow (record { lane = lane; line = line; part = 0; asked = OfDeed asked }) [] for (All-nil AsksNow)
+work_now lane line (work.Command c) for = All-cons AsksNow (record { lane = lane; line = line; part = 0; asked = work.Command c }) [] for.1 (All-nil AsksNow)
+work_now lane line (work.Deed asked) for = All-cons AsksNow (record { lane = lane; line = line; part = 0; asked = work.Deed asked }) [] for (All-nil AsksNow)
 work_now lane line (work.Packet event count) for = absurd for
 
 lines_now : (lines : List Line) → All (λ line. IsForOneLane line.work) lines → All AsksNow (asked_in lines)

@@ -3,8 +3,8 @@ use Rattle.std.proofs.Common.{◌≡◌, nat_lt, length, get_or, Bool, true, fal
 use Rattle.std.specs.List.{All, find}
 use Rattle.std.specs.Option.{option_map}
 use Rattle.std.proofs.lemmas.List.Elements.{All-nil, All-cons}
-use Rattle.spin_script.specs.declared.script.Work.{Work}
-use Rattle.spin_script.specs.declared.script.Work.TheVariants as work
+use Rattle.spin_word.specs.declared.work.Work.{Work}
+use Rattle.spin_word.specs.declared.work.Work.TheVariants as work
 use Rattle.spin_script.specs.declared.script.Line.{Line}
 use Rattle.spin_main.specs.Lanes.{IsForOneLane}
 use Rattle.spin_script.specs.States.{ScriptData}

@@ -2,17 +2,17 @@
 use Rattle.std.specs.Prelude.{◌≡◌, ℕ, Bool, true, false, IsTrue, cond, List, [], ◌∷◌, ◌++◌, map, count_by, None}
 use Rattle.std.specs.List.{flat_map}
 use Rattle.spin_word.specs.Commands.{is_command}
-use Rattle.spin_proto.specs.declared.deed.Deed.{Deed}
-use Rattle.spin_proto.specs.declared.deed.Deed.TheVariants as deed
+use Rattle.spin_word.specs.declared.work.Deed.{Deed}
+use Rattle.spin_word.specs.declared.work.Deed.TheVariants as deed
 use Rattle.spin_raise.specs.Firing.{is_async}
-use Rattle.spin_script.specs.declared.script.Work.{Work}
-use Rattle.spin_script.specs.declared.script.Work.TheVariants as work
+use Rattle.spin_word.specs.declared.work.Work.{Work}
+use Rattle.spin_word.specs.declared.work.Work.TheVariants as work
 use Rattle.spin_script.specs.declared.script.Line.{Line}
 use Rattle.spin_script.specs.Soundness.{is_command_work}
 use Rattle.spin_table.specs.Setups.{SetupData}
 use Rattle.spin_table.specs.States.{State, start_of}
 use Rattle.spin_report.specs.declared.entry.Entry.{Entry}
-use Rattle.spin_report.specs.Asked.{Asked, OfCommand, OfDeed, Numbered, asked_of}
+use Rattle.spin_report.specs.Asked.{Numbered, asked_of}
 use Rattle.spin_report.specs.Jobs.{AreJobs}
 use Rattle.spin_report.specs.Legal.{IsLegal}
 use Rattle.spin_report.specs.Lines.{entry_line}
@@ -20,14 +20,16 @@ use Rattle.spin_report.specs.Histories.{HistorySeen, segment_line, end_line}
 
 -- what a work asks, each by the part of its line; a line of packets asks for one deed for each record that it gets,
 -- and there is no capture
-abbrev pub asked_by : Work → List Asked
-asked_by (work.Command command) = OfCommand command ∷ []
-asked_by (work.Deed deed) = OfDeed deed ∷ []
+abbrev pub asked_by : Work → List Work
+asked_by (work.Command command) = work.Command command ∷ []
+asked_by (work.Deed deed) = work.Deed deed ∷ []
 asked_by (work.Packet event count) = []
 
 -- what a line asks
 abbrev pub asked_at : Line → List Numbered
-asked_at line = map (λ asked. record { lane = line.lane; line = line.number; part = 0; asked = asked }) (asked_by line.work)
+asked_at line =
+    map (λ asked. record { lane = line.lane; line = line.number; part = 0; asked = asked })
+    (asked_by line.work)
 
 -- what lines ask, in their order
 abbrev pub asked_in : List Line → List Numbered
@@ -53,7 +55,8 @@ IsForOneLane (work.Packet event count) = ⊥
 
 -- The entries are legal from the start, they answer what the lines ask, each once and in order, they leave no job, and
 -- so many of their commands were accepted.
-pub record IsLaneHistory (d : SetupData) (lines : List Line) (entries : List Entry) (end : ℕ) : Type 0 where
+pub record IsLaneHistory (d : SetupData) (lines : List Line) (entries : List Entry) (end : ℕ)
+    : Type 0 where
   pub last : State
   pub legal : IsLegal d (start_of d) entries last
   pub once : map asked_of entries ≡ asked_in lines

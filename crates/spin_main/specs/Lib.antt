@@ -1,5 +1,5 @@
 pub mod Lanes
-pub mod Objects
+pub mod Natives
 pub mod Scripts
 pub mod Statuses
 pub mod Words

@@ -10,8 +10,8 @@ use Rattle.spin_policy.specs.Imposed.{effect_apart}
 use Rattle.spin_table.specs.declared.event.EventDef.{EventDef}
 use Rattle.spin_table.specs.Setups.{SetupData, rules_of}
 use Rattle.spin_raise.specs.Firing.{is_async}
-use Rattle.spin_script.specs.declared.script.Work.{Work}
-use Rattle.spin_script.specs.declared.script.Work.TheVariants as work
+use Rattle.spin_word.specs.declared.work.Work.{Work}
+use Rattle.spin_word.specs.declared.work.Work.TheVariants as work
 use Rattle.spin_script.specs.declared.script.Line.{Line}
 use Rattle.spin_script.specs.declared.script.Segment.{Segment}
 use Rattle.spin_script.specs.declared.script.ScriptFault.TheVariants as fault
@@ -40,7 +40,8 @@ sends act = list_any is_send act.steps
 
 -- a rule of the event has handlers run asynchronously
 abbrev pub event_forces_apart : SetupData → EventDef → Bool
-event_forces_apart d e = list_any (λ (rule : Rule). effect_apart rule.effect) (rules_of d.policies e.authority)
+event_forces_apart d e =
+    list_any (λ (rule : Rule). effect_apart rule.effect) (rules_of d.policies e.authority)
 
 -- a rule of some event does
 abbrev pub some_force_apart : SetupData → Bool
@@ -64,7 +65,9 @@ needs_more script = nat_lt 1 (length script.segments) || needs_beside script
 -- line that can't be run.
 abbrev pub unbuilt_line : ScriptData → Option ℕ
 unbuilt_line script =
-    if needs_more script then Some 0 else option_map (λ (line : Line). line.number) (find is_unbuilt_line (lines_in script.segments))
+    if needs_more script then Some 0
+    else option_map (λ (line : Line). line.number)
+    (find is_unbuilt_line (lines_in script.segments))
 
 -- The text is a script that can be run.
 pub record CanRun (natives : NativeData) (text : List ℕ) (script : ScriptData) : Type 0 where
@@ -75,4 +78,5 @@ pub record CanRun (natives : NativeData) (text : List ℕ) (script : ScriptData)
 abbrev pub IsBadAt : NativeData → List ℕ → ℕ → ℕ → Type 0
 IsBadAt natives text line cause =
     IsBad natives text (fault.Bad line cause)
-    ⊎ ((script : ScriptData) × IsScript natives text (Ok script) × (unbuilt_line script ≡ Some line) × (cause ≡ 25))
+    ⊎ ((script : ScriptData) × IsScript natives text (Ok script)
+    × (unbuilt_line script ≡ Some line) × (cause ≡ 25))

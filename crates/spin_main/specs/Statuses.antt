@@ -7,7 +7,7 @@ use Rattle.spin_outside.specs.Seen.{ShelfSeen, SinkSeen}
 use Rattle.spin_table.specs.Setups.{SetupData}
 use Rattle.spin_script.specs.declared.script.Line.{Line}
 use Rattle.spin_report.specs.declared.entry.Entry.{Entry}
-use Rattle.spin_report.specs.Words.{ended}
+use Rattle.spin_text.specs.Words.{ended}
 use Rattle.spin_report.specs.Histories.{first_line, report_text}
 use Rattle.spin_main.specs.declared.end.End.{End}
 use Rattle.spin_main.specs.declared.end.End.TheVariants.{Whole, Usage, Refused, ReadFault, WriteFault, Absent, NoMemory}
@@ -37,7 +37,8 @@ number NoMemory = 7
 abbrev pub stop_line : End → List ℕ
 stop_line Whole = []
 stop_line Usage = ended (codes "usage: spin run SCRIPT")
-stop_line (Refused line cause) = ended (codes "stop 2 line " ++ decimal line ++ codes " cause " ++ decimal cause)
+stop_line (Refused line cause) =
+    ended (codes "stop 2 line " ++ decimal line ++ codes " cause " ++ decimal cause)
 stop_line ReadFault = ended (codes "stop 4 read script")
 stop_line WriteFault = []
 stop_line Absent = ended (codes "stop 6 script")
@@ -70,18 +71,24 @@ pub record ShelfLacked (before after : ShelfSeen) : Type 0 where
 abbrev pub Tells : SinkSeen → SinkSeen → List ℕ → Type 0
 Tells before after bytes =
     ((after.faults ≡ before.faults) × Appends before.told after.told bytes)
-    ⊎ ((n : ℕ) × (n < length bytes) × Rose before.faults after.faults × Appends before.told after.told (take n bytes))
+    ⊎ ((n : ℕ) × (n < length bytes) × Rose before.faults after.faults
+    × Appends before.told after.told (take n bytes))
 
 -- The text was read under the name: where the shelf tells its files, it is that file's content.
 abbrev pub IsContent : Option (List File) → List ℕ → List ℕ → Type 0
 IsContent files name text = IfSome files (λ held. content held name ≡ Some text)
+
+-- The text under the name has more bytes than this.
+abbrev pub IsOver : ℕ → Option (List File) → List ℕ → Type 0
+IsOver limit files name = (text : List ℕ) × IsContent files name text × (limit < length text)
 
 -- No script that can be run has this text.
 abbrev pub IsNoScript : NativeData → List ℕ → Type 0
 IsNoScript natives text = (script : ScriptData) → CanRun natives text script → ⊥
 
 -- The script was read under the name, and can be run.
-pub record IsLoaded (natives : NativeData) (files : Option (List File)) (name : List ℕ) (script : ScriptData) : Type 0 where
+pub record IsLoaded (natives : NativeData) (files : Option (List File)) (name : List ℕ)
+    (script : ScriptData) : Type 0 where
   pub text : List ℕ
   pub read : IsContent files name text
   pub can_run : CanRun natives text script
@@ -89,7 +96,8 @@ pub record IsLoaded (natives : NativeData) (files : Option (List File)) (name : 
 -- The report of a history of the script was appended.
 abbrev pub WritesReport : SetupData → List Line → Option (List ℕ) → Option (List ℕ) → Type 0
 WritesReport setup lines told told' =
-    (entries : List Entry) × (end : ℕ) × IsLaneHistory setup lines entries end × Appends told told' (report_text (one_segment entries end))
+    (entries : List Entry) × (end : ℕ) × IsLaneHistory setup lines entries end
+    × Appends told told' (report_text (one_segment entries end))
 
 -- A front of the report of a history of the script was appended, and not all of it; in its first line every history
 -- is alike.
@@ -97,12 +105,13 @@ abbrev pub CutsReport : SetupData → List Line → Option (List ℕ) → Option
 CutsReport setup lines told told' =
     ((n : ℕ) × (n < length (ended first_line)) × Appends told told' (take n (ended first_line)))
     ⊎ ((entries : List Entry) × (end : ℕ) × IsLaneHistory setup lines entries end
-    × (n : ℕ) × (n < length (report_text (one_segment entries end))) × Appends told told' (take n (report_text (one_segment entries end))))
+    × (n : ℕ) × (n < length (report_text (one_segment entries end)))
+    × Appends told told' (take n (report_text (one_segment entries end))))
 
--- Where the shelf tells its files, the content of the named file is refused at that line for that cause.
+-- The text under the name is refused at that line for that cause.
 abbrev pub IsRefused : NativeData → Option (List File) → List ℕ → ℕ → ℕ → Type 0
 IsRefused natives files name line cause =
-    IfSome files (λ held. (text : List ℕ) × (content held name ≡ Some text) × IsBadAt natives text line cause)
+    (text : List ℕ) × IsContent files name text × IsBadAt natives text line cause
 
 -- what contracts see of the shelf and of the sink at one moment
 pub record Outside : Type 0 where
@@ -115,34 +124,44 @@ outside shelf sink = record { shelf = shelf; sink = sink }
 -- Why the call ended so, and what was written.
 abbrev pub HasCause : NativeData → Outside → Outside → List (List ℕ) → End → Type 0
 HasCause natives before after words Whole =
-    (name : List ℕ) × IsRun words name × ShelfStood before.shelf after.shelf × (after.sink.faults ≡ before.sink.faults)
-    × (script : ScriptData) × IsLoaded natives before.shelf.files name script × WritesReport script.setup (lines_in script.segments) before.sink.told after.sink.told
+    (name : List ℕ) × IsRun words name × ShelfStood before.shelf after.shelf
+    × (after.sink.faults ≡ before.sink.faults)
+    × (script : ScriptData) × IsLoaded natives before.shelf.files name script
+    × WritesReport script.setup (lines_in script.segments) before.sink.told after.sink.told
 HasCause natives before after words Usage =
-    ((name : List ℕ) → IsRun words name → ⊥) × ShelfStood before.shelf after.shelf × Tells before.sink after.sink (stop_line Usage)
+    ((name : List ℕ) → IsRun words name → ⊥) × ShelfStood before.shelf after.shelf
+    × Tells before.sink after.sink (stop_line Usage)
 HasCause natives before after words (Refused line cause) =
-    (name : List ℕ) × IsRun words name × ShelfStood before.shelf after.shelf × IsRefused natives before.shelf.files name line cause
+    (name : List ℕ) × IsRun words name × ShelfStood before.shelf after.shelf
+    × IsRefused natives before.shelf.files name line cause
     × Tells before.sink after.sink (stop_line (Refused line cause))
 HasCause natives before after words ReadFault =
-    (name : List ℕ) × IsRun words name × ShelfFailed before.shelf after.shelf × Tells before.sink after.sink (stop_line ReadFault)
+    (name : List ℕ) × IsRun words name × ShelfFailed before.shelf after.shelf
+    × Tells before.sink after.sink (stop_line ReadFault)
 HasCause natives before after words WriteFault =
-    (name : List ℕ) × IsRun words name × ShelfStood before.shelf after.shelf × Rose before.sink.faults after.sink.faults
+    (name : List ℕ) × IsRun words name × ShelfStood before.shelf after.shelf
+    × Rose before.sink.faults after.sink.faults
     × (script : ScriptData) × IsLoaded natives before.shelf.files name script
     × CutsReport script.setup (lines_in script.segments) before.sink.told after.sink.told
 HasCause natives before after words Absent =
-    (name : List ℕ) × IsRun words name × ShelfLacked before.shelf after.shelf × IsLacking before.shelf.files name
+    (name : List ℕ) × IsRun words name × ShelfLacked before.shelf after.shelf
+    × IsLacking before.shelf.files name
     × Tells before.sink after.sink (stop_line Absent)
 HasCause natives before after words NoMemory =
     (name : List ℕ) × IsRun words name × ShelfStood before.shelf after.shelf
     × (Tells before.sink after.sink (stop_line NoMemory)
-    ⊎ ((script : ScriptData) × IsLoaded natives before.shelf.files name script × Tells before.sink after.sink (ended first_line ++ stop_line NoMemory)))
+    ⊎ ((script : ScriptData) × IsLoaded natives before.shelf.files name script
+    × Tells before.sink after.sink (ended first_line ++ stop_line NoMemory)))
 
 -- The status is the number of an end that has its cause.
 abbrev pub IsStatus : NativeData → Outside → Outside → List (List ℕ) → ℕ → Type 0
-IsStatus natives before after words status = (end : End) × (status ≡ number end) × HasCause natives before after words end
+IsStatus natives before after words status =
+    (end : End) × (status ≡ number end) × HasCause natives before after words end
 
 -- The status is the number of this end only where the end has its cause.
 abbrev pub Row : NativeData → Outside → Outside → List (List ℕ) → ℕ → End → Type 0
-Row natives before after words status end = status ≡ number end → HasCause natives before after words end
+Row natives before after words status end =
+    status ≡ number end → HasCause natives before after words end
 
 -- The status is 2 only where the text is refused at a line for a cause.
 abbrev pub RefusedRow : NativeData → Outside → Outside → List (List ℕ) → ℕ → Type 0
@@ -178,7 +197,8 @@ KnowsUsage words status = ((name : List ℕ) → IsRun words name → ⊥) → s
 -- A file that is no script that can be run is refused, unless the shelf failed or memory ran out.
 abbrev pub KnowsRefused : NativeData → ShelfSeen → ShelfSeen → List (List ℕ) → ℕ → Type 0
 KnowsRefused natives before after words status =
-    (text : List ℕ) → NamesFile before words text → IsNoScript natives text → (Rose before.faults after.faults → ⊥) → (status ≡ 2) ⊎ (status ≡ 7)
+    (text : List ℕ) → NamesFile before words text → IsNoScript natives text
+    → (Rose before.faults after.faults → ⊥) → (status ≡ 2) ⊎ (status ≡ 7)
 
 -- A file that isn't there is told to be absent, unless the shelf failed or memory ran out.
 abbrev pub KnowsAbsent : ShelfSeen → ShelfSeen → List (List ℕ) → ℕ → Type 0
@@ -188,18 +208,25 @@ KnowsAbsent before after words status =
 -- A script that can be run is run whole where no count rose, unless memory ran out.
 abbrev pub IsComplete : NativeData → Outside → Outside → List (List ℕ) → ℕ → Type 0
 IsComplete natives before after words status =
-    (text : List ℕ) (script : ScriptData) → NamesFile before.shelf words text → CanRun natives text script → NoneRose before after → (status ≡ 0) ⊎ (status ≡ 7)
+    (text : List ℕ) (script : ScriptData) → NamesFile before.shelf words text
+    → CanRun natives text script → NoneRose before after → (status ≡ 0) ⊎ (status ≡ 7)
 
 -- which counts a refusal to load raises
 abbrev pub LoadRaises : ShelfSeen → ShelfSeen → LoadFault → Type 0
-LoadRaises before after load.Absent = (after.faults ≡ before.faults) × Rose before.absences after.absences
-LoadRaises before after load.Failed = Rose before.faults after.faults × (after.absences ≡ before.absences)
-LoadRaises before after load.TooLarge = (after.faults ≡ before.faults) × (after.absences ≡ before.absences)
-LoadRaises before after load.NoMemory = (after.faults ≡ before.faults) × (after.absences ≡ before.absences)
+LoadRaises before after load.Absent =
+    (after.faults ≡ before.faults) × Rose before.absences after.absences
+LoadRaises before after load.Failed =
+    Rose before.faults after.faults × (after.absences ≡ before.absences)
+LoadRaises before after load.TooLarge =
+    (after.faults ≡ before.faults) × (after.absences ≡ before.absences)
+LoadRaises before after load.NoMemory =
+    (after.faults ≡ before.faults) × (after.absences ≡ before.absences)
 
 abbrev pub LoadsByCount : {T : Type 0} → ShelfSeen → ShelfSeen → Result T LoadFault → Type 0
 LoadsByCount before after result =
-    MatchResult result (λ _. (after.faults ≡ before.faults) × (after.absences ≡ before.absences)) (LoadRaises before after)
+    MatchResult result
+    (λ _. (after.faults ≡ before.faults) × (after.absences ≡ before.absences))
+    (LoadRaises before after)
 
 -- which refusal to write the report raises the sink's count of faults
 abbrev pub ReportRaises : ℕ → ℕ → ReportFault → Type 0

@@ -14,31 +14,15 @@ ghost use Rattle.spin_main.specs.Lanes.{asked_at, commands_by, IsForOneLane};
 
 use spin_code::Sincere;
 use spin_objects::Catalogue;
-use spin_proto::{Deed, Reply, path};
+use spin_proto::{Reply, path};
 use spin_report::{Entry, What};
-use spin_script::{Line, Work};
+use spin_script::Line;
 use spin_table::{Setup, StepFault, Verdicted, Version};
 use spin_values::{NoMemory, Steps};
-use spin_word::Command;
+use spin_word::{Command, Deed, Work};
 use std::alloc::Global;
 use std::marker::{Brand, Model};
 use std::sync::ledger::{Blank, Ledger};
-
-/// An equal deed.
-fn copy_of(deed: &Deed) -> Result<Deed, NoMemory>
-    ensures { IfOk result (λ copy. copy ≡ deed.now) }
-{
-    match deed {
-        Deed::Raise { event, args } => Ok(Deed::Raise {
-            event: *event,
-            args: args.copy()?,
-        }),
-        Deed::Later { event, args } => Ok(Deed::Later {
-            event: *event,
-            args: args.copy()?,
-        }),
-    }
-}
 
 /// The version after a command, with a counter for the making of its plan.
 fn counted_after<L: Ledger>(
@@ -122,7 +106,8 @@ impl Dispatcher {
         requires valid { IsTrue (is_command command.now) }
         requires room { self.old.place < 4096 }
         requires sound { IsSound (data_of setup.now) self.old }
-        ensures step { IfOk result (λ verdict. IsStep (data_of setup.now) self.old command.now verdict self.new) }
+        ensures step { IfOk result
+            (λ verdict. IsStep (data_of setup.now) self.old command.now verdict self.new) }
         ensures sound { IsSound (data_of setup.now) self.new }
         ensures place { OnOk result (self.new.place ≤ self.old.place + 1) }
         ensures unchanged { OnErr result (self.new ≡ self.old) }
@@ -141,54 +126,57 @@ impl Dispatcher {
     pub fn raise(&self, alloc: Global, setup: &Setup, deed: &Deed) -> Result<Reply, NoMemory>
         requires sound { IsSound (data_of setup.now) self.now }
         requires sincere { ⟦<Catalogue as Sincere>⟧.sincere setup.now.catalogue }
-        ensures { IfOk result (λ reply. IsDeedReply (data_of setup.now) self.now deed.now reply) }
+        ensures { IfOk result
+            (λ reply. IsDeedReply (data_of setup.now) self.now deed.now reply) }
     {
         path(alloc, &self.version, setup, deed)
     }
 
     /// Does what is asked, and answers what it came to. After want of memory the state is as before.
-    fn answer(&mut self, alloc: Global, setup: &Setup, work: &Work) -> Result<What, NoMemory>
+    fn answer(&mut self, alloc: Global, setup: &Setup, work: Work) -> Result<What, NoMemory>
         requires sincere { ⟦<Catalogue as Sincere>⟧.sincere setup.now.catalogue }
-        requires work { IsForOneLane work.now }
-        requires room { self.old.place + commands_by work.now ≤ 4096 }
+        requires work { IsForOneLane work }
+        requires room { self.old.place + commands_by work ≤ 4096 }
         requires sound { IsSound (data_of setup.now) self.old }
-        ensures answers { IfOk result (λ what. Answers (data_of setup.now) self.old what self.new) }
-        ensures asked { IfOk result (λ what. lanes.asked_by work.now ≡ asked_by what ∷ []) }
+        ensures answers { IfOk result
+            (λ what. Answers (data_of setup.now) self.old what self.new) }
+        ensures asked { IfOk result (λ what. lanes.asked_by work ≡ asked_by what ∷ []) }
         ensures sound { IsSound (data_of setup.now) self.new }
-        ensures place { OnOk result (self.new.place ≤ self.old.place + commands_by work.now) }
+        ensures place { OnOk result (self.new.place ≤ self.old.place + commands_by work) }
         ensures unchanged { OnErr result (self.new ≡ self.old) }
     {
         match work {
             Work::Command(command) => {
-                let verdict = self.command(alloc, setup, command)?;
-                Ok(What::Command(*command, verdict))
+                let verdict = self.command(alloc, setup, &command)?;
+                Ok(What::Command(command, verdict))
             }
             Work::Deed(deed) => {
-                let asked = copy_of(deed)?;
-                let reply = self.raise(alloc, setup, deed)?;
-                Ok(What::Deed(asked, reply))
+                let reply = self.raise(alloc, setup, &deed)?;
+                Ok(What::Deed(deed, reply))
             }
             Work::Packet { .. } => unreachable!(),
         }
     }
 
     /// Does what a line asks for, and answers its entry. After want of memory the state is as before.
-    pub fn step(&mut self, alloc: Global, setup: &Setup, line: &Line) -> Result<Entry, NoMemory>
+    pub fn step(&mut self, alloc: Global, setup: &Setup, line: Line) -> Result<Entry, NoMemory>
         requires sincere { ⟦<Catalogue as Sincere>⟧.sincere setup.now.catalogue }
-        requires work { IsForOneLane line.now.work }
-        requires room { self.old.place + commands_by line.now.work ≤ 4096 }
+        requires work { IsForOneLane line.work }
+        requires room { self.old.place + commands_by line.work ≤ 4096 }
         requires sound { IsSound (data_of setup.now) self.old }
-        ensures next { IfOk result (λ entry. IsNextEntry (data_of setup.now) self.old entry self.new) }
-        ensures asked { IfOk result (λ entry. asked_at line.now ≡ asked_of entry ∷ []) }
+        ensures next { IfOk result
+            (λ entry. IsNextEntry (data_of setup.now) self.old entry self.new) }
+        ensures asked { IfOk result (λ entry. asked_at line ≡ asked_of entry ∷ []) }
         ensures sound { IsSound (data_of setup.now) self.new }
-        ensures place { OnOk result (self.new.place ≤ self.old.place + commands_by line.now.work) }
+        ensures place { OnOk result (self.new.place ≤ self.old.place + commands_by line.work) }
         ensures unchanged { OnErr result (self.new ≡ self.old) }
     {
-        let what = self.answer(alloc, setup, &line.work)?;
+        let Line { number, lane, work } = line;
+        let what = self.answer(alloc, setup, work)?;
         Ok(Entry {
             place: self.place(),
-            lane: line.lane,
-            line: line.number,
+            lane,
+            line: number,
             part: 0,
             what,
         })

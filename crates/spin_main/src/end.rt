@@ -2,7 +2,7 @@
 
 ghost use Rattle.std.specs.Prelude.{◌≡◌, ◌≤◌, ◌+◌, ◌++◌, [], length, decimal, codes};
 ghost use Rattle.arrayvec.specs.ArrayVec.{array_vec_len};
-ghost use Rattle.spin_report.specs.Words.{ended};
+ghost use Rattle.spin_text.specs.Words.{ended};
 ghost use Rattle.spin_main.specs.Statuses.{number, stop_line, Tells};
 
 use arrayvec::ArrayVec;
@@ -80,7 +80,8 @@ fn fixed_line(text: &[u8]) -> StopLine
 }
 
 fn refusal_line(number: u32, cause: u8) -> StopLine
-    ensures { result.items ≡ ended (codes "stop 2 line " ++ decimal number ++ codes " cause " ++ decimal cause) }
+    ensures { result.items
+        ≡ ended (codes "stop 2 line " ++ decimal number ++ codes " cause " ++ decimal cause) }
 {
     let mut line = StopLine::new();
     put(&mut line, b"stop 2 line ");

@@ -10,7 +10,7 @@ use crate::dispatcher::Dispatcher;
 use spin_code::Sincere;
 use spin_objects::Catalogue;
 use spin_report::Entries;
-use spin_script::Line;
+use spin_script::Lines;
 use spin_table::Setup;
 use spin_values::NoMemory;
 use std::alloc::Global;
@@ -26,16 +26,17 @@ pub struct LaneHistory {
 
 /// Does the lines in their order, from the start on. It takes time linear in the lines and in the steps of the
 /// replies, and for each command time linear in the plan of its event.
-pub fn run_lane(alloc: Global, setup: &Setup, lines: &[Line]) -> Result<LaneHistory, NoMemory>
+pub fn run_lane(alloc: Global, setup: &Setup, lines: Lines) -> Result<LaneHistory, NoMemory>
     requires sincere { ⟦<Catalogue as Sincere>⟧.sincere setup.now.catalogue }
-    requires works { All (λ line. IsForOneLane line.work) lines.now }
+    requires works { All (λ line. IsForOneLane line.work) lines }
     requires unforced { some_force_apart (data_of setup.now) ≡ false }
-    requires few { commands_in lines.now ≤ 4096 }
-    ensures { IfOk result (λ history. IsLaneHistory (data_of setup.now) lines.now history.entries history.end) }
+    requires few { commands_in lines ≤ 4096 }
+    ensures { IfOk result
+        (λ history. IsLaneHistory (data_of setup.now) lines history.entries history.end) }
 {
     let mut dispatcher = Dispatcher::start(alloc, setup)?;
     let mut entries = Entries::new(alloc);
-    for line in lines {
+    for line in lines.into_vec() {
         entries.push(dispatcher.step(alloc, setup, line)?)?;
     }
     Ok(LaneHistory {

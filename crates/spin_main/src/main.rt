@@ -2,30 +2,33 @@
 //!
 //! `spin run SCRIPT` reads the script from the folder where it is called and writes the report to standard output.
 //!
-//! - [`top`] has the one call, [`spin`](top::spin), which works over any shelf and sink;
+//! - [`top`] has the one call, [`spin`], which works over any shelf and sink;
 //! - [`words`] and [`load`] find the script, [`unbuilt`] says what of it can't be run yet;
 //! - [`dispatcher`] is the version in force, [`lane`] does the lines, [`writing`] writes the report;
-//! - [`objects`] are the natives that the program hands in;
+//! - [`natives`] are those that the program hands in;
 //! - [`end`] has the ends of a run, their statuses and lines.
 #![tactic(auto)]
 
-pub mod dispatcher;
-pub mod end;
-pub mod lane;
-pub mod load;
-pub mod objects;
+mod dispatcher;
+mod end;
+mod lane;
+mod load;
+mod natives;
 #[cfg(test)]
 mod tests;
-pub mod top;
-pub mod unbuilt;
-pub mod words;
-pub mod writing;
+mod top;
+mod unbuilt;
+mod words;
+mod writing;
+
+ghost use Rattle.std.specs.Prelude.{IfOk};
+ghost use Rattle.spin_main.specs.Natives as program;
+ghost use Rattle.spin_main.specs.Statuses.{outside, IsStatus};
 
 use crate::end::{End, stop};
-use crate::objects::{Doer, Follower, IsIpv4, first_word, of_bytes, own_two};
+use crate::natives::{IsIpv4, first_word_object, natives_of, own_two_object};
 use crate::top::spin;
-use spin_code::{Cmp, Expr, Test};
-use spin_objects::{Guard, Handler, Natives};
+use spin_objects::{Guard, Handler};
 use spin_outside::{FolderShelf, Shelf, Sink, StdSink};
 use spin_policy::Authoriser;
 use spin_values::{NoMemory, Text};
@@ -52,44 +55,21 @@ fn words_of<R: Env + AllocGlobal>(rt: &R) -> Result<Vec<Text>, NoMemory> {
     }
 }
 
-/// Does what the words say, with the natives of the program. Only want of memory refuses one of them.
+/// Does what the words say, with the natives of the program.
 fn run_with_natives<F: Shelf, K: Sink>(
     alloc: Global,
     words: &[Text],
     shelf: &mut F,
     out: &mut K,
-) -> Result<u8, NoMemory> {
-    let mut natives = Natives::new(alloc);
-    let doer = Doer {
-        act: first_word(alloc)?,
-    };
-    let object: Box<dyn Handler + Send + Sync> = Box::new(alloc, doer)?;
-    let name = Text::from_bytes(alloc, b"first_word")?;
-    let added = natives.add_handler(name, of_bytes(alloc, true)?, first_word(alloc)?, object);
-    if added.is_err() {
-        return Err(NoMemory);
-    }
-    let object: Box<dyn Guard + Send + Sync> = Box::new(alloc, IsIpv4)?;
-    let name = Text::from_bytes(alloc, b"is_ipv4")?;
-    let kind = Expr::Field {
-        arg: 0,
-        offset: 12,
-        width: 2,
-    };
-    let test = Test::Compare(Cmp::Eq, kind, Expr::Const(0x0800));
-    let added = natives.add_guard(name, of_bytes(alloc, false)?, test, object);
-    if added.is_err() {
-        return Err(NoMemory);
-    }
-    let follower = Follower {
-        policy: own_two(alloc)?,
-    };
-    let object: Box<dyn Authoriser + Send + Sync> = Box::new(alloc, follower)?;
-    let name = Text::from_bytes(alloc, b"own_two")?;
-    let added = natives.add_authoriser(name, own_two(alloc)?, object);
-    if added.is_err() {
-        return Err(NoMemory);
-    }
+) -> Result<u8, NoMemory>
+    ensures { IfOk result (IsStatus program.natives
+        (outside (F.seen shelf.old) (K.seen out.old))
+        (outside (F.seen shelf.new) (K.seen out.new)) words.now) }
+{
+    let handler: Box<dyn Handler + Send + Sync> = Box::new(alloc, first_word_object(alloc)?)?;
+    let guard: Box<dyn Guard + Send + Sync> = Box::new(alloc, IsIpv4)?;
+    let authoriser: Box<dyn Authoriser + Send + Sync> = Box::new(alloc, own_two_object(alloc)?)?;
+    let natives = natives_of(alloc, handler, guard, authoriser)?;
     Ok(spin(alloc, words, shelf, out, natives))
 }
 

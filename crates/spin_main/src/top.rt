@@ -3,11 +3,12 @@
 ghost use Rattle.std.specs.Prelude.{◌≡◌};
 ghost use Rattle.spin_main.specs.declared.end.End.TheVariants as end;
 ghost use Rattle.spin_script.specs.States.{natives_seen};
-ghost use Rattle.spin_main.specs.Statuses.{outside, end_by, IsStatus, Row, RefusedRow, KnowsUsage, KnowsRefused, KnowsAbsent, IsComplete};
+ghost use Rattle.spin_main.specs.Statuses.{outside, end_by, IsStatus, Row, RefusedRow};
+ghost use Rattle.spin_main.specs.Statuses.{KnowsUsage, KnowsRefused, KnowsAbsent, IsComplete};
 
 use crate::end::{End, stop};
 use crate::load::{LoadFault, load};
-use crate::unbuilt::lines_to_run;
+use crate::unbuilt::{OneLane, lane_of};
 use crate::words::script_name;
 use crate::writing::{ReportFault, write_report};
 use spin_code::Sincere;
@@ -36,7 +37,9 @@ fn run_words<F: Shelf, K: Sink>(
     natives: Natives,
 ) -> u8
     requires sincere { ⟦<Natives as Sincere>⟧.sincere natives }
-    ensures { IsStatus (natives_seen natives) (outside (F.seen shelf.old) (K.seen out.old)) (outside (F.seen shelf.new) (K.seen out.new)) words.now result }
+    ensures { IsStatus (natives_seen natives)
+        (outside (F.seen shelf.old) (K.seen out.old))
+        (outside (F.seen shelf.new) (K.seen out.new)) words.now result }
 {
     let Some(name) = script_name(words) else {
         return stop(out, End::Usage);
@@ -52,11 +55,11 @@ fn run_words<F: Shelf, K: Sink>(
         Ok(script) => script,
         Err(fault) => return stop(out, end_by(fault)),
     };
-    let lines = match lines_to_run(&script) {
-        Ok(lines) => lines,
+    let OneLane { setup, lines } = match lane_of(script) {
+        Ok(lane) => lane,
         Err(line) => return stop(out, End::Refused { line, cause: 25 }),
     };
-    match write_report(alloc, &script.setup, lines, out) {
+    match write_report(alloc, &setup, lines, out) {
         Ok(()) => stop(out, End::Whole),
         Err(ReportFault::Failed) => stop(out, End::WriteFault),
         Err(ReportFault::NoMemory) => stop(out, End::NoMemory),
@@ -91,26 +94,45 @@ pub fn spin<F: Shelf, K: Sink>(
     // Each native does what it was handed in with.
     requires sincere { ⟦<Natives as Sincere>⟧.sincere natives }
     // The status is the number of an end that has its cause; the rows below say it for each end.
-    ensures status { IsStatus (natives_seen natives) (outside (F.seen shelf.old) (K.seen out.old)) (outside (F.seen shelf.new) (K.seen out.new)) words.now result }
+    ensures status { IsStatus (natives_seen natives)
+        (outside (F.seen shelf.old) (K.seen out.old))
+        (outside (F.seen shelf.new) (K.seen out.new)) words.now result }
     // 0: the report of a legal history that answers what the script asks, each once and in order, was written.
-    ensures whole { Row (natives_seen natives) (outside (F.seen shelf.old) (K.seen out.old)) (outside (F.seen shelf.new) (K.seen out.new)) words.now result end.Whole }
+    ensures whole { Row (natives_seen natives)
+        (outside (F.seen shelf.old) (K.seen out.old))
+        (outside (F.seen shelf.new) (K.seen out.new)) words.now result end.Whole }
     // 1: the words aren't a run; and words that aren't a run give 1.
-    ensures usage { Row (natives_seen natives) (outside (F.seen shelf.old) (K.seen out.old)) (outside (F.seen shelf.new) (K.seen out.new)) words.now result end.Usage }
+    ensures usage { Row (natives_seen natives)
+        (outside (F.seen shelf.old) (K.seen out.old))
+        (outside (F.seen shelf.new) (K.seen out.new)) words.now result end.Usage }
     ensures usage_always { KnowsUsage words.now result }
     // 2: the text that was read is refused at that line for that cause; and a text that is there and is no script that
     // can be run gives 2.
-    ensures refused { RefusedRow (natives_seen natives) (outside (F.seen shelf.old) (K.seen out.old)) (outside (F.seen shelf.new) (K.seen out.new)) words.now result }
-    ensures refused_always { KnowsRefused (natives_seen natives) (F.seen shelf.old) (F.seen shelf.new) words.now result }
+    ensures refused { RefusedRow (natives_seen natives)
+        (outside (F.seen shelf.old) (K.seen out.old))
+        (outside (F.seen shelf.new) (K.seen out.new)) words.now result }
+    ensures refused_always { KnowsRefused (natives_seen natives)
+        (F.seen shelf.old) (F.seen shelf.new) words.now result }
     // 4, 5: the count of faults of the shelf, or of the sink, rose.
-    ensures read_fault { Row (natives_seen natives) (outside (F.seen shelf.old) (K.seen out.old)) (outside (F.seen shelf.new) (K.seen out.new)) words.now result end.ReadFault }
-    ensures write_fault { Row (natives_seen natives) (outside (F.seen shelf.old) (K.seen out.old)) (outside (F.seen shelf.new) (K.seen out.new)) words.now result end.WriteFault }
+    ensures read_fault { Row (natives_seen natives)
+        (outside (F.seen shelf.old) (K.seen out.old))
+        (outside (F.seen shelf.new) (K.seen out.new)) words.now result end.ReadFault }
+    ensures write_fault { Row (natives_seen natives)
+        (outside (F.seen shelf.old) (K.seen out.old))
+        (outside (F.seen shelf.new) (K.seen out.new)) words.now result end.WriteFault }
     // 6: the count of absences rose; and a script that isn't there gives 6.
-    ensures absent { Row (natives_seen natives) (outside (F.seen shelf.old) (K.seen out.old)) (outside (F.seen shelf.new) (K.seen out.new)) words.now result end.Absent }
+    ensures absent { Row (natives_seen natives)
+        (outside (F.seen shelf.old) (K.seen out.old))
+        (outside (F.seen shelf.new) (K.seen out.new)) words.now result end.Absent }
     ensures absent_always { KnowsAbsent (F.seen shelf.old) (F.seen shelf.new) words.now result }
     // 7: what was written before its line.
-    ensures memory { Row (natives_seen natives) (outside (F.seen shelf.old) (K.seen out.old)) (outside (F.seen shelf.new) (K.seen out.new)) words.now result end.NoMemory }
+    ensures memory { Row (natives_seen natives)
+        (outside (F.seen shelf.old) (K.seen out.old))
+        (outside (F.seen shelf.new) (K.seen out.new)) words.now result end.NoMemory }
     // A script that is there and can be run, and no count that rose, give 0, or want of memory.
-    ensures complete { IsComplete (natives_seen natives) (outside (F.seen shelf.old) (K.seen out.old)) (outside (F.seen shelf.new) (K.seen out.new)) words.now result }
+    ensures complete { IsComplete (natives_seen natives)
+        (outside (F.seen shelf.old) (K.seen out.old))
+        (outside (F.seen shelf.new) (K.seen out.new)) words.now result }
 {
     run_words(alloc, words, shelf, out, natives)
 }

@@ -14,10 +14,9 @@ ghost use Rattle.spin_main.specs.Scripts as specs;
 use spin_code::{Act, ActStep};
 use spin_objects::{Catalogue, NativeKind, Natives};
 use spin_policy::{Effect, Rule};
-use spin_proto::Deed;
-use spin_script::{Line, Script, Segment, Work};
+use spin_script::{Line, Lines, Script, Segment, Segments};
 use spin_table::{Authority, EventDef, Setup};
-use spin_word::Mode;
+use spin_word::{Deed, Mode, Work};
 
 fn is_unbuilt_work(work: &Work) -> bool
     ensures { result ≡ specs.is_unbuilt_work work.now }
@@ -145,36 +144,50 @@ fn needs_beside(script: &Script) -> bool
     some_force_apart(&script.setup)
 }
 
-/// The lane lines of the one segment.
-fn lines_of(segments: &[Segment]) -> &[Line]
-    requires { length segments.now < 2 }
-    ensures { result.now ≡ lines_in segments.now }
+/// The lane lines of the one segment, if there is one.
+fn lines_of(mut segments: Segments) -> Lines
+    requires { length segments < 2 }
+    ensures { result ≡ lines_in segments }
 {
-    match segments.first() {
-        None => &[],
-        Some(segment) => segment.lines.as_slice(),
+    match segments.take_first() {
+        None => Lines::new(segments.allocator()),
+        Some(segment) => segment.lines,
     }
 }
 
-/// The lane lines of a script, or the line at which it is refused, where it can't be run yet: 0 where it has more than
-/// one segment, retires an endpoint, or has a handler that sends or a rule that has handlers run asynchronously; else
-/// the first line of another lane than 0, or that leaves a job, or that asks for packets. It takes time linear in the
-/// script.
-pub fn lines_to_run(script: &Script) -> Result<&[Line], u32>
-    ensures lines { IfOk result (λ lines. lines.now ≡ lines_in script.now.segments) }
-    ensures built { IfOk result (λ lines. specs.unbuilt_line (script_seen script.now) ≡ None) }
-    ensures unbuilt { IfErr result (λ line. specs.unbuilt_line (script_seen script.now) ≡ Some line) }
+/// What of a script is run.
+#[derive(Drop)]
+pub struct OneLane {
+    /// What the script declares.
+    pub setup: Setup,
+    /// The lines of its one lane.
+    pub lines: Lines,
+}
+
+/// The lane of a script, or the line at which the script is refused, where it can't be run yet: 0 where it has more
+/// than one segment, retires an endpoint, or has a handler that sends or a rule that has handlers run asynchronously;
+/// else the first line of another lane than 0, or that leaves a job, or that asks for packets. It takes time linear in
+/// the script.
+pub fn lane_of(script: Script) -> Result<OneLane, u32>
+    ensures setup { IfOk result (λ lane. lane.setup ≡ script.setup) }
+    ensures lines { IfOk result (λ lane. lane.lines ≡ lines_in script.segments) }
+    ensures built { IfOk result (λ lane. specs.unbuilt_line (script_seen script) ≡ None) }
+    ensures unbuilt { IfErr result (λ line. specs.unbuilt_line (script_seen script) ≡ Some line) }
 {
-    let segments = script.segments.as_slice();
-    if segments.len() > 1 {
+    if script.segments.len() > 1 {
         return Err(0);
     }
-    if needs_beside(script) {
+    if needs_beside(&script) {
         return Err(0);
     }
+    let Script {
+        setup,
+        segments,
+        ..
+    } = script;
     let lines = lines_of(segments);
-    match first_unbuilt(lines) {
-        None => Ok(lines),
+    match first_unbuilt(lines.as_slice()) {
+        None => Ok(OneLane { setup, lines }),
         Some(line) => Err(line),
     }
 }

@@ -5,7 +5,7 @@ ghost use Rattle.std.specs.List.{All};
 ghost use Rattle.std.specs.Io.KnownBytes.{Appends};
 ghost use Rattle.spin_outside.specs.Counts.{FailsByCount};
 ghost use Rattle.spin_table.specs.SetupOf.{data_of};
-ghost use Rattle.spin_report.specs.Words.{ended};
+ghost use Rattle.spin_text.specs.Words.{ended};
 ghost use Rattle.spin_report.specs.Lines.{entry_line};
 ghost use Rattle.spin_report.specs.Histories.{first_line, segment_line, end_line};
 ghost use Rattle.spin_main.specs.Scripts.{some_force_apart};
@@ -17,7 +17,7 @@ use spin_code::Sincere;
 use spin_objects::Catalogue;
 use spin_outside::{Failed, Sink, write_all};
 use spin_report::{Entry, end_text, entry_text, segment_text};
-use spin_script::Line;
+use spin_script::Lines;
 use spin_table::Setup;
 use spin_values::{NoMemory, Octets, Sequence};
 use std::alloc::Global;
@@ -78,7 +78,8 @@ fn later_lines(alloc: Global, entries: &[Entry], end: u16) -> Result<TextLines, 
 fn write_lines<K: Sink>(out: &mut K, lines: &[Octets]) -> Result<(), Failed>
     ensures taken { MatchResult result
         (λ _. Appends (K.seen out.old).told (K.seen out.new).told (joined lines.now))
-        (λ _. (n : ℕ) × (n < length (joined lines.now)) × Appends (K.seen out.old).told (K.seen out.new).told (take n (joined lines.now))) }
+        (λ _. (n : ℕ) × (n < length (joined lines.now))
+        × Appends (K.seen out.old).told (K.seen out.new).told (take n (joined lines.now))) }
     ensures cause { FailsByCount (K.seen out.old).faults (K.seen out.new).faults result }
 {
     for line in lines {
@@ -96,16 +97,19 @@ fn write_lines<K: Sink>(out: &mut K, lines: &[Octets]) -> Result<(), Failed>
 pub fn write_report<K: Sink>(
     alloc: Global,
     setup: &Setup,
-    lines: &[Line],
+    lines: Lines,
     out: &mut K,
 ) -> Result<(), ReportFault>
     requires sincere { ⟦<Catalogue as Sincere>⟧.sincere setup.now.catalogue }
-    requires works { All (λ line. IsForOneLane line.work) lines.now }
+    requires works { All (λ line. IsForOneLane line.work) lines }
     requires unforced { some_force_apart (data_of setup.now) ≡ false }
-    requires few { commands_in lines.now ≤ 4096 }
-    ensures whole { OnOk result (WritesReport (data_of setup.now) lines.now (K.seen out.old).told (K.seen out.new).told) }
-    ensures cut { IsErrOf result ReportFault.Failed → CutsReport (data_of setup.now) lines.now (K.seen out.old).told (K.seen out.new).told }
-    ensures memory { IsErrOf result ReportFault.NoMemory → Appends (K.seen out.old).told (K.seen out.new).told (ended first_line) }
+    requires few { commands_in lines ≤ 4096 }
+    ensures whole { OnOk result
+        (WritesReport (data_of setup.now) lines (K.seen out.old).told (K.seen out.new).told) }
+    ensures cut { IsErrOf result ReportFault.Failed
+        → CutsReport (data_of setup.now) lines (K.seen out.old).told (K.seen out.new).told }
+    ensures memory { IsErrOf result ReportFault.NoMemory
+        → Appends (K.seen out.old).told (K.seen out.new).told (ended first_line) }
     ensures cause { ReportsByCount (K.seen out.old).faults (K.seen out.new).faults result }
 {
     if let Err(_) = write_all(out, b"report 1\n") {

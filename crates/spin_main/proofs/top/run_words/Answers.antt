@@ -7,7 +7,9 @@ use Rattle.spin_script.specs.States.{ScriptData, natives_seen}
 use Rattle.spin_script.specs.Language.{IsScript}
 use Rattle.spin_script.specs.Scripts.{script_seen, IsBad}
 use Rattle.spin_script.specs.Soundness.{lines_in}
-use Rattle.spin_main.specs.Scripts.{unbuilt_line, IsBadAt, CanRun}
+use Rattle.spin_table.specs.Setups.{SetupData}
+use Rattle.spin_table.specs.SetupOf.{data_of}
+use Rattle.spin_main.specs.Scripts.{unbuilt_line, some_force_apart, IsBadAt, CanRun}
 use Rattle.spin_main.specs.Lanes.{IsForOneLane, commands_in}
 use Rattle.spin_main.specs.Statuses.{ShelfStood, IsLoaded, WritesReport, CutsReport, number, end_by}
 use Rattle.spin_main.proofs.Causes.{too_large_script, refused_script, fault_cause, Tells-nothing, Tells-after, report_then, cut_then, Rose-stood}
@@ -45,27 +47,30 @@ returns-in-Err g c =
     let end = c.end_by.ensures in
     (end_by fault, c.stop-in-Err.ensures.status ∙ ap number end, fault_cause (natives_seen c.args.natives) _ _ _ c.in-Some.name.now c.in-Ok.text fault bad c.in-Some.ensures.found shelf c.in-Ok.ensures.found (rw (← end) c.stop-in-Err.ensures.line))
 
-pub returns-in-Err-lines_to_run : goal.returns-in-Err-lines_to_run
-returns-in-Err-lines_to_run g c =
+pub returns-in-Err-lane_of : goal.returns-in-Err-lane_of
+returns-in-Err-lane_of g c =
     let stood = c.in-Ok.ensures.cause in
     let shelf : ShelfStood (g.F.Shelf.seen c.args.shelf.now) (g.F.Shelf.seen c.load.new.shelf) = record { files = c.in-Ok.ensures.files; faults = stood.0; absences = stood.1 } in
     let seen : ScriptData = script_seen c.in-Ok-read_script.script in
     let natives = natives_seen c.args.natives in
     let reads : IsScript natives c.in-Ok.text (Ok seen) = subst (λ (bytes : List ℕ). IsScript natives bytes (Ok seen)) c.as_slice.ensures c.in-Ok-read_script.ensures.script in
-    let line = c.in-Err-lines_to_run.line in
-    let unbuilt : unbuilt_line seen ≡ Some line = c.in-Err-lines_to_run.ensures.unbuilt in
+    let line = c.in-Err-lane_of.line in
+    let unbuilt : unbuilt_line seen ≡ Some line = c.in-Err-lane_of.ensures.unbuilt in
     let bad : IsBadAt natives c.in-Ok.text line 25 = inr (seen, reads, unbuilt, refl) in
-    (Refused line 25, c.stop-in-Err-lines_to_run.ensures.status, (c.in-Some.name.now, c.in-Some.ensures.found, shelf, refused_script natives _ _ c.in-Ok.text line 25 c.in-Ok.ensures.found bad, c.stop-in-Err-lines_to_run.ensures.line))
+    (Refused line 25, c.stop-in-Err-lane_of.ensures.status, (c.in-Some.name.now, c.in-Some.ensures.found, shelf, refused_script natives _ _ c.in-Ok.text line 25 c.in-Ok.ensures.found bad, c.stop-in-Err-lane_of.ensures.line))
 
 pub write_report-requires-clause-works : goal.write_report-requires-clause-works
 write_report-requires-clause-works g c =
     let seen : ScriptData = script_seen c.in-Ok-read_script.script in
-    let built : unbuilt_line seen ≡ None = c.in-Ok-lines_to_run.ensures.built in
-    let lines : c.in-Ok-lines_to_run.lines.now ≡ lines_in seen.segments = c.in-Ok-lines_to_run.ensures.lines in
+    let built : unbuilt_line seen ≡ None = c.in-Ok-lane_of.ensures.built in
+    let lines : c.in-Ok-lane_of.lane.lines ≡ lines_in seen.segments = c.in-Ok-lane_of.ensures.lines in
     subst (λ (ls : List Line). All (λ line. IsForOneLane line.work) ls) (sym lines) (lines_for_one_lane seen c.in-Ok-read_script.ensures.valid built)
 
 pub write_report-requires-clause-unforced : goal.write_report-requires-clause-unforced
-write_report-requires-clause-unforced g c = none_forced (script_seen c.in-Ok-read_script.script) c.in-Ok-lines_to_run.ensures.built
+write_report-requires-clause-unforced g c =
+    let seen : ScriptData = script_seen c.in-Ok-read_script.script in
+    let same : data_of c.in-Ok-lane_of.lane.setup ≡ seen.setup = ap (λ s. data_of s) c.in-Ok-lane_of.ensures.setup in
+    ap some_force_apart same ∙ none_forced seen c.in-Ok-lane_of.ensures.built
 
 pub returns-in-Ok-write_report : goal.returns-in-Ok-write_report
 returns-in-Ok-write_report g c =
@@ -74,12 +79,14 @@ returns-in-Ok-write_report g c =
     let seen : ScriptData = script_seen c.in-Ok-read_script.script in
     let natives = natives_seen c.args.natives in
     let reads : IsScript natives c.in-Ok.text (Ok seen) = subst (λ (bytes : List ℕ). IsScript natives bytes (Ok seen)) c.as_slice.ensures c.in-Ok-read_script.ensures.script in
-    let built : unbuilt_line seen ≡ None = c.in-Ok-lines_to_run.ensures.built in
-    let lines : c.in-Ok-lines_to_run.lines.now ≡ lines_in seen.segments = c.in-Ok-lines_to_run.ensures.lines in
+    let built : unbuilt_line seen ≡ None = c.in-Ok-lane_of.ensures.built in
+    let lines : c.in-Ok-lane_of.lane.lines ≡ lines_in seen.segments = c.in-Ok-lane_of.ensures.lines in
     let can_run : CanRun natives c.in-Ok.text seen = record { reads = reads; built = built } in
     let loaded : IsLoaded natives (g.F.Shelf.seen c.args.shelf.now).files c.in-Some.name.now seen = record { text = c.in-Ok.text; read = c.in-Ok.ensures.found; can_run = can_run } in
     let nothing = Tells-nothing _ _ c.stop-in-Ok-write_report.ensures.line in
-    let written = report_then seen.setup _ _ _ _ c.in-Ok-write_report.ensures.whole nothing.1 in
+    let same : data_of c.in-Ok-lane_of.lane.setup ≡ seen.setup = ap (λ s. data_of s) c.in-Ok-lane_of.ensures.setup in
+    let of_lane = report_then _ _ _ _ _ c.in-Ok-write_report.ensures.whole nothing.1 in
+    let written = subst (λ (d : SetupData). WritesReport d c.in-Ok-lane_of.lane.lines (g.K.Sink.seen c.args.out.now).told (g.K.Sink.seen c.stop-in-Ok-write_report.new.out).told) same of_lane in
     let whole = subst (λ (ls : List Line). WritesReport seen.setup ls (g.K.Sink.seen c.args.out.now).told (g.K.Sink.seen c.stop-in-Ok-write_report.new.out).told) lines written in
     (Whole, c.stop-in-Ok-write_report.ensures.status, (c.in-Some.name.now, c.in-Some.ensures.found, shelf, nothing.0 ∙ c.in-Ok-write_report.ensures.cause, seen, loaded, whole))
 
@@ -90,14 +97,17 @@ returns-in-Err-Failed-write_report g c =
     let seen : ScriptData = script_seen c.in-Ok-read_script.script in
     let natives = natives_seen c.args.natives in
     let reads : IsScript natives c.in-Ok.text (Ok seen) = subst (λ (bytes : List ℕ). IsScript natives bytes (Ok seen)) c.as_slice.ensures c.in-Ok-read_script.ensures.script in
-    let built : unbuilt_line seen ≡ None = c.in-Ok-lines_to_run.ensures.built in
-    let lines : c.in-Ok-lines_to_run.lines.now ≡ lines_in seen.segments = c.in-Ok-lines_to_run.ensures.lines in
+    let built : unbuilt_line seen ≡ None = c.in-Ok-lane_of.ensures.built in
+    let lines : c.in-Ok-lane_of.lane.lines ≡ lines_in seen.segments = c.in-Ok-lane_of.ensures.lines in
     let can_run : CanRun natives c.in-Ok.text seen = record { reads = reads; built = built } in
     let loaded : IsLoaded natives (g.F.Shelf.seen c.args.shelf.now).files c.in-Some.name.now seen = record { text = c.in-Ok.text; read = c.in-Ok.ensures.found; can_run = can_run } in
     let raised = rw c.in-Err-Failed-write_report.field-0-is at c.in-Err-Failed-write_report.ensures.cause in
     let front = c.in-Err-Failed-write_report.ensures.cut (ap Err c.in-Err-Failed-write_report.field-0-is) in
     let nothing = Tells-nothing _ _ c.stop-in-Err-Failed-write_report.ensures.line in
-    let cut = subst (λ (ls : List Line). CutsReport seen.setup ls (g.K.Sink.seen c.args.out.now).told (g.K.Sink.seen c.stop-in-Err-Failed-write_report.new.out).told) lines (cut_then seen.setup _ _ _ _ front nothing.1) in
+    let same : data_of c.in-Ok-lane_of.lane.setup ≡ seen.setup = ap (λ s. data_of s) c.in-Ok-lane_of.ensures.setup in
+    let of_lane = cut_then _ _ _ _ _ front nothing.1 in
+    let of_script = subst (λ (d : SetupData). CutsReport d c.in-Ok-lane_of.lane.lines (g.K.Sink.seen c.args.out.now).told (g.K.Sink.seen c.stop-in-Err-Failed-write_report.new.out).told) same of_lane in
+    let cut = subst (λ (ls : List Line). CutsReport seen.setup ls (g.K.Sink.seen c.args.out.now).told (g.K.Sink.seen c.stop-in-Err-Failed-write_report.new.out).told) lines of_script in
     (WriteFault, c.stop-in-Err-Failed-write_report.ensures.status, (c.in-Some.name.now, c.in-Some.ensures.found, shelf, Rose-stood _ _ _ raised nothing.0, seen, loaded, cut))
 
 pub returns : goal.returns
@@ -107,8 +117,8 @@ returns g c =
     let seen : ScriptData = script_seen c.in-Ok-read_script.script in
     let natives = natives_seen c.args.natives in
     let reads : IsScript natives c.in-Ok.text (Ok seen) = subst (λ (bytes : List ℕ). IsScript natives bytes (Ok seen)) c.as_slice.ensures c.in-Ok-read_script.ensures.script in
-    let built : unbuilt_line seen ≡ None = c.in-Ok-lines_to_run.ensures.built in
-    let lines : c.in-Ok-lines_to_run.lines.now ≡ lines_in seen.segments = c.in-Ok-lines_to_run.ensures.lines in
+    let built : unbuilt_line seen ≡ None = c.in-Ok-lane_of.ensures.built in
+    let lines : c.in-Ok-lane_of.lane.lines ≡ lines_in seen.segments = c.in-Ok-lane_of.ensures.lines in
     let can_run : CanRun natives c.in-Ok.text seen = record { reads = reads; built = built } in
     let loaded : IsLoaded natives (g.F.Shelf.seen c.args.shelf.now).files c.in-Some.name.now seen = record { text = c.in-Ok.text; read = c.in-Ok.ensures.found; can_run = can_run } in
     let same = rw c.in-Err-NoMemory-write_report.field-0-is at c.in-Err-NoMemory-write_report.ensures.cause in
@@ -117,4 +127,4 @@ returns g c =
 
 pub write_report-requires-clause-few : goal.write_report-requires-clause-few
 write_report-requires-clause-few g c =
-    subst (λ (ls : List Line). commands_in ls ≤ 4096) (sym c.in-Ok-lines_to_run.ensures.lines) c.in-Ok-read_script.ensures.few
+    subst (λ (ls : List Line). commands_in ls ≤ 4096) (sym c.in-Ok-lane_of.ensures.lines) c.in-Ok-read_script.ensures.few

@@ -1,5 +1,5 @@
 use Rattle.std.proofs.Common.{◌≡◌, ◌∷◌, take, map}
-use Rattle.spin_report.specs.Words.{ended}
+use Rattle.spin_text.specs.Words.{ended}
 use Rattle.spin_report.specs.Lines.{entry_line}
 use Rattle.spin_report.specs.Histories.{segment_line}
 use Rattle.spin_main.proofs.writing.later_lines.Given as goal
