@@ -1,0 +1,187 @@
+//! Pens that share a log, in one thread and in several.
+
+ghost use Rattle.std.specs.Prelude.{◌≡◌, ◌<◌, IsTrue};
+ghost use Rattle.std.specs.Thread.{IsSync};
+ghost use Rattle.spin_word.specs.Commands.{is_command};
+ghost use Rattle.spin_log.specs.Rows.{IsRowOf};
+ghost use Rattle.spin_log.specs.Pens.{IsSamePen};
+
+use spin_log::{Log, Look, MAX_PLACE, Pen, Publish};
+use spin_word::{Command, Mode, NO_BINDINGS, Op, Place, Row, pack, unpack};
+use std::test::Fail;
+use std::thread::{Threads, join};
+
+// How many rows each lane publishes in the test with threads.
+const ROWS_EACH: u16 = 250;
+
+fn default_of(lane: u8, handler: u16) -> Command
+    requires { (lane < 16) × (handler < 1024) }
+    ensures { IsTrue (is_command result) × (result.lane ≡ lane) }
+{
+    Command {
+        op: Op::Default,
+        event: 0,
+        lane,
+        requester: 0,
+        handler,
+        guard: 0,
+        place: Place::Free,
+        before: NO_BINDINGS,
+        after: NO_BINDINGS,
+        target: 0,
+        mode: Mode::Plain,
+    }
+}
+
+// Publishes the row again and again, and tells how often it was done before another answer came.
+fn publish_often(log: &Log, pen: &mut Pen, row: Row, times: u16) -> u16
+    requires log { pen.old.log ≡ log.now.id }
+    requires row { IsRowOf pen.old.lane row }
+    ensures { IsSamePen pen.old pen.new }
+{
+    for done in 0..times {
+        if log.publish(pen, row) != Publish::Done {
+            return done;
+        }
+    }
+    times
+}
+
+// Publishes the row after all that others publish before.
+fn publish_at_last(log: &Log, pen: &mut Pen, row: Row)
+    requires log { pen.old.log ≡ log.now.id }
+    requires row { IsRowOf pen.old.lane row }
+    ensures { IsSamePen pen.old pen.new }
+{
+    for _ in 0..MAX_PLACE {
+        if log.publish(pen, row) == Publish::Done {
+            return;
+        }
+    }
+}
+
+// Publishes the rows of a lane, one after another.
+fn publish_all(log: &Log, mut pen: Pen) -> Pen
+    requires { pen.log ≡ log.now.id }
+    ensures { result.log ≡ pen.log }
+{
+    let lane = pen.lane();
+    for handler in 0..ROWS_EACH {
+        let row = pack(&default_of(lane, handler));
+        publish_at_last(log, &mut pen, row);
+    }
+    pen
+}
+
+// Publishes the rows of two lanes, both at once.
+fn publish_both<R: Threads + Sync>(rt: &R, log: &Log, first: Pen, second: Pen) -> (Pen, Pen)
+    requires { (first.log ≡ log.now.id) × (second.log ≡ log.now.id) }
+    ensures { (result.0.log ≡ log.now.id) × (result.1.log ≡ log.now.id) }
+{
+    join(
+        rt,
+        || -> Pen
+            requires { first.log ≡ log.now.id }
+            ensures { result.log ≡ log.entry.now.id }
+        { publish_all(log, first) },
+        || -> Pen
+            requires { second.log ≡ log.now.id }
+            ensures { result.log ≡ log.entry.now.id }
+        { publish_all(log, second) },
+    )
+}
+
+// Whether the rows of the lane are those that it published, each once and in its order.
+fn has_all_of(rows: &[Row], lane: u8) -> bool {
+    let mut next = 0;
+    for row in rows {
+        let Some(command) = unpack(row) else {
+            return false;
+        };
+        if command.lane == lane {
+            if command.handler != next {
+                return false;
+            }
+            next = next.wrapping_add(1);
+        }
+    }
+    next == ROWS_EACH
+}
+
+#[test]
+fn two_pens_share_a_log(rt: HostRuntime) -> Result<(), Fail> {
+    let a = pack(&default_of(0, 7));
+    let b = pack(&default_of(1, 7));
+    let (log, mut pens) = Log::new(rt.alloc(), 2)?;
+    let Some(mut zero) = pens.take_first() else {
+        unreachable!()
+    };
+    let Some(mut one) = pens.take_first() else {
+        unreachable!()
+    };
+    assert_eq!(rt; zero.lane(), 0);
+    assert_eq!(rt; one.lane(), 1);
+    assert_eq!(rt; log.publish(&mut zero, a), Publish::Done);
+    assert_eq!(rt; log.publish(&mut one, b), Publish::Lost(a));
+    assert_eq!(rt; one.front(), 1);
+    assert_eq!(rt; log.publish(&mut one, b), Publish::Done);
+    assert_eq!(rt; log.look(&mut zero), Look::Entry(b));
+    assert_eq!(rt; log.look(&mut zero), Look::Pinned);
+    log.meet(&mut zero, &mut one);
+    assert_eq!(rt; zero.front(), 2);
+    assert_eq!(rt; one.front(), 2);
+    pens.push(zero)?;
+    pens.push(one)?;
+    let rows = log.close(rt.alloc(), pens)?;
+    assert_eq!(rt; rows.as_slice(), [a, b].as_slice());
+    Ok(())
+}
+
+#[test]
+fn a_log_is_full(rt: HostRuntime) -> Result<(), Fail> {
+    let row = pack(&default_of(0, 7));
+    let (log, mut pens) = Log::new(rt.alloc(), 1)?;
+    let Some(mut pen) = pens.take_first() else {
+        unreachable!()
+    };
+    assert_eq!(rt; publish_often(&log, &mut pen, row, 4097), 4096);
+    assert_eq!(rt; log.publish(&mut pen, row), Publish::Full);
+    assert_eq!(rt; log.look(&mut pen), Look::Pinned);
+    assert_eq!(rt; pen.front(), 4096);
+    pens.push(pen)?;
+    let rows = log.close(rt.alloc(), pens)?;
+    assert_eq!(rt; rows.len(), 4096);
+    Ok(())
+}
+
+#[test]
+fn four_lanes_publish_at_once(rt: HostRuntime) -> Result<(), Fail> {
+    let (log, mut pens) = Log::new(rt.alloc(), 4)?;
+    let Some(zero) = pens.take_first() else {
+        unreachable!()
+    };
+    let Some(one) = pens.take_first() else {
+        unreachable!()
+    };
+    let Some(two) = pens.take_first() else {
+        unreachable!()
+    };
+    let Some(three) = pens.take_first() else {
+        unreachable!()
+    };
+    let ((zero, one), (two, three)) = join(
+        &rt,
+        || publish_both(&rt, &log, zero, one),
+        || publish_both(&rt, &log, two, three),
+    );
+    pens.push(zero)?;
+    pens.push(one)?;
+    pens.push(two)?;
+    pens.push(three)?;
+    let rows = log.close(rt.alloc(), pens)?;
+    assert_eq!(rt; rows.len(), 1000);
+    for lane in 0..4 {
+        assert!(rt; has_all_of(rows.as_slice(), lane));
+    }
+    Ok(())
+}
