@@ -1,3 +1,4 @@
 pub mod Claims
 pub mod Inner
 pub mod Jobs
+pub mod Limits

@@ -9,10 +9,12 @@
 #![tactic(auto)]
 
 mod claim;
+mod limits;
 mod order;
 mod running;
 mod team;
 mod worker;
 
 pub use claim::{Claim, ClaimRule, MAX_WORKERS};
+pub use limits::limits_are_stated;
 pub use running::{Replies, run_numbered};
