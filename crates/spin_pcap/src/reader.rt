@@ -34,7 +34,7 @@ pub struct Reader {
 
 impl Model for Reader {
     ghost use Rattle.std.specs.Prelude.{◌≤◌, length};
-    ghost use Rattle.spin_pcap.specs.declared.limits.TheConstants.{MAX_HELD};
+    ghost use Rattle.spin_pcap.specs.declared.limits.TheConstants.{MAX_HELD, MAX_RECORDS};
     ghost use Rattle.spin_pcap.specs.Passing.{ReaderState};
 
     ghost Value = { ReaderState };
@@ -46,7 +46,7 @@ impl Model for Reader {
       state = r.state;
     } };
 
-    ghost invariant = { λ r. length r.window ≤ MAX_HELD };
+    ghost invariant = { λ r. (length r.window ≤ MAX_HELD) × (r.given ≤ MAX_RECORDS) };
 }
 
 /// Takes all bytes out of a list, which keeps its memory.
@@ -200,6 +200,7 @@ impl Reader {
             × Passes gone self.old.held (S.seen source.old) self.new.held (S.seen source.new)
             × IsGone result gone frame.new }
         ensures bound { length self.new.held ≤ MAX_HELD }
+        ensures few { result ≡ Ok Next.Packet → self.old.given < MAX_RECORDS }
         ensures cause { ReadsByCount (S.seen source.old).faults (S.seen source.new).faults result }
     {
         empty(frame);
@@ -228,9 +229,10 @@ impl Reader {
         result
     }
 
-    /// The number of whole records that were given.
+    /// The number of whole records that were given, which is at most [`MAX_RECORDS`].
     pub fn taken(&self) -> u32
-        ensures { result ≡ self.now.given }
+        ensures taken { result ≡ self.now.given }
+        ensures few { self.now.given ≤ MAX_RECORDS }
     {
         self.given
     }
