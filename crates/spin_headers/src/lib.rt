@@ -12,8 +12,6 @@ mod ether;
 mod fault;
 mod ipv4;
 mod sum;
-#[cfg(test)]
-mod tests;
 mod udp;
 
 pub use ether::{Ether, read_ether};

@@ -12,8 +12,6 @@ mod authoriser;
 mod limits;
 mod policy;
 mod rule;
-#[cfg(test)]
-mod tests;
 
 pub use authoriser::Authoriser;
 pub use limits::limits_are_stated;

@@ -11,8 +11,6 @@
 mod command;
 mod limits;
 mod row;
-#[cfg(test)]
-mod tests;
 mod work;
 
 pub use command::{
