@@ -20,8 +20,13 @@ use Rattle.spin_table.specs.declared.event.EventDef.{EventDef}
 use Rattle.spin_table.specs.Faults.{is_step_fit}
 use Rattle.spin_grammar.specs.declared.cause.Cause.{Cause}
 use Rattle.spin_grammar.specs.declared.cause.Cause.TheVariants as cause
+use Rattle.spin_grammar.specs.declared.kind.Kind.{Kind}
+use Rattle.spin_grammar.specs.declared.kind.Kind.TheVariants as kind
 use Rattle.spin_grammar.specs.Forms as forms
+use Rattle.spin_grammar.specs.Grammar as grammar
+use Rattle.spin_grammar.specs.Grammar.{Numeral, Called, reads}
 use Rattle.spin_grammar.specs.Lines as line
+use Rattle.spin_grammar.specs.Lines.{form, wanted, Spells}
 use Rattle.spin_script.specs.declared.script.Line.{Line}
 use Rattle.spin_script.specs.declared.script.Segment.{Segment}
 use Rattle.spin_word.specs.declared.work.Work.{Work}
@@ -33,6 +38,7 @@ use Rattle.spin_script.specs.Checks.{checks, checked, step_checks, native_checks
 use Rattle.spin_script.specs.Language.{Head, Skipped, Begins, Says, head, Passes, Outcome, ended, ComesTo}
 use Rattle.spin_script.specs.Soundness.{lines_in}
 use Rattle.spin_script.specs.Segments.{NumbersRise, IsOfLane, IsOnLane, HasLanes, deeds_in, retired_in, IsSentBelow, SendsBelow, HasEndpoints, IsOrderly}
+use Rattle.spin_script.proofs.Deeds.{number_first}
 use Rattle.spin_script.proofs.Rewritten.{makes}
 
 -- ---- lists
@@ -120,6 +126,7 @@ lined_more number lanes deeds ls ms line same at few own limit x =
 
 same_endpoints : (names : List (List ℕ)) (hs : List HandlerUnit) (a b : List Segment) → retired_in b ≡ retired_in a → HasEndpoints names hs a → HasEndpoints names hs b
 same_endpoints names hs a b same x = record {
+  few = x.few;
   differ = x.differ;
   retired = All-same (λ (endpoint : ℕ). endpoint < length names) (retired_in b) (retired_in a) same x.retired;
   sent = x.sent;
@@ -142,11 +149,12 @@ other_names names name none k d lt = by_test (bytes_eq (get_or names k d) name) 
     by_test true e = absurd (let found = list_any_at (λ (known : List ℕ). bytes_eq known name) names k d lt e in cc)
     by_test false e = differs name (get_or names k d) e
 
-named_more : (names : List (List ℕ)) (hs : List HandlerUnit) (segments : List Segment) (name : List ℕ) → list_any (λ known. bytes_eq known name) names ≡ false
+named_more : (names : List (List ℕ)) (hs : List HandlerUnit) (segments : List Segment) (name : List ℕ) → list_any (λ known. bytes_eq known name) names ≡ false → length names ≤ 63
     → HasEndpoints names hs segments → HasEndpoints (names ++ name ∷ []) hs segments
-named_more names hs segments name none x =
+named_more names hs segments name none room x =
     let longer : length names ≤ length (names ++ name ∷ []) = omega (arith, length-append names (name ∷ [])) in
     record {
+      few = omega (arith, length-append names (name ∷ []));
       differ = all_pairs_push (λ (one : List ℕ) (later : List ℕ). one ≢ later) names name x.differ (other_names names name none);
       retired = all_on (λ (endpoint : ℕ). endpoint < length names) (λ (endpoint : ℕ). endpoint < length (names ++ name ∷ [])) (retired_in segments) (λ endpoint lt. omega arith) x.retired;
       sent = all_on (SendsBelow (length names)) (SendsBelow (length (names ++ name ∷ []))) hs
@@ -155,13 +163,14 @@ named_more names hs segments name none x =
 
 retired_more : (names : List (List ℕ)) (hs : List HandlerUnit) (a b : List Segment) (endpoint : ℕ) → retired_in b ≡ retired_in a ++ endpoint ∷ [] → endpoint < length names → HasEndpoints names hs a → HasEndpoints names hs b
 retired_more names hs a b endpoint more there x = record {
+  few = x.few;
   differ = x.differ;
   retired = All-same (λ (e : ℕ). e < length names) (retired_in b) (retired_in a ++ endpoint ∷ []) more (All-push (λ (e : ℕ). e < length names) (retired_in a) endpoint x.retired there);
   sent = x.sent;
 }
 
 handler_more : (names : List (List ℕ)) (hs : List HandlerUnit) (segments : List Segment) (h : HandlerUnit) → SendsBelow (length names) h → HasEndpoints names hs segments → HasEndpoints names (hs ++ h ∷ []) segments
-handler_more names hs segments h sends x = record { differ = x.differ; retired = x.retired; sent = All-push (SendsBelow (length names)) hs h x.sent sends }
+handler_more names hs segments h sends x = record { few = x.few; differ = x.differ; retired = x.retired; sent = All-push (SendsBelow (length names)) hs h x.sent sends }
 
 known_step : (endpoints events : ℕ) (s : ActStep) → names_unknown endpoints events s ≡ false → IsSentBelow endpoints s
 known_step endpoints events (step.Set arg e) known = tt
@@ -188,6 +197,17 @@ none_of false c rest none = (refl, none)
 
 sends : (names : List (List ℕ)) (events : List EventDef) (h : HandlerUnit) → first_of (step_checks (length names) events h.act.steps) ≡ None → SendsBelow (length names) h
 sends names events h none = known_steps (length names) (length events) h.act.steps (none_of (list_any (names_unknown (length names) (length events)) h.act.steps) cause.Undeclared _ none).0
+
+-- ---- what an endpoint's line says
+
+-- its number is at most 63
+endpoint_number : (version : ℕ) (k : Kind) (ws : List (List ℕ)) (p : ℕ) (name : List ℕ) → Spells version k ws (line.Endpoint p name) → p ≤ 63
+endpoint_number version k ws p name spells =
+    let said : reads (wanted version kind.Endpoint) ws ≡ Ok (Numeral p ∷ Called name ∷ []) = subst (λ (j : Kind). reads (wanted version j) ws ≡ Ok (form (line.Endpoint p name))) (sym spells.kind) spells.words in
+    (number_first 0 63 p (grammar.Name ∷ []) ws (Called name ∷ []) said).1
+
+next_number : (p count : ℕ) → not (eqb p count) ≡ false → p ≤ 63 → count ≤ 63
+next_number p count next few = grind (arith, nat_tests, next, few)
 
 -- ---- the script so far
 
@@ -273,31 +293,32 @@ no_fault : (r : Result (Unit {0}) ActFault) (others : List (Bool × Cause)) → 
 no_fault (Ok done) others none = none
 no_fault (Err f) others none = cc
 
-lined_after : (n : NativeData) (number : ℕ) (s : State) (l : line.Line) → first_of (checks n s l) ≡ None → IsSoFar number s → IsSoFar (number + 1) (after n s number l)
-lined_after n number s (line.Modules k) none x = plain number s (after n s number (line.Modules k)) refl refl refl refl refl refl x
-lined_after n number s (line.Event e owner sig m) none x = plain number s (after n s number (line.Event e owner sig m)) refl refl refl refl refl refl x
-lined_after n number s (line.Endpoint p name) none x =
+lined_after : (n : NativeData) (number : ℕ) (s : State) (l : line.Line) → first_of (checks n s l) ≡ None → ((p : ℕ) (name : List ℕ) → l ≡ line.Endpoint p name → p ≤ 63)
+    → IsSoFar number s → IsSoFar (number + 1) (after n s number l)
+lined_after n number s (line.Modules k) none few x = plain number s (after n s number (line.Modules k)) refl refl refl refl refl refl x
+lined_after n number s (line.Event e owner sig m) none few x = plain number s (after n s number (line.Event e owner sig m)) refl refl refl refl refl refl x
+lined_after n number s (line.Endpoint p name) none few x =
     let next = none_of (not (eqb p (length s.endpoints))) cause.Next _ none in
     let new = none_of (list_any (λ known. bytes_eq known name) s.endpoints) cause.Repeated None next.1 in
-    declared number s (after n s number (line.Endpoint p name)) refl refl refl (named_more s.endpoints s.handlers (parts s) name new.0 x.endpoints) x
-lined_after n number s (line.Handler h sig steps) none x =
+    declared number s (after n s number (line.Endpoint p name)) refl refl refl (named_more s.endpoints s.handlers (parts s) name new.0 (next_number p (length s.endpoints) next.0 (few p name refl)) x.endpoints) x
+lined_after n number s (line.Handler h sig steps) none few x =
     let unit : HandlerUnit = record { sig = sig; act = record { steps = steps } } in
     let next = none_of (not (eqb h (length s.handlers + 1))) cause.Next _ none in
     let right = no_fault (act_check (record { steps = steps }) sig) (step_checks (length s.endpoints) s.events steps) next.1 in
     declared number s (after n s number (line.Handler h sig steps)) refl refl refl (handler_more s.endpoints s.handlers (parts s) unit (sends s.endpoints s.events unit right) x.endpoints) x
-lined_after n number s (line.NativeHandler h name) none x =
+lined_after n number s (line.NativeHandler h name) none few x =
     native_handler n number s (native_at name n.handlers) (none_of (not (eqb h (length s.handlers + 1))) cause.Next _ none).1 x
-lined_after n number s (line.Guard g sig t) none x = plain number s (after n s number (line.Guard g sig t)) refl refl refl refl refl refl x
-lined_after n number s (line.NativeGuard g name) none x = native_guard n number s (native_at name n.guards) x
-lined_after n number s (line.Rules e r) none x = plain number s (after n s number (line.Rules e r)) refl refl refl refl refl refl x
-lined_after n number s (line.Authoriser e name) none x = authority number s e (native_at name n.authorisers) x
-lined_after n number s (line.Default e h) none x = plain number s (after n s number (line.Default e h)) refl refl refl refl refl refl x
-lined_after n number s (line.Lane lane t) none x =
+lined_after n number s (line.Guard g sig t) none few x = plain number s (after n s number (line.Guard g sig t)) refl refl refl refl refl refl x
+lined_after n number s (line.NativeGuard g name) none few x = native_guard n number s (native_at name n.guards) x
+lined_after n number s (line.Rules e r) none few x = plain number s (after n s number (line.Rules e r)) refl refl refl refl refl refl x
+lined_after n number s (line.Authoriser e name) none few x = authority number s e (native_at name n.authorisers) x
+lined_after n number s (line.Default e h) none few x = plain number s (after n s number (line.Default e h)) refl refl refl refl refl refl x
+lined_after n number s (line.Lane lane t) none few x =
     let full = none_of (is_full s.version s.commands s.deeds (work_of lane t)) cause.Limit _ none in
     let wide = none_of (nat_le 8 lane) cause.Lane None full.1 in
     work_more number s lane t full.0 (let w = wide.0 in grind (arith, nat_tests, w)) x
-lined_after n number s line.Barrier none x = barrier n number s x
-lined_after n number s (line.Retire p) none x =
+lined_after n number s line.Barrier none few x = barrier n number s x
+lined_after n number s (line.Retire p) none few x =
     let there = none_of (nat_le (length s.endpoints) p) cause.Undeclared None none in
     retire n number s p (let t = there.0 in grind (arith, nat_tests, t)) x
 
@@ -307,7 +328,7 @@ lined_on : (n : NativeData) (number : ℕ) (s t : State) (h : Result Head Cause)
 lined_on n number s t (Err c) p x = absurd p
 lined_on n number s t (Ok Skipped) p x = subst (IsSoFar (number + 1)) (sym p) (plain number s s refl refl refl refl refl refl x)
 lined_on n number s t (Ok (Begins version)) p x = subst (IsSoFar (number + 1)) (sym p) (plain number s (record s { version = version }) refl refl refl refl refl refl x)
-lined_on n number s t (Ok (Says k ws)) p x = subst (IsSoFar (number + 1)) (sym p.3) (lined_after n number s p.0 p.2 x)
+lined_on n number s t (Ok (Says k ws)) p x = subst (IsSoFar (number + 1)) (sym p.3) (lined_after n number s p.0 p.2 (λ endpoint name is. endpoint_number s.version k ws endpoint name (subst (Spells s.version k ws) is p.1)) x)
 
 -- what the script comes to is that of a script so far of which all this holds
 record Ended (n : NativeData) (d : ScriptData) : Type 0 where
@@ -331,7 +352,7 @@ comes_orderly n number s (text ∷ more) d (inr h) x = absurd (let bad : Ok d �
 start_orderly : IsSoFar 1 start
 start_orderly = record {
   lined = lined_none 1;
-  endpoints = record { differ = λ i j d lt inside. absurd (omega arith); retired = All-nil (λ (endpoint : ℕ). endpoint < 0); sent = All-nil (SendsBelow 0) };
+  endpoints = record { few = omega arith; differ = λ i j d lt inside. absurd (omega arith); retired = All-nil (λ (endpoint : ℕ). endpoint < 0); sent = All-nil (SendsBelow 0) };
 }
 
 orderly_end : (n : NativeData) (number : ℕ) (s : State) → IsSoFar number s → IsOrderly (script_in n s)

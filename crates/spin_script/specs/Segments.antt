@@ -1,9 +1,10 @@
 -- What holds of the lane lines and the endpoints of each script.
-use Rattle.std.specs.Prelude.{◌≡◌, ◌≢◌, ◌<◌, ◌≤◌, ℕ, List, length, sum_by, All, AllPairs, ⊤}
+use Rattle.std.specs.Prelude.{◌≡◌, ◌≢◌, ◌<◌, ◌≤◌, ◌+◌, ℕ, List, length, sum_by, All, AllPairs, ⊤}
 use Rattle.std.specs.List.{flat_map}
 use Rattle.spin_code.specs.declared.act.ActStep.{ActStep}
 use Rattle.spin_code.specs.declared.act.ActStep.TheVariants as step
 use Rattle.spin_word.specs.declared.command.TheConstants.{MAX_LANES}
+use Rattle.spin_grammar.specs.declared.limits.TheConstants.{LAST_ENDPOINT}
 use Rattle.spin_objects.specs.Units.{HandlerUnit}
 use Rattle.spin_script.specs.declared.script.Line.{Line}
 use Rattle.spin_script.specs.declared.script.Segment.{Segment}
@@ -53,9 +54,10 @@ IsSentBelow endpoints other = ⊤
 abbrev pub SendsBelow : ℕ → HandlerUnit → Type 0
 SendsBelow endpoints h = All (IsSentBelow endpoints) h.act.steps
 
--- the endpoints have names that differ, and each that is retired or sent to is there
+-- there are at most 64 endpoints, their names differ, and each that is retired or sent to is there
 pub record HasEndpoints (names : List (List ℕ)) (handlers : List HandlerUnit)
     (segments : List Segment) : Type 0 where
+  pub few : length names ≤ LAST_ENDPOINT + 1
   pub differ : AllPairs (λ name later. name ≢ later) names
   pub retired : All (λ endpoint. endpoint < length names) (retired_in segments)
   pub sent : All (SendsBelow (length names)) handlers

@@ -226,7 +226,8 @@ fn build(draft: Draft, catalogue: Catalogue) -> Result<Script, NoMemory>
 /// behind the lines before it, counted from 1, and its cause the number of the first [`Cause`] that applies there, or 0
 /// and 1 where the text is over [`MAX_TEXT`]. Of a script each command is valid, and at most 4,096 lines are commands.
 /// It is orderly: the numbers of its lines rise; it has 1 to 8 lanes, each line is of one of them and its command of that
-/// lane; it has at most 65,536 deeds; its endpoints have names that differ, and those that are retired or sent to are there.
+/// lane; it has at most 65,536 deeds; it has at most 64 endpoints, their names differ, and those that are retired or
+/// sent to are there.
 /// After a refusal the natives are dropped. It takes time and memory linear in the text, and no stack that grows with
 /// it.
 ///
