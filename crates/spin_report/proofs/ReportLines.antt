@@ -23,11 +23,12 @@ use Rattle.spin_proto.specs.declared.reply.Reply.TheVariants as reply
 use Rattle.spin_report.specs.declared.entry.What.{What}
 use Rattle.spin_report.specs.declared.entry.What.TheVariants as what
 use Rattle.spin_report.specs.declared.entry.Entry.{Entry}
+use Rattle.spin_report.specs.declared.text.CaptureCounts.{CaptureCounts}
 use Rattle.spin_text.specs.Words.{Word}
 use Rattle.spin_report.specs.Verdicts.{op_word, refusal_number, refusal_name, refusal_numbers, verdict_words}
 use Rattle.spin_report.specs.Replies.{answer_words, fault_word, step_words, reply_words}
 use Rattle.spin_report.specs.Lines.{what_words, line_word, entry_words, entry_line, JobSeen, job_words, job_line}
-use Rattle.spin_report.specs.Histories.{Retired, SegmentSeen, CaptureSeen, HistorySeen, retire_words, retire_line, segment_words, segment_line, lost_words, lost_line, losses, lost_lines, segment_lines, capture_words, end_words, end_line, report_lines, entries_of}
+use Rattle.spin_report.specs.Histories.{Retired, SegmentSeen, HistorySeen, retire_words, retire_line, segment_words, segment_line, lost_words, lost_line, losses, lost_lines, segment_lines, capture_words, end_words, end_line, report_lines, entries_of}
 use Rattle.spin_text.specs.Digits.{begins_with_digit}
 use Rattle.spin_report.proofs.Plain.{IsWord, AreWords, IsDigit, IsLine, each_append, each_map, each_flat_map, decimal_digits, decimal_some, decimal_word, dotted_word, words_line}
 
@@ -131,12 +132,12 @@ segment_is_line number start = words_line (segment_words number start) (refl, (d
 lost_is_line : (lost : ℕ × ℕ) → IsLine (lost_line lost)
 lost_is_line lost = words_line (lost_words lost) (refl, (decimal_word lost.0, (decimal_word lost.1, tt)))
 
-capture_are_words : (c : Option CaptureSeen) → AreWords (capture_words c)
+capture_are_words : (c : Option CaptureCounts) → AreWords (capture_words c)
 capture_are_words None = tt
 capture_are_words (Some c) =
     (refl, (decimal_word c.records, (refl, (decimal_word c.used, (refl, (decimal_word c.cut, tt))))))
 
-end_is_line : (length : ℕ) (c : Option CaptureSeen) → IsLine (end_line length c)
+end_is_line : (length : ℕ) (c : Option CaptureCounts) → IsLine (end_line length c)
 end_is_line length c = words_line (end_words length c) (refl, (decimal_word length, capture_are_words c))
 
 segment_are_lines : (p : ℕ × SegmentSeen) → AllByRecursion IsLine (segment_lines p.0 p.1)

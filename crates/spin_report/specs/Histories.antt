@@ -2,6 +2,7 @@
 use Rattle.std.specs.Prelude.{ℕ, Bool, not, ◌==◌, if◌then◌else◌, List, [], ◌∷◌, ◌++◌, map, filter, Option, Some, None, decimal, codes}
 use Rattle.std.specs.List.{flat_map, enumerate_from}
 use Rattle.spin_report.specs.declared.entry.Entry.{Entry}
+use Rattle.spin_report.specs.declared.text.CaptureCounts.{CaptureCounts}
 use Rattle.spin_text.specs.Words.{Word, line_of, text_of}
 use Rattle.spin_report.specs.Lines.{JobSeen, entry_line, job_line}
 
@@ -19,17 +20,11 @@ pub record SegmentSeen : Type 0 where
   pub jobs : List JobSeen
   pub lost : List ℕ
 
--- a capture: its whole records, those of them that were dispatched, and the bytes of its cut rest
-pub record CaptureSeen : Type 0 where
-  pub records : ℕ
-  pub used : ℕ
-  pub cut : ℕ
-
 -- a history: its segments, the log's length at its end, and its capture, if it has one
 pub record HistorySeen : Type 0 where
   pub segments : List SegmentSeen
   pub end : ℕ
-  pub capture : Option CaptureSeen
+  pub capture : Option CaptureCounts
 
 abbrev pub first_line : List ℕ
 first_line = codes "report 1"
@@ -72,7 +67,7 @@ segment_lines number s =
     ++ lost_lines s.lost
 
 -- what became of a capture
-abbrev pub capture_words : Option CaptureSeen → List Word
+abbrev pub capture_words : Option CaptureCounts → List Word
 capture_words None = []
 capture_words (Some c) =
     codes "records" ∷ decimal c.records
@@ -81,18 +76,24 @@ capture_words (Some c) =
     ∷ []
 
 -- the log's length at the end, and what became of a capture
-abbrev pub end_words : ℕ → Option CaptureSeen → List Word
+abbrev pub end_words : ℕ → Option CaptureCounts → List Word
 end_words length capture = codes "end" ∷ decimal length ∷ capture_words capture
 
-abbrev pub end_line : ℕ → Option CaptureSeen → List ℕ
+abbrev pub end_line : ℕ → Option CaptureCounts → List ℕ
 end_line length capture = line_of (end_words length capture)
 
--- the lines of a history's report; segments are numbered from 0
-abbrev pub report_lines : HistorySeen → List (List ℕ)
-report_lines h =
+-- the lines of a report up to these segments, which are numbered from 0
+abbrev pub front_lines : List SegmentSeen → List (List ℕ)
+front_lines segments =
     first_line
-    ∷ flat_map (λ numbered. segment_lines numbered.0 numbered.1) (enumerate_from 0 h.segments)
-    ++ end_line h.end h.capture ∷ []
+    ∷ flat_map (λ numbered. segment_lines numbered.0 numbered.1) (enumerate_from 0 segments)
+
+abbrev pub front_text : List SegmentSeen → List ℕ
+front_text segments = text_of (front_lines segments)
+
+-- the lines of a history's report
+abbrev pub report_lines : HistorySeen → List (List ℕ)
+report_lines h = front_lines h.segments ++ end_line h.end h.capture ∷ []
 
 abbrev pub report_text : HistorySeen → List ℕ
 report_text h = text_of (report_lines h)

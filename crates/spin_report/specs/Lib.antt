@@ -5,4 +5,6 @@ pub mod Histories
 pub mod Legal
 pub mod Jobs
 pub mod Asked
+pub mod Segments
+pub mod Runs
 pub mod Laws

@@ -1,9 +1,9 @@
 //! Whole lines.
 
-ghost use Rattle.std.specs.Prelude.{◌≡◌, ◌++◌, ◌∷◌, [], None, OnOk, OnErr};
+ghost use Rattle.std.specs.Prelude.{◌≡◌, ◌++◌, ◌∷◌, [], OnOk, OnErr};
 ghost use Rattle.spin_text.specs.Words.{spaced, line_of, ended};
 ghost use Rattle.spin_report.specs.Lines.{line_word, what_words, entry_words, job_words, entry_line, job_line, job_seen};
-ghost use Rattle.spin_report.specs.Histories.{segment_line, end_line};
+ghost use Rattle.spin_report.specs.Histories.{retire_line, segment_line, lost_line, capture_words, end_line};
 
 use crate::entry::{Entry, What};
 use crate::reply::put_reply;
@@ -12,6 +12,17 @@ use spin_proto::{Job, Reply};
 use spin_text::{put_decimal, put_line, put_number, put_word};
 use spin_values::{NoMemory, Octets};
 use spin_word::Deed;
+
+/// What became of a capture.
+#[derive(Clone, Copy, PartialEq, Eq, Debug)]
+pub struct CaptureCounts {
+    /// Its whole records.
+    pub records: u32,
+    /// Those of them that packet lines took.
+    pub used: u32,
+    /// The bytes behind them, which are no whole record.
+    pub cut: u32,
+}
 
 /// Appends the number of a line, and of its part where it is a line of packets.
 fn put_line_word(out: &mut Octets, line: u32, part: u32) -> Result<(), NoMemory>
@@ -68,25 +79,73 @@ fn put_job(out: &mut Octets, job: &Job, reply: &Reply) -> Result<(), NoMemory>
     put_reply(out, reply)
 }
 
-fn put_segment(out: &mut Octets, number: u32, start: u16) -> Result<(), NoMemory>
+fn put_retire(out: &mut Octets, number: u16, stood: bool) -> Result<(), NoMemory>
+    ensures { OnOk result (out.new
+        ≡ out.old ++ retire_line (record { endpoint = number; stood = stood })) }
+{
+    out.extend_from_slice(b"retire")?;
+    put_number(out, u64::from(number))?;
+    if stood {
+        put_word(out, b"ok")
+    } else {
+        put_word(out, b"unknown")
+    }
+}
+
+fn put_segment(out: &mut Octets, number: usize, start: u16) -> Result<(), NoMemory>
     ensures { OnOk result (out.new ≡ out.old ++ segment_line number start) }
 {
     out.extend_from_slice(b"segment")?;
-    put_number(out, u64::from(number))?;
+    put_number(out, number as u64)?;
     put_word(out, b"at")?;
     put_number(out, u64::from(start))
 }
 
-fn put_end(out: &mut Octets, length: u16) -> Result<(), NoMemory>
-    ensures { OnOk result (out.new ≡ out.old ++ end_line length None) }
+fn put_lost(out: &mut Octets, number: u8, count: u64) -> Result<(), NoMemory>
+    ensures { OnOk result (out.new ≡ out.old ++ lost_line (number, count)) }
+{
+    out.extend_from_slice(b"lost")?;
+    put_number(out, u64::from(number))?;
+    put_number(out, count)
+}
+
+fn put_capture(out: &mut Octets, capture: Option<CaptureCounts>) -> Result<(), NoMemory>
+    ensures { OnOk result (out.new ≡ out.old ++ spaced (capture_words capture)) }
+{
+    let Some(counts) = capture else {
+        return Ok(());
+    };
+    put_word(out, b"records")?;
+    put_number(out, u64::from(counts.records))?;
+    put_word(out, b"used")?;
+    put_number(out, u64::from(counts.used))?;
+    put_word(out, b"cut")?;
+    put_number(out, u64::from(counts.cut))
+}
+
+fn put_end(out: &mut Octets, length: u16, capture: Option<CaptureCounts>) -> Result<(), NoMemory>
+    ensures { OnOk result (out.new ≡ out.old ++ end_line length capture) }
 {
     out.extend_from_slice(b"end")?;
-    put_number(out, u64::from(length))
+    put_number(out, u64::from(length))?;
+    put_capture(out, capture)
+}
+
+/// Appends the line of an endpoint that is retired before a segment: its number, and whether one stood under its name
+/// then. After want of memory `out` is unchanged.
+pub fn retire_text(number: u16, stood: bool, out: &mut Octets) -> Result<(), NoMemory>
+    ensures ok { OnOk result (out.new
+        ≡ out.old ++ ended (retire_line (record { endpoint = number; stood = stood }))) }
+    ensures err { OnErr result (out.new ≡ out.old) }
+{
+    let mut line = Octets::new(out.allocator());
+    put_retire(&mut line, number, stood)?;
+    put_line(out, line)
 }
 
 /// Appends the line that begins the entries of a segment: the segment's number, counted from 0, and how many commands
 /// were accepted before it. After want of memory `out` is unchanged.
-pub fn segment_text(number: u32, start: u16, out: &mut Octets) -> Result<(), NoMemory>
+pub fn segment_text(number: usize, start: u16, out: &mut Octets) -> Result<(), NoMemory>
     ensures ok { OnOk result (out.new ≡ out.old ++ ended (segment_line number start)) }
     ensures err { OnErr result (out.new ≡ out.old) }
 {
@@ -95,14 +154,29 @@ pub fn segment_text(number: u32, start: u16, out: &mut Octets) -> Result<(), NoM
     put_line(out, line)
 }
 
-/// Appends the last line of the report of a run without a capture: how many commands were accepted in all. After want
-/// of memory `out` is unchanged.
-pub fn end_text(length: u16, out: &mut Octets) -> Result<(), NoMemory>
-    ensures ok { OnOk result (out.new ≡ out.old ++ ended (end_line length None)) }
+/// Appends the line of an endpoint to which sends of a segment were lost: its number, and how many. After want of
+/// memory `out` is unchanged.
+pub fn lost_text(number: u8, count: u64, out: &mut Octets) -> Result<(), NoMemory>
+    ensures ok { OnOk result (out.new ≡ out.old ++ ended (lost_line (number, count))) }
     ensures err { OnErr result (out.new ≡ out.old) }
 {
     let mut line = Octets::new(out.allocator());
-    put_end(&mut line, length)?;
+    put_lost(&mut line, number, count)?;
+    put_line(out, line)
+}
+
+/// Appends the last line of a report: how many commands were accepted in all, and what became of the capture, where
+/// there is one. After want of memory `out` is unchanged.
+pub fn end_text(
+    length: u16,
+    capture: Option<CaptureCounts>,
+    out: &mut Octets,
+) -> Result<(), NoMemory>
+    ensures ok { OnOk result (out.new ≡ out.old ++ ended (end_line length capture)) }
+    ensures err { OnErr result (out.new ≡ out.old) }
+{
+    let mut line = Octets::new(out.allocator());
+    put_end(&mut line, length, capture)?;
     put_line(out, line)
 }
 
