@@ -28,6 +28,7 @@ use Rattle.spin_table.specs.declared.refusal.Refusal.{Refusal}
 use Rattle.spin_table.specs.declared.refusal.StepFault.{StepFault}
 use Rattle.spin_table.specs.declared.refusal.StepFault.TheVariants as fault
 use Rattle.spin_seat.specs.Seats.{SeatValue, IsSeatOf, AreOfLanes, kept_rows}
+use Rattle.spin_seat.specs.Calls.{ReadsOn}
 use Rattle.spin_seat.proofs.Replays.{IsReplay-push, IsReplay-place}
 
 -- a row of the lane stands in the part that has all of its rows
@@ -162,6 +163,18 @@ longer_is f g one h = go (ltb (length f) (length g)) refl
 
 begins : (f g : List Row) → AreOfOne f g → length f ≤ length g → IsPrefix f g
 begins f g one h = ⊎_elim (λ (p : IsPrefix f g). p) (λ (p : IsPrefix g f). ([], prefix_whole g f p h ∙ sym (append-nil f))) one
+
+-- a pen that has learnt a front no shorter has read rows of other lanes
+pub reads_met : (pen new : PenValue) (other : List Row) → AreOfOne pen.front other → length pen.front ≤ length other → new ≡ with_front pen (longer pen.front other) → pen.own ≡ rows_of pen.lane pen.front → new.own ≡ rows_of new.lane new.front → ReadsOn pen new
+reads_met pen new other one short is own own' =
+    let is' : new ≡ with_front pen other = is ∙ ap (with_front pen) (longer_is pen.front other one short) in
+    let p : IsPrefix pen.front other = begins pen.front other one short in
+    let has : pen.own ≡ rows_of pen.lane other = subst (λ (q : PenValue). q.own ≡ rows_of q.lane q.front) is' own' in
+    (p.0, is' ∙ ap (with_front pen) p.1, none_added pen.lane pen.front p.0 other p.1 (sym own ∙ has))
+
+-- a pen that stays has read nothing
+pub reads_nothing : (pen new : PenValue) → new ≡ pen → ReadsOn pen new
+reads_nothing pen new is = ([], is ∙ ap (with_front pen) (sym (append-nil pen.front)), refl)
 
 -- a seat that has learnt a front no shorter, and has its version
 pub learns : (d : SetupData) (seat other : SeatValue) (new : PenValue) → IsSeatOf d seat → IsSeatOf d other → other.kept ≡ None → AreOfOne seat.pen.front other.pen.front → length seat.pen.front ≤ length other.pen.front

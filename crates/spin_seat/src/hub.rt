@@ -1,14 +1,15 @@
 //! What all seats share.
 
-ghost use Rattle.std.specs.Prelude.{◌≡◌, ◌<◌, ◌≤◌, List, All, map, length, IfOk, OnOk, MatchResult};
+ghost use Rattle.std.specs.Prelude.{◌≡◌, ◌<◌, ◌≤◌, List, All, map, length, None, IfOk, OnOk, MatchResult};
 ghost use Rattle.spin_word.specs.declared.command.TheConstants.{MAX_LANES, MAX_PLACE};
 ghost use Rattle.spin_log.specs.Rows.{IsCommandBelow};
 ghost use Rattle.spin_log.specs.History.{Moment};
-ghost use Rattle.spin_log.specs.Pens.{IsSamePen, with_front, StandsIn, IsHistory, new_pens};
+ghost use Rattle.spin_log.specs.Pens.{IsPen, IsSamePen, with_front, StandsIn, IsHistory, new_pens};
 ghost use Rattle.spin_log.specs.Steps.{longer};
 ghost use Rattle.spin_table.specs.SetupOf.{data_of};
 ghost use Rattle.spin_seat.specs.Replay.{IsClean};
 ghost use Rattle.spin_seat.specs.Seats.{IsSeatOf, AreOfLanes};
+ghost use Rattle.spin_seat.specs.Calls.{ReadsOn};
 ghost use Rattle.spin_seat.specs.Weaves.{AnswersAreLegal};
 
 use crate::seat::{Seat, Seats};
@@ -55,7 +56,8 @@ impl Hub {
     }
 
     /// Lets two seats know what each other knows: of the two fronts one begins the other, and
-    /// afterwards both seats have the longer one and share its version. Own rows and pins stay.
+    /// afterwards both seats have the longer one and share its version, with no row left to apply.
+    /// Own rows and pins stay, so each seat has read rows of other lanes and no more.
     /// After want of memory both fronts are as before. It waits for nobody, and applies at most one
     /// row for each seat. The seats' log is the hub's, the seats are those of the hub's setup, and
     /// the catalogue's objects do what they were handed in with.
@@ -77,6 +79,10 @@ impl Hub {
             (λ _. b.new.pen ≡ b.old.pen) }
         ensures same { IsSamePen a.old.pen a.new.pen × IsSamePen b.old.pen b.new.pen }
         ensures state { OnOk result (a.new.state ≡ b.new.state) }
+        ensures whole { OnOk result ((a.new.kept ≡ None) × (b.new.kept ≡ None)) }
+        ensures reads { OnOk result
+            (ReadsOn a.old.pen a.new.pen × ReadsOn b.old.pen b.new.pen) }
+        ensures pens { OnOk result (IsPen a.new.pen × IsPen b.new.pen) }
     {
         a.apply(alloc, self)?;
         b.apply(alloc, self)?;

@@ -6,7 +6,7 @@ ghost use Rattle.spin_word.specs.declared.command.TheConstants.{MAX_LANES, MAX_P
 ghost use Rattle.spin_word.specs.Commands.{is_command};
 ghost use Rattle.spin_word.specs.Rows.{StandsFor};
 ghost use Rattle.spin_log.specs.Answers.{Looks as LooksSay};
-ghost use Rattle.spin_log.specs.Pens.{IsSamePen, with_front};
+ghost use Rattle.spin_log.specs.Pens.{IsPen, IsSamePen, with_front};
 ghost use Rattle.spin_table.specs.SetupOf.{data_of};
 ghost use Rattle.spin_table.specs.Steps.{IsAnswer, IsStep};
 ghost use Rattle.spin_table.specs.declared.refusal.Verdicted.TheVariants as verdicted;
@@ -131,14 +131,19 @@ impl Seat {
         }
     }
 
-    // Applies the row that it keeps, if it keeps one.
-    pub(crate) fn apply(&mut self, alloc: Global, hub: &Hub) -> Result<(), NoMemory>
+    /// Applies the row that it has read and not yet applied, if there is one, so that its version is
+    /// that of its whole front. The pen stays. After want of memory the seat is as before.
+    ///
+    /// The last clause tells what is so of every pen, as [`Pen::front`](spin_log::Pen::front) does.
+    pub fn apply(&mut self, alloc: Global, hub: &Hub) -> Result<(), NoMemory>
         requires sincere { ⟦<Catalogue as Sincere>⟧.sincere hub.now.setup.catalogue }
         requires seat { IsSeatOf (data_of hub.now.setup) self.old }
         ensures seat { IsSeatOf (data_of hub.now.setup) self.new }
         ensures pen { self.new.pen ≡ self.old.pen }
         ensures ok { OnOk result (self.new.kept ≡ None) }
+        ensures is_pen { IsPen self.new.pen }
     {
+        let _front = self.pen.front();
         match self.kept {
             Some(row) => self.step(alloc, hub, row),
             None => Ok(()),
@@ -347,6 +352,8 @@ impl Seat {
         ensures other { other.new ≡ other.old }
         ensures ok { let pen = with_front self.old.pen other.old.pen.front in
             OnOk result (self.new ≡ record other.old { pen = pen }) }
+        ensures reads { OnOk result (ReadsOn self.old.pen self.new.pen) }
+        ensures pens { OnOk result (IsPen self.new.pen × IsPen other.new.pen) }
         ensures err { OnErr result (self.new ≡ self.old) }
     {
         let version = Arc::try_clone(&other.version)?;

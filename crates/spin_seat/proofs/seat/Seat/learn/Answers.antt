@@ -4,7 +4,8 @@ use Rattle.std.specs.Arc.{arc_value}
 use Rattle.spin_table.specs.SetupOf.{data_of}
 use Rattle.spin_table.specs.States.{State}
 use Rattle.spin_seat.specs.Seats.{SeatValue, IsSeatOf}
-use Rattle.spin_seat.proofs.Keeping.{learns}
+use Rattle.spin_seat.specs.Calls.{ReadsOn}
+use Rattle.spin_seat.proofs.Keeping.{learns, reads_met}
 use Rattle.spin_seat.proofs.seat.Seat.learn.Goals as goal
 
 pub returns-clause-seat : goal.returns-clause-seat
@@ -21,3 +22,14 @@ returns-clause-seat g c =
     subst (λ k. IsSeatOf (data_of c.args.hub.now.setup) (record { pen = c.meet.new.a; state = arc_value c.in_ok-version.version; kept = k })) (sym none)
     (subst (λ (s : State). IsSeatOf (data_of c.args.hub.now.setup) (record { pen = c.meet.new.a; state = s; kept = None })) (sym version)
     (learns (data_of c.args.hub.now.setup) seat other c.meet.new.a (subst (IsSeatOf (data_of c.args.hub.now.setup)) (sym is) c.requires.seat) (subst (IsSeatOf (data_of c.args.hub.now.setup)) (sym is') c.requires.other) none' c.meet.ensures.one short c.meet.ensures.a c.front-before.ensures.pen.own c.front-after.ensures.pen.own))
+
+pub returns-clause-reads : goal.returns-clause-reads
+returns-clause-reads g c =
+    let seat : SeatValue = record { pen = c.self.inside.pen; state = arc_value c.self.inside.version; kept = c.self.inside.kept } in
+    let other : SeatValue = record { pen = c.other.inside.pen; state = arc_value c.other.inside.version; kept = c.other.inside.kept } in
+    let is : seat ≡ c.args.self.now = c.self.view_is in
+    let is' : other ≡ c.args.other.now = c.other.view_is in
+    let longer = c.requires.longer in
+    let short : length seat.pen.front ≤ length other.pen.front = omega (arith, ap (λ (s : SeatValue). length s.pen.front) is, ap (λ (s : SeatValue). length s.pen.front) is') in
+    subst (λ (s : SeatValue). ReadsOn s.pen c.meet.new.a) is
+    (reads_met seat.pen c.meet.new.a other.pen.front c.meet.ensures.one short c.meet.ensures.a c.front-before.ensures.pen.own c.front-after.ensures.pen.own)

@@ -1,0 +1,14 @@
+use Rattle.std.proofs.Common.{[], ◌∷◌, sym, subst}
+use Rattle.spin_log.proofs.Lists.{rows_of_other}
+use Rattle.spin_seat.specs.Calls.{ReadsOn}
+use Rattle.spin_seat.proofs.Giving.{reads_further}
+use Rattle.spin_seat.proofs.seat.Seat.pin.Goals as goal
+
+pub loop-self-preserved : goal.loop-self-preserved
+loop-self-preserved g c =
+    let read = subst (ReadsOn c.args.self.now.pen) (sym c.in_ok-apply.ensures.pen) c.loop-self.invariant.0 in
+    let row = c.in_default.field-0 in
+    let look = c.in_default.ensures.look in (
+      reads_further c.args.self.now.pen c.apply.new.self.pen c.read.new.self.pen read (row ∷ [], look.0, rows_of_other c.apply.new.self.pen.lane row look.1.1),
+      c.in_default.ensures.seat,
+    )
