@@ -8,7 +8,7 @@ use Rattle.spin_jobs.specs.declared.claim.Claim.{Claim}
 use Rattle.spin_jobs.specs.declared.worker.Done.{Done}
 use Rattle.spin_jobs.specs.declared.worker.Worker.{Worker}
 use Rattle.spin_jobs.specs.Claims.{times, together, once_below}
-use Rattle.spin_jobs.specs.Jobs.{Outcomes}
+use Rattle.spin_jobs.specs.Inner.Numbered.{Outcomes}
 use Rattle.spin_jobs.specs.Inner.Workers.{IsRight, numbers, Ended, ClaimedAll, Gathered, PastEnd}
 use Rattle.spin_jobs.specs.Inner.Places.{EachOnce}
 

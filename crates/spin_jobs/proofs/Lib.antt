@@ -1,4 +1,6 @@
+pub mod Answering
 pub mod Claiming
+pub mod Crossing
 pub mod Ends
 pub mod Gathering
 pub mod Placing

@@ -6,7 +6,7 @@ use Rattle.spin_jobs.specs.declared.claim.Claim.{Claim}
 use Rattle.spin_jobs.specs.declared.worker.Done.{Done}
 use Rattle.spin_jobs.specs.declared.worker.Worker.{Worker}
 use Rattle.spin_jobs.specs.Claims.{Took}
-use Rattle.spin_jobs.specs.Jobs.{Outcomes}
+use Rattle.spin_jobs.specs.Inner.Numbered.{Outcomes}
 use Rattle.spin_jobs.specs.Inner.Workers.{IsRight, StandsForOne, numbers}
 
 -- it has claimed the numbers of what it did, and then this one

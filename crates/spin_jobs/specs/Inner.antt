@@ -1,3 +1,4 @@
 -- What invariants and the contracts of private functions cite alone.
+pub mod Numbered
 pub mod Places
 pub mod Workers

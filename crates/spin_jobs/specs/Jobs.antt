@@ -1,17 +1,17 @@
--- What jobs that are done by their numbers come to.
-use Rattle.std.specs.Prelude.{◌≡◌, ℕ, ◌<◌, List, length, Result, Ok, slice_get, IsSomeAnd}
-use Rattle.spin_values.specs.declared.no_memory.NoMemory.{NoMemory}
+-- What jobs come to.
+use Rattle.std.specs.Prelude.{◌≡◌, []}
+use Rattle.std.specs.Arc.{arc_value}
+use Rattle.spin_table.specs.Setups.{SetupData}
+use Rattle.spin_table.specs.Soundness.{IsSound}
+use Rattle.spin_proto.specs.declared.deed.Job.{Job}
 use Rattle.spin_proto.specs.declared.reply.Reply.{Reply}
+use Rattle.spin_proto.specs.Replies.{IsJobReply, BelongsTo, calls_left}
 
--- P of each number below the count
-abbrev pub EachBelow : ℕ → (ℕ → Type 0) → Type 0
-EachBelow count P = (number : ℕ) → number < count → P number
+-- the job can be done: the state of its version is sound, and may have left its call
+abbrev pub CanRun : SetupData → Job → Type 0
+CanRun d job = IsSound d (arc_value job.version) × BelongsTo (arc_value job.version) job.call
 
--- which outcomes the job of each number may have
-abbrev pub Outcomes : Type 1
-Outcomes = ℕ → Result Reply NoMemory → Type 0
-
--- as many replies as the count, each of which the job of its number, counted from 0, may have
-pub record AreGivenBy (may : Outcomes) (count : ℕ) (replies : List Reply) : Type 0 where
-  pub as_many : length replies ≡ count
-  pub each : (k : ℕ) → k < count → IsSomeAnd (slice_get replies k) (λ reply. may k (Ok reply))
+-- the reply to the job: what its call comes to on its version, which leaves no further job
+abbrev pub IsReplyTo : SetupData → Job → Reply → Type 0
+IsReplyTo d job reply =
+    IsJobReply d (arc_value job.version) job.call reply × (calls_left reply ≡ [])

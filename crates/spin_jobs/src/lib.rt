@@ -1,14 +1,15 @@
-//! Jobs that several workers do at once, each job once.
+//! The jobs of a segment, done by several workers at once, each job once.
 //!
-//! - [`run_numbered`] does jobs by their numbers, by workers side by side, and answers their [`Replies`] in order;
+//! - [`run_all`] does [`Jobs`] by workers side by side, and answers their [`Replies`] in the order of the jobs;
 //! - [`ClaimRule`] names the fact of the claim word that holds between any two atomic steps, over what each seat knows
 //!   of it, a [`Claim`].
 //!
-//! Workers share what does a job, which none changes, and one atomic word, the number of the next job. A worker
+//! Workers share the setup and the jobs, which none changes, and one atomic word, the number of the next job. A worker
 //! claims a job by one fetch-and-add on that word. Nothing waits but for the end of all workers.
 #![tactic(auto)]
 
 mod claim;
+mod doing;
 mod limits;
 mod order;
 mod running;
@@ -16,5 +17,7 @@ mod team;
 mod worker;
 
 pub use claim::{Claim, ClaimRule, MAX_WORKERS};
+pub use doing::run_all;
 pub use limits::limits_are_stated;
-pub use running::{Replies, run_numbered};
+pub use running::Replies;
+pub use spin_proto::{Job, Jobs};

@@ -1,9 +1,9 @@
-//! All jobs, done by workers side by side.
+//! Jobs by their numbers, done by workers side by side.
 
 ghost use Rattle.std.specs.Prelude.{◌≡◌, ℕ, ◌+◌, ◌<◌, ◌≤◌, ◌^◌, length, All, IfOk};
 ghost use Rattle.spin_jobs.specs.declared.claim.TheConstants.{MAX_WORKERS};
-ghost use Rattle.spin_jobs.specs.Jobs.{EachBelow, AreGivenBy};
 ghost use Rattle.spin_jobs.specs.Claims.{times, once_below};
+ghost use Rattle.spin_jobs.specs.Inner.Numbered.{EachBelow, AreGivenBy};
 ghost use Rattle.spin_jobs.specs.Inner.Workers.{OfWord};
 
 use crate::claim::{Claim, ClaimRule, MAX_WORKERS};
@@ -21,13 +21,7 @@ pub type Replies = Sequence<Reply>;
 
 /// Does the jobs of the numbers below the count, by so many workers side by side. The k-th reply is one that the call
 /// with k gave, whatever the schedule.
-///
-/// A worker claims the next number by one atomic step, passes the gate and does that job, until none is left: so each
-/// job is done once. The worker of place w passes the gate as number 8 + w. Workers are from 1 to [`MAX_WORKERS`];
-/// where a thread can't be started, its worker's part is done by the caller or another worker. A worker that has no
-/// memory ends, the others do all jobs that are left, and the answer is `NoMemory`. Besides what the jobs take, it is
-/// linear in their number.
-pub fn run_numbered<R, F, G>(
+pub(crate) fn run_numbered<R, F, G>(
     rt: &R,
     alloc: Global,
     count: usize,

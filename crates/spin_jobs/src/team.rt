@@ -2,7 +2,7 @@
 
 ghost use Rattle.std.specs.Prelude.{◌≡◌, ℕ, ◌+◌, ◌-◌, ◌<◌, ◌≤◌, ◌^◌, [], length, All, IfOk, OnOk};
 ghost use Rattle.spin_jobs.specs.declared.claim.TheConstants.{MAX_WORKERS};
-ghost use Rattle.spin_jobs.specs.Jobs.{EachBelow};
+ghost use Rattle.spin_jobs.specs.Inner.Numbered.{EachBelow};
 ghost use Rattle.spin_jobs.specs.Claims.{claim};
 ghost use Rattle.spin_jobs.specs.Inner.Workers.{OfWord, Ready, Finished, Gathered, PastEnd};
 

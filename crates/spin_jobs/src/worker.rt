@@ -1,7 +1,7 @@
 //! One worker: it claims the next number by one step, does that job, and ends at a number that is no job's.
 
 ghost use Rattle.std.specs.Prelude.{◌≡◌, ◌<◌, ◌^◌, All, OnOk};
-ghost use Rattle.spin_jobs.specs.Jobs.{EachBelow};
+ghost use Rattle.spin_jobs.specs.Inner.Numbered.{EachBelow};
 ghost use Rattle.spin_jobs.specs.Claims.{Took};
 ghost use Rattle.spin_jobs.specs.Inner.Workers.{OfWord, CanClaim, Ready, Finished, IsRight};
 ghost use Rattle.spin_jobs.specs.Inner.Workers.{StandsForOne, ClaimedAll};

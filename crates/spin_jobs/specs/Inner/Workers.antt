@@ -8,7 +8,7 @@ use Rattle.spin_jobs.specs.declared.claim.ClaimRule.{ClaimRule}
 use Rattle.spin_jobs.specs.declared.worker.Done.{Done}
 use Rattle.spin_jobs.specs.declared.worker.Worker.{Worker}
 use Rattle.spin_jobs.specs.Claims.{worker, times}
-use Rattle.spin_jobs.specs.Jobs.{Outcomes}
+use Rattle.spin_jobs.specs.Inner.Numbered.{Outcomes}
 
 -- the seat is at this word, whose table was made for so many jobs
 abbrev pub OfWord : ℕ → Shared (Unit {0}) Claim ℕ ClaimRule → Seat (Unit {0}) Claim → Type 0
