@@ -1,0 +1,222 @@
+-- Segments that are run one after another, and the ends of a run.
+use Rattle.std.proofs.Common.{◌≡◌, ◌<◌, ◌+◌, ℕ, List, [], ◌∷◌, ◌++◌, length, take, Option, Some, None, Result, refl, sym, ap, subst, ◌∙◌, inl, inr, ◌⊎◌, arith, append_assoc, get_or, IfSome}
+use Rattle.std.specs.Prelude.{slice_get, sum_by}
+use Rattle.std.specs.List.{flat_map, enumerate_from}
+use Rattle.std.specs.Option.{option_map_or}
+use Rattle.std.specs.Io.KnownBytes.{Appends}
+use Rattle.std.proofs.lemmas.List.{append-nil, length-take-le, take_more}
+use Rattle.std.proofs.lemmas.Option.{slice_get_within, get_or_from_slice_get}
+use Rattle.std.proofs.lemmas.List.Sums.{sum_by_push}
+use Rattle.spin_outside.specs.Counts.{Rose}
+use Rattle.spin_pcap.specs.declared.fault.PcapFault.{PcapFault}
+use Rattle.spin_pcap.specs.declared.next.Next.{Next}
+use Rattle.spin_pcap.specs.Passing.{ReaderState, IsFresh}
+use Rattle.spin_endpoint.specs.Named.{NamedEnd}
+use Rattle.spin_endpoint.specs.Sends.{StopsAt, all_retired}
+use Rattle.spin_text.specs.Words.{ended, text_of}
+use Rattle.spin_script.specs.declared.script.Segment.{Segment}
+use Rattle.spin_script.specs.States.{ScriptData}
+use Rattle.spin_report.specs.Histories.{SegmentSeen, first_line, segment_lines, front_text}
+use Rattle.spin_report.specs.Segments.{wanted_by}
+use Rattle.spin_report.specs.Runs.{Standing, IsSegmentRun, AreRun, sends_in, start_with}
+use Rattle.spin_run.specs.declared.end.RunEnd.{RunEnd}
+use Rattle.spin_run.specs.declared.end.RunEnd.TheVariants as end
+use Rattle.spin_run.specs.Records.{AreRecords}
+use Rattle.spin_run.specs.Ends.{RunSeen, HasRun, retired_before, segment_text, wanted_to, Writes, WritesInto, EndsWithin, EndsBy, CountsBy}
+use Rattle.spin_run.specs.Inner.Reading.{given_by, EndByCount}
+use Rattle.spin_run.specs.Inner.Steps.{Moment, standing, setting_of, RunsFrom, retired_for, HasRunOne, StopsOne, Stands}
+use Rattle.spin_run.proofs.JoinedTexts.{Appends-append}
+
+-- ---- one segment behind others
+
+are_run_more : (script : ScriptData) (segments : List Segment) (segment : Segment) (before : Standing) (parts : List SegmentSeen) (at : Standing) (part : SegmentSeen) (next : Standing) → AreRun script segments before parts at → IsSegmentRun script.setup script.lanes script.endpoints segment at part next → AreRun script (segments ++ segment ∷ []) before (parts ++ part ∷ []) next
+are_run_more script [] segment before parts at part next h one =
+    (part, [], next, ap (λ (x : List SegmentSeen). x ++ part ∷ []) h.0, subst (λ (x : Standing). IsSegmentRun script.setup script.lanes script.endpoints segment x part next) h.1 one, (refl, refl))
+are_run_more script (s ∷ segments) segment before parts at part next h one =
+    (h.0, h.1 ++ part ∷ [], h.2, ap (λ (x : List SegmentSeen). x ++ part ∷ []) h.3, h.4, are_run_more script segments segment h.2 h.1 at part next h.5 one)
+
+length_run : (script : ScriptData) (segments : List Segment) (before : Standing) (parts : List SegmentSeen) (at : Standing) → AreRun script segments before parts at → length parts ≡ length segments
+length_run script [] before parts at h = ap length h.0
+length_run script (s ∷ segments) before parts at h = omega (arith, ap length h.3, length_run script segments h.2 h.1 at h.5)
+
+slice_at : {X : Type 0} (xs : List X) (i : ℕ) (x : X) → slice_get xs i ≡ Some x → (i < length xs) × (get_or xs i x ≡ x)
+slice_at xs i x e = (slice_get_within xs i x e, get_or_from_slice_get xs i x x e)
+
+pub take_next : {X : Type 0} (xs : List X) (i : ℕ) (x : X) → slice_get xs i ≡ Some x → take (i + 1) xs ≡ take i xs ++ x ∷ []
+take_next xs i x e = let h = slice_at xs i x e in take_more xs i x h.0 ∙ ap (λ y. take i xs ++ y ∷ []) h.1
+
+-- ---- the text
+
+abbrev lines_at : ℕ × SegmentSeen → List (List ℕ)
+lines_at numbered = segment_lines numbered.0 numbered.1
+
+pub text_append : (a b : List (List ℕ)) → text_of (a ++ b) ≡ text_of a ++ text_of b
+text_append [] b = refl
+text_append (l ∷ a) b = ap (λ x. ended l ++ x) (text_append a b) ∙ sym (append_assoc (ended l) (text_of a) (text_of b))
+
+lines_more : (n : ℕ) (parts : List SegmentSeen) (part : SegmentSeen) → flat_map lines_at (enumerate_from n (parts ++ part ∷ [])) ≡ flat_map lines_at (enumerate_from n parts) ++ segment_lines (n + length parts) part
+lines_more n [] part = append-nil (segment_lines n part) ∙ ap (λ k. segment_lines k part) (let e : n ≡ n + 0 = omega arith in e)
+lines_more n (p ∷ parts) part =
+    ap (λ x. segment_lines n p ++ x) (lines_more (n + 1) parts part ∙ ap (λ k. flat_map lines_at (enumerate_from (n + 1) parts) ++ segment_lines k part) (let e : n + 1 + length parts ≡ n + length (p ∷ parts) = omega arith in e))
+    ∙ sym (append_assoc (segment_lines n p) (flat_map lines_at (enumerate_from (n + 1) parts)) (segment_lines (n + length (p ∷ parts)) part))
+
+front_more : (parts : List SegmentSeen) (part : SegmentSeen) (count : ℕ) → length parts ≡ count → front_text (parts ++ part ∷ []) ≡ front_text parts ++ segment_text count part
+front_more parts part count long =
+    ap (λ (x : List (List ℕ)). text_of (first_line ∷ x)) (lines_more 0 parts part)
+    ∙ text_append (first_line ∷ flat_map lines_at (enumerate_from 0 parts)) (segment_lines (0 + length parts) part)
+    ∙ ap (λ k. front_text parts ++ segment_text k part) (let e : 0 + length parts ≡ count = omega (arith, long) in e)
+
+-- what is written later
+pub writes_more : (a b c : RunSeen) (xs ys : List ℕ) → Writes a b xs → Writes b c ys → Writes a c (xs ++ ys)
+writes_more a b c xs ys h k = Appends-append a.sink.told b.sink.told c.sink.told xs ys h k
+
+pub writes_nothing : (a b c : RunSeen) (xs : List ℕ) → Writes a b xs → Writes b c [] → Writes a c xs
+writes_nothing a b c xs h k = subst (λ (ys : List ℕ). Writes a c ys) (append-nil xs) (writes_more a b c xs [] h k)
+
+pub writes_into : (a b c : RunSeen) (xs ys : List ℕ) → Writes a b xs → WritesInto b c [] ys → WritesInto a c xs ys
+writes_into a b c xs ys h k = (k.0, k.1, writes_more a b c xs (take k.0 ys) h k.2)
+
+-- ---- moments
+
+pub stands_start : (script : ScriptData) (frames : List (List ℕ)) (rest : Option (Result Next PcapFault)) (before : RunSeen) (now : Moment) → now.state ≡ (start_with script frames before.ends).state → now.outside.ends ≡ before.ends → given_by now.capture ≡ 0 → AreRecords now.capture now.outside.source frames rest → Writes before now.outside (ended first_line) → Stands script frames rest before 0 now
+stands_start script frames rest before now state ends given records text = record {
+  parts = [];
+  left = frames;
+  run = record { there = omega arith; run = (refl, λ i. record { state = state i; left = frames; ends = ends i }) };
+  text = subst (λ (x : List ℕ). Writes before now.outside x) (sym (append-nil (ended first_line))) text;
+  records = records;
+  total = omega (arith, given);
+  going = λ g. given;
+}
+
+pub stands_next : (script : ScriptData) (frames : List (List ℕ)) (rest : Option (Result Next PcapFault)) (before : RunSeen) (count : ℕ) (segment : Segment) (now next : Moment) → slice_get script.segments count ≡ Some segment → (s : Stands script frames rest before count now) → HasRunOne (setting_of script) count segment now next s.left rest → Stands script frames rest before (count + 1) next
+stands_next script frames rest before count segment now next there s one =
+    let h : HasRun script frames before.ends count s.parts (standing now s.left) = s.run in
+    let at = slice_at script.segments count segment there in
+    let more : take (count + 1) script.segments ≡ take count script.segments ++ segment ∷ [] = take_next script.segments count segment there in
+    let long : length s.parts ≡ count = length_run script (take count script.segments) _ s.parts _ h.run ∙ length-take-le count script.segments h.there in
+    record {
+      parts = s.parts ++ one.part ∷ [];
+      left = one.next;
+      run = record {
+        there = omega (arith, at.0);
+        run = subst (λ (x : List Segment). AreRun script x (start_with script frames before.ends) (s.parts ++ one.part ∷ []) (standing next one.next)) (sym more)
+            (are_run_more script (take count script.segments) segment (start_with script frames before.ends) s.parts (standing now s.left) one.part (standing next one.next) h.run one.run);
+      };
+      text = subst (λ (x : List ℕ). Writes before next.outside x) (sym (front_more s.parts one.part count long)) (writes_more before now.outside next.outside (front_text s.parts) (segment_text count one.part) s.text one.text);
+      records = one.records;
+      total = one.total ∙ s.total;
+      going = λ g. let one_going = one.going g in
+          one_going.1 ∙ ap (λ n. n + wanted_by segment.lines) (s.going one_going.0)
+          ∙ sym (ap (λ (x : List Segment). sum_by (λ (t : Segment). wanted_by t.lines) x) more ∙ sum_by_push (λ (t : Segment). wanted_by t.lines) (take count script.segments) segment);
+    }
+
+retired_is : (script : ScriptData) (count : ℕ) (segment : Segment) (ends : List NamedEnd) → slice_get script.segments count ≡ Some segment → all_retired script.endpoints segment.retires ends ≡ retired_before script count ends
+retired_is script count segment ends there = ap (λ (o : Option Segment). option_map_or (λ (t : Segment). all_retired script.endpoints t.retires ends) o ends) (sym there)
+
+within : (script : ScriptData) (count : ℕ) (segment : Segment) (now : Moment) (left : List (List ℕ)) (ends : List NamedEnd) → slice_get script.segments count ≡ Some segment → ((ends ≡ now.outside.ends) ⊎ ((ends ≡ retired_for (setting_of script) segment now) ⊎ ((part : SegmentSeen) × (next : Standing) × RunsFrom (setting_of script) segment now left part next × (ends ≡ next.ends)))) → EndsWithin script count (standing now left) ends
+within script count segment now left ends there (inl same) = inl same
+within script count segment now left ends there (inr (inl retired)) = inr (inl (retired ∙ retired_is script count segment now.outside.ends there))
+within script count segment now left ends there (inr (inr all)) = inr (inr (all.0, all.1, record { segment = segment; there = there; run = all.2 }, all.3))
+
+-- the end of a run that stopped in a segment
+pub one_ends : (script : ScriptData) (frames : List (List ℕ)) (rest : Option (Result Next PcapFault)) (before : RunSeen) (count : ℕ) (segment : Segment) (now next : Moment) (stop : RunEnd) → slice_get script.segments count ≡ Some segment → (s : Stands script frames rest before count now) → StopsOne (setting_of script) count segment now next s.left rest stop → EndsBy script frames rest before next.outside stop
+one_ends script frames rest before count segment now next (end.Capture n reason) there s h =
+    let more : take (count + 1) script.segments ≡ take count script.segments ++ segment ∷ [] = take_next script.segments count segment there in
+    let sum : wanted_to script (count + 1) ≡ wanted_to script count + wanted_by segment.lines =
+    ap (λ (x : List Segment). sum_by (λ (t : Segment). wanted_by t.lines) x) more ∙ sum_by_push (λ (t : Segment). wanted_by t.lines) (take count script.segments) segment in
+    let r = h.0 in
+    let number_is : n ≡ length frames + 1 = omega (arith, r.3, s.total) in
+    let given = s.going r.4 in (
+      r.0,
+      r.1,
+      r.2,
+      number_is,
+      count,
+      s.parts,
+      standing now s.left,
+      s.run,
+      record { behind = omega (arith, number_is, given, s.total); before = inl (omega (arith, r.3, sum, given, h.1)) },
+      writes_nothing before now.outside next.outside (front_text s.parts) s.text h.3,
+      h.2 ∙ retired_is script count segment now.outside.ends there,
+    )
+one_ends script frames rest before count segment now next end.ReadFault there s h = (
+  count,
+  s.parts,
+  standing now s.left,
+  s.run,
+  writes_nothing before now.outside next.outside (front_text s.parts) s.text h.1,
+  h.0 ∙ retired_is script count segment now.outside.ends there,
+)
+one_ends script frames rest before count segment now next end.WriteFault there s h = inr (inl (
+  count,
+  s.parts,
+  standing now s.left,
+  s.run,
+  h.0,
+  h.1,
+  record { segment = segment; there = there; run = h.2 },
+  writes_into before now.outside next.outside (front_text s.parts) (segment_text count h.0) s.text h.4,
+  h.3,
+))
+one_ends script frames rest before count segment now next end.NoMemory there s h = (
+  count,
+  s.parts,
+  standing now s.left,
+  s.run,
+  writes_nothing before now.outside next.outside (front_text s.parts) s.text h.1,
+  within script count segment now s.left next.outside.ends there h.0,
+)
+one_ends script frames rest before count segment now next (end.Endpoint p) there s h = (
+  count,
+  s.parts,
+  standing now s.left,
+  s.run,
+  h.0,
+  h.1,
+  record { segment = segment; there = there; run = h.2 },
+  subst (λ (x : List NamedEnd). StopsAt script.endpoints (sends_in h.0) p x next.outside.ends) (retired_is script count segment now.outside.ends there) h.3,
+  writes_nothing before now.outside next.outside (front_text s.parts) s.text h.4,
+)
+one_ends script frames rest before count segment now next end.Whole there s h = absurd h
+
+-- which counts a read that stopped raises
+pub counts_reading : (stop : RunEnd) (before after : RunSeen) → EndByCount stop before.source.faults after.source.faults → after.sink.faults ≡ before.sink.faults → CountsBy before after stop
+counts_reading end.Whole before after h same = (h, same)
+counts_reading (end.Capture n reason) before after h same = (h, same)
+counts_reading end.ReadFault before after h same = (h, same)
+counts_reading end.WriteFault before after h same = absurd h
+counts_reading end.NoMemory before after h same = (h, same)
+counts_reading (end.Endpoint p) before after h same = (h, same)
+
+-- ---- the first line
+
+-- the sink failed at it
+pub ends_first : (script : ScriptData) (frames : List (List ℕ)) (rest : Option (Result Next PcapFault)) (before after : RunSeen) (n : ℕ) → after.ends ≡ before.ends → n < length (ended first_line) → Appends before.sink.told after.sink.told (take n (ended first_line)) → EndsBy script frames rest before after end.WriteFault
+ends_first script frames rest before after n same short h = inl ((n, short, h), same)
+
+-- there was no memory behind it
+pub ends_empty : (script : ScriptData) (frames : List (List ℕ)) (rest : Option (Result Next PcapFault)) (before after : RunSeen) → after.ends ≡ before.ends → Appends before.sink.told after.sink.told (ended first_line) → EndsBy script frames rest before after end.NoMemory
+ends_empty script frames rest before after same h = (
+  0,
+  [],
+  start_with script frames before.ends,
+  record { there = omega arith; run = (refl, refl) },
+  subst (λ (x : List ℕ). Writes before after x) (sym (append-nil (ended first_line))) h,
+  inl same,
+)
+
+-- ---- counts
+
+pub counts_later : (stop : RunEnd) (a b c : RunSeen) → b.source.faults ≡ a.source.faults → b.sink.faults ≡ a.sink.faults → CountsBy b c stop → CountsBy a c stop
+counts_later end.ReadFault a b c source sink h = (subst (λ (n : ℕ). Rose n c.source.faults) source h.0, h.1 ∙ sink)
+counts_later end.WriteFault a b c source sink h = (h.0 ∙ source, subst (λ (n : ℕ). Rose n c.sink.faults) sink h.1)
+counts_later end.Whole a b c source sink h = (h.0 ∙ source, h.1 ∙ sink)
+counts_later end.NoMemory a b c source sink h = (h.0 ∙ source, h.1 ∙ sink)
+counts_later (end.Capture n reason) a b c source sink h = (h.0 ∙ source, h.1 ∙ sink)
+counts_later (end.Endpoint p) a b c source sink h = (h.0 ∙ source, h.1 ∙ sink)
+
+-- a reader that gave nothing yet
+pub fresh_given : (capture : Option ReaderState) → IfSome capture IsFresh → given_by capture ≡ 0
+fresh_given None h = refl
+fresh_given (Some reader) h = h.0

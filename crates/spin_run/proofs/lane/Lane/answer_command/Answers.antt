@@ -1,0 +1,27 @@
+use Rattle.std.proofs.Common.{◌≡◌, [], ◌∷◌, ◌++◌, refl, sym, ap, ◌∙◌, subst}
+use Rattle.spin_table.specs.SetupOf.{data_of}
+use Rattle.spin_report.specs.declared.entry.What.TheVariants as what
+use Rattle.spin_report.specs.declared.entry.Entry.{Entry}
+use Rattle.spin_run.specs.declared.lane.Lane.{Lane}
+use Rattle.spin_run.specs.Inner.Answering.{Comes, asked_alone}
+use Rattle.spin_run.proofs.Answering.{verdict_more, command_ends, err_is}
+use Rattle.spin_word.specs.declared.work.Work.TheVariants as work
+use Rattle.spin_run.proofs.lane.Lane.answer_command.Goals as goal
+
+pub returns-in_err-place-clause-comes : goal.returns-in_err-place-clause-comes
+returns-in_err-place-clause-comes g c =
+    let d = data_of c.args.hub.now.setup in
+    let old = c.args.self.now in
+    let new : Lane = record { seat = c.command.new.self; trail = old.trail; jobs = old.jobs; stop = old.stop } in
+    let asked = asked_alone old.seat.pen.lane c.args.line 0 (work.Command c.args.command.now) in
+    let f = c.in_err-place.field-0.0 in
+    let is = err_is c.from_residual.result f c.from_residual.ensures.1 in
+    subst (λ r. Comes d asked old r new) (sym is) (command_ends d old new asked f refl refl c.in_err-place.ensures.read c.in_err-place.ensures.fault refl)
+
+pub returns-clause-comes : goal.returns-clause-comes
+returns-clause-comes g c =
+    let old = c.args.self.now in
+    let new : Lane = record { seat = c.command.new.self; trail = c.push.new.self; jobs = old.jobs; stop = old.stop } in
+    let entry : Entry = record { place = c.in_ok-place.field-0.place; lane = old.seat.pen.lane; line = c.args.line; part = 0; what = what.Command c.args.command.now c.in_ok-place.field-0.verdict } in
+    let trail : new.trail ≡ old.trail ++ entry ∷ [] = c.in_ok-push.ensures.ok ∙ ap (λ n. old.trail ++ record entry { lane = n } ∷ []) c.lane-lane.ensures.lane in
+    verdict_more (data_of c.args.hub.now.setup) old new entry refl trail refl c.in_ok-place.ensures.answer c.command.ensures.seat c.in_ok-place.ensures.whole

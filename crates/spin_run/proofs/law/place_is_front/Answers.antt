@@ -1,0 +1,5 @@
+use Rattle.spin_run.proofs.Places.{place_is_front}
+use Rattle.spin_run.proofs.law.place_is_front.Goals as goal
+
+pub returns : goal.returns
+returns c = place_is_front

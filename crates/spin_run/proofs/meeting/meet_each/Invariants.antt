@@ -1,0 +1,6 @@
+use Rattle.spin_table.specs.SetupOf.{data_of}
+use Rattle.spin_run.proofs.Rounds.{Round}
+use Rattle.spin_run.proofs.meeting.meet_each.Given as goal
+
+abbrev pub invariant-loop-k : goal.invariant-loop-k
+invariant-loop-k g l = Round (data_of l.hub.setup) l.fn.lanes l.k l.lanes

@@ -1,0 +1,14 @@
+use Rattle.std.proofs.Common.{◌≡◌, length}
+use Rattle.spin_run.specs.Inner.Reading.{ForRecords}
+use Rattle.spin_run.proofs.Reading.{HasRead}
+use Rattle.spin_run.proofs.records.read_records.Given as goal
+
+abbrev pub invariant-loop : goal.invariant-loop
+invariant-loop g l =
+    let seen = g.S.Source.seen in
+    record {
+      read : ForRecords l.fn.capture (seen l.fn.source) (λ frames rest. HasRead l.fn.capture l.capture (seen l.source) l.frames frames rest);
+      count : length l.frames ≡ l.counter;
+      keep : (seen l.source).keep ≡ (seen l.fn.source).keep;
+      stood : (seen l.source).faults ≡ (seen l.fn.source).faults;
+    }

@@ -1,0 +1,17 @@
+use Rattle.std.proofs.Common.{◌≡◌, map, length, ap, ◌∙◌, arith, rules}
+use Rattle.spin_endpoint.specs.Inner.View.{view_of}
+use Rattle.spin_text.specs.Words.{ended}
+use Rattle.spin_report.specs.Histories.{retire_line}
+use Rattle.spin_run.specs.Inner.Lining.{retired_as}
+use Rattle.spin_run.proofs.TextLines.{retired_told, written_back}
+use Rattle.spin_run.proofs.retiring.retire.Goals as goal
+
+pub returns-clause-lines : goal.returns-clause-lines
+returns-clause-lines g c =
+    let lines : c.add_retired.new.lines ≡ map ended (map retire_line (retired_as c.args.numbers.now c.as_slice-2.result.now)) = search rules in
+    let same : c.as_slice.result.now ≡ c.args.numbers.now = search rules in
+    let len : c.in_ok-stood.stood.len ≡ length c.retire_all.new.stood = search rules in
+    let kept : c.as_slice-2.result.now ≡ c.retire_all.new.stood = c.as_slice-2.ensures.value ∙ written_back _ _ _ len in
+    let long : length c.as_slice-2.result.now ≡ length c.args.numbers.now = search rules in
+    lines ∙ ap (λ x. map ended (map retire_line (retired_as c.args.numbers.now x))) kept
+    ∙ ap (λ x. map ended (map retire_line x)) (retired_told c.args.names.now c.args.numbers.now c.as_slice.result.now (map (view_of (λ e. (goal.Endpoint-dyn g (e.object.vtable, e.object.value)).seen e.object.value)) c.args.ends.now.ends.items) c.retire_all.new.stood same (omega (arith, ap length kept, long)) c.retire_all.ensures.stood)

@@ -1,0 +1,164 @@
+-- How a run ends, and what it has done by then.
+use Rattle.std.specs.Prelude.{◌≡◌, ◌<◌, ◌≤◌, ◌⊎◌, ◌+◌, ℕ, List, [], ◌++◌, length, take, sum_by, slice_get, Option, Some, None, Result, Ok, Err}
+use Rattle.std.specs.Option.{option_map_or}
+use Rattle.std.specs.Io.KnownBytes.{Appends}
+use Rattle.spin_outside.specs.Counts.{Rose}
+use Rattle.spin_outside.specs.Seen.{SinkSeen}
+use Rattle.spin_outside.specs.Sources.{SourceSeen}
+use Rattle.spin_pcap.specs.declared.fault.PcapFault.{PcapFault}
+use Rattle.spin_pcap.specs.declared.next.Next.{Next}
+use Rattle.spin_pcap.specs.declared.next.Next.TheVariants as next
+use Rattle.spin_pcap.specs.Passing.{number}
+use Rattle.spin_endpoint.specs.Named.{NamedEnd}
+use Rattle.spin_endpoint.specs.Sends.{StopsAt, all_retired}
+use Rattle.spin_script.specs.declared.script.Segment.{Segment}
+use Rattle.spin_script.specs.States.{ScriptData}
+use Rattle.spin_text.specs.Words.{ended, text_of}
+use Rattle.spin_report.specs.Histories.{SegmentSeen, HistorySeen, first_line, segment_lines, end_line, front_text, report_text}
+use Rattle.spin_report.specs.Segments.{wanted_by}
+use Rattle.spin_report.specs.Runs.{Standing, Captured, AreRun, IsSegmentRun, IsRun, sends_in, start_with}
+use Rattle.spin_run.specs.declared.end.RunEnd.{RunEnd}
+use Rattle.spin_run.specs.declared.end.RunEnd.TheVariants as end
+
+-- what contracts see of the source, the sink and the endpoints at one moment
+pub record RunSeen : Type 0 where
+  pub source : SourceSeen
+  pub sink : SinkSeen
+  pub ends : List NamedEnd
+
+abbrev pub seen : SourceSeen → SinkSeen → List NamedEnd → RunSeen
+seen source sink ends = record { source = source; sink = sink; ends = ends }
+
+-- ---- the segments so far
+
+-- So many segments were run: these are their parts of the history, and so they left it.
+pub record HasRun (script : ScriptData) (frames : List (List ℕ)) (ends : List NamedEnd) (count : ℕ)
+    (parts : List SegmentSeen) (at : Standing) : Type 0 where
+  pub there : count ≤ length script.segments
+  pub run : AreRun script (take count script.segments) (start_with script frames ends) parts at
+
+-- the endpoints, where those are retired that segment `count` retires, if it is there
+abbrev pub retired_before : ScriptData → ℕ → List NamedEnd → List NamedEnd
+retired_before script count ends =
+    option_map_or (λ segment. all_retired script.endpoints segment.retires ends)
+    (slice_get script.segments count) ends
+
+-- This segment is there, and is run from the one standing to the next.
+pub record RunsNext (script : ScriptData) (count : ℕ) (at : Standing) (seen : SegmentSeen)
+    (next : Standing) : Type 0 where
+  pub segment : Segment
+  pub there : slice_get script.segments count ≡ Some segment
+  pub run : IsSegmentRun script.setup script.lanes script.endpoints segment at seen next
+
+-- how many records the packet lines of the first segments want, so many of them
+abbrev pub wanted_to : ScriptData → ℕ → ℕ
+wanted_to script count = sum_by (λ segment. wanted_by segment.lines) (take count script.segments)
+
+-- The record of that number, counted from 1, is wanted in segment `count`, or behind all segments, where the capture is
+-- read to its end.
+pub record IsReadAt (script : ScriptData) (number count : ℕ) : Type 0 where
+  pub behind : wanted_to script count < number
+  pub before : (number ≤ wanted_to script (count + 1)) ⊎ (count ≡ length script.segments)
+
+-- ---- the text
+
+abbrev pub segment_text : ℕ → SegmentSeen → List ℕ
+segment_text number part = text_of (segment_lines number part)
+
+abbrev pub end_text : HistorySeen → List ℕ
+end_text history = ended (end_line history.end history.capture)
+
+-- The text was appended.
+abbrev pub Writes : RunSeen → RunSeen → List ℕ → Type 0
+Writes before after text = Appends before.sink.told after.sink.told text
+
+-- The text was appended, and of the one behind it a front, and not all of it.
+abbrev pub WritesInto : RunSeen → RunSeen → List ℕ → List ℕ → Type 0
+WritesInto before after text behind =
+    (n : ℕ) × (n < length behind) × Writes before after (text ++ take n behind)
+
+-- ---- the capture
+
+-- what is told of a capture that was read whole: none where there is none
+abbrev pub IsReadWhole : List (List ℕ) → Option (Result Next PcapFault) → Option Captured → Type 0
+IsReadWhole frames None captured = captured ≡ None
+IsReadWhole frames (Some (Ok next.Packet)) captured = ⊥
+IsReadWhole frames (Some (Ok next.End)) captured =
+    captured ≡ Some (record { frames = frames; cut = 0 })
+IsReadWhole frames (Some (Ok (next.Cut count))) captured =
+    captured ≡ Some (record { frames = frames; cut = count })
+IsReadWhole frames (Some (Err wrong)) captured = ⊥
+
+-- The whole history of the script with that capture, and so it leaves the endpoints.
+pub record IsWhole (script : ScriptData) (frames : List (List ℕ))
+    (rest : Option (Result Next PcapFault)) (ends ends' : List NamedEnd) (history : HistorySeen)
+    : Type 0 where
+  pub captured : Option Captured
+  pub capture_is : IsReadWhole frames rest captured
+  pub last : Standing
+  pub run : IsRun script captured ends history last
+  pub ends_are : ends' ≡ last.ends
+
+-- ---- the ends
+
+-- The endpoints are as the segments so far left them; or the next is begun, and its own are retired; or all of its
+-- sends are made, too.
+abbrev pub EndsWithin : ScriptData → ℕ → Standing → List NamedEnd → Type 0
+EndsWithin script count at ends =
+    (ends ≡ at.ends)
+    ⊎ ((ends ≡ retired_before script count at.ends)
+    ⊎ ((part : SegmentSeen) × (next : Standing) × RunsNext script count at part next × (ends ≡ next.ends)))
+
+-- The sink failed in the first line, in the text of a segment that was run, or in the last line.
+abbrev pub StopsWriting : ScriptData → List (List ℕ) → Option (Result Next PcapFault)
+    → RunSeen → RunSeen → Type 0
+StopsWriting script frames rest before after =
+    (WritesInto before after [] (ended first_line) × (after.ends ≡ before.ends))
+    ⊎ (((count : ℕ) × (parts : List SegmentSeen) × (at : Standing)
+    × HasRun script frames before.ends count parts at
+    × (part : SegmentSeen) × (next : Standing) × RunsNext script count at part next
+    × WritesInto before after (front_text parts) (segment_text count part)
+    × (after.ends ≡ next.ends))
+    ⊎ ((history : HistorySeen) × IsWhole script frames rest before.ends after.ends history
+    × WritesInto before after (front_text history.segments) (end_text history)))
+
+-- A run of the script ends so, where the capture has these records and then that rest.
+abbrev pub EndsBy : ScriptData → List (List ℕ) → Option (Result Next PcapFault)
+    → RunSeen → RunSeen → RunEnd → Type 0
+EndsBy script frames rest before after end.Whole =
+    (history : HistorySeen) × IsWhole script frames rest before.ends after.ends history
+    × Writes before after (report_text history)
+EndsBy script frames rest before after (end.Capture at_record fault) =
+    (wrong : PcapFault) × (rest ≡ Some (Err wrong)) × (fault ≡ number wrong)
+    × (at_record ≡ length frames + 1)
+    × (count : ℕ) × (parts : List SegmentSeen) × (at : Standing)
+    × HasRun script frames before.ends count parts at
+    × IsReadAt script at_record count
+    × Writes before after (front_text parts)
+    × (after.ends ≡ retired_before script count at.ends)
+EndsBy script frames rest before after end.ReadFault =
+    (count : ℕ) × (parts : List SegmentSeen) × (at : Standing)
+    × HasRun script frames before.ends count parts at
+    × Writes before after (front_text parts)
+    × (after.ends ≡ retired_before script count at.ends)
+EndsBy script frames rest before after end.WriteFault = StopsWriting script frames rest before after
+EndsBy script frames rest before after end.NoMemory =
+    (count : ℕ) × (parts : List SegmentSeen) × (at : Standing)
+    × HasRun script frames before.ends count parts at
+    × Writes before after (front_text parts)
+    × EndsWithin script count at after.ends
+EndsBy script frames rest before after (end.Endpoint endpoint) =
+    (count : ℕ) × (parts : List SegmentSeen) × (at : Standing)
+    × HasRun script frames before.ends count parts at
+    × (part : SegmentSeen) × (next : Standing) × RunsNext script count at part next
+    × StopsAt script.endpoints (sends_in part) endpoint (retired_before script count at.ends) after.ends
+    × Writes before after (front_text parts)
+
+-- Which counts rose: the source's at a failed read, the sink's at a failed write, and no other.
+abbrev pub CountsBy : RunSeen → RunSeen → RunEnd → Type 0
+CountsBy before after end.ReadFault =
+    Rose before.source.faults after.source.faults × (after.sink.faults ≡ before.sink.faults)
+CountsBy before after end.WriteFault =
+    (after.source.faults ≡ before.source.faults) × Rose before.sink.faults after.sink.faults
+CountsBy before after other =
+    (after.source.faults ≡ before.source.faults) × (after.sink.faults ≡ before.sink.faults)

@@ -1,0 +1,10 @@
+-- What the contracts of private functions cite alone.
+pub mod Answering
+pub mod Meeting
+pub mod Weaves
+pub mod Ending
+pub mod Lining
+pub mod Reading
+pub mod Sending
+pub mod Steps
+pub mod Writing

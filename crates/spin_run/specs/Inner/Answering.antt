@@ -1,0 +1,88 @@
+-- What the steps of a lane's run say.
+use Rattle.std.specs.Prelude.{◌≡◌, ℕ, List, [], ◌∷◌, ◌++◌, map, length, All, Result, Ok, Err, None, ⊤}
+use Rattle.std.specs.List.{enumerate_from}
+use Rattle.std.specs.Arc.{arc_value}
+use Rattle.spin_word.specs.declared.command.TheConstants.{MAX_PLACE}
+use Rattle.spin_log.specs.Pens.{PenValue, IsSamePen}
+use Rattle.spin_table.specs.Setups.{SetupData}
+use Rattle.spin_table.specs.States.{State}
+use Rattle.spin_proto.specs.declared.deed.JobCall.{JobCall}
+use Rattle.spin_proto.specs.declared.deed.Job.{Job}
+use Rattle.spin_proto.specs.Replies.{BelongsTo}
+use Rattle.spin_seat.specs.declared.answer.SeatFault.{SeatFault}
+use Rattle.spin_seat.specs.declared.answer.SeatFault.TheVariants as fault
+use Rattle.spin_seat.specs.Seats.{IsSeatOf}
+use Rattle.spin_seat.specs.Runs.{Ran, GainsPins}
+use Rattle.spin_report.specs.declared.entry.Entry.{Entry}
+use Rattle.spin_word.specs.declared.work.Work.{Work}
+use Rattle.spin_report.specs.Asked.{Numbered, asked_of}
+use Rattle.spin_report.specs.Segments.{raise_with}
+use Rattle.spin_run.specs.declared.lane.Lane.{Lane}
+use Rattle.spin_run.specs.Lanes.{answer_of, job_asked, jobs_from, AreJobsOf, BeginsWithCommand}
+
+-- Since its pen had that value, the lane has given the entries of its trail and left their jobs.
+pub record HasAnswered (d : SetupData) (before : PenValue) (lane : Lane) : Type 0 where
+  pub ran : Ran d before (map answer_of lane.trail) lane.seat.pen
+  pub pins : GainsPins before (map answer_of lane.trail) lane.seat.pen
+  pub jobs_are : AreJobsOf d lane.trail lane.seat.pen lane.jobs
+
+-- the lane answers these
+pub record Answers (d : SetupData) (asked : List Numbered) (old new : Lane) : Type 0 where
+  pub asked_are : map asked_of new.trail ≡ map asked_of old.trail ++ asked
+  pub goes_on : (before : PenValue) → HasAnswered d before old → HasAnswered d before new
+
+-- The lane answers the first of these, and ends before a command, since the log is full.
+pub record EndsFull (d : SetupData) (asked : List Numbered) (old new : Lane) : Type 0 where
+  pub first : List Numbered
+  pub left : List Numbered
+  pub parts : asked ≡ first ++ left
+  pub answers : Answers d first old new
+  pub full : length new.seat.pen.front ≡ MAX_PLACE
+  pub next : BeginsWithCommand left
+
+-- what becomes of a lane that is asked these. Of one that has no memory nothing is said
+abbrev pub Comes : SetupData → List Numbered → Lane → Result (Unit {0}) SeatFault → Lane → Type 0
+Comes d asked old (Ok done) new = Answers d asked old new
+Comes d asked old (Err fault.Full) new = EndsFull d asked old new
+Comes d asked old (Err fault.NoMemory) new = ⊤
+
+-- the lane's seat is still that of its lane
+abbrev pub Stays : SetupData → Lane → Lane → Type 0
+Stays d old new = IsSeatOf d new.seat × IsSamePen old.seat.pen new.seat.pen
+
+-- ---- jobs
+
+-- the job is left by that entry, on that version, to which its call belongs
+pub record IsLeftBy (entry : Entry) (version : State) (job : Job) : Type 0 where
+  pub place : job.place ≡ entry.place
+  pub version_is : arc_value job.version ≡ version
+  pub call : BelongsTo version job.call
+
+-- jobs with these calls are added, with indexes from 0
+pub record AddsJobs (entry : Entry) (version : State) (calls : List JobCall) (old new : List Job) : Type 0 where
+  pub added : List Job
+  pub jobs_are : new ≡ old ++ added
+  pub asked : map job_asked added ≡ jobs_from entry 0 calls
+  pub each : All (IsLeftBy entry version) added
+
+-- ---- what is asked
+
+-- one thing that is asked
+abbrev pub asked_alone : ℕ → ℕ → ℕ → Work → List Numbered
+asked_alone lane line part asked =
+    record { lane = lane; line = line; part = part; asked = asked } ∷ []
+
+-- a raise with each of these records, whose parts are counted from that number on
+abbrev pub asked_packets : ℕ → ℕ → ℕ → ℕ → List (List ℕ) → List Numbered
+asked_packets lane line event from records =
+    map (λ (part : ℕ × Work). record { lane = lane; line = line; part = part.0; asked = part.1 })
+    (map (λ (part : ℕ × List ℕ). (part.0, raise_with event part.1)) (enumerate_from from records))
+
+-- ---- new lanes
+
+-- nothing was answered yet
+abbrev pub IsFresh : Lane → Type 0
+IsFresh lane = (lane.trail ≡ []) × (lane.jobs ≡ []) × (lane.stop ≡ None)
+
+abbrev pub AreFresh : List Lane → Type 0
+AreFresh lanes = All IsFresh lanes

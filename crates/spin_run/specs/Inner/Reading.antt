@@ -1,0 +1,122 @@
+-- What reading on in a capture gives, of the records that are left.
+use Rattle.std.specs.Prelude.{◌≡◌, ◌<◌, ◌+◌, ℕ, List, [], ◌∷◌, length, take, drop, Option, Some, None, Result, Ok, Err, ⊤, MatchResult}
+use Rattle.spin_outside.specs.Counts.{Rose}
+use Rattle.spin_outside.specs.Sources.{SourceSeen}
+use Rattle.spin_pcap.specs.declared.fault.PcapFault.{PcapFault}
+use Rattle.spin_pcap.specs.declared.fault.PcapFault.TheVariants as fault
+use Rattle.spin_pcap.specs.declared.limits.TheConstants.{MAX_RECORDS}
+use Rattle.spin_pcap.specs.declared.next.Next.{Next}
+use Rattle.spin_pcap.specs.declared.next.Next.TheVariants as next
+use Rattle.spin_pcap.specs.declared.state.State.TheVariants as state
+use Rattle.spin_pcap.specs.Passing.{ReaderState, number}
+use Rattle.spin_run.specs.declared.end.RunEnd.{RunEnd}
+use Rattle.spin_run.specs.declared.end.RunEnd.TheVariants as end
+use Rattle.spin_run.specs.Records.{AreRecords}
+
+-- P holds of the records that are left, and of how the rest is answered, by any reading.
+abbrev pub ForRecords : Option ReaderState → SourceSeen
+    → (List (List ℕ) → Option (Result Next PcapFault) → Type 0) → Type 0
+ForRecords capture source P =
+    (frames : List (List ℕ)) (rest : Option (Result Next PcapFault))
+    → AreRecords capture source frames rest → P frames rest
+
+-- how many records the reader gave
+abbrev pub given_by : Option ReaderState → ℕ
+given_by None = 0
+given_by (Some reader) = reader.given
+
+-- The reader came neither to an end nor to a refusal.
+abbrev pub IsGoing : Option ReaderState → Type 0
+IsGoing None = ⊥
+IsGoing (Some reader) = reader.state ≡ state.Reading
+
+-- the rest of a capture that ends behind a whole record; without a capture there is none
+abbrev pub whole_rest : Option ReaderState → Option (Result Next PcapFault)
+whole_rest None = None
+whole_rest (Some reader) = Some (Ok next.End)
+
+-- One record more was given, and there was room for it.
+abbrev pub CountsOn : Option ReaderState → Option ReaderState → Type 0
+CountsOn before after =
+    (given_by before < MAX_RECORDS) × (given_by after ≡ given_by before + 1)
+
+-- why reading stops at a fault of the record of that number
+abbrev pub stop_of : ℕ → PcapFault → RunEnd
+stop_of record_number fault.ReadFault = end.ReadFault
+stop_of record_number fault.NoMemory = end.NoMemory
+stop_of record_number other = end.Capture record_number (number other)
+
+-- The capture is refused: at its record of that number, with the number of its fault.
+abbrev pub IsRefused : Option ReaderState → List (List ℕ) → Option (Result Next PcapFault)
+    → ℕ → ℕ → Type 0
+IsRefused before frames rest record_number reason =
+    (wrong : PcapFault) × (rest ≡ Some (Err wrong)) × (reason ≡ number wrong)
+    × (record_number ≡ given_by before + length frames + 1)
+    × IsGoing before
+
+-- Reading stopped: the capture is refused so, or the source failed, or there was no memory.
+abbrev pub StopsBy : (ℕ → ℕ → Type 0) → RunEnd → Type 0
+StopsBy refused (end.Capture record_number reason) = refused record_number reason
+StopsBy refused end.ReadFault = ⊤
+StopsBy refused end.NoMemory = ⊤
+StopsBy refused other = ⊥
+
+-- No record is left, and the rest is this one. It is answered again, and nothing more is given.
+pub record IsOver (before after : Option ReaderState) (source : SourceSeen) (frames : List (List ℕ))
+    (rest known : Option (Result Next PcapFault)) : Type 0 where
+  pub none : frames ≡ []
+  pub rest_is : rest ≡ known
+  pub records : AreRecords after source [] rest
+  pub given : given_by after ≡ given_by before
+  pub over : IsGoing after → ⊥
+
+-- one record
+abbrev pub GivesNext : Option ReaderState → Option ReaderState → SourceSeen → List ℕ
+    → Result Next RunEnd → List (List ℕ) → Option (Result Next PcapFault) → Type 0
+GivesNext before after source frame (Ok next.Packet) frames rest =
+    (others : List (List ℕ)) × (frames ≡ frame ∷ others)
+    × AreRecords after source others rest × (given_by after ≡ given_by before + 1)
+GivesNext before after source frame (Ok next.End) frames rest =
+    IsOver before after source frames rest (whole_rest before)
+GivesNext before after source frame (Ok (next.Cut count)) frames rest =
+    IsOver before after source frames rest (Some (Ok (next.Cut count)))
+GivesNext before after source frame (Err stop) frames rest =
+    StopsBy (λ record_number reason. (frames ≡ [])
+    × IsRefused before frames rest record_number reason) stop
+
+-- so many records wanted: these frames are the first of those left, and the others are left
+abbrev pub GivesFrames : ℕ → Option ReaderState → Option ReaderState → SourceSeen
+    → Result (List (List ℕ)) RunEnd → List (List ℕ) → Option (Result Next PcapFault) → Type 0
+GivesFrames wanted before after source (Ok taken) frames rest =
+    (taken ≡ take wanted frames) × AreRecords after source (drop wanted frames) rest
+    × (given_by after ≡ given_by before + length taken)
+    × (IsGoing after → IsGoing before × (length taken ≡ wanted))
+GivesFrames wanted before after source (Err stop) frames rest =
+    StopsBy (λ record_number reason. (length frames < wanted)
+    × IsRefused before frames rest record_number reason) stop
+
+-- how many bytes behind the last record the rest has
+abbrev pub IsCutRest : Option (Result Next PcapFault) → ℕ → Type 0
+IsCutRest (Some (Ok next.End)) cut = cut ≡ 0
+IsCutRest (Some (Ok (next.Cut count))) cut = cut ≡ count
+IsCutRest (Some (Ok next.Packet)) cut = ⊥
+IsCutRest (Some (Err wrong)) cut = ⊥
+IsCutRest None cut = cut ≡ 0
+
+-- all records that are left
+abbrev pub GivesRest : Option ReaderState → Option ReaderState → Result ℕ RunEnd
+    → List (List ℕ) → Option (Result Next PcapFault) → Type 0
+GivesRest before after (Ok cut) frames rest =
+    IsCutRest rest cut × (given_by after ≡ given_by before + length frames)
+GivesRest before after (Err stop) frames rest =
+    StopsBy (IsRefused before frames rest) stop
+
+-- Only a failed read raises the source's count of faults. No failed write stops reading.
+abbrev pub EndByCount : RunEnd → ℕ → ℕ → Type 0
+EndByCount end.ReadFault before now = Rose before now
+EndByCount end.WriteFault before now = ⊥
+EndByCount other before now = now ≡ before
+
+abbrev pub ReadsByCount : {T : Type 0} → ℕ → ℕ → Result T RunEnd → Type 0
+ReadsByCount before now result =
+    MatchResult result (λ _. now ≡ before) (λ stop. EndByCount stop before now)

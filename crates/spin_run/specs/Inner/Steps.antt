@@ -1,0 +1,137 @@
+-- What one segment does, from one moment between segments to the next.
+use Rattle.std.specs.Prelude.{◌≡◌, ◌<◌, ◌⊎◌, ◌+◌, ℕ, List, [], length, Option, Result, Ok, Err}
+use Rattle.spin_outside.specs.Seen.{SinkSeen}
+use Rattle.spin_outside.specs.Sources.{SourceSeen}
+use Rattle.spin_pcap.specs.declared.fault.PcapFault.{PcapFault}
+use Rattle.spin_pcap.specs.declared.next.Next.{Next}
+use Rattle.spin_pcap.specs.Passing.{ReaderState}
+use Rattle.spin_endpoint.specs.Named.{NamedEnd}
+use Rattle.spin_endpoint.specs.Sends.{StopsAt, all_retired}
+use Rattle.spin_table.specs.Setups.{SetupData}
+use Rattle.spin_table.specs.States.{State}
+use Rattle.spin_script.specs.declared.script.Segment.{Segment}
+use Rattle.spin_script.specs.States.{ScriptData}
+use Rattle.spin_report.specs.Histories.{SegmentSeen, front_text}
+use Rattle.spin_report.specs.Segments.{wanted_by}
+use Rattle.spin_report.specs.Runs.{Standing, IsSegmentRun, sends_in}
+use Rattle.spin_run.specs.declared.end.RunEnd.{RunEnd}
+use Rattle.spin_run.specs.declared.end.RunEnd.TheVariants as end
+use Rattle.spin_run.specs.Records.{AreRecords}
+use Rattle.spin_run.specs.Ends.{RunSeen, HasRun, segment_text, wanted_to, Writes, WritesInto, EndsBy, CountsBy}
+use Rattle.spin_run.specs.Inner.Reading.{given_by, IsGoing, IsRefused}
+
+-- ---- moments between segments
+
+-- the state of the lanes, the capture, and what is seen outside
+pub record Moment : Type 0 where
+  pub state : State
+  pub capture : Option ReaderState
+  pub outside : RunSeen
+
+abbrev pub moment : State → Option ReaderState → SourceSeen → SinkSeen → List NamedEnd → Moment
+moment state capture source sink ends = record {
+  state = state;
+  capture = capture;
+  outside = record { source = source; sink = sink; ends = ends };
+}
+
+-- as a standing, where these records are left
+abbrev pub standing : Moment → List (List ℕ) → Standing
+standing now left = record { state = now.state; left = left; ends = now.outside.ends }
+
+-- ---- one segment
+
+-- what does not change in a run
+pub record Setting : Type 0 where
+  pub setup : SetupData
+  pub lanes : ℕ
+  pub endpoints : List (List ℕ)
+
+abbrev pub setting : SetupData → ℕ → List (List ℕ) → Setting
+setting setup lanes endpoints = record { setup = setup; lanes = lanes; endpoints = endpoints }
+
+abbrev pub setting_of : ScriptData → Setting
+setting_of script = setting script.setup script.lanes script.endpoints
+
+-- The segment was run from the moment on: this is its part of the history, and so it leaves the standing.
+abbrev pub RunsFrom : Setting → Segment → Moment → List (List ℕ) → SegmentSeen → Standing → Type 0
+RunsFrom s segment before left part next =
+    IsSegmentRun s.setup s.lanes s.endpoints segment (standing before left) part next
+
+-- It was run, and its text was appended; the rest of the capture is as before.
+pub record HasRunOne (s : Setting) (number : ℕ) (segment : Segment) (before after : Moment)
+    (left : List (List ℕ)) (rest : Option (Result Next PcapFault)) : Type 0 where
+  pub part : SegmentSeen
+  pub next : List (List ℕ)
+  pub run : RunsFrom s segment before left part (standing after next)
+  pub text : Writes before.outside after.outside (segment_text number part)
+  pub records : AreRecords after.capture after.outside.source next rest
+  pub total : given_by after.capture + length next ≡ given_by before.capture + length left
+  pub going : IsGoing after.capture
+      → IsGoing before.capture
+      × (given_by after.capture ≡ given_by before.capture + wanted_by segment.lines)
+
+abbrev pub retired_for : Setting → Segment → Moment → List NamedEnd
+retired_for s segment before = all_retired s.endpoints segment.retires before.outside.ends
+
+-- how it stopped
+abbrev pub StopsOne : Setting → ℕ → Segment → Moment → Moment → List (List ℕ)
+    → Option (Result Next PcapFault) → RunEnd → Type 0
+StopsOne s number segment before after left rest (end.Capture record_number reason) =
+    IsRefused before.capture left rest record_number reason
+    × (length left < wanted_by segment.lines)
+    × (after.outside.ends ≡ retired_for s segment before)
+    × Writes before.outside after.outside []
+StopsOne s number segment before after left rest end.ReadFault =
+    (after.outside.ends ≡ retired_for s segment before)
+    × Writes before.outside after.outside []
+StopsOne s number segment before after left rest end.WriteFault =
+    (part : SegmentSeen) × (next : Standing) × RunsFrom s segment before left part next
+    × (after.outside.ends ≡ next.ends)
+    × WritesInto before.outside after.outside [] (segment_text number part)
+StopsOne s number segment before after left rest end.NoMemory =
+    ((after.outside.ends ≡ before.outside.ends)
+    ⊎ ((after.outside.ends ≡ retired_for s segment before)
+    ⊎ ((part : SegmentSeen) × (next : Standing) × RunsFrom s segment before left part next
+    × (after.outside.ends ≡ next.ends))))
+    × Writes before.outside after.outside []
+StopsOne s number segment before after left rest (end.Endpoint endpoint) =
+    (part : SegmentSeen) × (next : Standing) × RunsFrom s segment before left part next
+    × StopsAt s.endpoints (sends_in part) endpoint (retired_for s segment before)
+    after.outside.ends
+    × Writes before.outside after.outside []
+StopsOne s number segment before after left rest end.Whole = ⊥
+
+abbrev pub OneBy : Setting → ℕ → Segment → Moment → Moment → Result (Unit {0}) RunEnd
+    → List (List ℕ) → Option (Result Next PcapFault) → Type 0
+OneBy s number segment before after (Ok done) left rest =
+    HasRunOne s number segment before after left rest
+OneBy s number segment before after (Err stop) left rest =
+    StopsOne s number segment before after left rest stop
+
+-- which counts rose
+abbrev pub ResultCounts : {T : Type 0} → RunSeen → RunSeen → Result T RunEnd → Type 0
+ResultCounts before after (Ok done) = CountsBy before after end.Whole
+ResultCounts before after (Err stop) = CountsBy before after stop
+
+-- ---- the segments so far
+
+-- So many segments were run, from the start on to this moment.
+pub record Stands (script : ScriptData) (frames : List (List ℕ)) (rest : Option (Result Next PcapFault))
+    (start : RunSeen) (count : ℕ) (now : Moment) : Type 0 where
+  pub parts : List SegmentSeen
+  pub left : List (List ℕ)
+  pub run : HasRun script frames start.ends count parts (standing now left)
+  pub text : Writes start now.outside (front_text parts)
+  pub records : AreRecords now.capture now.outside.source left rest
+  pub total : given_by now.capture + length left ≡ length frames
+  pub going : IsGoing now.capture → given_by now.capture ≡ wanted_to script count
+
+-- All were run, and the log has that length; or it stopped so.
+abbrev pub AllBy : ScriptData → RunSeen → (Option ReaderState) → RunSeen → Result ℕ RunEnd
+    → List (List ℕ) → Option (Result Next PcapFault) → Type 0
+AllBy script start capture after (Ok end_length) frames rest =
+    (state : State) × (end_length ≡ state.place)
+    × Stands script frames rest start (length script.segments)
+    (record { state = state; capture = capture; outside = after })
+AllBy script start capture after (Err stop) frames rest = EndsBy script frames rest start after stop

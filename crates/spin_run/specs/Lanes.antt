@@ -1,0 +1,111 @@
+-- What one lane does in a segment.
+use Rattle.std.specs.Prelude.{◌≡◌, ◌≢◌, ◌+◌, ℕ, true, List, [], ◌∷◌, ◌++◌, map, length, take, All, Option, Some, None}
+use Rattle.std.specs.List.{flat_map}
+use Rattle.std.specs.Arc.{arc_value}
+use Rattle.spin_word.specs.declared.command.TheConstants.{MAX_PLACE}
+use Rattle.spin_log.specs.Pens.{PenValue, IsSamePen}
+use Rattle.spin_table.specs.Setups.{SetupData}
+use Rattle.spin_table.specs.Soundness.{IsSound}
+use Rattle.spin_proto.specs.declared.deed.JobCall.{JobCall}
+use Rattle.spin_proto.specs.declared.deed.Job.{Job}
+use Rattle.spin_proto.specs.Replies.{BelongsTo}
+use Rattle.spin_seat.specs.declared.answer.SeatFault.{SeatFault}
+use Rattle.spin_seat.specs.declared.answer.SeatFault.TheVariants as fault
+use Rattle.spin_seat.specs.Replay.{IsReplay}
+use Rattle.spin_seat.specs.Seats.{IsSeatOf}
+use Rattle.spin_seat.specs.Answers as seat
+use Rattle.spin_seat.specs.Runs.{Ran, GainsPins}
+use Rattle.spin_script.specs.Soundness.{is_command_work}
+use Rattle.spin_report.specs.declared.entry.What.{What}
+use Rattle.spin_report.specs.declared.entry.What.TheVariants as what
+use Rattle.spin_report.specs.declared.entry.Entry.{Entry}
+use Rattle.spin_report.specs.Jobs.{calls_of}
+use Rattle.spin_report.specs.Asked.{Numbered, asked_of}
+use Rattle.spin_report.specs.Segments.{asked_of_lane}
+use Rattle.spin_run.specs.declared.lane.Lane.{Lane}
+
+-- ---- an entry as the answer of a seat
+
+abbrev pub said_of : What → seat.Said
+said_of (what.Command command verdict) = seat.command command verdict
+said_of (what.Deed deed reply) = seat.deed deed reply
+
+abbrev pub answer_of : Entry → seat.Answer
+answer_of entry = record { lane = entry.lane; place = entry.place; said = said_of entry.what }
+
+-- ---- the jobs that entries leave
+
+-- a job as it is told: the place, lane, line and part of its entry, which of the entry's jobs it is, and its call
+pub record JobAsked : Type 0 where
+  pub place : ℕ
+  pub lane : ℕ
+  pub line : ℕ
+  pub part : ℕ
+  pub index : ℕ
+  pub call : JobCall
+
+abbrev pub job_asked : Job → JobAsked
+job_asked job = record {
+  place = job.place;
+  lane = job.lane;
+  line = job.line;
+  part = job.part;
+  index = job.index;
+  call = job.call;
+}
+
+abbrev pub jobs_from : Entry → ℕ → List JobCall → List JobAsked
+jobs_from entry index [] = []
+jobs_from entry index (call ∷ calls) =
+    record {
+      place = entry.place;
+      lane = entry.lane;
+      line = entry.line;
+      part = entry.part;
+      index = index;
+      call = call;
+    } ∷ jobs_from entry (index + 1) calls
+
+-- the jobs of an entry, with indexes from 0
+abbrev pub jobs_of : Entry → List JobAsked
+jobs_of entry = jobs_from entry 0 (calls_of entry.what)
+
+-- These are the jobs of the entries, in order; each has the version of its place in the log, which is sound, and to which
+-- its call belongs.
+pub record AreJobsOf (d : SetupData) (entries : List Entry) (pen : PenValue) (jobs : List Job) : Type 0 where
+  pub asked : map job_asked jobs ≡ flat_map jobs_of entries
+  pub versions : All (λ job. IsReplay d (take job.place pen.front) (arc_value job.version)) jobs
+  pub sound : All (λ job. IsSound d (arc_value job.version)) jobs
+  pub calls : All (λ job. BelongsTo (arc_value job.version) job.call) jobs
+
+-- ---- one lane
+
+abbrev pub BeginsWithCommand : List Numbered → Type 0
+BeginsWithCommand [] = ⊥
+BeginsWithCommand (next ∷ rest) = is_command_work next.asked ≡ true
+
+-- A lane that is asked these deeds in a segment has given these entries and left these jobs, while the pen of its seat
+-- came from the first value to the second: the entries are those of a front of the deeds, and of all of them where
+-- there is no stop; a stop is `Full` only where the log is full and the next deed is a command.
+pub record RanLane (d : SetupData) (deeds : List Numbered) (before after : PenValue)
+    (trail : List Entry) (jobs : List Job) (stop : Option SeatFault) : Type 0 where
+  pub ran : Ran d before (map answer_of trail) after
+  pub pins : GainsPins before (map answer_of trail) after
+  pub left : List Numbered
+  pub deeds_are : deeds ≡ map asked_of trail ++ left
+  pub whole : stop ≡ None → left ≡ []
+  pub full : stop ≡ Some fault.Full → (length after.front ≡ MAX_PLACE) × BeginsWithCommand left
+  pub jobs_are : AreJobsOf d trail after jobs
+
+-- the lane didn't end for want of memory
+abbrev pub HadMemory : Option SeatFault → Type 0
+HadMemory stop = stop ≢ Some fault.NoMemory
+
+-- How a lane stands after a segment in which all lanes are asked these, beside how it stood before: its seat is still
+-- that of its lane, and where it had memory it has done its own.
+pub record HasRun (d : SetupData) (asked : List Numbered) (before after : Lane) : Type 0 where
+  pub seat : IsSeatOf d after.seat
+  pub same : IsSamePen before.seat.pen after.seat.pen
+  pub ran : HadMemory after.stop
+      → RanLane d (asked_of_lane before.seat.pen.lane asked)
+      before.seat.pen after.seat.pen after.trail after.jobs after.stop

@@ -1,0 +1,35 @@
+-- The records of a capture that are left for its reader.
+use Rattle.std.specs.Prelude.{◌≡◌, ℕ, List, [], Option, Some, None, Result, Ok}
+use Rattle.spin_outside.specs.Sources.{SourceSeen}
+use Rattle.spin_pcap.specs.declared.fault.PcapFault.{PcapFault}
+use Rattle.spin_pcap.specs.declared.next.Next.{Next}
+use Rattle.spin_pcap.specs.declared.next.Next.TheVariants as next
+use Rattle.spin_pcap.specs.declared.state.State.{State}
+use Rattle.spin_pcap.specs.declared.state.State.TheVariants as state
+use Rattle.spin_pcap.specs.Captures.{IsBody}
+use Rattle.spin_pcap.specs.Passing.{ReaderState, left_for}
+
+-- These bytes stand there for the reader: whole records with these captured bytes, and then such a rest.
+pub record AreBytesLeft (reader : ReaderState) (left : Option (List ℕ)) (frames : List (List ℕ))
+    (ending : Result Next PcapFault) : Type 0 where
+  pub bytes : List ℕ
+  pub told : left_for reader.held left ≡ Some bytes
+  pub body : IsBody reader.order reader.given bytes frames ending
+
+-- These records are left for the reader, and then its rest is answered so. A reader that came to the end has none left,
+-- and answers the same again.
+abbrev pub AreLeftBy : State → ReaderState → Option (List ℕ) → List (List ℕ)
+    → Result Next PcapFault → Type 0
+AreLeftBy state.Reading reader left frames ending = AreBytesLeft reader left frames ending
+AreLeftBy state.End reader left frames ending = (frames ≡ []) × (ending ≡ Ok next.End)
+AreLeftBy (state.Cut count) reader left frames ending =
+    (frames ≡ []) × (ending ≡ Ok (next.Cut count))
+AreLeftBy (state.Spoilt first) reader left frames ending = ⊥
+
+-- A capture has these records left, and then its rest is answered so; without one there are none, and no rest.
+abbrev pub AreRecords : Option ReaderState → SourceSeen → List (List ℕ)
+    → Option (Result Next PcapFault) → Type 0
+AreRecords None source frames rest = (frames ≡ []) × (rest ≡ None)
+AreRecords (Some reader) source frames rest =
+    (ending : Result Next PcapFault) × (rest ≡ Some ending)
+    × AreLeftBy reader.state reader source.left frames ending

@@ -1,0 +1,71 @@
+-- All lanes of a segment: how they must stand, and how they stand afterwards.
+use Rattle.std.specs.Prelude.{◌≡◌, ℕ, ◌<◌, ◌≤◌, List, [], ◌∷◌, map, length, All, AllPairs, None, sum_by, count_by, zip, slice_index_or}
+use Rattle.atomic_table.specs.Seated.{TableId}
+use Rattle.spin_word.specs.declared.row.Row.{Row}
+use Rattle.spin_log.specs.Pens.{IsPen}
+use Rattle.spin_table.specs.Setups.{SetupData}
+use Rattle.spin_table.specs.States.{State, start_of}
+use Rattle.spin_proto.specs.declared.deed.Job.{Job}
+use Rattle.spin_proto.specs.declared.reply.Reply.{Reply}
+use Rattle.spin_seat.specs.Seats.{IsSeatOf, AreOfLanes}
+use Rattle.spin_script.specs.declared.script.Line.{Line}
+use Rattle.spin_script.specs.States.{deed_count}
+use Rattle.spin_script.specs.Soundness.{IsValidWork, is_command_work}
+use Rattle.spin_script.specs.Segments.{IsOnLane}
+use Rattle.spin_script.specs.Checks.{most_deeds}
+use Rattle.spin_report.specs.Asked.{Numbered}
+use Rattle.spin_report.specs.Lines.{JobSeen, job_seen}
+use Rattle.spin_run.specs.declared.lane.Lane.{Lane}
+use Rattle.spin_run.specs.Lanes.{HasRun}
+
+-- the front of the first lane's seat, and the state of its version
+abbrev pub front_of : List Lane → List Row
+front_of [] = []
+front_of (lane ∷ lanes) = lane.seat.pen.front
+
+abbrev pub state_of : SetupData → List Lane → State
+state_of d [] = start_of d
+state_of d (lane ∷ lanes) = lane.seat.state
+
+-- Between two segments: the lane's seat is one of a hub with that log and so many lanes, knows the whole log, keeps no
+-- row, and nothing is answered yet.
+pub record IsReady (d : SetupData) (log : TableId) (count : ℕ) (front : List Row) (lane : Lane) : Type 0 where
+  pub own : lane.seat.pen.log ≡ log
+  pub among : lane.seat.pen.lanes ≡ count
+  pub pen : IsPen lane.seat.pen
+  pub seat : IsSeatOf d lane.seat
+  pub whole : lane.seat.kept ≡ None
+  pub front_is : lane.seat.pen.front ≡ front
+  pub trail : lane.trail ≡ []
+  pub jobs_are : lane.jobs ≡ []
+  pub stop : lane.stop ≡ None
+
+-- The lanes have all seats of a hub of so many lanes, the k-th that of lane k, and each is ready.
+pub record AreReady (d : SetupData) (log : TableId) (count : ℕ) (lanes : List Lane) : Type 0 where
+  pub some : 0 < length lanes
+  pub all : length lanes ≡ count
+  pub order : AreOfLanes 0 (map (λ lane. lane.seat) lanes)
+  pub each : All (IsReady d log count (front_of lanes)) lanes
+
+-- how many of the lines are commands
+abbrev pub commands_in : List Line → ℕ
+commands_in lines = count_by (λ line. is_command_work line.work) lines
+
+-- What is needed of a segment's lines, for so many lanes: their numbers rise, each is of one of the lanes, commands are
+-- valid and of their line's lane, and the deeds are at most 65,536, a packet line counting each of its records.
+pub record IsFitSegment (lanes : ℕ) (lines : List Line) : Type 0 where
+  pub numbers : AllPairs (λ line later. line.number < later.number) lines
+  pub on_lane : All (IsOnLane lanes) lines
+  pub valid : All (λ line. IsValidWork line.work) lines
+  pub few : sum_by (λ line. deed_count line.work) lines ≤ most_deeds
+
+-- as many lanes as before, each of which has run
+abbrev pub HaveRun : SetupData → List Numbered → List Lane → List Lane → Type 0
+HaveRun d asked before after =
+    (length after ≡ length before)
+    × ((k : ℕ) (lane : Lane) → k < length before
+    → HasRun d asked (slice_index_or before k lane) (slice_index_or after k lane))
+
+-- jobs with their replies, as a report tells them
+abbrev pub jobs_seen : List Job → List Reply → List JobSeen
+jobs_seen jobs replies = map (λ done. job_seen done.0 done.1) (zip jobs replies)

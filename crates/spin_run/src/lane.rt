@@ -1,0 +1,254 @@
+//! One lane of a segment.
+
+ghost use Rattle.std.specs.Prelude.{◌≡◌, ◌+◌, ◌<◌, ◌≤◌, [], ◌∷◌, map, length, take, drop, All, IsTrue, OnOk};
+ghost use Rattle.spin_word.specs.Commands.{is_command};
+ghost use Rattle.spin_word.specs.declared.work.Work.TheVariants as work;
+ghost use Rattle.spin_table.specs.SetupOf.{data_of};
+ghost use Rattle.spin_seat.specs.Seats.{IsSeatOf};
+ghost use Rattle.spin_script.specs.States.{deed_count};
+ghost use Rattle.spin_script.specs.Soundness.{IsValidWork};
+ghost use Rattle.spin_script.specs.Segments.{IsOfLane};
+ghost use Rattle.spin_script.specs.declared.lanes.TheConstants.{MAX_DEEDS};
+ghost use Rattle.spin_report.specs.Segments.{records_wanted, raise_with, parts_of, asked_at, asked_in, asked_of_lane};
+ghost use Rattle.spin_run.specs.Lanes.{HasRun};
+ghost use Rattle.spin_run.specs.Segments.{IsReady, IsFitSegment};
+ghost use Rattle.spin_run.specs.Inner.Answering.{IsFresh, Answers, Comes, Stays, asked_alone, asked_packets};
+
+use crate::copies::{args_with, copy_deed};
+use crate::jobs_left::leave_jobs;
+use spin_code::Sincere;
+use spin_objects::Catalogue;
+use spin_outside::Gate;
+use spin_proto::Jobs;
+use spin_report::{Entries, Entry, What};
+use spin_script::{Frames, Line, Segment};
+use spin_seat::{Hub, Judged, Raised, Seat, SeatFault};
+use spin_values::{NoMemory, Octets};
+use spin_word::{Command, Deed, Work};
+use std::alloc::Global;
+
+/// A lane: its seat, and what came of its deeds in a segment.
+#[derive(Drop)]
+pub struct Lane {
+    /// The seat that it calls.
+    pub seat: Seat,
+    /// The entries that its calls have answered, in their order.
+    pub trail: Entries,
+    /// The jobs that these entries leave, each with its version.
+    pub jobs: Jobs,
+    /// Why it ended before its last deed, if it did.
+    pub stop: Option<SeatFault>,
+}
+
+impl Lane {
+    /// A lane of this seat, which has answered nothing.
+    pub fn new(alloc: Global, seat: Seat) -> Lane
+        ensures seat { result.seat ≡ seat }
+        ensures fresh { IsFresh result }
+    {
+        Lane {
+            seat,
+            trail: Entries::new(alloc),
+            jobs: Jobs::new(alloc),
+            stop: None,
+        }
+    }
+
+    /// Does, in the order of the text, the deeds of the segment's lines that name this lane, and passes the gate before
+    /// each. It ends after the last deed or at the first fault, which it keeps as its stop, want of memory among them.
+    ///
+    /// The frames are the records that the segment's packet lines take, in the order of the text and whatever the
+    /// lane: this lane skips those of the others' lines. Nothing is known of the other lanes; where this one had
+    /// memory, its entries and jobs are those of its own deeds. It waits for nobody. A deed's arguments and a frame's
+    /// bytes are copied once, into the entry.
+    pub fn run<G: Gate>(
+        &mut self,
+        alloc: Global,
+        hub: &Hub,
+        segment: &Segment,
+        frames: &Frames,
+        gate: &G,
+    )
+        requires sincere { ⟦<Catalogue as Sincere>⟧.sincere hub.now.setup.catalogue }
+        requires ready { let d = data_of hub.now.setup in
+            let front = self.old.seat.pen.front in
+            IsReady d hub.now.log.id hub.now.log.lanes front self.old }
+        requires lines { IsFitSegment hub.now.log.lanes segment.now.lines }
+        ensures { let asked = asked_in segment.now.lines frames.now in
+            HasRun (data_of hub.now.setup) asked self.old self.new }
+    {
+        self.stop = self.answer_lines(alloc, hub, segment, frames, gate).err();
+    }
+
+    // The same, with the fault that it ended at as its answer.
+    fn answer_lines<G: Gate>(
+        &mut self,
+        alloc: Global,
+        hub: &Hub,
+        segment: &Segment,
+        frames: &Frames,
+        gate: &G,
+    ) -> Result<(), SeatFault>
+        requires sincere { ⟦<Catalogue as Sincere>⟧.sincere hub.now.setup.catalogue }
+        requires ready { let d = data_of hub.now.setup in
+            let front = self.old.seat.pen.front in
+            IsReady d hub.now.log.id hub.now.log.lanes front self.old }
+        requires lines { IsFitSegment hub.now.log.lanes segment.now.lines }
+        ensures stays { Stays (data_of hub.now.setup) self.old self.new }
+        ensures comes { let asked = asked_in segment.now.lines frames.now in
+            let own = asked_of_lane self.old.seat.pen.lane asked in
+            Comes (data_of hub.now.setup) own self.old result self.new }
+    {
+        let mut left = frames.as_slice();
+        for line in segment.lines.as_slice() {
+            let (records, others) = split_records(&line.work, left);
+            left = others;
+            if line.lane == self.seat.lane() {
+                self.answer_line(alloc, hub, line, records, gate)?;
+            }
+        }
+        Ok(())
+    }
+
+    // Does the deeds of a line, whose records these are.
+    fn answer_line<G: Gate>(
+        &mut self,
+        alloc: Global,
+        hub: &Hub,
+        line: &Line,
+        records: &[Octets],
+        gate: &G,
+    ) -> Result<(), SeatFault>
+        requires sincere { ⟦<Catalogue as Sincere>⟧.sincere hub.now.setup.catalogue }
+        requires log { self.old.seat.pen.log ≡ hub.now.log.id }
+        requires seat { IsSeatOf (data_of hub.now.setup) self.old.seat }
+        requires lane { line.now.lane ≡ self.old.seat.pen.lane }
+        requires own { IsOfLane line.now.lane line.now.work }
+        requires valid { IsValidWork line.now.work }
+        requires few { length self.old.trail + length (asked_at line.now records.now) ≤ MAX_DEEDS }
+        ensures stays { Stays (data_of hub.now.setup) self.old self.new }
+        ensures comes { let asked = asked_at line.now records.now in
+            Comes (data_of hub.now.setup) asked self.old result self.new }
+    {
+        match &line.work {
+            Work::Command(command) => self.answer_command(alloc, hub, line.number, command, gate),
+            Work::Deed(deed) => {
+                let deed = copy_deed(deed)?;
+                Ok(self.answer_deed(alloc, hub, line.number, 0, deed, gate)?)
+            }
+            Work::Packet { event, .. } => {
+                Ok(self.answer_packets(alloc, hub, line.number, *event, records, gate)?)
+            }
+        }
+    }
+
+    // Gives a command.
+    fn answer_command<G: Gate>(
+        &mut self,
+        alloc: Global,
+        hub: &Hub,
+        line: u32,
+        command: &Command,
+        gate: &G,
+    ) -> Result<(), SeatFault>
+        requires sincere { ⟦<Catalogue as Sincere>⟧.sincere hub.now.setup.catalogue }
+        requires log { self.old.seat.pen.log ≡ hub.now.log.id }
+        requires seat { IsSeatOf (data_of hub.now.setup) self.old.seat }
+        requires valid { IsTrue (is_command command.now) }
+        requires lane { command.now.lane ≡ self.old.seat.pen.lane }
+        requires few { length self.old.trail < MAX_DEEDS }
+        ensures stays { Stays (data_of hub.now.setup) self.old self.new }
+        ensures comes { let d = data_of hub.now.setup in
+            let asked = asked_alone self.old.seat.pen.lane line 0 (work.Command command.now) in
+            Comes d asked self.old result self.new }
+    {
+        let lane = self.seat.lane();
+        gate.pass(lane, self.trail.len() as u32);
+        let Judged { place, verdict } = self.seat.command(alloc, hub, command)?;
+        self.trail.push(Entry {
+            place,
+            lane,
+            line,
+            part: 0,
+            what: What::Command(*command, verdict),
+        })?;
+        Ok(())
+    }
+
+    // Raises an event with each of these records.
+    fn answer_packets<G: Gate>(
+        &mut self,
+        alloc: Global,
+        hub: &Hub,
+        line: u32,
+        event: u8,
+        records: &[Octets],
+        gate: &G,
+    ) -> Result<(), NoMemory>
+        requires sincere { ⟦<Catalogue as Sincere>⟧.sincere hub.now.setup.catalogue }
+        requires log { self.old.seat.pen.log ≡ hub.now.log.id }
+        requires seat { IsSeatOf (data_of hub.now.setup) self.old.seat }
+        requires few { length self.old.trail + length records.now ≤ MAX_DEEDS }
+        ensures stays { Stays (data_of hub.now.setup) self.old self.new }
+        ensures ok { let d = data_of hub.now.setup in
+            let asked = asked_packets self.old.seat.pen.lane line event 1 records.now in
+            OnOk result (Answers d asked self.old self.new) }
+    {
+        let mut part = 0;
+        for frame in records {
+            part += 1;
+            let args = args_with(alloc, frame)?;
+            self.answer_deed(alloc, hub, line, part, Deed::Raise { event, args }, gate)?;
+        }
+        Ok(())
+    }
+
+    // Does a deed.
+    fn answer_deed<G: Gate>(
+        &mut self,
+        alloc: Global,
+        hub: &Hub,
+        line: u32,
+        part: u32,
+        deed: Deed,
+        gate: &G,
+    ) -> Result<(), NoMemory>
+        requires sincere { ⟦<Catalogue as Sincere>⟧.sincere hub.now.setup.catalogue }
+        requires log { self.old.seat.pen.log ≡ hub.now.log.id }
+        requires seat { IsSeatOf (data_of hub.now.setup) self.old.seat }
+        requires few { length self.old.trail < MAX_DEEDS }
+        ensures stays { Stays (data_of hub.now.setup) self.old self.new }
+        ensures ok { let d = data_of hub.now.setup in
+            let asked = asked_alone self.old.seat.pen.lane line part (work.Deed deed) in
+            OnOk result (Answers d asked self.old self.new) }
+    {
+        let lane = self.seat.lane();
+        gate.pass(lane, self.trail.len() as u32);
+        let Raised {
+            place,
+            reply,
+            pinned,
+        } = self.seat.raise(alloc, hub, &deed)?;
+        let entry = Entry {
+            place,
+            lane,
+            line,
+            part,
+            what: What::Deed(deed, reply),
+        };
+        leave_jobs(&mut self.jobs, &entry, &pinned)?;
+        self.trail.push(entry)
+    }
+}
+
+// The records that a line takes of those that are left, and the others.
+fn split_records<'a>(work: &Work, left: &'a [Octets]) -> (&'a [Octets], &'a [Octets])
+    ensures records { result.0.now ≡ take (records_wanted work.now) left.now }
+    ensures others { result.1.now ≡ drop (records_wanted work.now) left.now }
+{
+    let wanted = match work {
+        Work::Packet { count, .. } => *count as usize,
+        Work::Command(_) | Work::Deed(_) => 0,
+    };
+    left.split_at(wanted.min(left.len()))
+}

@@ -1,0 +1,108 @@
+//! All lanes of a segment, side by side.
+
+ghost use Rattle.std.specs.Prelude.{◌≡◌, ◌<◌, ◌≤◌, [], map, length, All, IfOk};
+ghost use Rattle.spin_word.specs.declared.command.TheConstants.{MAX_LANES};
+ghost use Rattle.spin_log.specs.Pens.{new_pens};
+ghost use Rattle.spin_objects.specs.Units.{IsSincereBy};
+ghost use Rattle.spin_table.specs.SetupOf.{data_of};
+ghost use Rattle.spin_table.specs.States.{start_of};
+ghost use Rattle.spin_seat.specs.Seats.{IsSeatOf};
+ghost use Rattle.spin_report.specs.Segments.{asked_in};
+ghost use Rattle.spin_run.specs.Lanes.{HasRun};
+ghost use Rattle.spin_run.specs.Segments.{IsReady, AreReady, IsFitSegment, HaveRun, front_of, state_of};
+ghost use Rattle.spin_run.specs.Inner.Answering.{AreFresh};
+
+use crate::lane::Lane;
+use spin_code::Sincere;
+use spin_objects::Catalogue;
+use spin_outside::Gate;
+use spin_script::{Frames, Segment};
+use spin_seat::{Hub, Seats};
+use spin_values::NoMemory;
+use spin_word::MAX_LANES;
+use std::alloc::Global;
+use std::marker::Model;
+use std::thread;
+use std::thread::Threads;
+
+/// Lanes in order, the k-th being lane k. Contracts see the list of them.
+#[derive(Drop)]
+pub struct Lanes {
+    pub(crate) items: Vec<Lane>,
+}
+
+impl Model for Lanes {
+    ghost use Rattle.std.specs.Prelude.{List};
+    ghost use Rattle.spin_run.specs.declared.lane.Lane.{Lane};
+
+    ghost Value = { List Lane };
+
+    ghost view = { λ l. l.items.items };
+}
+
+impl Lanes {
+    /// A lane for each seat of a new hub, as [`Hub::new`] made them.
+    pub fn of_seats(alloc: Global, _hub: &Hub, seats: Seats) -> Result<Lanes, NoMemory>
+        requires some { 0 < _hub.now.log.lanes }
+        requires few { _hub.now.log.lanes ≤ MAX_LANES }
+        requires pens { let pens = map (λ seat. seat.pen) seats in
+            pens ≡ new_pens _hub.now.log.id _hub.now.log.lanes }
+        requires seats { All (IsSeatOf (data_of _hub.now.setup)) seats }
+        ensures ready { let d = data_of _hub.now.setup in
+            IfOk result (λ lanes. AreReady d _hub.now.log.id _hub.now.log.lanes lanes) }
+        ensures front { IfOk result (λ lanes. front_of lanes ≡ []) }
+        ensures start { let d = data_of _hub.now.setup in
+            IfOk result (λ lanes. state_of d lanes ≡ start_of d) }
+    {
+        Ok(Lanes {
+            items: each_seat(alloc, seats)?,
+        })
+    }
+}
+
+// A lane for each seat, in order.
+fn each_seat(alloc: Global, seats: Seats) -> Result<Vec<Lane>, NoMemory>
+    ensures seats { IfOk result (λ lanes. map (λ lane. lane.seat) lanes.items ≡ seats) }
+    ensures fresh { IfOk result (λ lanes. AreFresh lanes.items) }
+{
+    let mut seats = seats;
+    let mut lanes = Vec::with_capacity(alloc, seats.len())?;
+    while let Some(seat) = seats.take_first() {
+        lanes.push(Lane::new(alloc, seat))?;
+    }
+    Ok(lanes)
+}
+
+/// Runs the lanes side by side, each on a thread of its own where one can be started: of each lane there is what
+/// [`Lane::run`] says of it, and nothing more. It waits for the end of all lanes.
+pub fn run_lanes<R: Threads + Sync, G: Gate>(
+    rt: &R,
+    alloc: Global,
+    hub: &Hub,
+    lanes: &mut Lanes,
+    segment: &Segment,
+    frames: &Frames,
+    gate: &G,
+)
+    requires sincere { ⟦<Catalogue as Sincere>⟧.sincere hub.now.setup.catalogue }
+    requires ready { let d = data_of hub.now.setup in
+        AreReady d hub.now.log.id hub.now.log.lanes lanes.old }
+    requires lines { IsFitSegment (length lanes.old) segment.now.lines }
+    ensures { let asked = asked_in segment.now.lines frames.now in
+        HaveRun (data_of hub.now.setup) asked lanes.old lanes.new }
+{
+    thread::for_each_mut(
+        rt,
+        lanes.items.as_mut_slice(),
+        usize::from(MAX_LANES),
+        &|_, lane: &mut Lane|
+            requires sincere { IsSincereBy does asks follows hub.now.setup.catalogue.natives }
+            requires ready { let d = data_of hub.now.setup in
+                let front = lane.old.seat.pen.front in
+                IsReady d hub.now.log.id hub.now.log.lanes front lane.old }
+            requires lines { IsFitSegment hub.now.log.lanes segment.now.lines }
+            ensures { let asked = asked_in segment.entry.now.lines frames.entry.now in
+                HasRun (data_of hub.entry.now.setup) asked lane.old lane.new }
+        { lane.run(alloc, hub, segment, frames, gate) },
+    );
+}

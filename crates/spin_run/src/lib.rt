@@ -1,0 +1,39 @@
+//! Whole runs: lanes on threads, captures by segment, deliveries, and one woven history.
+//!
+//! - `lane` is one lane of a segment, which does the deeds of the lines that name it, and `lanes` all of them side by
+//!   side;
+//! - `meeting` lets the seats of all lanes know the same;
+//! - `weave` puts the entries and jobs of all lanes into one history, and `segment` runs a segment whole;
+//! - `jobs_left` notes the jobs that an answer leaves, and `copies` copies what a lane keeps;
+//! - `records` reads what a segment's packet lines take of a capture, `retiring` retires endpoints, `sends` delivers;
+//! - `lines` makes a segment's lines, `writing` writes them, `one` runs a segment with all this, `ending` ends a run;
+//! - `script` runs a whole script, `end` has how a run ends;
+//! - `law` says that the place of ready lanes is the number of rows that they know, `place` tells that number.
+#![tactic(auto)]
+
+mod copies;
+mod end;
+mod ending;
+mod jobs_left;
+mod lane;
+mod lanes;
+mod law;
+mod lines;
+mod meeting;
+mod one;
+mod place;
+mod records;
+mod retiring;
+mod script;
+mod segment;
+mod sends;
+mod weave;
+mod writing;
+
+pub use end::RunEnd;
+pub use lane::Lane;
+pub use lanes::{Lanes, run_lanes};
+pub use law::place_is_front;
+pub use script::run_script;
+pub use segment::{Woven, run_segment};
+pub use spin_script::Frames;

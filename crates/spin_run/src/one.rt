@@ -1,0 +1,145 @@
+//! One segment of a script.
+
+ghost use Rattle.std.specs.Prelude.{◌≡◌, ◌<◌, ◌≤◌, ◌+◌, ◌∷◌, ◌++◌, [], length, map, sum_by, All, IfOk, OnOk};
+ghost use Rattle.spin_word.specs.declared.command.TheConstants.{MAX_PLACE};
+ghost use Rattle.spin_endpoint.specs.declared.ends.TheConstants.{MAX_ENDPOINTS};
+ghost use Rattle.spin_text.specs.Words.{ended};
+ghost use Rattle.spin_table.specs.SetupOf.{data_of};
+ghost use Rattle.spin_script.specs.Segments.{SendsBelow};
+ghost use Rattle.spin_report.specs.Lines.{entry_line, job_line};
+ghost use Rattle.spin_report.specs.Histories.{segment_line, lost_lines};
+ghost use Rattle.spin_report.specs.Segments as specs;
+ghost use Rattle.spin_run.specs.Segments.{AreReady, IsFitSegment, commands_in, front_of, state_of, jobs_seen};
+ghost use Rattle.spin_script.specs.States.{ScriptData, deed_count};
+ghost use Rattle.spin_script.specs.Checks.{most_deeds};
+ghost use Rattle.spin_run.specs.Inner.Lining.{counts_to};
+ghost use Rattle.spin_run.specs.Inner.Reading.{ForRecords};
+ghost use Rattle.spin_run.specs.Ends.{seen};
+ghost use Rattle.spin_run.specs.Inner.Steps.{moment, setting, OneBy, ResultCounts};
+
+use crate::end::RunEnd;
+use crate::lanes::Lanes;
+use crate::lines::{add_entries, add_jobs, add_lost, add_segment};
+use crate::records::read_records;
+use crate::retiring::retire;
+use crate::segment::{Woven, run_segment};
+use crate::sends::send_all;
+use crate::writing::{TextLines, write_lines};
+use spin_code::Sincere;
+use spin_endpoint::{Ends, EndsSeen, Lost};
+use spin_objects::Catalogue;
+use spin_outside::{Gate, Sink, Source};
+use spin_pcap::Reader;
+use spin_script::{Line, Segment};
+use spin_seat::Hub;
+use spin_values::{NoMemory, Text};
+use spin_word::Work;
+use std::alloc::Global;
+use std::thread::Threads;
+
+/// How many records the packet lines want.
+fn wanted_by(lines: &[Line]) -> u32
+    requires { sum_by (λ line. deed_count line.work) lines.now ≤ most_deeds }
+    ensures { result ≡ specs.wanted_by lines.now }
+{
+    let mut wanted = 0;
+    for line in lines {
+        if let Work::Packet { count, .. } = &line.work {
+            wanted += *count;
+        }
+    }
+    wanted
+}
+
+/// The lines of a segment's part of the report, behind those of its retired endpoints.
+fn part_lines(
+    retired: TextLines,
+    number: usize,
+    start: u16,
+    woven: &Woven,
+    lost: &Lost,
+    endpoints: u8,
+) -> Result<TextLines, NoMemory>
+    requires replies { length woven.now.replies ≡ length woven.now.jobs }
+    requires few { endpoints ≤ MAX_ENDPOINTS }
+    ensures { IfOk result (λ lines. lines ≡ retired ++ map ended (
+        segment_line number start ∷ map entry_line woven.now.entries
+        ++ map job_line (jobs_seen woven.now.jobs woven.now.replies)
+        ++ lost_lines (counts_to lost.now endpoints))) }
+{
+    let mut lines = retired;
+    add_segment(&mut lines, number, start)?;
+    add_entries(&mut lines, woven.entries.as_slice())?;
+    add_jobs(&mut lines, woven.jobs.as_slice(), woven.replies.as_slice())?;
+    add_lost(&mut lines, lost, endpoints)?;
+    Ok(lines)
+}
+
+/// Runs a segment: its endpoints are retired, the records that it wants are read, its lanes are run, its sends are
+/// made, and its text is made in memory and then written, each line by one call.
+pub(crate) fn run_one<R: Threads + Sync, S: Source, K: Sink, G: Gate>(
+    rt: &R,
+    alloc: Global,
+    hub: &Hub,
+    lanes: &mut Lanes,
+    names: &[Text],
+    number: usize,
+    segment: &Segment,
+    capture: &mut Option<Reader>,
+    source: &mut S,
+    out: &mut K,
+    ends: &mut Ends,
+    gate: &G,
+) -> Result<(), RunEnd>
+    requires sincere { ⟦<Catalogue as Sincere>⟧.sincere hub.now.setup.catalogue }
+    requires ready { let d = data_of hub.now.setup in
+        AreReady d hub.now.log.id hub.now.log.lanes lanes.old }
+    requires lines { IsFitSegment (length lanes.old) segment.now.lines }
+    requires room { length (front_of lanes.old) + commands_in segment.now.lines ≤ MAX_PLACE }
+    requires few { length names.now ≤ MAX_ENDPOINTS }
+    requires retired { All (λ endpoint. endpoint < length names.now) segment.now.retires }
+    requires sent { let d = data_of hub.now.setup in
+        All (SendsBelow (length names.now)) d.handlers }
+    ensures one { let d = data_of hub.now.setup in
+        let before = moment (state_of d lanes.old) capture.old (S.seen source.old) (K.seen out.old)
+        (⟦<Ends as EndsSeen>⟧.all ends.old) in
+        let after = moment (state_of d lanes.new) capture.new (S.seen source.new) (K.seen out.new)
+        (⟦<Ends as EndsSeen>⟧.all ends.new) in
+        ForRecords capture.old (S.seen source.old)
+        (OneBy (setting d (length lanes.old) names.now) number segment.now before after result) }
+    ensures ready { let d = data_of hub.now.setup in
+        OnOk result (AreReady d hub.now.log.id hub.now.log.lanes lanes.new) }
+    ensures taken { let most = length (front_of lanes.old) + commands_in segment.now.lines in
+        OnOk result (length (front_of lanes.new) ≤ most) }
+    ensures keep { (S.seen source.new).keep ≡ (S.seen source.old).keep }
+    ensures counts { let before = seen (S.seen source.old) (K.seen out.old)
+        (⟦<Ends as EndsSeen>⟧.all ends.old) in
+        let after = seen (S.seen source.new) (K.seen out.new)
+        (⟦<Ends as EndsSeen>⟧.all ends.new) in
+        ResultCounts before after result }
+{
+    let Ok(retired) = retire(alloc, ends, names, segment.retires.as_slice()) else {
+        return Err(RunEnd::NoMemory);
+    };
+    let wanted = wanted_by(segment.lines.as_slice());
+    let frames = match read_records(alloc, capture, source, wanted) {
+        Ok(frames) => frames,
+        Err(end) => return Err(end),
+    };
+    let start = lanes.place(hub);
+    let Ok(woven) = run_segment(rt, alloc, hub, lanes, segment, &frames, gate) else {
+        return Err(RunEnd::NoMemory);
+    };
+    let entries = woven.entries.as_slice();
+    let lost = match send_all(alloc, ends, names, entries, woven.replies.as_slice()) {
+        Ok(lost) => lost,
+        Err(end) => return Err(end),
+    };
+    let Ok(lines) = part_lines(retired, number, start, &woven, &lost, names.len() as u8) else {
+        return Err(RunEnd::NoMemory);
+    };
+    match write_lines(out, lines.as_slice()) {
+        Ok(()) => Ok(()),
+        Err(_) => Err(RunEnd::WriteFault),
+    }
+}

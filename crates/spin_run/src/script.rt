@@ -1,0 +1,131 @@
+//! Whole runs of scripts.
+
+ghost use Rattle.std.specs.Prelude.{◌≡◌, ◌≤◌, IfSome};
+ghost use Rattle.spin_word.specs.declared.command.TheConstants.{MAX_PLACE};
+ghost use Rattle.spin_pcap.specs.Passing.{IsFresh};
+ghost use Rattle.spin_script.specs.Scripts.{script_seen};
+ghost use Rattle.spin_script.specs.Segments.{IsOrderly};
+ghost use Rattle.spin_script.specs.Soundness.{AreValid, command_lines};
+ghost use Rattle.spin_run.specs.Ends.{seen, EndsBy, CountsBy};
+ghost use Rattle.spin_run.specs.Inner.Reading.{ForRecords};
+ghost use Rattle.spin_run.specs.Inner.Steps.{AllBy, ResultCounts};
+
+use crate::end::RunEnd;
+use crate::ending::finish;
+use crate::lanes::Lanes;
+use crate::one::run_one;
+use spin_code::Sincere;
+use spin_endpoint::{Ends, EndsSeen};
+use spin_objects::Catalogue;
+use spin_outside::{Gate, Sink, Source, write_all};
+use spin_pcap::Reader;
+use spin_script::Script;
+use spin_seat::Hub;
+use std::alloc::Global;
+use std::thread::Threads;
+
+/// Writes the report's first line, and runs the segments one after another. It answers how many commands were accepted.
+fn run_segments<R: Threads + Sync, S: Source, K: Sink, G: Gate>(
+    rt: &R,
+    alloc: Global,
+    script: Script,
+    capture: &mut Option<Reader>,
+    source: &mut S,
+    out: &mut K,
+    ends: &mut Ends,
+    gate: &G,
+) -> Result<u16, RunEnd>
+    requires sincere { ⟦<Catalogue as Sincere>⟧.sincere script.setup.catalogue }
+    requires valid { AreValid script.segments }
+    requires commands { command_lines script.segments ≤ MAX_PLACE }
+    requires orderly { IsOrderly (script_seen script) }
+    requires fresh { IfSome capture.old IsFresh }
+    ensures end { let before = seen (S.seen source.old) (K.seen out.old)
+        (⟦<Ends as EndsSeen>⟧.all ends.old) in
+        let after = seen (S.seen source.new) (K.seen out.new)
+        (⟦<Ends as EndsSeen>⟧.all ends.new) in
+        ForRecords capture.old (S.seen source.old)
+        (AllBy (script_seen script) before capture.new after result) }
+    ensures keep { (S.seen source.new).keep ≡ (S.seen source.old).keep }
+    ensures counts { let before = seen (S.seen source.old) (K.seen out.old)
+        (⟦<Ends as EndsSeen>⟧.all ends.old) in
+        let after = seen (S.seen source.new) (K.seen out.new)
+        (⟦<Ends as EndsSeen>⟧.all ends.new) in
+        ResultCounts before after result }
+{
+    if let Err(_) = write_all(out, b"report 1\n") {
+        return Err(RunEnd::WriteFault);
+    }
+    let Script {
+        setup,
+        endpoints,
+        lanes,
+        segments,
+        ..
+    } = script;
+    let Ok((hub, seats)) = Hub::new(alloc, setup, lanes) else {
+        return Err(RunEnd::NoMemory);
+    };
+    let Ok(mut lanes) = Lanes::of_seats(alloc, &hub, seats) else {
+        return Err(RunEnd::NoMemory);
+    };
+    let names = endpoints.as_slice();
+    for number in 0..segments.len() {
+        let segment = segments.get(number);
+        if let Err(end) = run_one(
+            rt, alloc, &hub, &mut lanes, names, number, segment, capture, source, out, ends, gate,
+        ) {
+            return Err(end);
+        }
+    }
+    Ok(lanes.place(&hub))
+}
+
+/// Runs a script whole: writes the report's first line; then segment by segment retires its endpoints, reads the records
+/// that its packet lines want, runs its lanes side by side, does its jobs, makes its sends in the order of its entries
+/// and then of its jobs, and writes its text, each line by one call; and last reads the capture to its end and writes
+/// the last line.
+///
+/// A run stops at the first thing that fails, and [`RunEnd`] says which. What has been done by then stays: whole lines
+/// are written, but where the sink failed. A failed read comes only where the source's count of faults rose, a failed
+/// write only where the sink's did, and a failed endpoint only where its own did.
+///
+/// The script is one that [`read_script`](spin_script::read_script) gives, the capture is as
+/// [`Reader::start`](spin_pcap::Reader::start) left it, and the catalogue's objects do what they were handed in with.
+pub fn run_script<R: Threads + Sync, S: Source, K: Sink, G: Gate>(
+    rt: &R,
+    alloc: Global,
+    script: Script,
+    capture: Option<Reader>,
+    source: &mut S,
+    out: &mut K,
+    ends: &mut Ends,
+    gate: &G,
+) -> RunEnd
+    requires sincere { ⟦<Catalogue as Sincere>⟧.sincere script.setup.catalogue }
+    requires valid { AreValid script.segments }
+    requires commands { command_lines script.segments ≤ MAX_PLACE }
+    requires orderly { IsOrderly (script_seen script) }
+    requires fresh { IfSome capture IsFresh }
+    ensures end { let before = seen (S.seen source.old) (K.seen out.old)
+        (⟦<Ends as EndsSeen>⟧.all ends.old) in
+        let after = seen (S.seen source.new) (K.seen out.new)
+        (⟦<Ends as EndsSeen>⟧.all ends.new) in
+        ForRecords capture (S.seen source.old)
+        (λ frames rest. EndsBy (script_seen script) frames rest before after result) }
+    ensures keep { (S.seen source.new).keep ≡ (S.seen source.old).keep }
+    ensures counts { let before = seen (S.seen source.old) (K.seen out.old)
+        (⟦<Ends as EndsSeen>⟧.all ends.old) in
+        let after = seen (S.seen source.new) (K.seen out.new)
+        (⟦<Ends as EndsSeen>⟧.all ends.new) in
+        CountsBy before after result }
+{
+    let mut capture = capture;
+    match run_segments(rt, alloc, script, &mut capture, source, out, ends, gate) {
+        Ok(length) => match finish(alloc, length, &mut capture, source, out) {
+            Ok(()) => RunEnd::Whole,
+            Err(end) => end,
+        },
+        Err(end) => end,
+    }
+}

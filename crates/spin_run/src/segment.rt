@@ -1,0 +1,98 @@
+//! One segment: its lanes side by side, then one history of them all, then its jobs.
+
+ghost use Rattle.std.specs.Prelude.{◌≡◌, ◌+◌, ◌≤◌, false, length, All, Any, IsTrue, Some, IfOk, OnOk};
+ghost use Rattle.spin_word.specs.declared.command.TheConstants.{MAX_PLACE};
+ghost use Rattle.spin_table.specs.SetupOf.{data_of};
+ghost use Rattle.spin_seat.specs.declared.answer.SeatFault.TheVariants as fault;
+ghost use Rattle.spin_report.specs.Segments.{asked_in, IsWoven};
+ghost use Rattle.spin_run.specs.Lanes.{HadMemory};
+ghost use Rattle.spin_run.specs.Segments.{AreReady, IsFitSegment, commands_in, front_of, state_of, jobs_seen};
+
+use crate::lanes::{Lanes, run_lanes};
+use spin_code::Sincere;
+use spin_jobs::{Replies, run_all};
+use spin_objects::Catalogue;
+use spin_outside::Gate;
+use spin_proto::Jobs;
+use spin_report::Entries;
+use spin_script::{Frames, Segment};
+use spin_seat::{Hub, SeatFault};
+use spin_values::NoMemory;
+use std::alloc::Global;
+use std::thread::Threads;
+
+/// How many workers do the jobs of a segment.
+const WORKERS: u8 = 4;
+
+/// What a segment came to.
+#[derive(Drop)]
+pub struct Woven {
+    /// The entries of all lanes, in the order of the history.
+    pub entries: Entries,
+    /// The jobs that they leave, in the order of their entries.
+    pub jobs: Jobs,
+    /// What each job came to, in the same order.
+    pub replies: Replies,
+}
+
+/// Runs the lanes of the segment side by side, lets all seats meet, puts what the lanes answered into one history, and
+/// does the jobs that it leaves.
+///
+/// The entries are a legal history of the plain dispatcher, from the state that the lanes were ready in to the one that
+/// they are ready in afterwards: each lane's deeds are answered once each and in its order, and nothing else is. They
+/// stand by place; at one place the accepted command first; and then by lane, line and part. Each job has its reply at
+/// the state of its own entry. So it is whatever the schedule of the lanes and of the jobs.
+///
+/// The frames are the records that the segment's packet lines take, in the order of the text. The log has room for the
+/// segment's commands. After want of memory the lanes are of no further use.
+pub fn run_segment<R: Threads + Sync, G: Gate>(
+    rt: &R,
+    alloc: Global,
+    hub: &Hub,
+    lanes: &mut Lanes,
+    segment: &Segment,
+    frames: &Frames,
+    gate: &G,
+) -> Result<Woven, NoMemory>
+    requires sincere { ⟦<Catalogue as Sincere>⟧.sincere hub.now.setup.catalogue }
+    requires ready { let d = data_of hub.now.setup in
+        AreReady d hub.now.log.id hub.now.log.lanes lanes.old }
+    requires lines { IsFitSegment (length lanes.old) segment.now.lines }
+    requires room { length (front_of lanes.old) + commands_in segment.now.lines ≤ MAX_PLACE }
+    ensures woven { let d = data_of hub.now.setup in
+        let asked = asked_in segment.now.lines frames.now in
+        let before = state_of d lanes.old in
+        let after = state_of d lanes.new in
+        IfOk result (λ w.
+        IsWoven d (length lanes.old) asked before after w.entries (jobs_seen w.jobs w.replies)) }
+    ensures replies { IfOk result (λ w. length w.replies ≡ length w.jobs) }
+    ensures ready { let d = data_of hub.now.setup in
+        OnOk result (AreReady d hub.now.log.id hub.now.log.lanes lanes.new) }
+    ensures taken { let most = length (front_of lanes.old) + commands_in segment.now.lines in
+        OnOk result (length (front_of lanes.new) ≤ most) }
+{
+    run_lanes(rt, alloc, hub, lanes, segment, frames, gate);
+    if lanes.lacked_memory() {
+        return Err(NoMemory);
+    }
+    lanes.meet(alloc, hub)?;
+    let (entries, jobs) = lanes.weave(alloc)?;
+    let replies = run_all(rt, alloc, hub.setup(), &jobs, WORKERS, gate)?;
+    Ok(Woven {
+        entries,
+        jobs,
+        replies,
+    })
+}
+
+impl Lanes {
+    // Whether a lane ended for want of memory.
+    fn lacked_memory(&self) -> bool
+        ensures had { result ≡ false → All (λ lane. HadMemory lane.stop) self.now }
+        ensures lacked { IsTrue result → Any (λ lane. lane.stop ≡ Some fault.NoMemory) self.now }
+    {
+        self.items
+            .iter()
+            .any(|lane| matches!(lane.stop, Some(SeatFault::NoMemory)))
+    }
+}

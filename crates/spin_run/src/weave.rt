@@ -1,0 +1,81 @@
+//! The entries and jobs of all lanes, as one list of each.
+
+ghost use Rattle.std.specs.Prelude.{◌≡◌, [], map, All, IfOk, OnOk};
+ghost use Rattle.std.specs.List.{flat_map};
+ghost use Rattle.spin_report.specs.Segments as segments;
+ghost use Rattle.spin_report.specs.Segments.{IsInOrder};
+ghost use Rattle.spin_run.specs.Inner.Weaves as weaves;
+ghost use Rattle.spin_run.specs.Inner.Weaves.{AreOfTheirLanes, IsInterleaving, AreJobsInOrder, IsEmptied, trails_of, jobs_by_lane};
+
+use crate::lanes::Lanes;
+use spin_proto::{Job, Jobs};
+use spin_report::{Entries, Entry, What};
+use spin_table::Verdicted;
+use spin_values::NoMemory;
+use std::alloc::Global;
+
+impl Lanes {
+    /// Takes the entries and the jobs out of all lanes, and puts each in the order of the history: by place; at one
+    /// place the accepted command first; and then by lane, line and part. A lane's entries stay in their own order, and
+    /// so do its jobs. It moves them, and takes a time linear in their number times the logarithm of the number of lanes.
+    pub(crate) fn weave(&mut self, alloc: Global) -> Result<(Entries, Jobs), NoMemory>
+        requires trails { AreOfTheirLanes (λ entry. entry.lane) (trails_of self.old) }
+        requires trails_order { All IsInOrder (trails_of self.old) }
+        requires jobs { AreOfTheirLanes (λ job. job.lane) (jobs_by_lane self.old) }
+        requires jobs_order { All AreJobsInOrder (jobs_by_lane self.old) }
+        ensures entries { let trails = trails_of self.old in
+            IfOk result (λ woven. IsInterleaving (λ entry. entry.lane) trails woven.0) }
+        ensures entries_order { IfOk result (λ woven. IsInOrder woven.0) }
+        ensures jobs { let jobs = jobs_by_lane self.old in
+            IfOk result (λ woven. IsInterleaving (λ job. job.lane) jobs woven.1) }
+        ensures jobs_order { IfOk result (λ woven. AreJobsInOrder woven.1) }
+        ensures emptied { OnOk result (All IsEmptied self.new) }
+        ensures seats { OnOk result (map (λ lane. lane.seat) self.new ≡ map (λ lane. lane.seat) self.old) }
+        ensures stops { OnOk result (map (λ lane. lane.stop) self.new ≡ map (λ lane. lane.stop) self.old) }
+    {
+        let (entries, jobs) = self.gather(alloc)?;
+        let mut entries = entries.into_vec();
+        entries.sort_by_key(|entry| moment(entry))?;
+        let mut jobs = jobs.into_vec();
+        jobs.sort_by_key(|job| job_moment(job))?;
+        Ok((Entries::from_vec(entries), Jobs::from_vec(jobs)))
+    }
+
+    // The entries of all lanes, lane after lane, and so their jobs.
+    fn gather(&mut self, alloc: Global) -> Result<(Entries, Jobs), NoMemory>
+        ensures entries { IfOk result (λ all. all.0 ≡ flat_map (λ trail. trail) (trails_of self.old)) }
+        ensures jobs { IfOk result (λ all. all.1 ≡ flat_map (λ jobs. jobs) (jobs_by_lane self.old)) }
+        ensures emptied { OnOk result (All IsEmptied self.new) }
+        ensures seats { OnOk result (map (λ lane. lane.seat) self.new ≡ map (λ lane. lane.seat) self.old) }
+        ensures stops { OnOk result (map (λ lane. lane.stop) self.new ≡ map (λ lane. lane.stop) self.old) }
+    {
+        let mut entries = Entries::new(alloc);
+        let mut jobs = Jobs::new(alloc);
+        for lane in self.items.iter_mut() {
+            entries.append(&mut lane.trail)?;
+            jobs.append(&mut lane.jobs)?;
+        }
+        Ok((entries, jobs))
+    }
+}
+
+// Where an entry stands among those of its segment.
+fn moment(entry: &Entry) -> (u16, bool, u8, u32, u32)
+    ensures { result ≡ segments.moment entry.now }
+{
+    let is_accepted = matches!(&entry.what, What::Command(_, Verdicted::Accepted));
+    (
+        entry.place,
+        !is_accepted,
+        entry.lane,
+        entry.line,
+        entry.part,
+    )
+}
+
+// Where a job stands among those of its segment.
+fn job_moment(job: &Job) -> (u16, u8, u32, u32)
+    ensures { result ≡ weaves.job_moment job.now }
+{
+    (job.place, job.lane, job.line, job.part)
+}
