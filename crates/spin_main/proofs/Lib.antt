@@ -1,8 +1,6 @@
-pub mod Alike
 pub mod Causes
 pub mod Exactly
-pub mod Jobless
-pub mod Joining
-pub mod Laning
+pub mod Failing
+pub mod Opening
 pub mod Outcomes
-pub mod Runnable
+pub mod Parsing

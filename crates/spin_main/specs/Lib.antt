@@ -1,5 +1,8 @@
-pub mod Lanes
+pub mod Captures
+pub mod Ends
+pub mod Inner
+pub mod Loading
 pub mod Natives
-pub mod Scripts
+pub mod Shelves
 pub mod Statuses
 pub mod Words

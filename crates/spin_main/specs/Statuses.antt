@@ -1,237 +1,258 @@
 -- How the top call ends, and why.
-use Rattle.std.specs.Prelude.{◌≡◌, ◌<◌, ◌⊎◌, ℕ, Option, Some, None, List, [], ◌++◌, length, take, codes, decimal, IfSome, MatchResult, Result}
-use Rattle.std.specs.Io.KnownBytes.{Appends}
+use Rattle.std.specs.Prelude.{◌≡◌, ◌<◌, ◌⊎◌, ℕ, Option, Some, None, List, length, map, slice_index_or, Result, Ok, Err, ⊤}
 use Rattle.spin_outside.specs.Counts.{Rose}
 use Rattle.spin_outside.specs.Files.{File, content, IsLacking}
 use Rattle.spin_outside.specs.Seen.{ShelfSeen, SinkSeen}
-use Rattle.spin_table.specs.Setups.{SetupData}
-use Rattle.spin_script.specs.declared.script.Line.{Line}
-use Rattle.spin_report.specs.declared.entry.Entry.{Entry}
-use Rattle.spin_text.specs.Words.{ended}
-use Rattle.spin_report.specs.Histories.{first_line, report_text}
-use Rattle.spin_main.specs.declared.end.End.{End}
-use Rattle.spin_main.specs.declared.end.End.TheVariants.{Whole, Usage, Refused, ReadFault, WriteFault, Absent, NoMemory}
-use Rattle.spin_script.specs.declared.script.ScriptFault.{ScriptFault}
-use Rattle.spin_script.specs.declared.script.ScriptFault.TheVariants as fault
-use Rattle.spin_main.specs.declared.load.LoadFault.{LoadFault}
-use Rattle.spin_main.specs.declared.load.LoadFault.TheVariants as load
-use Rattle.spin_main.specs.declared.writing.ReportFault.{ReportFault}
-use Rattle.spin_main.specs.declared.writing.ReportFault.TheVariants as report
-use Rattle.spin_main.specs.Words.{IsRun}
+use Rattle.spin_outside.specs.Sources.{SourceSeen}
+use Rattle.spin_endpoint.specs.Named.{NamedEnd}
+use Rattle.spin_pcap.specs.declared.fault.PcapFault.{PcapFault}
+use Rattle.spin_pcap.specs.declared.next.Next.{Next}
+use Rattle.spin_script.specs.Language.{IsScript}
 use Rattle.spin_script.specs.States.{NativeData, ScriptData}
-use Rattle.spin_script.specs.Soundness.{lines_in}
-use Rattle.spin_main.specs.Scripts.{CanRun, IsBadAt}
-use Rattle.spin_main.specs.Lanes.{IsLaneHistory, one_segment}
+use Rattle.spin_run.specs.declared.end.RunEnd.{RunEnd}
+use Rattle.spin_run.specs.declared.end.RunEnd.TheVariants as run
+use Rattle.spin_run.specs.Ends.{seen, EndsBy, CountsBy}
+use Rattle.spin_main.specs.declared.end.End.{End}
+use Rattle.spin_main.specs.declared.end.End.TheVariants.{Whole, Usage, Refused, Capture, ReadScript, ReadPackets, WriteFault, NoScript, NoPackets, NoMemory, Endpoint}
+use Rattle.spin_main.specs.declared.words.Asked.{Asked}
+use Rattle.spin_main.specs.declared.words.Asked.TheVariants.{Run}
+use Rattle.spin_main.specs.Words.{IsAsked}
+use Rattle.spin_main.specs.Ends.{number, stop_line, Tells}
+use Rattle.spin_main.specs.Shelves.{ShelfStood, ShelfFailed, ShelfLacked}
+use Rattle.spin_main.specs.Loading.{IsLoaded, IsRefused}
+use Rattle.spin_main.specs.Captures.{IsNamed, HasHeader, HasBadHeader, IsLackingCapture, IsBadHeader, IsCaptureFile, AreRecordsOf}
 
--- the exit status of an end
-abbrev pub number : End → ℕ
-number Whole = 0
-number Usage = 1
-number (Refused line cause) = 2
-number ReadFault = 4
-number WriteFault = 5
-number Absent = 6
-number NoMemory = 7
-
--- the line that is written at an end
-abbrev pub stop_line : End → List ℕ
-stop_line Whole = []
-stop_line Usage = ended (codes "usage: spin run SCRIPT")
-stop_line (Refused line cause) =
-    ended (codes "stop 2 line " ++ decimal line ++ codes " cause " ++ decimal cause)
-stop_line ReadFault = ended (codes "stop 4 read script")
-stop_line WriteFault = []
-stop_line Absent = ended (codes "stop 6 script")
-stop_line NoMemory = ended (codes "stop 7 memory")
-
--- the end of a script that isn't read
-abbrev pub end_by : ScriptFault → End
-end_by (fault.Bad line cause) = Refused line cause
-end_by fault.NoMemory = NoMemory
-
--- The shelf's files and counts are as before.
-pub record ShelfStood (before after : ShelfSeen) : Type 0 where
-  pub files : after.files ≡ before.files
-  pub faults : after.faults ≡ before.faults
-  pub absences : after.absences ≡ before.absences
-
--- The count of faults rose, and else the shelf is as before.
-pub record ShelfFailed (before after : ShelfSeen) : Type 0 where
-  pub files : after.files ≡ before.files
-  pub faults : Rose before.faults after.faults
-  pub absences : after.absences ≡ before.absences
-
--- The count of absences rose, and else the shelf is as before.
-pub record ShelfLacked (before after : ShelfSeen) : Type 0 where
-  pub files : after.files ≡ before.files
-  pub faults : after.faults ≡ before.faults
-  pub absences : Rose before.absences after.absences
-
--- The bytes were appended, or the sink failed, and a front of them was.
-abbrev pub Tells : SinkSeen → SinkSeen → List ℕ → Type 0
-Tells before after bytes =
-    ((after.faults ≡ before.faults) × Appends before.told after.told bytes)
-    ⊎ ((n : ℕ) × (n < length bytes) × Rose before.faults after.faults
-    × Appends before.told after.told (take n bytes))
-
--- The text was read under the name: where the shelf tells its files, it is that file's content.
-abbrev pub IsContent : Option (List File) → List ℕ → List ℕ → Type 0
-IsContent files name text = IfSome files (λ held. content held name ≡ Some text)
-
--- The text under the name has more bytes than this.
-abbrev pub IsOver : ℕ → Option (List File) → List ℕ → Type 0
-IsOver limit files name = (text : List ℕ) × IsContent files name text × (limit < length text)
-
--- No script that can be run has this text.
-abbrev pub IsNoScript : NativeData → List ℕ → Type 0
-IsNoScript natives text = (script : ScriptData) → CanRun natives text script → ⊥
-
--- The script was read under the name, and can be run.
-pub record IsLoaded (natives : NativeData) (files : Option (List File)) (name : List ℕ)
-    (script : ScriptData) : Type 0 where
-  pub text : List ℕ
-  pub read : IsContent files name text
-  pub can_run : CanRun natives text script
-
--- The report of a history of the script was appended.
-abbrev pub WritesReport : SetupData → List Line → Option (List ℕ) → Option (List ℕ) → Type 0
-WritesReport setup lines told told' =
-    (entries : List Entry) × (end : ℕ) × IsLaneHistory setup lines entries end
-    × Appends told told' (report_text (one_segment entries end))
-
--- A front of the report of a history of the script was appended, and not all of it; in its first line every history
--- is alike.
-abbrev pub CutsReport : SetupData → List Line → Option (List ℕ) → Option (List ℕ) → Type 0
-CutsReport setup lines told told' =
-    ((n : ℕ) × (n < length (ended first_line)) × Appends told told' (take n (ended first_line)))
-    ⊎ ((entries : List Entry) × (end : ℕ) × IsLaneHistory setup lines entries end
-    × (n : ℕ) × (n < length (report_text (one_segment entries end)))
-    × Appends told told' (take n (report_text (one_segment entries end))))
-
--- The text under the name is refused at that line for that cause.
-abbrev pub IsRefused : NativeData → Option (List File) → List ℕ → ℕ → ℕ → Type 0
-IsRefused natives files name line cause =
-    (text : List ℕ) × IsContent files name text × IsBadAt natives text line cause
-
--- what contracts see of the shelf and of the sink at one moment
+-- what contracts see of the shelf, of the sink and of the endpoints at one moment
 pub record Outside : Type 0 where
   pub shelf : ShelfSeen
   pub sink : SinkSeen
+  pub ends : List NamedEnd
 
-abbrev pub outside : ShelfSeen → SinkSeen → Outside
-outside shelf sink = record { shelf = shelf; sink = sink }
+abbrev pub outside : ShelfSeen → SinkSeen → List NamedEnd → Outside
+outside shelf sink ends = record { shelf = shelf; sink = sink; ends = ends }
 
--- Why the call ended so, and what was written.
-abbrev pub HasCause : NativeData → Outside → Outside → List (List ℕ) → End → Type 0
-HasCause natives before after words Whole =
-    (name : List ℕ) × IsRun words name × ShelfStood before.shelf after.shelf
-    × (after.sink.faults ≡ before.sink.faults)
-    × (script : ScriptData) × IsLoaded natives before.shelf.files name script
-    × WritesReport script.setup (lines_in script.segments) before.sink.told after.sink.told
-HasCause natives before after words Usage =
-    ((name : List ℕ) → IsRun words name → ⊥) × ShelfStood before.shelf after.shelf
-    × Tells before.sink after.sink (stop_line Usage)
-HasCause natives before after words (Refused line cause) =
-    (name : List ℕ) × IsRun words name × ShelfStood before.shelf after.shelf
+-- a call: the natives and the words that are handed in, what is seen before and after it, and the status
+pub record Call : Type 0 where
+  pub natives : NativeData
+  pub words : List (List ℕ)
+  pub before : Outside
+  pub after : Outside
+  pub status : ℕ
+
+-- ---- causes
+
+-- Nothing was done, and only the line of this end was written.
+pub record OnlyStops (before after : Outside) (end : End) : Type 0 where
+  pub ends : after.ends ≡ before.ends
+  pub tells : Tells before.sink after.sink (stop_line end)
+
+-- the end of a call whose run ended so
+abbrev pub end_of : RunEnd → End
+end_of run.Whole = Whole
+end_of (run.Capture at fault) = Capture at fault
+end_of run.ReadFault = ReadPackets
+end_of run.WriteFault = WriteFault
+end_of run.NoMemory = NoMemory
+end_of (run.Endpoint at) = Endpoint at
+
+-- The script was read, and the header of the capture, if one is named; the run over the script and the capture's
+-- records ended so; and then the line of that end was written.
+pub record Ran (natives : NativeData) (before after : Outside) (name : List ℕ)
+    (packets : Option (List ℕ)) (ended : RunEnd) : Type 0 where
+  pub script : ScriptData
+  pub loaded : IsLoaded natives before.shelf.files name script
+  pub header : HasHeader before.shelf.files packets
+  -- the capture's file when the run began, and when it ended, and the sink when it ended
+  pub from : SourceSeen
+  pub to : SourceSeen
+  pub sink : SinkSeen
+  pub ended_so : (frames : List (List ℕ)) (rest : Option (Result Next PcapFault))
+      → AreRecordsOf before.shelf.files packets frames rest
+      → EndsBy script frames rest (seen from before.sink before.ends) (seen to sink after.ends) ended
+  pub counts : CountsBy (seen from before.sink before.ends) (seen to sink after.ends) ended
+  pub line : Tells sink after.sink (stop_line (end_of ended))
+
+-- Why a run of these files ended so, what was written, and what the endpoints received.
+abbrev pub RunHasCause : NativeData → Outside → Outside → List ℕ → Option (List ℕ) → End → Type 0
+RunHasCause natives before after name packets Whole =
+    ShelfStood before.shelf after.shelf × (after.sink.faults ≡ before.sink.faults)
+    × Ran natives before after name packets run.Whole
+RunHasCause natives before after name packets Usage = ⊥
+RunHasCause natives before after name packets (Refused line cause) =
+    ShelfStood before.shelf after.shelf
     × IsRefused natives before.shelf.files name line cause
-    × Tells before.sink after.sink (stop_line (Refused line cause))
-HasCause natives before after words ReadFault =
-    (name : List ℕ) × IsRun words name × ShelfFailed before.shelf after.shelf
-    × Tells before.sink after.sink (stop_line ReadFault)
-HasCause natives before after words WriteFault =
-    (name : List ℕ) × IsRun words name × ShelfStood before.shelf after.shelf
-    × Rose before.sink.faults after.sink.faults
-    × (script : ScriptData) × IsLoaded natives before.shelf.files name script
-    × CutsReport script.setup (lines_in script.segments) before.sink.told after.sink.told
-HasCause natives before after words Absent =
-    (name : List ℕ) × IsRun words name × ShelfLacked before.shelf after.shelf
+    × OnlyStops before after (Refused line cause)
+RunHasCause natives before after name packets (Capture at fault) =
+    ShelfStood before.shelf after.shelf
+    × (((script : ScriptData) × IsLoaded natives before.shelf.files name script
+    × (at ≡ 0) × HasBadHeader before.shelf.files packets fault
+    × OnlyStops before after (Capture at fault))
+    ⊎ Ran natives before after name packets (run.Capture at fault))
+RunHasCause natives before after name packets ReadScript =
+    ShelfFailed before.shelf after.shelf × OnlyStops before after ReadScript
+RunHasCause natives before after name packets ReadPackets =
+    ShelfFailed before.shelf after.shelf
+    × (((script : ScriptData) × IsLoaded natives before.shelf.files name script
+    × IsNamed packets × OnlyStops before after ReadPackets)
+    ⊎ Ran natives before after name packets run.ReadFault)
+RunHasCause natives before after name packets WriteFault =
+    ShelfStood before.shelf after.shelf × Rose before.sink.faults after.sink.faults
+    × Ran natives before after name packets run.WriteFault
+RunHasCause natives before after name packets NoScript =
+    ShelfLacked before.shelf after.shelf
     × IsLacking before.shelf.files name
-    × Tells before.sink after.sink (stop_line Absent)
-HasCause natives before after words NoMemory =
-    (name : List ℕ) × IsRun words name × ShelfStood before.shelf after.shelf
-    × (Tells before.sink after.sink (stop_line NoMemory)
-    ⊎ ((script : ScriptData) × IsLoaded natives before.shelf.files name script
-    × Tells before.sink after.sink (ended first_line ++ stop_line NoMemory)))
+    × OnlyStops before after NoScript
+RunHasCause natives before after name packets NoPackets =
+    ShelfLacked before.shelf after.shelf
+    × (script : ScriptData) × IsLoaded natives before.shelf.files name script
+    × IsLackingCapture before.shelf.files packets
+    × OnlyStops before after NoPackets
+RunHasCause natives before after name packets NoMemory =
+    ShelfStood before.shelf after.shelf
+    × (OnlyStops before after NoMemory ⊎ Ran natives before after name packets run.NoMemory)
+RunHasCause natives before after name packets (Endpoint at) =
+    ShelfStood before.shelf after.shelf × Ran natives before after name packets (run.Endpoint at)
+
+-- The status of a run of these files is the number of an end that has its cause.
+abbrev pub IsRunStatus : NativeData → Outside → Outside → List ℕ → Option (List ℕ) → ℕ → Type 0
+IsRunStatus natives before after name packets status =
+    (end : End) × (status ≡ number end) × RunHasCause natives before after name packets end
+
+-- Why a command ended so.
+abbrev pub CommandHasCause : NativeData → Outside → Outside → Asked → End → Type 0
+CommandHasCause natives before after (Run name packets) end =
+    RunHasCause natives before after name packets end
+
+-- The status of a command is the number of an end that has its cause.
+abbrev pub IsCommandStatus : NativeData → Outside → Outside → Asked → ℕ → Type 0
+IsCommandStatus natives before after asked status =
+    (end : End) × (status ≡ number end) × CommandHasCause natives before after asked end
+
+-- The words ask for a command, and that ended so.
+abbrev pub ByCommand : Call → End → Type 0
+ByCommand call end =
+    (asked : Asked) × IsAsked call.words asked
+    × CommandHasCause call.natives call.before call.after asked end
+
+-- The words ask for nothing.
+abbrev pub AsksNothing : Call → Type 0
+AsksNothing call = (asked : Asked) → IsAsked call.words asked → ⊥
+
+-- Why the call ended so. Memory may be lacking before the words are known.
+abbrev pub HasCause : Call → End → Type 0
+HasCause call Usage =
+    AsksNothing call × ShelfStood call.before.shelf call.after.shelf
+    × OnlyStops call.before call.after Usage
+HasCause call NoMemory =
+    (ShelfStood call.before.shelf call.after.shelf × OnlyStops call.before call.after NoMemory)
+    ⊎ ByCommand call NoMemory
+HasCause call other = ByCommand call other
 
 -- The status is the number of an end that has its cause.
-abbrev pub IsStatus : NativeData → Outside → Outside → List (List ℕ) → ℕ → Type 0
-IsStatus natives before after words status =
-    (end : End) × (status ≡ number end) × HasCause natives before after words end
+abbrev pub IsStatus : Call → Type 0
+IsStatus call = (end : End) × (call.status ≡ number end) × HasCause call end
 
 -- The status is the number of this end only where the end has its cause.
-abbrev pub Row : NativeData → Outside → Outside → List (List ℕ) → ℕ → End → Type 0
-Row natives before after words status end =
-    status ≡ number end → HasCause natives before after words end
+abbrev pub Row : Call → End → Type 0
+Row call end = call.status ≡ number end → HasCause call end
 
--- The status is 2 only where the text is refused at a line for a cause.
-abbrev pub RefusedRow : NativeData → Outside → Outside → List (List ℕ) → ℕ → Type 0
-RefusedRow natives before after words status =
-    status ≡ 2 → (line : ℕ) × (cause : ℕ) × HasCause natives before after words (Refused line cause)
+-- ---- what is known where the shelf tells its files
 
--- The words name a file of the shelf, which tells its files, and this is its text.
-pub record NamesFile (shelf : ShelfSeen) (words : List (List ℕ)) (text : List ℕ) : Type 0 where
+-- The words ask for a run of a script of the shelf, which tells its files, and this is the script's text.
+pub record NamesScript (call : Call) (held : List File) (packets : Option (List ℕ)) (text : List ℕ)
+    : Type 0 where
   pub name : List ℕ
-  pub is_run : IsRun words name
-  pub held : List File
-  pub told : shelf.files ≡ Some held
+  pub is_asked : IsAsked call.words (Run name packets)
+  pub told : call.before.shelf.files ≡ Some held
   pub found : content held name ≡ Some text
 
--- The words name no file of the shelf, which tells its files.
-pub record NamesNone (shelf : ShelfSeen) (words : List (List ℕ)) : Type 0 where
+-- The words ask for a run of a script that the shelf, which tells its files, lacks.
+pub record LacksScript (call : Call) : Type 0 where
   pub name : List ℕ
-  pub is_run : IsRun words name
+  pub packets : Option (List ℕ)
+  pub is_asked : IsAsked call.words (Run name packets)
   pub held : List File
-  pub told : shelf.files ≡ Some held
+  pub told : call.before.shelf.files ≡ Some held
   pub lacking : content held name ≡ None
 
+abbrev pub IsScriptText : NativeData → List ℕ → Type 0
+IsScriptText natives text = (script : ScriptData) × IsScript natives text (Ok script)
+
+-- The shelf's count of faults didn't rise.
+abbrev pub NoReadFailed : Call → Type 0
+NoReadFailed call = Rose call.before.shelf.faults call.after.shelf.faults → ⊥
+
+abbrev pub faults_at : List NamedEnd → ℕ → ℕ
+faults_at ends place = slice_index_or (map (λ end. end.object.faults) ends) place 0
+
 -- No count rose in the call.
-pub record NoneRose (before after : Outside) : Type 0 where
-  pub faults : Rose before.shelf.faults after.shelf.faults → ⊥
-  pub absences : Rose before.shelf.absences after.shelf.absences → ⊥
-  pub sink : Rose before.sink.faults after.sink.faults → ⊥
+pub record NoneRose (call : Call) : Type 0 where
+  pub faults : NoReadFailed call
+  pub absences : Rose call.before.shelf.absences call.after.shelf.absences → ⊥
+  pub sink : Rose call.before.sink.faults call.after.sink.faults → ⊥
+  pub ends : (place : ℕ) → place < length call.before.ends
+      → Rose (faults_at call.before.ends place) (faults_at call.after.ends place) → ⊥
 
--- Words that aren't a run are usage.
-abbrev pub KnowsUsage : List (List ℕ) → ℕ → Type 0
-KnowsUsage words status = ((name : List ℕ) → IsRun words name → ⊥) → status ≡ 1
+-- The capture is refused by its header or by a record.
+abbrev pub IsBadCapture : List File → List ℕ → Type 0
+IsBadCapture held name =
+    ((fault : ℕ) × IsBadHeader held name fault)
+    ⊎ ((frames : List (List ℕ)) × (wrong : PcapFault) × IsCaptureFile held name frames (Err wrong))
 
--- A file that is no script that can be run is refused, unless the shelf failed or memory ran out.
-abbrev pub KnowsRefused : NativeData → ShelfSeen → ShelfSeen → List (List ℕ) → ℕ → Type 0
-KnowsRefused natives before after words status =
-    (text : List ℕ) → NamesFile before words text → IsNoScript natives text
-    → (Rose before.faults after.faults → ⊥) → (status ≡ 2) ⊎ (status ≡ 7)
+-- No capture is named, or a good one: its rest is empty or cut.
+abbrev pub IsGoodCapture : List File → Option (List ℕ) → Type 0
+IsGoodCapture held None = ⊤
+IsGoodCapture held (Some name) =
+    (frames : List (List ℕ)) × (last : Next) × IsCaptureFile held name frames (Ok last)
 
--- A file that isn't there is told to be absent, unless the shelf failed or memory ran out.
-abbrev pub KnowsAbsent : ShelfSeen → ShelfSeen → List (List ℕ) → ℕ → Type 0
-KnowsAbsent before after words status =
-    NamesNone before words → (Rose before.faults after.faults → ⊥) → (status ≡ 6) ⊎ (status ≡ 7)
+-- Words that ask for nothing are usage, unless memory ran out.
+abbrev pub KnowsUsage : Call → Type 0
+KnowsUsage call = AsksNothing call → (call.status ≡ 1) ⊎ (call.status ≡ 7)
 
--- A script that can be run is run whole where no count rose, unless memory ran out.
-abbrev pub IsComplete : NativeData → Outside → Outside → List (List ℕ) → ℕ → Type 0
-IsComplete natives before after words status =
-    (text : List ℕ) (script : ScriptData) → NamesFile before.shelf words text
-    → CanRun natives text script → NoneRose before after → (status ≡ 0) ⊎ (status ≡ 7)
+-- A text that is no script is refused, unless a read failed or memory ran out.
+abbrev pub KnowsRefused : Call → Type 0
+KnowsRefused call =
+    (held : List File) (packets : Option (List ℕ)) (text : List ℕ) → NamesScript call held packets text
+    → (IsScriptText call.natives text → ⊥) → NoReadFailed call
+    → (call.status ≡ 2) ⊎ (call.status ≡ 7)
 
--- which counts a refusal to load raises
-abbrev pub LoadRaises : ShelfSeen → ShelfSeen → LoadFault → Type 0
-LoadRaises before after load.Absent =
-    (after.faults ≡ before.faults) × Rose before.absences after.absences
-LoadRaises before after load.Failed =
-    Rose before.faults after.faults × (after.absences ≡ before.absences)
-LoadRaises before after load.TooLarge =
-    (after.faults ≡ before.faults) × (after.absences ≡ before.absences)
-LoadRaises before after load.NoMemory =
-    (after.faults ≡ before.faults) × (after.absences ≡ before.absences)
+-- A script that isn't there is told to be absent, and so is a capture that isn't there beside a script, unless a read
+-- failed or memory ran out.
+pub record KnowsAbsent (call : Call) : Type 0 where
+  pub script : LacksScript call → NoReadFailed call → (call.status ≡ 6) ⊎ (call.status ≡ 7)
+  pub capture : (held : List File) (name text : List ℕ) → NamesScript call held (Some name) text
+      → IsScriptText call.natives text → content held name ≡ None → NoReadFailed call
+      → (call.status ≡ 6) ⊎ (call.status ≡ 7)
 
-abbrev pub LoadsByCount : {T : Type 0} → ShelfSeen → ShelfSeen → Result T LoadFault → Type 0
-LoadsByCount before after result =
-    MatchResult result
-    (λ _. (after.faults ≡ before.faults) × (after.absences ≡ before.absences))
-    (LoadRaises before after)
+-- A bad capture beside a script is refused where no count rose, unless memory ran out.
+abbrev pub KnowsCapture : Call → Type 0
+KnowsCapture call =
+    (held : List File) (name text : List ℕ) → NamesScript call held (Some name) text
+    → IsScriptText call.natives text → IsBadCapture held name → NoneRose call
+    → (call.status ≡ 3) ⊎ (call.status ≡ 7)
 
--- which refusal to write the report raises the sink's count of faults
-abbrev pub ReportRaises : ℕ → ℕ → ReportFault → Type 0
-ReportRaises before now report.Failed = Rose before now
-ReportRaises before now report.NoMemory = now ≡ before
+-- A script is run whole where no count rose, over a good capture or none, unless memory ran out.
+abbrev pub IsComplete : Call → Type 0
+IsComplete call =
+    (held : List File) (packets : Option (List ℕ)) (text : List ℕ) → NamesScript call held packets text
+    → IsScriptText call.natives text → IsGoodCapture held packets → NoneRose call
+    → (call.status ≡ 0) ⊎ (call.status ≡ 7)
 
-abbrev pub ReportsByCount : {T : Type 0} → ℕ → ℕ → Result T ReportFault → Type 0
-ReportsByCount before now result = MatchResult result (λ _. now ≡ before) (ReportRaises before now)
+-- ---- the table of statuses
+
+-- Each status comes with its cause, and some come always where their cause holds.
+pub record KeepsTable (call : Call) : Type 0 where
+  pub status : IsStatus call
+  pub usage : Row call Usage
+  pub usage_always : KnowsUsage call
+  pub refused : call.status ≡ 2 → (line : ℕ) × (cause : ℕ) × HasCause call (Refused line cause)
+  pub refused_always : KnowsRefused call
+  pub capture : call.status ≡ 3 → (at : ℕ) × (fault : ℕ) × HasCause call (Capture at fault)
+  pub capture_always : KnowsCapture call
+  pub read_fault : call.status ≡ 4 → HasCause call ReadScript ⊎ HasCause call ReadPackets
+  pub write_fault : Row call WriteFault
+  pub absent : call.status ≡ 6 → HasCause call NoScript ⊎ HasCause call NoPackets
+  pub absent_always : KnowsAbsent call
+  pub memory : Row call NoMemory
+  pub endpoint : call.status ≡ 8 → (at : ℕ) × HasCause call (Endpoint at)
+  pub complete : IsComplete call

@@ -1,9 +1,9 @@
-//! The ends of a run: their statuses, and the lines that are written at them.
+//! The ends of a call: their statuses, and the lines that are written at them.
 
 ghost use Rattle.std.specs.Prelude.{◌≡◌, ◌≤◌, ◌+◌, ◌++◌, [], length, decimal, codes};
 ghost use Rattle.arrayvec.specs.ArrayVec.{array_vec_len};
 ghost use Rattle.spin_text.specs.Words.{ended};
-ghost use Rattle.spin_main.specs.Statuses.{number, stop_line, Tells};
+ghost use Rattle.spin_main.specs.Ends.{number, stop_line, Tells};
 
 use arrayvec::ArrayVec;
 use itoa::Buffer;
@@ -12,25 +12,38 @@ use spin_outside::{Sink, write_all};
 /// How the top call ends. Each end has a status, a line that is written at it, and a cause.
 #[derive(Clone, Copy, Debug, PartialEq, Eq)]
 pub enum End {
-    /// The whole report was written.
+    /// All was done and written.
     Whole,
-    /// The words are those of no command.
+    /// The words have none of the forms.
     Usage,
-    /// The script was read and is refused.
+    /// The script is refused.
     Refused {
         /// The first bad line, counted from 1; 0 where it is the script as a whole.
         line: u32,
         /// The number of the cause.
         cause: u8,
     },
+    /// The capture is refused.
+    Capture {
+        /// The number of the record, counted from 1; 0 where it is the header.
+        number: u32,
+        /// The number of the fault.
+        fault: u8,
+    },
     /// The shelf failed at the script.
-    ReadFault,
+    ReadScript,
+    /// The shelf failed at the capture.
+    ReadPackets,
     /// The sink failed at the report.
     WriteFault,
     /// The shelf has no file of the script's name.
-    Absent,
+    NoScript,
+    /// The shelf has no file of the capture's name.
+    NoPackets,
     /// There was no memory.
     NoMemory,
+    /// The endpoint of that number failed.
+    Endpoint(u8),
 }
 
 /// A stop line. It takes no memory.
@@ -44,10 +57,14 @@ pub fn status_of(end: End) -> u8
         End::Whole => 0,
         End::Usage => 1,
         End::Refused { .. } => 2,
-        End::ReadFault => 4,
+        End::Capture { .. } => 3,
+        End::ReadScript => 4,
+        End::ReadPackets => 4,
         End::WriteFault => 5,
-        End::Absent => 6,
+        End::NoScript => 6,
+        End::NoPackets => 6,
         End::NoMemory => 7,
+        End::Endpoint(_) => 8,
     }
 }
 
@@ -92,18 +109,45 @@ fn refusal_line(number: u32, cause: u8) -> StopLine
     line
 }
 
+fn capture_line(number: u32, fault: u8) -> StopLine
+    ensures { result.items
+        ≡ ended (codes "stop 3 record " ++ decimal number ++ codes " fault " ++ decimal fault) }
+{
+    let mut line = StopLine::new();
+    put(&mut line, b"stop 3 record ");
+    put_number(&mut line, u64::from(number));
+    put(&mut line, b" fault ");
+    put_number(&mut line, u64::from(fault));
+    put(&mut line, b"\n");
+    line
+}
+
+fn endpoint_line(number: u8) -> StopLine
+    ensures { result.items ≡ ended (codes "stop 8 endpoint " ++ decimal number) }
+{
+    let mut line = StopLine::new();
+    put(&mut line, b"stop 8 endpoint ");
+    put_number(&mut line, u64::from(number));
+    put(&mut line, b"\n");
+    line
+}
+
 /// The line of an end, with its line feed; some have none.
 fn line_of(end: End) -> StopLine
     ensures { result.items ≡ stop_line end }
 {
     match end {
         End::Whole => StopLine::new(),
-        End::Usage => fixed_line(b"usage: spin run SCRIPT\n"),
+        End::Usage => fixed_line(b"usage: spin run SCRIPT [PACKETS]\n"),
         End::Refused { line, cause } => refusal_line(line, cause),
-        End::ReadFault => fixed_line(b"stop 4 read script\n"),
+        End::Capture { number, fault } => capture_line(number, fault),
+        End::ReadScript => fixed_line(b"stop 4 read script\n"),
+        End::ReadPackets => fixed_line(b"stop 4 read packets\n"),
         End::WriteFault => StopLine::new(),
-        End::Absent => fixed_line(b"stop 6 script\n"),
+        End::NoScript => fixed_line(b"stop 6 script\n"),
+        End::NoPackets => fixed_line(b"stop 6 packets\n"),
         End::NoMemory => fixed_line(b"stop 7 memory\n"),
+        End::Endpoint(number) => endpoint_line(number),
     }
 }
 

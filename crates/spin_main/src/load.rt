@@ -2,7 +2,7 @@
 
 ghost use Rattle.std.specs.Prelude.{◌≤◌, length, IfOk, IsErrOf, ◌≡◌};
 ghost use Rattle.spin_outside.specs.Files.{IsLacking};
-ghost use Rattle.spin_main.specs.Statuses.{IsContent, IsOver, LoadsByCount};
+ghost use Rattle.spin_main.specs.Loading.{IsContent, IsOver, LoadsByCount};
 ghost use Rattle.spin_grammar.specs.declared.limits.TheConstants.{MAX_TEXT};
 
 use spin_outside::{FindFault, Shelf, TakeFault, read_up_to};

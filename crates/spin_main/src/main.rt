@@ -1,41 +1,43 @@
 //! The program: a script in, the report of its history out.
 //!
-//! `spin run SCRIPT` reads the script from the folder where it is called and writes the report to standard output.
+//! `spin run SCRIPT [PACKETS]` reads the script, and the capture if one is named, from the folder where it is called,
+//! and writes the report to standard output. What is sent to the endpoints `out0` to `out3` goes to the files
+//! `out0.bin` to `out3.bin` of that folder.
 //!
-//! - [`top`] has the one call, [`spin`], which works over any shelf and sink;
-//! - [`words`] and [`load`] find the script, [`unbuilt`] says what of it can't be run yet;
-//! - [`dispatcher`] is the version in force, [`lane`] does the lines, [`writing`] writes the report;
+//! - [`top`] has the one call, [`spin`], which works over any shelf, sink and endpoints and chooses the command;
+//! - [`words`] says what the words ask for, [`command`] does it;
+//! - [`load`] reads the script, [`capture`] opens the capture;
 //! - [`natives`] are those that the program hands in;
-//! - [`end`] has the ends of a run, their statuses and lines.
+//! - [`end`] has the ends of a call, their statuses and lines.
 #![tactic(auto)]
 
-mod dispatcher;
+mod capture;
+mod command;
 mod end;
-mod lane;
 mod load;
 mod natives;
 #[cfg(test)]
 mod tests;
 mod top;
-mod unbuilt;
 mod words;
-mod writing;
 
 ghost use Rattle.std.specs.Prelude.{IfOk};
 ghost use Rattle.spin_main.specs.Natives as program;
-ghost use Rattle.spin_main.specs.Statuses.{outside, IsStatus};
+ghost use Rattle.spin_main.specs.Statuses.{Call, outside, IsStatus};
 
 use crate::end::{End, stop};
 use crate::natives::{IsIpv4, first_word_object, natives_of, own_two_object};
 use crate::top::spin;
+use spin_endpoint::{Endpoint, Ends, EndsSeen, FileEnd};
 use spin_objects::{Guard, Handler};
-use spin_outside::{FolderShelf, Shelf, Sink, StdSink};
+use spin_outside::{FolderShelf, OpenGate, Shelf, Sink, StdSink};
 use spin_policy::Authoriser;
 use spin_values::{NoMemory, Text};
 use std::alloc::Global;
 use std::io::ErrorKind;
 use std::process::ExitCode;
 use std::rt::{Env, Files};
+use std::thread::Threads;
 use std::{env, io};
 
 /// The words after the program's name. Arguments that aren't text are no words of any command.
@@ -56,33 +58,73 @@ fn words_of<R: Env + AllocGlobal>(rt: &R) -> Result<Vec<Text>, NoMemory> {
 }
 
 /// Does what the words say, with the natives of the program.
-fn run_with_natives<F: Shelf, K: Sink>(
+fn run_with_natives<R: Threads + Sync, F: Shelf, K: Sink>(
+    rt: &R,
     alloc: Global,
     words: &[Text],
     shelf: &mut F,
     out: &mut K,
+    ends: &mut Ends,
 ) -> Result<u8, NoMemory>
-    ensures { IfOk result (IsStatus program.natives
-        (outside (F.seen shelf.old) (K.seen out.old))
-        (outside (F.seen shelf.new) (K.seen out.new)) words.now) }
+    ensures { IfOk result (λ status. let call : Call = record {
+      natives = program.natives;
+      words = words.now;
+      before = outside (F.seen shelf.old) (K.seen out.old) (⟦<Ends as EndsSeen>⟧.all ends.old);
+      after = outside (F.seen shelf.new) (K.seen out.new) (⟦<Ends as EndsSeen>⟧.all ends.new);
+      status = status;
+    } in
+        IsStatus call) }
 {
     let handler: Box<dyn Handler + Send + Sync> = Box::new(alloc, first_word_object(alloc)?)?;
     let guard: Box<dyn Guard + Send + Sync> = Box::new(alloc, IsIpv4)?;
     let authoriser: Box<dyn Authoriser + Send + Sync> = Box::new(alloc, own_two_object(alloc)?)?;
     let natives = natives_of(alloc, handler, guard, authoriser)?;
-    Ok(spin(alloc, words, shelf, out, natives))
+    Ok(spin(rt, alloc, words, shelf, out, natives, ends, &OpenGate))
 }
 
 /// Does what the words of the command line say, over the working folder.
-fn run<R: Env + Files + AllocGlobal, K: Sink>(rt: &R, out: &mut K) -> Result<u8, NoMemory> {
+fn run<R: Env + Files + Threads + Sync + AllocGlobal, K: Sink>(
+    rt: &R,
+    out: &mut K,
+    ends: &mut Ends,
+) -> Result<u8, NoMemory> {
     let words = words_of(rt)?;
     let mut shelf = FolderShelf::new(rt.alloc(), rt);
-    run_with_natives(rt.alloc(), &words, &mut shelf, out)
+    run_with_natives(rt, rt.alloc(), &words, &mut shelf, out, ends)
+}
+
+/// An endpoint of that name over that file.
+fn file_end<R: Files + Clone + Drop + AllocGlobal>(
+    rt: &R,
+    name: &[u8],
+    file: &[u8],
+) -> Result<(Text, Box<FileEnd<R>>), NoMemory> {
+    let end = FileEnd::new(rt.clone()?, Text::from_bytes(rt.alloc(), file)?);
+    Ok((
+        Text::from_bytes(rt.alloc(), name)?,
+        Box::new(rt.alloc(), end)?,
+    ))
 }
 
 fn main(rt: HostRuntime) -> ExitCode {
     let mut out = StdSink::new(io::writer(&rt));
-    match run(&rt, &mut out) {
+    let mut ends = Ends::new(rt.alloc());
+    for (name, file) in [
+        (b"out0", b"out0.bin"),
+        (b"out1", b"out1.bin"),
+        (b"out2", b"out2.bin"),
+        (b"out3", b"out3.bin"),
+    ] {
+        let Ok((name, end)) = file_end(&rt, name, file) else {
+            return ExitCode::from(stop(&mut out, End::NoMemory));
+        };
+        let end: Box<dyn Endpoint> = end;
+        // The names differ and are few, so only memory may be lacking.
+        if let Err(_) = ends.add(name, end) {
+            return ExitCode::from(stop(&mut out, End::NoMemory));
+        }
+    }
+    match run(&rt, &mut out, &mut ends) {
         Ok(status) => ExitCode::from(status),
         Err(NoMemory) => ExitCode::from(stop(&mut out, End::NoMemory)),
     }

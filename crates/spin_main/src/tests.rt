@@ -1,76 +1,120 @@
-//! What no case shows: shelves and sinks that fail, words of no command, and the drop of a native.
+//! What no case shows: shelves, sinks and endpoints that fail, what an endpoint received, and the drop of a native.
 
-ghost use Rattle.std.specs.Prelude.{[]};
+ghost use Rattle.std.specs.Prelude.{None, []};
 
 use crate::top::spin;
-use spin_code::{Act, Steplist};
+use spin_code::{Act, Sincere, Steplist};
+use spin_endpoint::{Endpoint, Ends, KeepEnd};
 use spin_objects::{Handler, Natives, Outcome};
-use spin_outside::{MemShelf, MemSink};
+use spin_outside::{Failed, MemShelf, MemSink, OpenGate};
 use spin_values::{Args, EventType, NoMemory, Octets, Params, Text};
 use std::alloc::Global;
+use std::cell::RefCell;
+use std::rc::Rc;
 use std::sync::Arc;
 use std::sync::atomic::{AtomicU64, Ordering};
 use std::test::Fail;
+use std::thread::Threads;
 
-const SCRIPT: &[u8] = b"spin 1\nevent 0 0 - last\nlane 0 raise 0\n";
+const SCRIPT: &[u8] = b"spin 1
+event 0 0 w:w last
+handler 1 w:w result 5
+lane 0 install 0 0 1 0 free plain
+lane 0 raise 0 9
+";
 
-const REPORT: &[u8] = b"report 1\nsegment 0 at 0\n0 0 3 raise = nohandler\nend 0\n";
+const REPORT: &[u8] = b"report 1
+segment 0 at 0
+1 0 4 install ok
+1 0 5 raise run 0 1 result 5 = value 5
+end 1
+";
+
+const USAGE: &[u8] = b"usage: spin run SCRIPT [PACKETS]\n";
+
+fn text(alloc: Global, bytes: &[u8]) -> Result<Text, NoMemory> {
+    Text::from_bytes(alloc, bytes)
+}
 
 fn words(alloc: Global, texts: &[&[u8]]) -> Result<Vec<Text>, NoMemory> {
     let mut words = Vec::new(alloc);
-    for text in texts {
-        words.push(Text::from_bytes(alloc, text)?)?;
+    for bytes in texts {
+        words.push(text(alloc, bytes)?)?;
     }
     Ok(words)
 }
 
+fn put(alloc: Global, shelf: &mut MemShelf, name: &[u8], bytes: &[u8]) -> Result<(), NoMemory> {
+    shelf.put(text(alloc, name)?, Octets::from_bytes(alloc, bytes)?)
+}
+
 fn shelf_with(alloc: Global, script: &[u8]) -> Result<MemShelf, NoMemory> {
     let mut shelf = MemShelf::new(alloc);
-    shelf.put(
-        Text::from_bytes(alloc, b"script")?,
-        Octets::from_bytes(alloc, script)?,
-    )?;
+    put(alloc, &mut shelf, b"script", script)?;
     Ok(shelf)
 }
 
-/// The status of a call without natives.
-fn status_of(
+/// The status of a call with these natives.
+fn status_with<R: Threads + Sync>(
+    rt: &R,
+    alloc: Global,
+    texts: &[&[u8]],
+    shelf: &mut MemShelf,
+    out: &mut MemSink,
+    natives: Natives,
+    ends: &mut Ends,
+) -> Result<u8, NoMemory>
+    requires sincere { ⟦<Natives as Sincere>⟧.sincere natives }
+{
+    let words = words(alloc, texts)?;
+    Ok(spin(rt, alloc, &words, shelf, out, natives, ends, &OpenGate))
+}
+
+/// The status of a call without natives and endpoints.
+fn status_of<R: Threads + Sync>(
+    rt: &R,
     alloc: Global,
     texts: &[&[u8]],
     shelf: &mut MemShelf,
     out: &mut MemSink,
 ) -> Result<u8, NoMemory> {
-    let words = words(alloc, texts)?;
-    Ok(spin(alloc, &words, shelf, out, Natives::new(alloc)))
+    let mut ends = Ends::new(alloc);
+    status_with(rt, alloc, texts, shelf, out, Natives::new(alloc), &mut ends)
 }
 
 #[test]
 fn a_sink_fails_at_each_call_in_turn(rt: HostRuntime) -> Result<(), NoMemory> {
-    for (call, taken) in [(0, 0), (1, 9), (2, 24), (3, 48), (4, 54)] {
+    for (call, taken) in [(0, 0), (1, 9), (2, 24), (3, 41), (4, 80), (5, 86)] {
         let mut shelf = shelf_with(rt.alloc(), SCRIPT)?;
         let mut out = MemSink::new(rt.alloc(), 1000)?;
         out.fail_at(call)?;
-        let status = status_of(rt.alloc(), &[b"run", b"script"], &mut shelf, &mut out)?;
-        assert_eq!(rt; status, if call < 4 { 5 } else { 0 }, "{call}");
+        let status = status_of(&rt, rt.alloc(), &[b"run", b"script"], &mut shelf, &mut out)?;
+        assert_eq!(rt; status, if call < 5 { 5 } else { 0 }, "{call}");
         assert_eq!(rt; out.bytes(), &REPORT[..taken], "{call}");
     }
     Ok(())
 }
 
 #[test]
-fn a_shelf_fails_or_lacks_the_script(rt: HostRuntime) -> Result<(), NoMemory> {
+fn a_shelf_fails_or_lacks_a_file(rt: HostRuntime) -> Result<(), NoMemory> {
     let mut no_find = shelf_with(rt.alloc(), SCRIPT)?;
     no_find.fail_find(0)?;
     let mut no_read = shelf_with(rt.alloc(), SCRIPT)?;
     no_read.fail_read(0)?;
-    let empty = MemShelf::new(rt.alloc());
+    let mut no_second_find = shelf_with(rt.alloc(), SCRIPT)?;
+    no_second_find.fail_find(1)?;
+    let no_script = MemShelf::new(rt.alloc());
+    let no_packets = shelf_with(rt.alloc(), SCRIPT)?;
     for (mut shelf, wanted, line) in [
         (no_find, 4, b"stop 4 read script\n".as_slice()),
         (no_read, 4, b"stop 4 read script\n"),
-        (empty, 6, b"stop 6 script\n"),
+        (no_second_find, 4, b"stop 4 read packets\n"),
+        (no_script, 6, b"stop 6 script\n"),
+        (no_packets, 6, b"stop 6 packets\n"),
     ] {
         let mut out = MemSink::new(rt.alloc(), 1000)?;
-        let status = status_of(rt.alloc(), &[b"run", b"script"], &mut shelf, &mut out)?;
+        let texts = [b"run".as_slice(), b"script", b"packets"];
+        let status = status_of(&rt, rt.alloc(), &texts, &mut shelf, &mut out)?;
         assert_eq!(rt; status, wanted);
         assert_eq!(rt; out.bytes(), line);
     }
@@ -83,15 +127,195 @@ fn words_of_no_command(rt: HostRuntime) -> Result<(), NoMemory> {
     for texts in [
         [].as_slice(),
         &[b"run".as_slice()],
+        &[b"help".as_slice()],
         &[b"run".as_slice(), b""],
         &[b"run".as_slice(), b"-script"],
         &[b"run".as_slice(), b"\xff"],
         &[b"walk".as_slice(), b"script"],
+        &[b"run".as_slice(), b"--", b"script"],
+        &[b"run".as_slice(), b"script", b"-packets"],
+        &[b"run".as_slice(), b"script", b"packets", b"more"],
+        &[b"run".as_slice(), b"script", b"packets", b"more", b"more"],
     ] {
         let mut out = MemSink::new(rt.alloc(), 1000)?;
-        let status = status_of(rt.alloc(), texts, &mut shelf, &mut out)?;
+        let status = status_of(&rt, rt.alloc(), texts, &mut shelf, &mut out)?;
         assert_eq!(rt; status, 1);
-        assert_eq!(rt; out.bytes(), b"usage: spin run SCRIPT\n".as_slice());
+        assert_eq!(rt; out.bytes(), USAGE);
+    }
+    Ok(())
+}
+
+const FILTER: &[u8] = b"spin 1
+event 0 0 b last
+endpoint 0 out0
+handler 1 b send 0 0 12
+guard 1 b == f 0 12 2 0x0800
+lane 0 install 0 0 1 1 free plain
+barrier
+lane 0 packet 0 1
+lane 0 packet 0 2
+barrier
+retire 0
+lane 0 packet 0 9
+";
+
+/// The header of a capture whose writer put the lowest byte first, with times in microseconds.
+const HEADER: [u8; 24] = [
+    0xd4, 0xc3, 0xb2, 0xa1, 2, 0, 4, 0, 0, 0, 0, 0, 0, 0, 0, 0, 0, 0, 4, 0, 1, 0, 0, 0,
+];
+
+/// The header of a record of 15 bytes.
+const RECORD: [u8; 16] = [0, 0, 0, 0, 0, 0, 0, 0, 15, 0, 0, 0, 15, 0, 0, 0];
+
+/// Two frames in turn, the first of which says that it holds an IPv4 packet, and a rest of five bytes.
+fn capture(alloc: Global, records: u32) -> Result<Octets, NoMemory> {
+    let mut file = Octets::from_bytes(alloc, &HEADER)?;
+    for number in 0..records {
+        file.extend_from_slice(&RECORD)?;
+        file.extend_from_slice(b"......::::::")?;
+        file.extend_from_slice(if number % 2 == 0 {
+            b"\x08\x00+"
+        } else {
+            b"\x08\x06-"
+        })?;
+    }
+    file.extend_from_slice(&[0; 5])?;
+    Ok(file)
+}
+
+/// Notes what it takes, a byte 0x2c behind each piece and a byte 0x2e for each finish, and tells nothing.
+struct Noting {
+    notes: Rc<RefCell<Octets>>,
+    finishes: u64,
+}
+
+impl Noting {
+    fn note(&self, bytes: &[u8]) {
+        if let Ok(mut notes) = self.notes.try_borrow_mut() {
+            let _ = notes.extend_from_slice(bytes);
+        }
+    }
+}
+
+impl Drop for Noting {
+    fn drop(self) {
+        let Noting {
+            notes: _,
+            finishes: _,
+        } = self;
+    }
+}
+
+impl Endpoint for Noting {
+    ghost seen = { λ n. record { pieces = None; finishes = n.finishes; faults = 0 } };
+
+    fn take(&mut self, bytes: &[u8]) -> Result<(), Failed> {
+        self.note(bytes);
+        self.note(b",");
+        Ok(())
+    }
+
+    fn finish(&mut self) {
+        self.note(b".");
+        self.finishes = self.finishes.saturating_add(1);
+    }
+}
+
+#[test]
+fn an_endpoint_receives_what_a_filter_sends(rt: HostRuntime) -> Result<(), NoMemory> {
+    let alloc = rt.alloc();
+    let notes = Rc::new(alloc, RefCell::new(Octets::new(alloc)))?;
+    let noting = Noting {
+        notes: notes.clone()?,
+        finishes: 0,
+    };
+    let mut ends = Ends::new(alloc);
+    let object: Box<dyn Endpoint> = Box::new(alloc, noting)?;
+    assert!(rt; ends.add(text(alloc, b"out0")?, object).is_ok());
+    let mut shelf = shelf_with(alloc, FILTER)?;
+    shelf.put(text(alloc, b"packets")?, capture(alloc, 5)?)?;
+    let mut out = MemSink::new(alloc, 1000)?;
+    let texts = [b"run".as_slice(), b"script", b"packets"];
+    let natives = Natives::new(alloc);
+    let status = status_with(&rt, alloc, &texts, &mut shelf, &mut out, natives, &mut ends)?;
+    assert_eq!(rt; status, 0);
+    assert_eq!(rt;
+        out.bytes(),
+        b"report 1
+segment 0 at 0
+1 0 6 install ok
+segment 1 at 1
+1 0 8.1 packet run 0 1 send 0 3 = done
+1 0 9.1 packet = nohandler
+1 0 9.2 packet run 0 1 send 0 3 = done
+retire 0 ok
+segment 2 at 1
+1 0 12.1 packet = nohandler
+1 0 12.2 packet run 0 1 send 0 3 = done
+lost 0 1
+end 1 records 5 used 5 cut 5
+"
+            .as_slice()
+    );
+    let received = notes
+        .try_borrow()
+        .map(|it| it.as_slice() == b"\x08\x00+,\x08\x00+,.".as_slice());
+    assert!(rt; matches!(received, Ok(true)));
+    Ok(())
+}
+
+#[test]
+fn an_endpoint_fails(rt: HostRuntime) -> Result<(), NoMemory> {
+    let alloc = rt.alloc();
+    for (call, report) in [
+        (
+            0,
+            b"report 1\nsegment 0 at 0\n1 0 6 install ok\nstop 8 endpoint 0\n".as_slice(),
+        ),
+        (
+            1,
+            b"report 1\nsegment 0 at 0\n1 0 6 install ok\nstop 8 endpoint 0\n",
+        ),
+    ] {
+        let mut keep = KeepEnd::new(alloc, 9, 100)?;
+        keep.fail_at(call)?;
+        let object: Box<dyn Endpoint> = Box::new(alloc, keep)?;
+        let mut ends = Ends::new(alloc);
+        assert!(rt; ends.add(text(alloc, b"out0")?, object).is_ok());
+        let mut shelf = shelf_with(alloc, FILTER)?;
+        shelf.put(text(alloc, b"packets")?, capture(alloc, 5)?)?;
+        let mut out = MemSink::new(alloc, 1000)?;
+        let texts = [b"run".as_slice(), b"script", b"packets"];
+        let natives = Natives::new(alloc);
+        let status = status_with(&rt, alloc, &texts, &mut shelf, &mut out, natives, &mut ends)?;
+        assert_eq!(rt; status, 8);
+        assert_eq!(rt; out.bytes(), report);
+    }
+    Ok(())
+}
+
+#[test]
+fn captures_that_are_cut_or_none_or_fail(rt: HostRuntime) -> Result<(), NoMemory> {
+    let alloc = rt.alloc();
+    let no_read = 2;
+    for (bytes, failing, wanted, report) in [
+        (
+            capture(alloc, 1)?,
+            9,
+            0,
+            b"report 1\nsegment 0 at 0\nend 0 records 1 used 0 cut 5\n".as_slice(),
+        ),
+        (Octets::new(alloc), 9, 3, b"stop 3 record 0 fault 5\n"),
+        (capture(alloc, 1)?, no_read, 4, b"stop 4 read packets\n"),
+    ] {
+        let mut shelf = shelf_with(alloc, b"spin 1\n")?;
+        shelf.put(text(alloc, b"packets")?, bytes)?;
+        shelf.fail_read(failing)?;
+        let mut out = MemSink::new(alloc, 1000)?;
+        let texts = [b"run".as_slice(), b"script", b"packets"];
+        let status = status_of(&rt, alloc, &texts, &mut shelf, &mut out)?;
+        assert_eq!(rt; status, wanted);
+        assert_eq!(rt; out.bytes(), report);
     }
     Ok(())
 }
@@ -134,16 +358,16 @@ fn a_native_is_dropped_once(rt: HostRuntime) -> Result<(), Fail> {
         };
         let steps = Steplist::new(alloc);
         let mut natives = Natives::new(alloc);
-        natives.add_handler(
-            Text::from_bytes(alloc, b"idle")?,
-            sig,
-            Act { steps },
-            object,
-        )?;
+        natives.add_handler(text(alloc, b"idle")?, sig, Act { steps }, object)?;
         let mut shelf = shelf_with(alloc, script)?;
         let mut out = MemSink::new(alloc, 1000)?;
         let words = words(alloc, &[b"run".as_slice(), b"script"])?;
-        assert_eq!(rt; spin(alloc, &words, &mut shelf, &mut out, natives), wanted);
+        let mut ends = Ends::new(alloc);
+        let gate = OpenGate;
+        let status = spin(
+            &rt, alloc, &words, &mut shelf, &mut out, natives, &mut ends, &gate,
+        );
+        assert_eq!(rt; status, wanted);
         assert_eq!(rt; drops.load(Ordering::SeqCst), 1);
     }
     Ok(())

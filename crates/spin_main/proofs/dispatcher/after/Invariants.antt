@@ -1,4 +1,0 @@
-use Rattle.spin_main.proofs.dispatcher.after.Given as goal
-
-abbrev pub ghosts-counted_after : goal.ghosts-counted_after
-ghosts-counted_after g a = record { name = a.blank.name; parts = a.blank.parts }

@@ -1,0 +1,3 @@
+-- What the contracts of private functions cite alone.
+pub mod Parsing
+pub mod Running

@@ -1,0 +1,22 @@
+-- What a call does to the shelf.
+use Rattle.std.specs.Prelude.{◌≡◌}
+use Rattle.spin_outside.specs.Counts.{Rose}
+use Rattle.spin_outside.specs.Seen.{ShelfSeen}
+
+-- The shelf's files and counts are as before.
+pub record ShelfStood (before after : ShelfSeen) : Type 0 where
+  pub files : after.files ≡ before.files
+  pub faults : after.faults ≡ before.faults
+  pub absences : after.absences ≡ before.absences
+
+-- The count of faults rose, and else the shelf is as before.
+pub record ShelfFailed (before after : ShelfSeen) : Type 0 where
+  pub files : after.files ≡ before.files
+  pub faults : Rose before.faults after.faults
+  pub absences : after.absences ≡ before.absences
+
+-- The count of absences rose, and else the shelf is as before.
+pub record ShelfLacked (before after : ShelfSeen) : Type 0 where
+  pub files : after.files ≡ before.files
+  pub faults : after.faults ≡ before.faults
+  pub absences : Rose before.absences after.absences
