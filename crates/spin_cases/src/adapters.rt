@@ -73,91 +73,128 @@ fn bytes_of<R: Files + AllocGlobal>(
     }
 }
 
+/// The numbers of two files, and of the first once more.
+fn three_found<F: Shelf>(alloc: Global, shelf: &mut F) -> Result<[u32; 3], NoMemory> {
+    let a = found(alloc, shelf, b"turns_a.txt")?;
+    let b = found(alloc, shelf, b"turns_b.txt")?;
+    Ok([a, b, found(alloc, shelf, b"turns_a.txt")?])
+}
+
+/// Whether the next read of the file, into room for three bytes, gives these.
+fn gives<F: Shelf>(shelf: &mut F, file: u32, bytes: &[u8]) -> bool {
+    let mut buf = [0u8; 3];
+    match shelf.read(file, &mut buf) {
+        Ok(count) => count == bytes.len() && buf.starts_with(bytes),
+        Err(_) => false,
+    }
+}
+
+/// Files by number, and what each gives in turn.
+const TURNS: [(u32, &[u8]); 10] = [
+    (0, b"abc"),
+    (1, b"ABC"),
+    (2, b"abc"),
+    (0, b"def"),
+    (2, b"def"),
+    (1, b"D"),
+    (0, b""),
+    (1, b""),
+    (2, b""),
+    (3, b""),
+];
+
 #[test]
 fn files_of_a_folder_are_read_in_turns(rt: HostRuntime) -> Result<(), NoMemory> {
-    let alloc = rt.alloc();
     assert!(rt; fs::write(&rt, "turns_a.txt", "abcdef").is_ok());
     assert!(rt; fs::write(&rt, "turns_b.txt", "ABCD").is_ok());
-    let mut shelf = FolderShelf::new(alloc, &rt);
-    let a = found(alloc, &mut shelf, b"turns_a.txt")?;
-    let b = found(alloc, &mut shelf, b"turns_b.txt")?;
-    let again = found(alloc, &mut shelf, b"turns_a.txt")?;
-    let mut buf = [0u8; 3];
-    let turns = [
-        (a, b"abc"),
-        (b, b"ABC"),
-        (again, b"abc"),
-        (a, b"def"),
-        (again, b"def"),
-    ];
-    for (file, bytes) in turns {
-        assert_eq!(rt; shelf.read(file, &mut buf), Ok(3));
-        assert_eq!(rt; buf.as_slice(), bytes.as_slice());
-    }
-    assert_eq!(rt; shelf.read(b, &mut buf), Ok(1));
-    assert_eq!(rt; buf[0], b'D');
-    for file in [a, b, again, 3] {
-        assert_eq!(rt; shelf.read(file, &mut buf), Ok(0));
+    let mut shelf = FolderShelf::new(rt.alloc(), &rt);
+    assert_eq!(rt; three_found(rt.alloc(), &mut shelf)?, [0, 1, 2]);
+    for (file, bytes) in TURNS {
+        assert!(rt; gives(&mut shelf, file, bytes), "file {file}");
     }
     Ok(())
 }
 
+/// Whether the shelf has no such file.
+fn is_absent<F: Shelf>(alloc: Global, shelf: &mut F, name: &[u8]) -> Result<bool, NoMemory> {
+    Ok(shelf.find(&text(alloc, name)?) == Err(FindFault::Absent))
+}
+
 #[test]
-fn what_a_folder_refuses(rt: HostRuntime) -> Result<(), NoMemory> {
-    let alloc = rt.alloc();
-    let mut shelf = FolderShelf::new(alloc, &rt);
+fn what_a_folder_lacks(rt: HostRuntime) -> Result<(), NoMemory> {
+    let mut shelf = FolderShelf::new(rt.alloc(), &rt);
     for name in [b"not there".as_slice(), b"no folder/a", b"\xff"] {
-        assert_eq!(rt; shelf.find(&text(alloc, name)?), Err(FindFault::Absent));
+        assert!(rt; is_absent(rt.alloc(), &mut shelf, name)?);
     }
-    // A folder is opened as a file is, and each read of it fails.
-    let folder = found(alloc, &mut shelf, b".")?;
+    Ok(())
+}
+
+/// A folder is opened as a file is, and each read of it fails.
+#[test]
+fn a_folder_is_no_file(rt: HostRuntime) -> Result<(), NoMemory> {
+    let mut shelf = FolderShelf::new(rt.alloc(), &rt);
+    let folder = found(rt.alloc(), &mut shelf, b".")?;
     let mut buf = [0u8; 3];
     for _ in 0..2u8 {
         assert_eq!(rt; shelf.read(folder, &mut buf), Err(Failed));
     }
-    assert!(rt; read_up_to(alloc, &mut shelf, folder, 100).is_err());
+    assert!(rt; read_up_to(rt.alloc(), &mut shelf, folder, 100).is_err());
     Ok(())
 }
+
+/// How many bytes are taken of the file of that name, where it has no more than the limit.
+fn taken<F: Shelf>(
+    alloc: Global,
+    shelf: &mut F,
+    name: &[u8],
+    limit: u32,
+) -> Result<Option<usize>, NoMemory> {
+    let file = found(alloc, shelf, name)?;
+    match read_up_to(alloc, shelf, file, limit) {
+        Ok(bytes) => Ok(Some(bytes.len())),
+        Err(_) => Ok(None),
+    }
+}
+
+/// Names, limits, and how many bytes are taken.
+const LIMITS: [(&[u8], u32, Option<usize>); 4] = [
+    (b"limit.txt", 7, Some(6)),
+    (b"limit.txt", 6, Some(6)),
+    (b"limit.txt", 5, None),
+    (b"empty.txt", 0, Some(0)),
+];
 
 #[test]
 fn files_of_a_folder_are_taken_up_to_a_limit(rt: HostRuntime) -> Result<(), NoMemory> {
-    let alloc = rt.alloc();
     assert!(rt; fs::write(&rt, "limit.txt", "abcdef").is_ok());
     assert!(rt; fs::write(&rt, "empty.txt", "").is_ok());
-    let mut shelf = FolderShelf::new(alloc, &rt);
-    let lengths = [
-        (b"limit.txt".as_slice(), 7, Some(6)),
-        (b"limit.txt".as_slice(), 6, Some(6)),
-        (b"limit.txt".as_slice(), 5, None),
-        (b"empty.txt".as_slice(), 0, Some(0)),
-    ];
-    for (name, limit, length) in lengths {
-        let file = found(alloc, &mut shelf, name)?;
-        let taken = match read_up_to(alloc, &mut shelf, file, limit) {
-            Ok(bytes) => Some(bytes.len()),
-            Err(_) => None,
-        };
-        assert_eq!(rt; taken, length);
+    let mut shelf = FolderShelf::new(rt.alloc(), &rt);
+    for (name, limit, length) in LIMITS {
+        assert_eq!(rt; taken(rt.alloc(), &mut shelf, name, limit)?, length);
     }
     Ok(())
 }
 
+/// How many bytes a call takes, at how many calls, and what `write_all` of four bytes answers.
+const WRITERS: [(usize, u32, Result<(), Failed>); 5] = [
+    (1, 4, Ok(())),
+    (3, 2, Ok(())),
+    (9, 1, Ok(())),
+    (1, 3, Err(Failed)),
+    (0, 9, Err(Failed)),
+];
+
 #[test]
-fn narrow_writers(rt: HostRuntime) -> Result<(), NoMemory> {
-    let alloc = rt.alloc();
-    // How many bytes a call takes, at how many calls, and what `write_all` of four bytes answers.
-    let writers = [
-        (1usize, 4u32, Ok(())),
-        (3, 2, Ok(())),
-        (9, 1, Ok(())),
-        (1, 3, Err(Failed)),
-        (0, 9, Err(Failed)),
-    ];
-    for (most, calls, answer) in writers {
-        let mut sink = StdSink::new(Narrow::new(alloc, most, calls));
+fn narrow_writers(rt: HostRuntime) {
+    for (most, calls, answer) in WRITERS {
+        let mut sink = StdSink::new(Narrow::new(rt.alloc(), most, calls));
         assert_eq!(rt; write_all(&mut sink, b"abcd"), answer);
     }
-    let mut sink = StdSink::new(Narrow::new(alloc, 1, 3));
+}
+
+#[test]
+fn a_narrow_writer_in_turns(rt: HostRuntime) {
+    let mut sink = StdSink::new(Narrow::new(rt.alloc(), 1, 3));
     for (piece, answer) in [
         (b"abcd".as_slice(), Ok(1)),
         (b"bcd", Ok(1)),
@@ -166,33 +203,41 @@ fn narrow_writers(rt: HostRuntime) -> Result<(), NoMemory> {
     ] {
         assert_eq!(rt; sink.write(piece), answer);
     }
-    Ok(())
 }
+
+/// Whether the endpoint takes two bytes and then none; it is finished.
+fn takes_two<E: Endpoint>(end: &mut E) -> bool {
+    let takes = end.take(b"ab").is_ok() && end.take(b"").is_ok();
+    end.finish();
+    takes
+}
+
+/// Whether the endpoint fails twice; it is finished.
+fn fails_twice<E: Endpoint>(end: &mut E) -> bool {
+    let fails = end.take(b"ab").is_err() && end.take(b"ab").is_err();
+    end.finish();
+    fails
+}
+
+/// Two endpoints in turn over one name, one over another, and what lies in the file after each.
+const ROUNDS: [(&[u8], &str, &[u8]); 3] = [
+    (b"stood.bin", "stood.bin", b"stood\0\0\0\x02ab\0\0\0\0"),
+    (
+        b"stood.bin",
+        "stood.bin",
+        b"stood\0\0\0\x02ab\0\0\0\0\0\0\0\x02ab\0\0\0\0",
+    ),
+    (b"fresh.bin", "fresh.bin", b"\0\0\0\x02ab\0\0\0\0"),
+];
 
 #[test]
 fn an_endpoint_appends_to_a_file(rt: HostRuntime) -> Result<(), NoMemory> {
     let alloc = rt.alloc();
     assert!(rt; fs::write(&rt, "stood.bin", "stood").is_ok());
-    // Two endpoints in turn over one name, and what lies in the file after each.
-    let rounds = [
-        (
-            b"stood.bin".as_slice(),
-            "stood.bin",
-            b"stood\0\0\0\x02ab\0\0\0\0".as_slice(),
-        ),
-        (
-            b"stood.bin",
-            "stood.bin",
-            b"stood\0\0\0\x02ab\0\0\0\0\0\0\0\x02ab\0\0\0\0",
-        ),
-        (b"fresh.bin", "fresh.bin", b"\0\0\0\x02ab\0\0\0\0"),
-    ];
     let _ = fs::remove_file(&rt, "fresh.bin");
-    for (name, path, bytes) in rounds {
+    for (name, path, bytes) in ROUNDS {
         let mut end = FileEnd::new(rt.clone()?, text(alloc, name)?);
-        assert_eq!(rt; end.take(b"ab"), Ok(()));
-        assert_eq!(rt; end.take(b""), Ok(()));
-        end.finish();
+        assert!(rt; takes_two(&mut end));
         assert_eq!(rt; bytes_of(&rt, alloc, path)?.as_slice(), bytes);
     }
     Ok(())
@@ -200,17 +245,18 @@ fn an_endpoint_appends_to_a_file(rt: HostRuntime) -> Result<(), NoMemory> {
 
 #[test]
 fn an_endpoint_that_opens_no_file(rt: HostRuntime) -> Result<(), NoMemory> {
-    let alloc = rt.alloc();
     for name in [b"no folder/out.bin".as_slice(), b".", b"\xff.bin"] {
-        let mut end = FileEnd::new(rt.clone()?, text(alloc, name)?);
-        for _ in 0..2u8 {
-            assert_eq!(rt; end.take(b"ab"), Err(Failed));
-        }
-        end.finish();
+        let mut end = FileEnd::new(rt.clone()?, text(rt.alloc(), name)?);
+        assert!(rt; fails_twice(&mut end));
     }
-    // No file is made before the first piece.
+    Ok(())
+}
+
+/// No file is made before the first piece.
+#[test]
+fn an_endpoint_that_takes_nothing(rt: HostRuntime) -> Result<(), NoMemory> {
     let _ = fs::remove_file(&rt, "unused.bin");
-    let mut end = FileEnd::new(rt.clone()?, text(alloc, b"unused.bin")?);
+    let mut end = FileEnd::new(rt.clone()?, text(rt.alloc(), b"unused.bin")?);
     end.finish();
     assert!(rt; fs::read(&rt, "unused.bin").is_err());
     Ok(())

@@ -79,79 +79,108 @@ fn noted(notes: &Rc<RefCell<Notes>>) -> Option<(u32, u64, u32, u32)> {
     }
 }
 
+/// The endpoints of which this is the only one.
+fn ends_of(alloc: Global, name: &[u8], end: Box<dyn Endpoint>) -> Result<Ends, NoMemory> {
+    let mut ends = Ends::new(alloc);
+    match ends.add(text(alloc, name)?, end) {
+        Ok(()) => Ok(ends),
+        Err(_) => Err(NoMemory),
+    }
+}
+
+/// Pieces, and what an endpoint with room for one of three bytes answers, whose second call fails.
+const PIECES: [(&[u8], Result<(), Failed>); 4] = [
+    (b"four", Err(Failed)),
+    (b"abc", Err(Failed)),
+    (b"abc", Ok(())),
+    (b"", Err(Failed)),
+];
+
 #[test]
 fn keeps_what_fits(rt: HostRuntime) -> Result<(), NoMemory> {
     let mut end = keep(rt.alloc(), 1)?;
-    assert_eq!(rt; end.take(b"four"), Err(Failed));
-    assert_eq!(rt; end.take(b"abc"), Err(Failed));
-    assert_eq!(rt; end.take(b"abc"), Ok(()));
-    assert_eq!(rt; end.take(b""), Err(Failed));
+    for (piece, answer) in PIECES {
+        assert_eq!(rt; end.take(piece), answer);
+    }
     end.finish();
     Ok(())
 }
 
+/// The endpoints of one that notes here.
+fn noting_ends(alloc: Global, notes: &Rc<RefCell<Notes>>) -> Result<Ends, NoMemory> {
+    let noting = Noting {
+        notes: notes.clone()?,
+        finishes: 0,
+    };
+    ends_of(alloc, b"out0", Box::new(alloc, noting)?)
+}
+
+/// The answers to a piece, two retirements and another piece.
+fn answers(ends: &mut Ends, name: &Text) -> bool {
+    ends.deliver(name, b"ab") == Ok(())
+        && ends.retire(name) == Ok(())
+        && ends.retire(name) == Err(Unknown)
+        && ends.deliver(name, b"c") == Err(DeliverFault::Unknown)
+}
+
 #[test]
 fn is_finished_once_and_dropped_with_the_others(rt: HostRuntime) -> Result<(), NoMemory> {
-    let alloc = rt.alloc();
-    let notes = Rc::new(alloc, RefCell::new(fresh()))?;
-    let noting: Box<dyn Endpoint> = Box::new(
-        alloc,
-        Noting {
-            notes: notes.clone()?,
-            finishes: 0,
-        },
-    )?;
-    let mut ends = Ends::new(alloc);
-    assert!(rt; ends.add(text(alloc, b"out0")?, noting).is_ok());
-    let name = text(alloc, b"out0")?;
-    assert_eq!(rt; ends.deliver(&name, b"ab"), Ok(()));
-    assert_eq!(rt; ends.retire(&name), Ok(()));
-    assert_eq!(rt; ends.retire(&name), Err(Unknown));
-    assert_eq!(rt; ends.deliver(&name, b"c"), Err(DeliverFault::Unknown));
+    let notes = Rc::new(rt.alloc(), RefCell::new(fresh()))?;
+    let name = text(rt.alloc(), b"out0")?;
+    let mut ends = noting_ends(rt.alloc(), &notes)?;
+    assert!(rt; answers(&mut ends, &name));
     assert_eq!(rt; noted(&notes), Some((1, 2, 1, 0)));
     drop(ends);
     assert_eq!(rt; noted(&notes), Some((1, 2, 1, 1)));
     Ok(())
 }
 
+fn two_names(alloc: Global) -> Result<[Text; 2], NoMemory> {
+    let gone = text(alloc, b"gone")?;
+    Ok([gone, text(alloc, b"kept")?])
+}
+
+/// What the endpoints answer to three sends, of which two are lost.
+fn sends(ends: &mut Ends, names: &[Text; 2]) -> bool {
+    let sends = [Sent::new(0, b"a"), Sent::new(0, b"b"), Sent::new(1, b"c")];
+    let first = ends.deliver_all(names, &sends);
+    let second = ends.deliver_all(names, &sends);
+    first.is_err_and(|number| number == 1)
+        && second.is_ok_and(|lost| lost.to(0) == 2 && lost.to(1) == 0)
+}
+
 #[test]
 fn sends_in_one_call(rt: HostRuntime) -> Result<(), NoMemory> {
     let alloc = rt.alloc();
-    let mut ends = Ends::new(alloc);
-    let keeping: Box<dyn Endpoint> = Box::new(alloc, keep(alloc, 0)?)?;
-    assert!(rt; ends.add(text(alloc, b"kept")?, keeping).is_ok());
-    let names = [text(alloc, b"gone")?, text(alloc, b"kept")?];
-    let sends = [Sent::new(0, b"a"), Sent::new(0, b"b"), Sent::new(1, b"c")];
-    assert!(rt;
-        ends.deliver_all(&names, &sends)
-            .is_err_and(|number| number == 1)
-    );
-    let lost = ends.deliver_all(&names, &sends);
-    assert!(rt; lost.is_ok_and(|lost| lost.to(0) == 2 && lost.to(1) == 0));
+    let names = two_names(alloc)?;
+    let mut ends = ends_of(alloc, b"kept", Box::new(alloc, keep(alloc, 0)?)?)?;
+    assert!(rt; sends(&mut ends, &names));
     let mut stood = [false; 3];
     ends.retire_all(&names, &[1, 0, 1], &mut stood);
     assert_eq!(rt; stood, [true, false, false]);
     Ok(())
 }
 
+/// Why no endpoint is added under the name.
+fn added(alloc: Global, ends: &mut Ends, name: &[u8]) -> Result<Option<EndsFault>, NoMemory> {
+    let end: Box<dyn Endpoint> = Box::new(alloc, keep(alloc, 0)?)?;
+    match ends.add(text(alloc, name)?, end) {
+        Ok(()) => Ok(None),
+        Err(refused) => Ok(Some(refused.0)),
+    }
+}
+
 #[test]
 fn at_most_64_are_added(rt: HostRuntime) -> Result<(), NoMemory> {
-    let alloc = rt.alloc();
-    let mut ends = Ends::new(alloc);
+    let mut ends = Ends::new(rt.alloc());
     for number in 0..66u8 {
-        let end: Box<dyn Endpoint> = Box::new(alloc, keep(alloc, 0)?)?;
-        let name = text(alloc, &[b'e', number])?;
-        let added = ends.add(name, end);
-        assert_eq!(rt; added.is_ok(), number < 64, "at {number}");
-        if let Err(refused) = added {
-            assert_eq!(rt; refused.0, EndsFault::TooMany);
-        }
+        let fault = (number >= 64).then_some(EndsFault::TooMany);
+        assert_eq!(rt; added(rt.alloc(), &mut ends, &[b'e', number])?, fault);
         if number == 7 {
-            assert_eq!(rt; ends.retire(&text(alloc, b"e\x07")?), Ok(()));
+            assert_eq!(rt; ends.retire(&text(rt.alloc(), b"e\x07")?), Ok(()));
         }
     }
-    let end: Box<dyn Endpoint> = Box::new(alloc, keep(alloc, 0)?)?;
-    let again = ends.add(text(alloc, b"e\x00")?, end);
-    assert!(rt; again.is_err_and(|refused| refused.0 == EndsFault::SameName));
+    let again = added(rt.alloc(), &mut ends, b"e\x00")?;
+    assert_eq!(rt; again, Some(EndsFault::SameName));
     Ok(())
 }

@@ -1,6 +1,7 @@
-//! What only calls of a library show, and no script: orders and captures by themselves, pens that share a log, jobs,
-//! endpoints and sinks that fail, natives that are asked and dropped. Each public call that may want memory is made
-//! once with ample memory, here or by the program on a worked case.
+//! What only calls of a library show, and no script: headers and captures by themselves, pens that share a log, seats
+//! that share a hub, jobs, whole runs whose lanes are held up at a gate, endpoints and sinks that fail, natives that are
+//! asked and dropped. Each public call that may want memory is made once with ample memory, here or by the program on a
+//! worked case.
 //!
 //! There is no code here but tests. The definitions that say what the calls mean are those of the crates below.
 #![tactic(auto)]
@@ -12,11 +13,15 @@ mod captures;
 #[cfg(test)]
 mod endpoints;
 #[cfg(test)]
+mod expressions;
+#[cfg(test)]
+mod headers;
+#[cfg(test)]
+mod jobs;
+#[cfg(test)]
 mod logs;
 #[cfg(test)]
 mod natives;
-#[cfg(test)]
-mod orders;
 #[cfg(test)]
 mod outside;
 #[cfg(test)]
@@ -24,8 +29,12 @@ mod plans;
 #[cfg(test)]
 mod replies;
 #[cfg(test)]
+mod rows;
+#[cfg(test)]
+mod runs;
+#[cfg(test)]
 mod scripts;
 #[cfg(test)]
-mod setups;
+mod seats;
 #[cfg(test)]
-mod units;
+mod setups;

@@ -10,55 +10,91 @@ fn named(alloc: Global, name: &[u8]) -> Result<Text, NoMemory> {
     Text::from_bytes(alloc, name)
 }
 
+/// The files of a shelf, of which one is put twice.
+const FILES: [(&[u8], &[u8]); 3] = [(b"a", b"old"), (b"b", b"xyz"), (b"a", b"first")];
+
+fn put(alloc: Global, shelf: &mut MemShelf, name: &[u8], bytes: &[u8]) -> Result<(), NoMemory> {
+    let bytes = Octets::from_bytes(alloc, bytes)?;
+    shelf.put(named(alloc, name)?, bytes)
+}
+
 fn shelf_of_two(alloc: Global) -> Result<MemShelf, NoMemory> {
     let mut shelf = MemShelf::new(alloc);
-    shelf.put(named(alloc, b"a")?, Octets::from_bytes(alloc, b"old")?)?;
-    shelf.put(named(alloc, b"b")?, Octets::from_bytes(alloc, b"xyz")?)?;
-    shelf.put(named(alloc, b"a")?, Octets::from_bytes(alloc, b"first")?)?;
+    for (name, bytes) in FILES {
+        put(alloc, &mut shelf, name, bytes)?;
+    }
     Ok(shelf)
 }
+
+/// Pieces, what `write_all` answers, and what the sink has then.
+const WRITES: [(&[u8], Result<(), Failed>, &[u8]); 4] = [
+    (b"abcd", Ok(()), b"abcd"),
+    (b"lost", Err(Failed), b"abcd"),
+    (b"efgh", Err(Failed), b"abcdef"),
+    (b"", Ok(()), b"abcdef"),
+];
 
 #[test]
 fn sink_in_memory(rt: HostRuntime) -> Result<(), NoMemory> {
     let mut sink = MemSink::new(rt.alloc(), 6)?;
     sink.fail_at(1)?;
-    assert_eq!(rt; write_all(&mut sink, b"abcd"), Ok(()));
-    assert_eq!(rt; write_all(&mut sink, b"lost"), Err(Failed));
-    assert_eq!(rt; sink.bytes(), b"abcd".as_slice());
-    assert_eq!(rt; write_all(&mut sink, b"efgh"), Err(Failed));
-    assert_eq!(rt; sink.bytes(), b"abcdef".as_slice());
-    assert_eq!(rt; write_all(&mut sink, b""), Ok(()));
+    for (piece, answer, bytes) in WRITES {
+        assert_eq!(rt; write_all(&mut sink, piece), answer);
+        assert_eq!(rt; sink.bytes(), bytes);
+    }
     Ok(())
 }
 
+/// The number under which a file is found, or why it isn't.
+fn found(
+    alloc: Global,
+    shelf: &mut MemShelf,
+    name: &[u8],
+) -> Result<Result<u32, FindFault>, NoMemory> {
+    Ok(shelf.find(&named(alloc, name)?))
+}
+
+/// Names, and why they aren't found.
+const FINDS: [(&[u8], Option<FindFault>); 3] = [
+    (b"a", None),
+    (b"a", Some(FindFault::Failed)),
+    (b"c", Some(FindFault::Absent)),
+];
+
 #[test]
-fn shelf_in_memory(rt: HostRuntime) -> Result<(), NoMemory> {
+fn files_of_a_shelf_are_found(rt: HostRuntime) -> Result<(), NoMemory> {
     let mut shelf = shelf_of_two(rt.alloc())?;
     shelf.fail_find(1)?;
+    for (name, fault) in FINDS {
+        assert_eq!(rt; found(rt.alloc(), &mut shelf, name)?.err(), fault);
+    }
+    Ok(())
+}
+
+/// The number of file a.
+fn first_file(alloc: Global, shelf: &mut MemShelf) -> Result<u32, NoMemory> {
+    match found(alloc, shelf, b"a")? {
+        Ok(file) => Ok(file),
+        Err(_) => Err(NoMemory),
+    }
+}
+
+/// Why the file's rest isn't taken up to this limit, or whether it is the word "first".
+fn taken(alloc: Global, shelf: &mut MemShelf, file: u32, limit: u32) -> Result<bool, TakeFault> {
+    let bytes = read_up_to(alloc, shelf, file, limit)?;
+    Ok(bytes.as_slice() == b"first".as_slice())
+}
+
+#[test]
+fn files_of_a_shelf_are_taken(rt: HostRuntime) -> Result<(), NoMemory> {
+    let mut shelf = shelf_of_two(rt.alloc())?;
     shelf.fail_read(2)?;
-    let name = named(rt.alloc(), b"a")?;
-    let Ok(file) = shelf.find(&name) else {
-        return Err(NoMemory);
-    };
-    assert_eq!(rt; shelf.find(&name), Err(FindFault::Failed));
-    assert_eq!(rt;
-        shelf.find(&named(rt.alloc(), b"c")?),
-        Err(FindFault::Absent)
-    );
-    let Ok(bytes) = read_up_to(rt.alloc(), &mut shelf, file, 5) else {
-        return Err(NoMemory);
-    };
-    assert_eq!(rt; bytes.as_slice(), b"first".as_slice());
-    let Ok(again) = shelf.find(&name) else {
-        return Err(NoMemory);
-    };
-    assert!(rt;
-        read_up_to(rt.alloc(), &mut shelf, again, 5).is_err_and(|fault| fault == TakeFault::Failed)
-    );
-    assert!(rt;
-        read_up_to(rt.alloc(), &mut shelf, again, 4).is_err_and(|fault| fault
-            == TakeFault::TooLarge)
-    );
+    let file = first_file(rt.alloc(), &mut shelf)?;
+    assert_eq!(rt; taken(rt.alloc(), &mut shelf, file, 5), Ok(true));
+    let again = first_file(rt.alloc(), &mut shelf)?;
+    for (limit, fault) in [(5, TakeFault::Failed), (4, TakeFault::TooLarge)] {
+        assert_eq!(rt; taken(rt.alloc(), &mut shelf, again, limit), Err(fault));
+    }
     Ok(())
 }
 
@@ -80,18 +116,33 @@ fn read_over_faults<S: Source>(
     Err(NoMemory)
 }
 
-#[test]
-fn source_in_memory(rt: HostRuntime) -> Result<(), NoMemory> {
-    let mut source = MemSource::new(Octets::from_bytes(rt.alloc(), b"abcdefghij")?);
+/// Whether these bytes are read, over failed calls of these numbers.
+fn are_read<S: Source>(
+    alloc: Global,
+    source: &mut S,
+    bytes: &[u8],
+    calls: &[u32],
+) -> Result<bool, NoMemory> {
+    let (read, failed) = read_over_faults(alloc, source)?;
+    Ok(read.as_slice() == bytes && failed.as_slice() == calls)
+}
+
+/// A source of ten bytes, whose second and fourth call fail.
+fn source_of_ten(alloc: Global) -> Result<MemSource, NoMemory> {
+    let mut source = MemSource::new(Octets::from_bytes(alloc, b"abcdefghij")?);
     source.fail_at(1)?;
     source.fail_at(3)?;
+    Ok(source)
+}
+
+#[test]
+fn source_in_memory(rt: HostRuntime) -> Result<(), NoMemory> {
+    let mut source = source_of_ten(rt.alloc())?;
     let mut buf = [0u8; 4];
     assert_eq!(rt; source.read(&mut buf), Ok(4));
-    source.in_pieces(3);
-    let (bytes, failed) = read_over_faults(rt.alloc(), &mut source)?;
     assert_eq!(rt; buf, *b"abcd");
-    assert_eq!(rt; bytes.as_slice(), b"efghij".as_slice());
-    assert_eq!(rt; failed.as_slice(), [0, 2].as_slice());
+    source.in_pieces(3);
+    assert!(rt; are_read(rt.alloc(), &mut source, b"efghij", &[0, 2])?);
     assert_eq!(rt; source.taken(), 10);
     Ok(())
 }
@@ -100,15 +151,11 @@ fn source_in_memory(rt: HostRuntime) -> Result<(), NoMemory> {
 fn file_of_a_shelf_as_a_source(rt: HostRuntime) -> Result<(), NoMemory> {
     let mut shelf = shelf_of_two(rt.alloc())?;
     shelf.fail_read(1)?;
-    let Ok(file) = shelf.find(&named(rt.alloc(), b"a")?) else {
-        return Err(NoMemory);
-    };
+    let file = first_file(rt.alloc(), &mut shelf)?;
     let mut source = ShelfSource {
         shelf: &mut shelf,
         file,
     };
-    let (bytes, failed) = read_over_faults(rt.alloc(), &mut source)?;
-    assert_eq!(rt; bytes.as_slice(), b"first".as_slice());
-    assert_eq!(rt; failed.as_slice(), [1].as_slice());
+    assert!(rt; are_read(rt.alloc(), &mut source, b"first", &[1])?);
     Ok(())
 }

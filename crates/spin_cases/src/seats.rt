@@ -1,0 +1,348 @@
+//! Seats that share a hub, in one thread and in two.
+
+ghost use Rattle.std.specs.Prelude.{◌≡◌, ◌<◌, ◌≤◌, IfOk, IsTrue};
+ghost use Rattle.std.specs.Thread.{IsSync};
+ghost use Rattle.spin_word.specs.Commands.{is_command};
+ghost use Rattle.spin_log.specs.Pens.{IsSamePen};
+ghost use Rattle.spin_objects.specs.Units.{IsSincereBy};
+ghost use Rattle.spin_table.specs.SetupOf.{data_of};
+ghost use Rattle.spin_seat.specs.Seats.{IsSeatOf};
+
+use spin_code::{Act, ActStep, Expr, Merge, Sincere, Steplist};
+use spin_log::Rows;
+use spin_objects::{Body, Catalogue, Natives};
+use spin_policy::Policy;
+use spin_proto::{Deed, Reply};
+use spin_raise::Answer;
+use spin_seat::{Hub, Judged, Seat, SeatFault, Seats, Verdicted};
+use spin_table::{Authority, EventDef, EventList, Refusal, Setup};
+use spin_values::{Args, EventType, Kind, NoMemory, Param, Params, Value};
+use spin_word::{Command, MAX_PLACE, Op, Row, pack};
+use std::alloc::Global;
+use std::process::Abort;
+use std::test::Fail;
+use std::thread::{Threads, join};
+
+// How often each lane installs and raises in the test with threads.
+const TURNS: u16 = 12;
+
+fn install_of(lane: u8) -> Command
+    requires { lane < 16 }
+    ensures { IsTrue (is_command result) × (result.lane ≡ lane) }
+{
+    Command {
+        handler: 1,
+        ..Command::bare(Op::Install, lane, 0, 0)
+    }
+}
+
+fn default_of(lane: u8) -> Command
+    requires { lane < 16 }
+    ensures { IsTrue (is_command result) × (result.lane ≡ lane) }
+{
+    Command {
+        handler: 1,
+        ..Command::bare(Op::Default, lane, 0, 0)
+    }
+}
+
+fn remove_of(lane: u8, target: u16) -> Command
+    requires { (lane < 16) × (target ≤ 4096) }
+    ensures { IsTrue (is_command result) × (result.lane ≡ lane) }
+{
+    Command {
+        target,
+        ..Command::bare(Op::Remove, lane, 0, 0)
+    }
+}
+
+fn raise_of(alloc: Global, word: u64) -> Result<Deed, NoMemory> {
+    let mut args = Args::new(alloc);
+    args.push(Value::Word(word))?;
+    Ok(Deed::Raise { event: 0, args })
+}
+
+// The type of an event or a handler of a word that gives a word.
+fn word_to_word(alloc: Global) -> Result<EventType, NoMemory> {
+    let mut params = Params::new(alloc);
+    params.push(Param {
+        kind: Kind::Word,
+        var: false,
+    })?;
+    Ok(EventType {
+        params,
+        gives: true,
+    })
+}
+
+// One handler, which gives 5.
+fn five(alloc: Global) -> Result<Catalogue, Fail>
+    ensures { IfOk result (λ catalogue. ⟦<Catalogue as Sincere>⟧.sincere catalogue) }
+{
+    let mut steps = Steplist::new(alloc);
+    steps.push(ActStep::Result(Expr::Const(5)))?;
+    let mut catalogue = Catalogue::new(alloc, Natives::new(alloc));
+    catalogue.add_handler(Body::Coded(word_to_word(alloc)?, Act { steps }))?;
+    Ok(catalogue)
+}
+
+// One event, whose last result counts and whose owner allows everything.
+fn setup(alloc: Global) -> Result<Setup, Fail>
+    ensures { IfOk result (λ setup. ⟦<Catalogue as Sincere>⟧.sincere setup.catalogue) }
+{
+    let event = EventDef {
+        sig: word_to_word(alloc)?,
+        owner: 0,
+        merge: Merge::Last,
+        first_default: 0,
+        authority: Authority::Rules(Policy::new(alloc)),
+    };
+    let events = EventList::from_vec(vec![in alloc; event]?);
+    Ok(Setup::build(1, 32, events, five(alloc)?)?)
+}
+
+// A hub of two lanes, and their seats.
+fn two_seats(alloc: Global) -> Result<(Hub, Seat, Seat), Fail>
+    ensures sincere { IfOk result (λ made. ⟦<Catalogue as Sincere>⟧.sincere made.0.setup.catalogue) }
+    ensures lanes { IfOk result (λ made. made.0.log.lanes ≡ 2) }
+    ensures log_a { IfOk result (λ made. made.1.pen.log ≡ made.0.log.id) }
+    ensures log_b { IfOk result (λ made. made.2.pen.log ≡ made.0.log.id) }
+    ensures seat_a { IfOk result (λ made. IsSeatOf (data_of made.0.setup) made.1) }
+    ensures seat_b { IfOk result (λ made. IsSeatOf (data_of made.0.setup) made.2) }
+    ensures lane_a { IfOk result (λ made. made.1.pen.lane ≡ 0) }
+    ensures lane_b { IfOk result (λ made. made.2.pen.lane ≡ 1) }
+{
+    let setup = setup(alloc)?;
+    let (hub, mut seats) = Hub::new(alloc, setup, 2)?;
+    let Some(a) = seats.take_first() else {
+        unreachable!()
+    };
+    let Some(b) = seats.take_first() else {
+        unreachable!()
+    };
+    Ok((hub, a, b))
+}
+
+// The whole log of both.
+fn close_both(alloc: Global, hub: Hub, a: Seat, b: Seat) -> Result<Rows, NoMemory>
+    requires lanes { hub.log.lanes ≡ 2 }
+    requires logs { (a.pen.log ≡ hub.log.id) × (b.pen.log ≡ hub.log.id) }
+    requires seat_a { IsSeatOf (data_of hub.setup) a }
+    requires seat_b { IsSeatOf (data_of hub.setup) b }
+    requires order { (a.pen.lane ≡ 0) × (b.pen.lane ≡ 1) }
+{
+    let mut seats = Seats::new(alloc);
+    seats.push(a)?;
+    seats.push(b)?;
+    hub.close(alloc, seats)
+}
+
+// The value that the reply gives.
+fn value_of(reply: &Reply) -> Option<u64> {
+    match reply {
+        Reply::Ran {
+            answer: Answer::Value(word),
+            ..
+        } => Some(*word),
+        _ => None,
+    }
+}
+
+fn accepted(place: u16) -> Judged {
+    Judged {
+        place,
+        verdict: Verdicted::Accepted,
+    }
+}
+
+fn unknown_binding(place: u16) -> Judged {
+    Judged {
+        place,
+        verdict: Verdicted::Refused(Refusal::UnknownBinding),
+    }
+}
+
+// The place of a raise with this word, and the value that it gives.
+fn raise_with(
+    alloc: Global,
+    hub: &Hub,
+    seat: &mut Seat,
+    word: u64,
+) -> Result<(u16, Option<u64>), NoMemory>
+    requires sincere { ⟦<Catalogue as Sincere>⟧.sincere hub.now.setup.catalogue }
+    requires log { seat.old.pen.log ≡ hub.now.log.id }
+    requires seat { IsSeatOf (data_of hub.now.setup) seat.old }
+    ensures same { IsSamePen seat.old.pen seat.new.pen }
+    ensures seat { IsSeatOf (data_of hub.now.setup) seat.new }
+{
+    let deed = raise_of(alloc, word)?;
+    let raised = seat.raise(alloc, hub, &deed)?;
+    Ok((raised.place, value_of(&raised.reply)))
+}
+
+// A binding comes by one seat and goes by the other, and both learn of it.
+fn install_and_remove<R: Abort>(
+    rt: &R,
+    alloc: Global,
+    hub: &Hub,
+    a: &mut Seat,
+    b: &mut Seat,
+) -> Result<(), Fail>
+    requires sincere { ⟦<Catalogue as Sincere>⟧.sincere hub.now.setup.catalogue }
+    requires logs { (a.old.pen.log ≡ hub.now.log.id) × (b.old.pen.log ≡ hub.now.log.id) }
+    requires seat_a { IsSeatOf (data_of hub.now.setup) a.old }
+    requires seat_b { IsSeatOf (data_of hub.now.setup) b.old }
+    requires order { (a.old.pen.lane ≡ 0) × (b.old.pen.lane ≡ 1) }
+    ensures same { IsSamePen a.old.pen a.new.pen × IsSamePen b.old.pen b.new.pen }
+    ensures seat_a { IsSeatOf (data_of hub.now.setup) a.new }
+    ensures seat_b { IsSeatOf (data_of hub.now.setup) b.new }
+{
+    let judged = a.command(alloc, hub, &install_of(0))?;
+    assert_eq!(rt; judged, accepted(1));
+    let raised = raise_with(alloc, hub, b, 9)?;
+    assert_eq!(rt; raised, (1, Some(5)));
+    let judged = b.command(alloc, hub, &remove_of(1, 1))?;
+    assert_eq!(rt; judged, accepted(2));
+    assert_eq!(rt; a.front(), 1);
+    let judged = a.command(alloc, hub, &remove_of(0, 1))?;
+    assert_eq!(rt; judged, unknown_binding(2));
+    hub.meet(alloc, a, b)?;
+    assert_eq!(rt; (a.front(), b.front()), (2, 2));
+    Ok(())
+}
+
+#[test]
+fn two_seats_take_turns(rt: HostRuntime) -> Result<(), Fail> {
+    let alloc = rt.alloc();
+    let (hub, mut a, mut b) = two_seats(alloc)?;
+    install_and_remove(&rt, alloc, &hub, &mut a, &mut b)?;
+    let rows = close_both(alloc, hub, a, b)?;
+    let wanted = [pack(&install_of(0)), pack(&remove_of(1, 1))];
+    assert_eq!(rt; rows.as_slice(), wanted.as_slice());
+    Ok(())
+}
+
+// Gives defaults until there is a fault, at most so often, and tells how many were judged.
+fn give_defaults(alloc: Global, hub: &Hub, seat: &mut Seat, times: u16) -> (u16, Option<SeatFault>)
+    requires sincere { ⟦<Catalogue as Sincere>⟧.sincere hub.now.setup.catalogue }
+    requires log { seat.old.pen.log ≡ hub.now.log.id }
+    requires seat { IsSeatOf (data_of hub.now.setup) seat.old }
+    ensures same { IsSamePen seat.old.pen seat.new.pen }
+    ensures seat { IsSeatOf (data_of hub.now.setup) seat.new }
+{
+    let lane = seat.lane();
+    let default = default_of(lane);
+    for done in 0..times {
+        if let Err(fault) = seat.command(alloc, hub, &default) {
+            return (done, Some(fault));
+        }
+    }
+    (times, None)
+}
+
+#[test]
+fn a_hub_is_full(rt: HostRuntime) -> Result<(), Fail> {
+    let alloc = rt.alloc();
+    let (hub, mut a, _b) = two_seats(alloc)?;
+    let given = give_defaults(alloc, &hub, &mut a, MAX_PLACE + 1);
+    assert_eq!(rt; given, (MAX_PLACE, Some(SeatFault::Full)));
+    Ok(())
+}
+
+// Installs and raises in turn.
+fn play(alloc: Global, hub: &Hub, seat: &mut Seat) -> Result<(), SeatFault>
+    requires sincere { ⟦<Catalogue as Sincere>⟧.sincere hub.now.setup.catalogue }
+    requires log { seat.old.pen.log ≡ hub.now.log.id }
+    requires seat { IsSeatOf (data_of hub.now.setup) seat.old }
+    ensures same { IsSamePen seat.old.pen seat.new.pen }
+    ensures seat { IsSeatOf (data_of hub.now.setup) seat.new }
+{
+    let lane = seat.lane();
+    let install = install_of(lane);
+    let raise = raise_of(alloc, 9)?;
+    for _ in 0..TURNS {
+        seat.command(alloc, hub, &install)?;
+        seat.raise(alloc, hub, &raise)?;
+    }
+    Ok(())
+}
+
+// Plays, and gives the seat back.
+fn take_turns(alloc: Global, hub: &Hub, mut seat: Seat) -> Result<Seat, SeatFault>
+    requires sincere { ⟦<Catalogue as Sincere>⟧.sincere hub.now.setup.catalogue }
+    requires log { seat.pen.log ≡ hub.now.log.id }
+    requires seat { IsSeatOf (data_of hub.now.setup) seat }
+    ensures log { IfOk result (λ after. after.pen.log ≡ seat.pen.log) }
+    ensures lane { IfOk result (λ after. after.pen.lane ≡ seat.pen.lane) }
+    ensures seat { IfOk result (λ after. IsSeatOf (data_of hub.now.setup) after) }
+{
+    play(alloc, hub, &mut seat)?;
+    Ok(seat)
+}
+
+// Both seats take their turns at once.
+fn take_turns_at_once<R: Threads + Sync>(
+    rt: &R,
+    alloc: Global,
+    hub: &Hub,
+    a: Seat,
+    b: Seat,
+) -> (Result<Seat, SeatFault>, Result<Seat, SeatFault>)
+    requires sincere { ⟦<Catalogue as Sincere>⟧.sincere hub.now.setup.catalogue }
+    requires logs { (a.pen.log ≡ hub.now.log.id) × (b.pen.log ≡ hub.now.log.id) }
+    requires seat_a { IsSeatOf (data_of hub.now.setup) a }
+    requires seat_b { IsSeatOf (data_of hub.now.setup) b }
+    ensures a { IfOk result.0 (λ after.
+        (after.pen.log ≡ a.pen.log)
+        × (after.pen.lane ≡ a.pen.lane)
+        × IsSeatOf (data_of hub.now.setup) after) }
+    ensures b { IfOk result.1 (λ after.
+        (after.pen.log ≡ b.pen.log)
+        × (after.pen.lane ≡ b.pen.lane)
+        × IsSeatOf (data_of hub.now.setup) after) }
+{
+    join(
+        rt,
+        || -> Result<Seat, SeatFault>
+            requires sincere { IsSincereBy does asks follows hub.now.setup.catalogue.natives }
+            requires log { a.pen.log ≡ hub.now.log.id }
+            requires seat { IsSeatOf (data_of hub.now.setup) a }
+            ensures { IfOk result (λ after.
+                (after.pen.log ≡ a.pen.log)
+                × (after.pen.lane ≡ a.pen.lane)
+                × IsSeatOf (data_of hub.entry.now.setup) after) }
+        { take_turns(alloc, hub, a) },
+        || -> Result<Seat, SeatFault>
+            requires sincere { IsSincereBy does asks follows hub.now.setup.catalogue.natives }
+            requires log { b.pen.log ≡ hub.now.log.id }
+            requires seat { IsSeatOf (data_of hub.now.setup) b }
+            ensures { IfOk result (λ after.
+                (after.pen.log ≡ b.pen.log)
+                × (after.pen.lane ≡ b.pen.lane)
+                × IsSeatOf (data_of hub.entry.now.setup) after) }
+        { take_turns(alloc, hub, b) },
+    )
+}
+
+// How many rows are this one.
+fn count_of(rows: &[Row], row: &Row) -> u16 {
+    let mut count = 0u16;
+    for other in rows {
+        if other == row {
+            count = count.wrapping_add(1);
+        }
+    }
+    count
+}
+
+#[test]
+fn two_seats_install_and_raise_at_once(rt: HostRuntime) -> Result<(), Fail> {
+    let alloc = rt.alloc();
+    let (hub, a, b) = two_seats(alloc)?;
+    let (a, b) = take_turns_at_once(&rt, alloc, &hub, a, b);
+    let rows = close_both(alloc, hub, a?, b?)?;
+    assert_eq!(rt; rows.len(), 24);
+    assert_eq!(rt; count_of(rows.as_slice(), &pack(&install_of(0))), TURNS);
+    assert_eq!(rt; count_of(rows.as_slice(), &pack(&install_of(1))), TURNS);
+    Ok(())
+}
