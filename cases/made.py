@@ -1,4 +1,7 @@
-"""Cases that are too long, or too many, to stand as files: each is a name, a script and what must be written."""
+"""Cases that are too long, or too many, to stand as files: each is a name, a script and what must be written. And the
+captures that cases name."""
+
+import struct
 
 HEAD = "spin 1\nevent 0 0 - last\nhandler 1 -\n"
 WIDE_HEAD = HEAD.replace("spin 1", "spin 3")
@@ -128,6 +131,116 @@ def lines():
             yield f"line_of_cause_{cause}_behind_a_barrier", f"spin 1\n{before}barrier\n{bad}", stop(line + 1, 5)
 
 
+# Lines behind `event 0 0 w last` that differ in one thing, with what each is refused for; 0 is nothing.
+CODE_LINES = [
+    ("handler 1 Wbw set 0 f 1 0 2", 0), ("handler 1 Wbw set 0 f 1 0 3", 17), ("handler 1 Wbw set 1 f 1 0 2", 17),
+    ("handler 1 Wbw set 2 f 1 0 2", 18), ("handler 1 Wbw set 3 f 1 0 3", 16),
+    ("handler 1 Wbw up 0 1 w" + " + 0" * 7 + " 0", 0), ("handler 1 Wbw up 0 1 w" + DEEP_SUM, 14),
+    ("handler 1 Wbw layer ipv4 0", 17), ("handler 1 Wbw layer udp 0", 17), ("handler 1 Wbw result a0", 19),
+    ("guard 1 wbw has 1 0", 0), ("guard 1 wbw has 2 0", 17), ("guard 1 wbw has 3 0", 16),
+]
+
+
+def code():
+    """Handlers, guards and merges with one fault, and others that just have none."""
+    for at, (line, cause) in enumerate(CODE_LINES):
+        yield f"code_line_{at}", f"spin 1\nevent 0 0 w last\n{line}\n", stop(3, cause) if cause else report([], 0)
+    yield "a_merge_of_both_arguments", "spin 1\nevent 0 0 w fold + a0 a1\n", report([], 0)
+    yield "a_merge_of_a_third_argument", "spin 1\nevent 0 0 w fold + a0 a2\n", stop(2, 16)
+
+
+ETHER = "0200000000020200000000010800"
+TCP_HEADER = "4500003c1c4640004006b1e6ac100a63ac100a0c"
+TO_1024 = "00350400000a"
+
+
+def prefixes(layer, kinds, texts):
+    """Raises of a layer's handler on prefixes of bytes: each text is the words of a raise and what it comes to."""
+    head = f"spin 1\nevent 0 0 {kinds} last\nevent 1 0 {'bwww' if layer == 'ipv4' else 'bwwww'}:w last\n"
+    units = f"handler 1 {kinds} layer {layer} 1\n" + {
+        "ipv4": "handler 2 bwww:w result + a1 & a3 0xff\n", "udp": "handler 2 bwwww:w result + a1 a2\n"
+    }[layer]
+    installs = "".join(f"lane 0 install {n} 0 {n + 1} 0 free plain\n" for n in range(2))
+    raises = "".join(f"lane 0 raise 0 {words}\n" for words, _ in texts)
+    entries = [f"{n} 0 {5 + n} install ok" for n in (1, 2)]
+    entries += [f"2 0 {8 + at} raise run 0 1 {what} = done" for at, (_, what) in enumerate(texts)]
+    return head + units + installs + raises, report(entries, 2)
+
+
+def headers():
+    """Every prefix of a packet and of datagrams; options, fragments and another address."""
+
+    def read(value):
+        return f"up 1 run 1 2 result {value} back value {value}"
+
+    packet = TCP_HEADER + "00" * 44
+    texts = [("x" + ETHER + packet[: 2 * n], "drop short" if n < 20 else "drop total_length" if n < 60 else read(18)) for n in range(65)]
+    options = "46000018000140004011" + "23d00a0000010a00000201010101"
+    for bytes_, what in [
+        (options, read(19)), (options[:-2], "drop header_length"), (options[:-2] + "02", "drop checksum"),
+        ("4500001400012000401146d60a0000010a000002", "drop fragment"),
+        ("4500001c00010002401166cc0a0000010a000002" + "00" * 8, "drop fragment"),
+        ("45000014000180004011e6d50a0000010a000002", read(19)),
+        ("450000131c4640004006b1e7ac100a63ac100a0c" + "00" * 44, "drop total_length"),
+        (packet[:20] + "b1e7" + packet[24:118], "drop total_length"),
+    ]:
+        texts.append(("x" + ETHER + bytes_, what))
+    yield "prefixes_of_an_ipv4_packet", *prefixes("ipv4", "b", texts)
+    ends = " 17 0x0a000001 0x0a000002"
+    texts = []
+    for sum_, whole in [("8640", read(1077)), ("0000", read(1077)), ("8641", "drop checksum")]:
+        datagram = TO_1024 + sum_ + "6162ff"
+        for n in range(12):
+            what = "drop short" if n < 8 else "drop udp_length" if n < 10 else whole
+            texts.append(("x" + datagram[: 2 * n] + ends, what))
+    texts.append(("x" + TO_1024 + "86406162 17 0x0a000001 0x0a000001", "drop checksum"))
+    texts.append(("x00350400000700" + ends, "drop short"))
+    yield "prefixes_of_datagrams", *prefixes("udp", "bwww", texts)
+
+
 def cases():
-    for make in (limits, raises, pairs, lines):
+    for make in (limits, raises, pairs, lines, code, headers):
         yield from make()
+
+
+def frame_header(destination, source, kind):
+    return bytes.fromhex(f"0200000000{destination:02}0200000000{source:02}{kind}")
+
+
+ARP = bytes.fromhex(
+    "ffffffffffff02000000000108060001080006040001" "0200000000010a000001" "0000000000000a000002"
+)
+TCP = frame_header(2, 1, "0800") + bytes.fromhex(TCP_HEADER) + bytes(40)
+QUERY = frame_header(2, 1, "0800") + bytes.fromhex(
+    "4500002f00024000401126ba0a0000010a000002" "c0000035001b14ea" "12340100000100000000000001610000010001"
+)
+ANSWER = frame_header(1, 2, "0800") + bytes.fromhex(
+    "4500003f00034000401126a90a0000020a000001" "0035c000002b427e"
+    "1234818000010001000000000161000001" "0001c00c000100010000003c00040a000003"
+)
+
+
+def capture_header(order="<", magic=0xA1B2C3D4, minor=4, link=1):
+    """The header of a capture whose numbers have the least byte first, or with `>` the greatest."""
+    return struct.pack(f"{order}IHHIIII", magic, 2, minor, 0, 0, 262_144, link)
+
+
+def records(frames, order="<"):
+    for number, frame in enumerate(frames, 1):
+        yield struct.pack(f"{order}IIII", 1_700_000_000 + number, 0, len(frame), len(frame)) + frame
+
+
+def captures():
+    """The captures, each with its name."""
+    mixed = list(records([ARP, TCP, QUERY, ANSWER] * 10))
+    short = [bytes([number]) * number for number in range(1, 5)]
+    too_long = struct.pack("<IIII", 0, 0, 262_145, 262_145)
+    yield "dns.pcap", capture_header() + b"".join(mixed)
+    yield "cut.pcap", capture_header() + b"".join(mixed[:2]) + bytes(5)
+    yield "four.pcap", capture_header() + b"".join(records(short))
+    yield "long.pcap", capture_header() + b"".join(records(short[:2])) + too_long
+    yield "big.pcap", capture_header(">", 0xA1B23C4D) + b"".join(records(short, ">"))
+    yield "version.pcap", capture_header(minor=3)
+    yield "link.pcap", capture_header(link=113)
+    yield "empty.pcap", b""
+    yield "next.pcapng", bytes.fromhex("0a0d0d0a1c0000004d3c2b1a01000000ffffffffffffffff1c000000")
