@@ -88,7 +88,7 @@ fn run_segments<R: Threads + Sync, S: Source, K: Sink, G: Gate>(
 ///
 /// A run stops at the first thing that fails, and [`RunEnd`] says which. What has been done by then stays: whole lines
 /// are written, but where the sink failed. A failed read comes only where the source's count of faults rose, a failed
-/// write only where the sink's did, and a failed endpoint only where its own did.
+/// write only where the sink's did. A failed endpoint comes, where the capture is told, only where its own count did.
 ///
 /// The script is one that [`read_script`](spin_script::read_script) gives, the capture is as
 /// [`Reader::start`](spin_pcap::Reader::start) left it, and the catalogue's objects do what they were handed in with.

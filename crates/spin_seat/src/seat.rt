@@ -132,7 +132,7 @@ impl Seat {
     }
 
     /// Applies the row that it has read and not yet applied, if there is one, so that its version is
-    /// that of its whole front. The pen stays. After want of memory the seat is as before.
+    /// that of its whole front. The pen stays, also after want of memory.
     ///
     /// The last clause tells what is so of every pen, as [`Pen::front`](spin_log::Pen::front) does.
     pub fn apply(&mut self, alloc: Global, hub: &Hub) -> Result<(), NoMemory>
