@@ -1,29 +1,166 @@
-#!/bin/sh
-# Builds the program when it has to, and runs it with these words in the folder where it is called.
-# It says nothing of its own, unless the build fails; at a terminal it says that a build has begun.
-set -u
-top=$(cd "$(dirname "$0")" && pwd) || exit 126
-crate=$top/crates/spin_main
-program=$crate/out/spin_main
+#!/usr/bin/env python3
+"""spin WORD..: runs the program with these words in the folder where it is called; `spin build` proves and builds it.
 
-# Whether the program is there and no source is newer.
-is_built() {
-    [ -x "$program" ] || return 1
-    newer=$(find "$top/crates.txt" "$top/crates" -name out -prune -o -type f -newer "$program" -print | head -n 1)
-    [ -z "$newer" ]
-}
+Where the proved program is built and no source is newer, it is that program that runs. Where it isn't, the words are
+run as a trial, which nothing has proved: a line on standard error says so. The exit status is the program's; 126 says
+that it didn't run.
+"""
 
-if ! is_built; then
-    log=$(mktemp) || exit 126
-    trap 'rm -f "$log"' EXIT
-    [ ! -t 2 ] || echo "spin: proving and building the program, which takes minutes the first time" >&2
-    if ! (cd "$crate" && rt run -- run data/first.spin) >"$log" 2>&1; then
-        cat "$log" >&2
-        echo "spin: the program could not be built" >&2
-        exit 126
-    fi
-    touch "$program"
-    rm -f "$log"
-    trap - EXIT
-fi
-exec "$program" "$@"
+import fcntl
+import os
+import re
+import subprocess
+import sys
+import tempfile
+import threading
+import time
+from pathlib import Path
+
+TOP = Path(__file__).resolve().parent
+CRATE = TOP / "crates" / "spin_main"
+PROGRAM = CRATE / "out" / "spin_main"
+NOT_RUN = 126
+
+
+def tell(text):
+    """Says a line of this script's own, which is never the program's."""
+    print(f"spin: {text}", file=sys.stderr, flush=True)
+
+
+def is_built():
+    """Whether the proved program is there and no source is newer."""
+    if not os.access(PROGRAM, os.X_OK):
+        return False
+    since = PROGRAM.stat().st_mtime
+    sources = [TOP / "crates.txt"]
+    for at, folders, names in os.walk(TOP / "crates"):
+        if "out" in folders:
+            folders.remove("out")
+        sources += [Path(at) / name for name in names]
+    return all(source.stat().st_mtime <= since for source in sources)
+
+
+def need_toolchain():
+    """Ends with a clear line where the toolchain isn't installed."""
+    try:
+        subprocess.run(["rt", "version"], stdout=subprocess.DEVNULL, stderr=subprocess.DEVNULL)
+    except OSError:
+        tell("the command rt isn't found: install the Rattle toolchain and put rt on the PATH")
+        sys.exit(NOT_RUN)
+
+
+# ---- a trial
+
+
+def handed_in(words):
+    """The words as a trial gets them, and the flags that hand in the files which they name, each under a name of its own."""
+    given, flags = list(words), []
+    for at, word in enumerate(words[1:], start=1):
+        if os.path.isfile(word):
+            given[at] = f"file{at}"
+            flags += ["--data", f"file{at}={os.path.abspath(word)}"]
+        elif word and not word.startswith("-") and (CRATE / word).exists():
+            # a trial would find such a file of the crate, which isn't there where this is called
+            given[at] = f"absent{at}"
+    return given, flags
+
+
+def run_trial(words):
+    """Runs the words on the program as it stands, with no proof, and answers its exit status."""
+    need_toolchain()
+    tell("a trial that nothing has proved, which keeps no endpoint's file; ./spin build makes the proved program")
+    given, flags = handed_in(words)
+    ran = subprocess.run(["rt", "try", *flags, "--", *given], cwd=CRATE, stdin=subprocess.DEVNULL, capture_output=True)
+    ended = re.search(rb"^run=ended status=(\d+) .*\n\Z", ran.stderr, re.MULTILINE)
+    if not ended:
+        sys.stderr.buffer.write(ran.stderr)
+        tell("the trial didn't end")
+        return NOT_RUN
+    sys.stdout.buffer.write(ran.stdout)
+    sys.stdout.flush()
+    return int(ended[1])
+
+
+# ---- the proved program
+
+
+def crates_listed():
+    """The names of the repository's crates."""
+    lines = (TOP / "crates.txt").read_text().splitlines()
+    return [line.split(":")[0].split()[0] for line in lines if line.strip() and not line.startswith("#")]
+
+
+def passed(since):
+    """How long it has been, in words."""
+    minutes, seconds = divmod(int(time.monotonic() - since), 60)
+    return f"{minutes} min {seconds} s"
+
+
+def side_by_side():
+    """How many crates are proved at once: as many as there are processors, with 3 GB of memory for each."""
+    memory = os.sysconf("SC_PAGE_SIZE") * os.sysconf("SC_AVPHYS_PAGES")
+    return max(1, min(len(os.sched_getaffinity(0)), memory // 3_000_000_000))
+
+
+def prove_crates(log):
+    """Proves every crate, tells how many are done, and answers whether all are."""
+    names = set(crates_listed())
+    since, done, ended = time.monotonic(), [], threading.Event()
+
+    def tell_progress():
+        while not ended.wait(60):
+            tell(f"{len(done)} of {len(names)} crates are proved, {passed(since)}")
+
+    watch = threading.Thread(target=tell_progress, daemon=True)
+    watch.start()
+    tell(f"proving {len(names)} crates, {side_by_side()} at once")
+    words = ["rt", "all", "check", "--jobs", str(side_by_side())]
+    with subprocess.Popen(words, cwd=TOP, stdin=subprocess.DEVNULL, stdout=subprocess.PIPE, stderr=subprocess.STDOUT) as run:
+        for line in run.stdout:
+            log.write(line)
+            name = re.match(rb"== (\w+)$", line)
+            if name and name[1].decode() in names:
+                done.append(name[1].decode())
+                tell(f"{len(done)} of {len(names)}: {done[-1]}, {passed(since)}")
+    ended.set()
+    watch.join()
+    return run.returncode == 0
+
+
+def build():
+    """Proves and builds the program, and answers the exit status."""
+    need_toolchain()
+    (CRATE / "out").mkdir(exist_ok=True)
+    with open(CRATE / "out" / "build.lock", "w") as lock, tempfile.TemporaryFile() as log:
+        try:
+            fcntl.flock(lock, fcntl.LOCK_EX | fcntl.LOCK_NB)
+        except BlockingIOError:
+            tell("waiting for another build to end")
+            fcntl.flock(lock, fcntl.LOCK_EX)
+        if is_built():
+            tell("the proved program is built")
+            return 0
+        words = ["rt", "run", "--", "run", "data/first.spin"]
+        if not prove_crates(log) or subprocess.run(words, cwd=CRATE, stdin=subprocess.DEVNULL, stdout=log, stderr=log).returncode:
+            log.seek(0)
+            text = log.read()
+            for name, why in re.findall(rb"^(\w+): (failed .*|not run, .*)$", text, re.MULTILINE):
+                tell(f"{name.decode()}: {why.decode()}")
+            sys.stderr.buffer.write(b"\n".join(text.splitlines()[-40:]) + b"\n")
+            tell("the program could not be built")
+            return NOT_RUN
+        os.utime(PROGRAM)
+    tell(f"built: {PROGRAM.relative_to(TOP)}")
+    return 0
+
+
+def main():
+    words = sys.argv[1:]
+    if words == ["build"]:
+        sys.exit(build())
+    if is_built():
+        os.execv(PROGRAM, [str(PROGRAM), *words])
+    sys.exit(run_trial(words))
+
+
+main()

@@ -2,6 +2,7 @@
 captures that cases name."""
 
 import struct
+from pathlib import Path
 
 HEAD = "spin 1\nevent 0 0 - last\nhandler 1 -\n"
 WIDE_HEAD = HEAD.replace("spin 1", "spin 3")
@@ -230,9 +231,15 @@ def records(frames, order="<"):
         yield struct.pack(f"{order}IIII", 1_700_000_000 + number, 0, len(frame), len(frame)) + frame
 
 
+def example_capture():
+    """The capture of the example of packets: ARP, TCP, a query of DNS and its answer, twice."""
+    return capture_header() + b"".join(records([ARP, TCP, QUERY, ANSWER] * 2))
+
+
 def captures():
-    """The captures, each with its name."""
+    """The captures, each with its name. That of an example lies beside it, as `python3 cases/made.py` writes it."""
     mixed = list(records([ARP, TCP, QUERY, ANSWER] * 10))
+    yield "packets.pcap", example_capture()
     short = [bytes([number]) * number for number in range(1, 5)]
     too_long = struct.pack("<IIII", 0, 0, 262_145, 262_145)
     yield "dns.pcap", capture_header() + b"".join(mixed)
@@ -244,3 +251,7 @@ def captures():
     yield "link.pcap", capture_header(link=113)
     yield "empty.pcap", b""
     yield "next.pcapng", bytes.fromhex("0a0d0d0a1c0000004d3c2b1a01000000ffffffffffffffff1c000000")
+
+
+if __name__ == "__main__":
+    (Path(__file__).resolve().parent.parent / "examples" / "packets.pcap").write_bytes(example_capture())
