@@ -1,6 +1,7 @@
 """Cases that are too long, or too many, to stand as files: each is a name, a script and what must be written. And the
 captures that cases name."""
 
+import re
 import struct
 from pathlib import Path
 
@@ -199,6 +200,105 @@ def headers():
     yield "prefixes_of_datagrams", *prefixes("udp", "bwww", texts)
 
 
+# ---- the smallest example of each status, cause, fault and refusal, which docs/FORMATS.md shows
+
+USAGE = "usage: spin run SCRIPT [PACKETS]\n"
+TWO_EVENTS = ["event 0 0 b last", "event 1 0 bwww last", "handler 1 b layer ipv4 1", INSTALL.strip()]
+TWO_LAYERS = ["event 0 0 bwww last", "event 1 0 bwwww last", "handler 1 bwww layer udp 1", INSTALL.strip()]
+
+
+def of_causes():
+    """For each cause the lines behind `spin 1` of a script that is refused for it, and that line's number."""
+    for cause, (before, bad) in BAD_LINES.items():
+        yield cause, before.splitlines() + [bad], 2 + before.count("\n")
+
+
+def of_refusals():
+    """What the dispatcher refuses: the lines behind the version, and the entries."""
+    ok, head = "install ok", ["event 0 0 - last", "handler 1 -", INSTALL.strip()]
+    first = INSTALL.strip().replace("free", "first")
+    yield "install refused 1 unknown_event", [INSTALL.strip()], []
+    yield "install refused 2 unknown_module", ["event 0 0 - last", "lane 0 install 0 1 1 0 free plain"], []
+    yield "install refused 3 unknown_handler", ["event 0 0 - last", INSTALL.strip()], []
+    yield "install refused 4 unknown_guard", head[:2] + ["lane 0 install 0 0 1 1 free plain"], []
+    yield "remove refused 5 unknown_binding", ["event 0 0 - last", "lane 0 remove 0 0 1"], []
+    yield "install refused 6 wrong_type", ["event 0 0 w last"] + head[1:], []
+    yield "install refused 7 downward", ["event 0 0 - last", "handler 1 - up 0 0", INSTALL.strip()], []
+    yield "install refused 8 wrong_mode", ["event 0 0 W last", "handler 1 W set 0 1", INSTALL.strip()], []
+    yield "nodefault refused 9 denied 0", ["modules 2", "event 0 0 - last", "lane 0 nodefault 0 1"], []
+    yield "install refused 11 conflict 1 2", head[:2] + [first, first.replace("first", "before 1")], [ok]
+    yield "raise refused 1 unknown_event", ["lane 0 raise 0"], []
+    yield "raise refused 2 wrong_args", ["event 0 0 - last", "lane 0 raise 0 1"], []
+    for drop, bytes_ in [
+        ("short", ""), ("version", "55" + "00" * 19), ("header_length", "44" + "00" * 19),
+        ("total_length", "45000013" + "00" * 16), ("checksum", "45000014" + "00" * 16),
+        ("fragment", "4500001400012000401146d60a0000010a000002"),
+    ]:
+        raised = f"lane 0 raise 0 x{ETHER}{bytes_}"
+        yield f"raise run 0 1 drop {drop} = done", TWO_EVENTS + [raised], [ok]
+    raised = "lane 0 raise 0 x0035040000070000 17 1 2"
+    yield "raise run 0 1 drop udp_length = done", TWO_LAYERS + [raised], [ok]
+
+
+def of_captures():
+    """The name of a capture that is refused, or isn't there, and what stands instead of a report."""
+    yield "next.pcapng", "stop 3 record 0 fault 2"
+    yield "version.pcap", "stop 3 record 0 fault 3"
+    yield "link.pcap", "stop 3 record 0 fault 4"
+    yield "empty.pcap", "stop 3 record 0 fault 5"
+    yield "nowhere.pcap", "stop 6 packets"
+
+
+def smallest():
+    """Each smallest example: its name, its lines, further words of the command line, and what must be written."""
+    yield "smallest_report", ["spin 1"], [], report([], 0)
+    yield "smallest_usage", ["spin 1"], ["packets", "more"], USAGE
+    yield "smallest_cause_2", ["spin 1", "\x01"], [], stop(2, 2)
+    yield "smallest_cause_3", ["spin 9"], [], stop(1, 3)
+    for cause, lines_, line in of_causes():
+        yield f"smallest_cause_{cause}", ["spin 1"] + lines_, [], stop(line, cause)
+    for at, (last, lines_, before) in enumerate(of_refusals()):
+        line = len(lines_) + 1 - len(before)
+        entries = [f"{n} 0 {line + n - 1} {text}" for n, text in enumerate(before, 1)]
+        entries.append(f"{len(before)} 0 {len(lines_) + 1} {last}")
+        yield f"smallest_refusal_{at}", ["spin 1"] + lines_, [], report(entries, len(before))
+    forced = ["modules 2", "event 0 0 W last", "handler 1 W set 0 1", "rule 0 1 1 any any all force 0 keep async"]
+    forced += ["lane 0 install 0 1 1 0 free filter"]
+    entry = "0 0 6 install refused 12 forced_mode 1"
+    yield "smallest_forced_mode", ["spin 2"] + forced, [], report([entry], 0)
+    for capture, line in of_captures():
+        yield f"smallest_{capture.replace('.', '_')}", ["spin 1"], [capture], f"{line}\n"
+    long_ = "report 1\nsegment 0 at 0\nstop 3 record 3 fault 6\n"
+    yield "smallest_long_pcap", ["spin 1"], ["long.pcap"], long_
+
+
+SHOWN = re.compile(r"^(stop|usage|end|.* refused|.* drop ).*$")
+
+
+def table():
+    """The smallest examples as docs/FORMATS.md shows them: the line that tells, and the script's lines."""
+    rows = ["| what is written | script, and further words |", "|---|---|"]
+    for _, lines_, words, stdout in smallest():
+        told = [line for line in stdout.splitlines() if SHOWN.match(line)]
+        shown = [line for line in told if not line.startswith("end")] or told
+        code = " ".join(f"`{line}`" for line in lines_).replace("|", "\\|").replace("\x01", "\\x01")
+        if len(code) > 400:
+            code = f"{code[:150]} .. `"
+        rows.append(f"| `{shown[0]}` | {code}{' with ' if words else ''}{' '.join(f'`{word}`' for word in words)} |")
+    return "\n".join(rows)
+
+
+FORMATS = Path(__file__).resolve().parent.parent / "docs" / "FORMATS.md"
+MARKS = "<!-- written by cases/made.py -->\n", "\n<!-- to here -->"
+
+
+def shown_table():
+    """The table that docs/FORMATS.md has, and the text before and behind it."""
+    before, _, rest = FORMATS.read_text().partition(MARKS[0])
+    text, _, behind = rest.partition(MARKS[1])
+    return before, text, behind
+
+
 def cases():
     for make in (limits, raises, pairs, lines, code, headers):
         yield from make()
@@ -254,4 +354,6 @@ def captures():
 
 
 if __name__ == "__main__":
+    before, _, behind = shown_table()
+    FORMATS.write_text(before + MARKS[0] + table() + MARKS[1] + behind)
     (Path(__file__).resolve().parent.parent / "examples" / "packets.pcap").write_bytes(example_capture())
