@@ -2,7 +2,7 @@
 //! and replaces it by the second, while the other raises the event; no thread takes a lock or waits for the other.
 #![tactic(auto)]
 
-ghost use Rattle.std.specs.Prelude.{◌≡◌, ◌∷◌, [], IfOk};
+ghost use Rattle.std.specs.Prelude.{◌≡◌, ◌∷◌, [], IfOk, IfSome};
 ghost use Rattle.spin_code.specs.declared.act.ActStep.TheVariants.{Result};
 ghost use Rattle.spin_code.specs.declared.expr.Expr.TheVariants.{Const};
 ghost use Rattle.spin_log.specs.Pens.{IsSamePen};
@@ -149,20 +149,49 @@ fn take_turns<R: Threads + Sync>(
     )
 }
 
+/// The hub of the script, and its two seats; none where memory is lacking.
+fn open(alloc: Global, natives: Natives) -> Option<(Hub, Seat, Seat)>
+    requires sincere { ⟦<Natives as Sincere>⟧.sincere natives }
+    ensures sincere { IfSome result (λ made. ⟦<Catalogue as Sincere>⟧.sincere made.0.setup.catalogue) }
+    ensures lanes { IfSome result (λ made. made.0.log.lanes ≡ 2) }
+    ensures logs { IfSome result (λ made.
+        (made.1.pen.log ≡ made.0.log.id) × (made.2.pen.log ≡ made.0.log.id)) }
+    ensures seat_a { IfSome result (λ made. IsSeatOf (data_of made.0.setup) made.1) }
+    ensures seat_b { IfSome result (λ made. IsSeatOf (data_of made.0.setup) made.2) }
+    ensures order { IfSome result (λ made. (made.1.pen.lane ≡ 0) × (made.2.pen.lane ≡ 1)) }
+{
+    let script = read_script(alloc, SCRIPT, natives).ok()?;
+    let (hub, mut seats) = Hub::new(alloc, script.setup, 2).ok()?;
+    let (Some(a), Some(b)) = (seats.take_first(), seats.take_first()) else {
+        unreachable!()
+    };
+    Some((hub, a, b))
+}
+
+/// The rows of both seats' history; none where memory is lacking.
+fn close(alloc: Global, hub: Hub, a: Seat, b: Seat) -> Option<Rows>
+    requires lanes { hub.log.lanes ≡ 2 }
+    requires logs { (a.pen.log ≡ hub.log.id) × (b.pen.log ≡ hub.log.id) }
+    requires seat_a { IsSeatOf (data_of hub.setup) a }
+    requires seat_b { IsSeatOf (data_of hub.setup) b }
+    requires order { (a.pen.lane ≡ 0) × (b.pen.lane ≡ 1) }
+{
+    let mut seats = Seats::new(alloc);
+    seats.push(a).ok()?;
+    seats.push(b).ok()?;
+    hub.close(alloc, seats).ok()
+}
+
 /// The commands of the history that both threads made, and how many raises were answered as owed; none where memory
 /// is lacking.
 fn play<R: Threads + Sync>(rt: &R, alloc: Global, natives: Natives) -> Option<(Rows, u32)>
     requires sincere { ⟦<Natives as Sincere>⟧.sincere natives }
 {
-    let script = read_script(alloc, SCRIPT, natives).ok()?;
-    let (hub, mut seats) = Hub::new(alloc, script.setup, 2).ok()?;
-    let (a, b) = (seats.take_first()?, seats.take_first()?);
-    let (bound, raised) = take_turns(rt, alloc, &hub, a, b);
-    let (a, (b, right)) = (bound.ok()?, raised.ok()?);
-    let mut seats = Seats::new(alloc);
-    seats.push(a).ok()?;
-    seats.push(b).ok()?;
-    Some((hub.close(alloc, seats).ok()?, right))
+    let (hub, a, b) = open(alloc, natives)?;
+    let (Ok(a), Ok((b, right))) = take_turns(rt, alloc, &hub, a, b) else {
+        return None;
+    };
+    Some((close(alloc, hub, a, b)?, right))
 }
 
 fn main(rt: HostRuntime) -> Result<ExitCode, NoMemory> {

@@ -1,0 +1,45 @@
+use mathlib.Core.List.{[], ◌∷◌}
+use mir.Syntax.{Dict, Slots, named, ty_ptr}
+use base.Fml.{Lft}
+use denote.Exit.{no}
+use denote.RattleType.{RattleType}
+use denote.Ref.{ShrRef}
+use denote.Struct.Declared.{shape, field}
+use denote.Struct.Tuple.{TupleAt, type_at}
+use denote.Param.Object.{Vt, ghosts_of}
+use denote.Param.Send.{IsSend, IsSync, sendable, param_send, arg_send, recorded_send, struct_send, shr_send}
+use Rattle.std.specs.contracts.alloc.Global as Global
+use Rattle.std.proofs.Crossing.{crosses}
+use Rattle.spin_seat.specs.contracts.hub.Hub as Hub
+use Rattle.spin_seat.specs.contracts.seat.Seat as Seat
+use Rattle.spin_seat.proofs.seat.Seat.TheSendSync as seat
+use Rattle.spin_jobs.proofs.Crossing.{Shared}
+use Rattle.spin_run.proofs.Crossing.{hub_crosses}
+use Rattle.host_plugins.specs.contracts.take_turns.dyn-1 as one
+use Rattle.host_plugins.specs.contracts.take_turns.dyn-2 as two
+use Rattle.host_plugins.specs.contracts.take_turns.dyn-3 as three
+use Rattle.host_plugins.proofs.take_turns.Goals as goal
+
+taken : (A B C : RattleType) (k l : Lft) → IsSync A → IsSync B → IsSend C
+    → IsSend (TupleAt [] (ShrRef (named 0) k A ∷ ShrRef (named 0) l B ∷ C ∷ []))
+taken A B C k l a b c =
+    let T = type_at [] (ShrRef (named 0) k A ∷ ShrRef (named 0) l B ∷ C ∷ []) in
+    recorded_send (field T).row _ _ T.to_one
+    (struct_send (shape T) (shr_send (named 0) k A a, (shr_send (named 0) l B b, (c, tt))))
+
+global_sync : IsSync Global.the_row
+global_sync = search (crosses, sendable) depth 20
+
+-- what a seat's turns take: the allocator and the hub, which are lent, and the seat
+turns_cross : {G H K : Type 0 → Type 1} (s t u : Dict → Slots) (x : Shared G) (y : Shared H) (z : Shared K) (k l : Lft)
+    → IsSend (TupleAt [] (ShrRef (named 0) k Global.the_row
+    ∷ ShrRef (named 0) l (Hub.the_row (Vt s x.0) (Vt t y.0) (Vt u z.0) (ghosts_of s x.0 x.1) (ghosts_of t y.0 y.1) (ghosts_of u z.0 z.1))
+    ∷ Seat.the_row ∷ []))
+turns_cross s t u x y z k l = taken Global.the_row _ Seat.the_row k l global_sync (hub_crosses s t u x y z) seat.the_send
+
+pub join-requires-send-F : goal.join-requires-send-F
+join-requires-send-F g c κs within =
+    let R = g.row.R in
+    let taken = turns_cross (one.slots R) (two.slots R) (three.slots R) g.dyn-1 g.dyn-2 g.dyn-3 κs.1.1.1.1.1.1.0 κs.1.1.1.1.1.1.1.0 in
+    let given = param_send 1 _ (arg_send ty_ptr no _ taken) in
+    record { owned = given.owned; leaving = given.leaving }
