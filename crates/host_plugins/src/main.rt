@@ -15,7 +15,7 @@ use spin_log::Rows;
 use spin_objects::{Catalogue, Handler, Item, Natives, Outcome};
 use spin_proto::{Deed, Reply};
 use spin_raise::Answer;
-use spin_script::read_script;
+use spin_script::{Script, read_script};
 use spin_seat::{Hub, Seat, SeatFault, Seats};
 use spin_values::{Args, EventType, NoMemory, Params, Text};
 use spin_word::{Command, Op, unpack};
@@ -160,9 +160,17 @@ fn open(alloc: Global, natives: Natives) -> Option<(Hub, Seat, Seat)>
     ensures seat_b { IfSome result (λ made. IsSeatOf (data_of made.0.setup) made.2) }
     ensures order { IfSome result (λ made. (made.1.pen.lane ≡ 0) × (made.2.pen.lane ≡ 1)) }
 {
-    let script = read_script(alloc, SCRIPT, natives).ok()?;
-    let (hub, mut seats) = Hub::new(alloc, script.setup, 2).ok()?;
-    let (Some(a), Some(b)) = (seats.take_first(), seats.take_first()) else {
+    let Ok(script) = read_script(alloc, SCRIPT, natives) else {
+        return None;
+    };
+    let Script { setup, .. } = script;
+    let Ok((hub, mut seats)) = Hub::new(alloc, setup, 2) else {
+        return None;
+    };
+    let Some(a) = seats.take_first() else {
+        unreachable!()
+    };
+    let Some(b) = seats.take_first() else {
         unreachable!()
     };
     Some((hub, a, b))
@@ -188,7 +196,11 @@ fn play<R: Threads + Sync>(rt: &R, alloc: Global, natives: Natives) -> Option<(R
     requires sincere { ⟦<Natives as Sincere>⟧.sincere natives }
 {
     let (hub, a, b) = open(alloc, natives)?;
-    let (Ok(a), Ok((b, right))) = take_turns(rt, alloc, &hub, a, b) else {
+    let (bound, raised) = take_turns(rt, alloc, &hub, a, b);
+    let Ok(a) = bound else {
+        return None;
+    };
+    let Ok((b, right)) = raised else {
         return None;
     };
     Some((close(alloc, hub, a, b)?, right))
