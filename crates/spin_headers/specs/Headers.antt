@@ -7,6 +7,7 @@ use Rattle.spin_headers.specs.declared.fault.HeaderFault.{HeaderFault}
 use Rattle.spin_headers.specs.declared.fault.HeaderFault.TheVariants as fault
 use Rattle.spin_headers.specs.declared.ether.Ether.{Ether}
 use Rattle.spin_headers.specs.declared.ipv4.Ipv4.{Ipv4}
+use Rattle.spin_headers.specs.declared.ipv4.Fragment.{Fragment}
 use Rattle.spin_headers.specs.declared.udp.Udp.{Udp}
 
 -- the faults are numbered in their order
@@ -61,15 +62,21 @@ more_fragments bytes = number_at 6 2 bytes / 2 ^ 13 % 2 == 1
 abbrev pub fragment_offset : List ℕ → ℕ
 fragment_offset bytes = number_at 6 2 bytes % 2 ^ 13
 
-abbrev pub is_fragment : List ℕ → Bool
-is_fragment bytes = more_fragments bytes || not (fragment_offset bytes == 0)
+-- the packet is one part of a datagram: more parts follow, or it isn't the first
+abbrev pub is_part : Fragment → Bool
+is_part fragment = fragment.more || not (fragment.offset == 0)
 
--- the header of the packet, which may have options after its 20 bytes and padding after its total
--- length
-unfoldable pub ipv4_of : List ℕ → Result Ipv4 HeaderFault
-ipv4_of bytes =
+abbrev pub fragment_fields : List ℕ → Fragment
+fragment_fields bytes = record {
+  header = ipv4_fields bytes;
+  offset = fragment_offset bytes;
+  more = more_fragments bytes;
+}
+
+-- the faults of a packet, each beside its condition, in their order
+abbrev pub packet_faults : List ℕ → List (Bool × HeaderFault)
+packet_faults bytes =
     let header = ipv4_fields bytes in
-    unless (
     (nat_lt (length bytes) 20, fault.Short)
     ∷ (not (version bytes == 4), fault.Version)
     ∷ (nat_lt header.header_len 20 || nat_lt (length bytes) header.header_len, fault.HeaderLength)
@@ -78,9 +85,18 @@ ipv4_of bytes =
       fault.TotalLength,
     )
     ∷ (not (word_sum (take header.header_len bytes) == 65535), fault.Checksum)
-    ∷ (is_fragment bytes, fault.Fragment)
-    ∷ [])
-    header
+    ∷ []
+
+-- the header of the packet, which may have options after its 20 bytes and padding after its total
+-- length, and where the packet stands in its datagram
+unfoldable pub fragment_of : List ℕ → Result Fragment HeaderFault
+fragment_of bytes = unless (packet_faults bytes) (fragment_fields bytes)
+
+-- the header of a packet that is a whole datagram
+unfoldable pub ipv4_of : List ℕ → Result Ipv4 HeaderFault
+ipv4_of bytes =
+    let fragment = fragment_fields bytes in
+    unless (packet_faults bytes ++ (is_part fragment, fault.Fragment) ∷ []) fragment.header
 
 -- what the packet carries: padding past the total length is left out
 abbrev pub ipv4_payload : Ipv4 → List ℕ → List ℕ

@@ -1,7 +1,7 @@
 //! The header of IPv4.
 
 ghost use Rattle.std.specs.Prelude.{◌≡◌, ◌≤◌, ◌+◌, ◌++◌, ℕ, List, length, drop, Ok, IfOk};
-ghost use Rattle.spin_headers.specs.Headers.{ipv4_of, ipv4_fields, ipv4_header, ipv4_payload};
+ghost use Rattle.spin_headers.specs.Headers.{fragment_of, ipv4_of, ipv4_header, ipv4_payload, is_part};
 ghost use Rattle.spin_headers.specs.Headers as specs;
 
 use crate::fault::HeaderFault;
@@ -39,10 +39,30 @@ pub struct Ipv4 {
     pub destination: u32,
 }
 
+/// The header of a packet that may be a fragment, and where the fragment stands in its datagram (RFC 791).
+#[derive(Debug, Clone, Copy, PartialEq, Eq)]
+pub struct Fragment {
+    /// The header of the packet.
+    pub header: Ipv4,
+    /// Where the payload begins in the datagram, in units of 8 bytes.
+    pub offset: u16,
+    /// Whether more fragments follow.
+    pub more: bool,
+}
+
+impl Fragment {
+    /// Whether the packet is a part of a datagram: more parts follow, or it isn't the first.
+    fn is_part(&self) -> bool
+        ensures { result ≡ is_part self.now }
+    {
+        self.more || self.offset != 0
+    }
+}
+
 /// The fields, where all fit.
-fn fields(bytes: &[u8]) -> Ipv4
+fn ipv4_fields(bytes: &[u8]) -> Ipv4
     requires { HEADER ≤ length bytes.now }
-    ensures { result ≡ ipv4_fields bytes.now }
+    ensures { result ≡ specs.ipv4_fields bytes.now }
 {
     Ipv4 {
         header_len: bytes[0] % 16 * 4,
@@ -55,33 +75,36 @@ fn fields(bytes: &[u8]) -> Ipv4
     }
 }
 
-/// Whether the packet is a part of a datagram: more parts follow, or it isn't the first.
-fn is_fragment(bytes: &[u8]) -> bool
+/// The fields and the place in the datagram, where all fit.
+fn fragment_fields(bytes: &[u8]) -> Fragment
     requires { HEADER ≤ length bytes.now }
-    ensures { result ≡ specs.is_fragment bytes.now }
+    ensures { result ≡ specs.fragment_fields bytes.now }
 {
     let flags = BigEndian::read_u16(&bytes[6..]);
-    // the 13 bits below that bit are the offset
-    flags / MORE_FRAGMENTS % 2 == 1 || flags % MORE_FRAGMENTS != 0
+    Fragment {
+        header: ipv4_fields(bytes),
+        // the 13 bits below that bit are the offset
+        offset: flags % MORE_FRAGMENTS,
+        more: flags / MORE_FRAGMENTS % 2 == 1,
+    }
 }
 
-/// The header of the packet. Options are skipped, and bytes past the total length are padding. It takes one
-/// pass over the header.
+/// The header of a packet that may be a fragment. Options are skipped, and bytes past the total length are padding.
+/// It takes one pass over the header.
 ///
 /// The first of these that applies is answered:
 /// - [`HeaderFault::Short`] under 20 bytes;
 /// - [`HeaderFault::Version`] where the version isn't 4;
 /// - [`HeaderFault::HeaderLength`] where the header length is under 5 words, or reaches past the bytes;
 /// - [`HeaderFault::TotalLength`] where the total length is under the header's, or over the number of bytes;
-/// - [`HeaderFault::Checksum`] where the header's 16-bit words don't sum to 0xFFFF;
-/// - [`HeaderFault::Fragment`] where more fragments follow or the offset isn't 0.
-#[tactic(auto, unfolding(crate::specs::Headers::ipv4_of))]
-pub fn read_ipv4(bytes: &[u8]) -> Result<Ipv4, HeaderFault>
-    ensures header { result ≡ ipv4_of bytes.now }
-    ensures lengths { IfOk result (λ header.
-        (20 ≤ header.header_len)
-        × (header.header_len ≤ header.total_len)
-        × (header.total_len ≤ length bytes.now)) }
+/// - [`HeaderFault::Checksum`] where the header's 16-bit words don't sum to 0xFFFF.
+#[tactic(auto, unfolding(crate::specs::Headers::fragment_of))]
+pub fn read_fragment(bytes: &[u8]) -> Result<Fragment, HeaderFault>
+    ensures fragment { result ≡ fragment_of bytes.now }
+    ensures lengths { IfOk result (λ fragment.
+        (20 ≤ fragment.header.header_len)
+        × (fragment.header.header_len ≤ fragment.header.total_len)
+        × (fragment.header.total_len ≤ length bytes.now)) }
 {
     if bytes.len() < HEADER {
         return Err(HeaderFault::Short);
@@ -89,7 +112,8 @@ pub fn read_ipv4(bytes: &[u8]) -> Result<Ipv4, HeaderFault>
     if bytes[0] / 16 != 4 {
         return Err(HeaderFault::Version);
     }
-    let header = fields(bytes);
+    let fragment = fragment_fields(bytes);
+    let header = fragment.header;
     let header_len = usize::from(header.header_len);
     if header_len < HEADER || bytes.len() < header_len {
         return Err(HeaderFault::HeaderLength);
@@ -101,10 +125,27 @@ pub fn read_ipv4(bytes: &[u8]) -> Result<Ipv4, HeaderFault>
     if add_words(0, &bytes[..header_len]) != WHOLE {
         return Err(HeaderFault::Checksum);
     }
-    if is_fragment(bytes) {
+    Ok(fragment)
+}
+
+/// The header of the packet, as [`read_fragment`] reads it.
+///
+/// The first of these that applies is answered:
+/// - the faults of [`read_fragment`], in their order;
+/// - [`HeaderFault::Fragment`] where more fragments follow or the offset isn't 0.
+#[tactic(auto, unfolding(crate::specs::Headers::ipv4_of, crate::specs::Headers::fragment_of))]
+pub fn read_ipv4(bytes: &[u8]) -> Result<Ipv4, HeaderFault>
+    ensures header { result ≡ ipv4_of bytes.now }
+    ensures lengths { IfOk result (λ header.
+        (20 ≤ header.header_len)
+        × (header.header_len ≤ header.total_len)
+        × (header.total_len ≤ length bytes.now)) }
+{
+    let fragment = read_fragment(bytes)?;
+    if fragment.is_part() {
         return Err(HeaderFault::Fragment);
     }
-    Ok(header)
+    Ok(fragment.header)
 }
 
 /// Writes a header for a payload of that many bytes, at most 65,515, into `out`, which has 20 bytes: no options,

@@ -16,6 +16,6 @@ mod udp;
 
 pub use ether::{Ether, read_ether};
 pub use fault::HeaderFault;
-pub use ipv4::{Ipv4, read_ipv4, write_ipv4};
+pub use ipv4::{Fragment, Ipv4, read_fragment, read_ipv4, write_ipv4};
 pub use sum::checksum;
 pub use udp::{Udp, read_udp, write_udp};
