@@ -12,7 +12,7 @@ ghost use Rattle.spin_grammar.specs.Inner.Heads.{deed_next};
 
 use crate::cause::Cause;
 use crate::limits::LAST_HANDLER;
-use crate::number::number;
+use crate::number::number_of;
 use spin_code::{Cmp, Layer};
 use spin_policy::{Forced, OpMatch};
 use spin_word::{Mode, Op, Place};
@@ -151,7 +151,7 @@ pub(crate) fn expr_word(word: &[u8]) -> Result<ExprWord, Cause>
     ensures { step_of expr_next result ≡ accepts grammar.Expression word.now }
 {
     match word {
-        [b'0'..=b'9', ..] => match number(word) {
+        [b'0'..=b'9', ..] => match number_of(word) {
             Some(number) => Ok(ExprWord::Const(number)),
             None => Err(Cause::Number),
         },
@@ -256,7 +256,7 @@ pub(crate) fn handler_word(word: &[u8]) -> Result<Option<u16>, Cause>
     ensures { step_of handler_next result ≡ accepts grammar.HandlerOrAny word.now }
 {
     match word {
-        [b'0'..=b'9', ..] => match number(word) {
+        [b'0'..=b'9', ..] => match number_of(word) {
             Some(number) if number >= 1 && number <= LAST_HANDLER => Ok(Some(number as u16)),
             _ => Err(Cause::Number),
         },

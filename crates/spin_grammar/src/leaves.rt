@@ -17,7 +17,7 @@ use crate::heads::{
     DeedWord, EffectWord, ExprWord, MergeWord, PartWord, SpotWord, StepWord, TestWord,
 };
 use crate::limits::{LAST_PLACE, MAX_NAMED};
-use crate::number::number;
+use crate::number::number_of;
 use crate::words::{Words, next_word};
 use spin_code::Layer;
 use spin_policy::{Forced, OpMatch};
@@ -29,7 +29,7 @@ fn read_number(words: &mut Words, low: u64, high: u64) -> Result<u64, Fault>
     ensures range { IfOk result (λ n. (low ≤ n) × (n ≤ high)) }
     ensures falls { length words.new ≤ length words.old }
 {
-    let Some(number) = number(next_word(words)?) else {
+    let Some(number) = number_of(next_word(words)?) else {
         return Err(Fault::Bad(Cause::Number));
     };
     if number < low || number > high {

@@ -50,4 +50,5 @@ pub use limits::{
     MAX_PACKETS, MAX_PARTS, MAX_QUOTA, MAX_TEXT, MAX_WIDTH,
 };
 pub use line::{Said, read_line};
+pub use number::number_of;
 pub use words::Words;

@@ -39,9 +39,10 @@ fn numeral(radix: u64, digits: &[u8]) -> Option<u64>
     Some(number)
 }
 
-/// The number that a word stands for, where there is one and it is below 2^64.
+/// The number that a word stands for: of decimal digits, or of `0x` and 1 to 16 hexadecimal digits of either case.
+/// `None` exactly where the word is neither, or the number isn't below 2^64. It takes time linear in the word.
 #[tactic(auto, unfolding(crate::specs::Spelling::number))]
-pub fn number(word: &[u8]) -> Option<u64>
+pub fn number_of(word: &[u8]) -> Option<u64>
     ensures { result ≡ within 0 greatest (number word.now) }
 {
     if !word.starts_with(b"0x") {

@@ -22,7 +22,7 @@ use crate::limits::{
     LAST_EVENT, LAST_GUARD, LAST_HANDLER, LAST_MODULE, LAST_PLACE, LAST_TARGET, MAX_PACKETS,
 };
 use crate::names::hex_bytes;
-use crate::number::number;
+use crate::number::number_of;
 use crate::words::Words;
 use spin_values::{Args, MAX_PARAMS, Value};
 use spin_word::{Command, Deed, NO_BINDING, NO_BINDINGS, Op, Place, Work};
@@ -218,7 +218,7 @@ fn value(alloc: Global, word: &[u8]) -> Result<Value, Fault>
             None => Err(Fault::Bad(Cause::Bytes)),
         };
     }
-    match number(word) {
+    match number_of(word) {
         Some(number) => Ok(Value::Word(number)),
         None => Err(Fault::Bad(Cause::Number)),
     }

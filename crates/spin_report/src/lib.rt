@@ -14,6 +14,7 @@ mod verdict;
 
 pub use entry::{Entries, Entry, What};
 pub use law::report_tells;
+pub use reply::reply_text;
 pub use text::{
     CaptureCounts, end_text, entry_text, job_text, lost_text, retire_text, segment_text,
 };

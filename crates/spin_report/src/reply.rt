@@ -1,6 +1,6 @@
 //! The words of what a deed or a job came to.
 
-ghost use Rattle.std.specs.Prelude.{◌≡◌, ◌++◌, ◌∷◌, [], decimal, codes, OnOk};
+ghost use Rattle.std.specs.Prelude.{◌≡◌, ◌++◌, ◌∷◌, [], decimal, codes, OnOk, OnErr};
 ghost use Rattle.std.specs.List.{flat_map};
 ghost use Rattle.spin_text.specs.Words.{spaced};
 ghost use Rattle.spin_report.specs.Replies.{answer_words, fault_word, step_words, reply_words};
@@ -115,4 +115,16 @@ pub(crate) fn put_reply(out: &mut Octets, reply: &Reply) -> Result<(), NoMemory>
         Reply::WrongArgs => put_refused(out, b"2", b"wrong_args"),
         Reply::Spent => put_refused(out, b"3", b"spent"),
     }
+}
+
+/// Appends what a deed or a job came to, as its line has it behind what was asked: its steps, `=` and its answer, or the
+/// words of its refusal, with a space before each word. After want of memory `out` is unchanged.
+/// It takes time linear in the words.
+pub fn reply_text(reply: &Reply, out: &mut Octets) -> Result<(), NoMemory>
+    ensures ok { OnOk result (out.new ≡ out.old ++ spaced (reply_words reply.now)) }
+    ensures err { OnErr result (out.new ≡ out.old) }
+{
+    let mut words = Octets::new(out.allocator());
+    put_reply(&mut words, reply)?;
+    out.append(&mut words)
 }

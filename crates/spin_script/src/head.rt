@@ -28,7 +28,8 @@ fn is_allowed(byte: u8) -> bool
     byte == b'\t' || (32 <= byte && byte <= 126)
 }
 
-fn all_allowed(line: &[u8]) -> bool
+/// Whether each byte of a line is a tab or printable ASCII.
+pub fn all_allowed(line: &[u8]) -> bool
     ensures { result ≡ list_all is_allowed line.now }
 {
     line.iter().all(|byte| is_allowed(*byte))

@@ -18,6 +18,7 @@ mod script;
 mod units;
 mod write;
 
+pub use head::all_allowed;
 pub use lanes::{MAX_DEEDS, MAX_EARLY_COMMANDS};
 pub use laws::{outcomes_are_one, outcomes_are_there};
 pub use limits::limits_are_stated;
