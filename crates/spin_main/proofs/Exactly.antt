@@ -1,9 +1,10 @@
 -- Which status comes, from the causes of all.
-use Rattle.std.proofs.Common.{◌≡◌, ◌⊎◌, ℕ, zero, suc, Option, Some, None, List, [], length, refl, sym, ap, subst, ◌∙◌, inl, inr, arith}
+use Rattle.std.proofs.Common.{◌≡◌, ◌+◌, ◌⊎◌, ℕ, zero, suc, Option, Some, None, List, [], length, refl, sym, ap, subst, ◌∙◌, inl, inr, arith}
 use Rattle.std.specs.Prelude.{Result, Ok, Err}
 use Rattle.spin_outside.specs.Files.{File, content, IsLacking}
 use Rattle.spin_pcap.specs.Captures.{header_of}
 use Rattle.spin_pcap.specs.declared.fault.PcapFault.{PcapFault}
+use Rattle.spin_pcap.specs.declared.limits.TheConstants.{MAX_HELD}
 use Rattle.spin_pcap.specs.declared.next.Next.{Next}
 use Rattle.spin_pcap.specs.declared.order.Order.{Order}
 use Rattle.spin_script.proofs.Single.{one_outcome}
@@ -24,7 +25,6 @@ use Rattle.spin_main.specs.Ends.{number}
 use Rattle.spin_main.specs.Loading.{IsContent, IsLoaded, IsRefused}
 use Rattle.spin_main.specs.Shelves.{ShelfStood}
 use Rattle.spin_main.specs.Statuses.{AsksNothing, ByCommand, Call, CommandHasCause, HasCause, IsBadCapture, IsComplete, IsGoodCapture, IsScriptText, IsCommandStatus, IsStatus, KeepsTable, KnowsCapture, KnowsRefused, KnowsUsage, LacksScript, NamesScript, NoReadFailed, NoneRose, OnlyStops, Ran, Row, RunHasCause}
-use Rattle.spin_main.proofs.Failing.{end_rose, retired_before_keeps, run_keeps}
 
 -- ---- one end for a status
 
@@ -139,17 +139,14 @@ good_header held name frames ending is = record { bytes = is.bytes; found = is.f
 records_at : (files : Option (List File)) (held : List File) (name : List ℕ) (frames : List (List ℕ)) (ending : Result Next PcapFault) → files ≡ Some held → IsCaptureFile held name frames ending → AreRecordsOf files (Some name) frames (Some ending)
 records_at files held name frames ending told is = subst (λ f. AreRecordsOf f (Some name) frames (Some ending)) (sym told) (ending, refl, is)
 
-ended_at : (call : Call) (name : List ℕ) (packets : Option (List ℕ)) (ended : RunEnd) (frames : List (List ℕ)) (rest : Option (Result Next PcapFault)) (ran : Ran call.natives call.before call.after name packets ended) → AreRecordsOf call.before.shelf.files packets frames rest → EndsBy ran.script frames rest (seen ran.from call.before.sink call.before.ends) (seen ran.to ran.sink call.after.ends) ended
+ended_at : (call : Call) (name : List ℕ) (packets : Option (List ℕ)) (ended : RunEnd) (frames : List (List ℕ)) (rest : Option (Result Next PcapFault)) (ran : Ran call.natives call.before call.after name packets ended) → AreRecordsOf call.before.shelf.files packets frames rest → EndsBy ran.script (24 + MAX_HELD) frames rest (seen ran.from call.before.sink call.before.ends) (seen ran.to ran.sink call.after.ends) ended
 ended_at call name packets ended frames rest ran are = ran.ended_so frames rest are
 
 -- an endpoint that failed has a count that rose
-endpoint_rose : (call : Call) (name : List ℕ) (packets : Option (List ℕ)) (endpoint : ℕ) (frames : List (List ℕ)) (rest : Option (Result Next PcapFault)) → Ran call.natives call.before call.after name packets (run.Endpoint endpoint) → AreRecordsOf call.before.shelf.files packets frames rest → NoneRose call → ⊥
-endpoint_rose call name packets endpoint frames rest ran are calm =
-    let by = ended_at call name packets (run.Endpoint endpoint) frames rest ran are in
-    let has_run = by.3 in
-    let kept = retired_before_keeps ran.script by.0 by.2.ends ∙ run_keeps ran.script _ _ by.1 by.2 has_run.run in
-    let found = end_rose ran.script.endpoints _ endpoint call.before.ends _ call.after.ends kept by.7 in
-    calm.ends found.0 found.1 found.2
+endpoint_rose : (call : Call) (name : List ℕ) (packets : Option (List ℕ)) (endpoint : ℕ) → Ran call.natives call.before call.after name packets (run.Endpoint endpoint) → NoneRose call → ⊥
+endpoint_rose call name packets endpoint ran calm =
+    let rose = ran.counts.2 in
+    calm.ends rose.place rose.there rose.rose
 
 -- the records that a good capture or none has, whose rest is no refusal
 pub record HasGoodRecords (files : Option (List File)) (packets : Option (List ℕ)) : Type 0 where
@@ -290,11 +287,6 @@ bad_whole call held name text names (inr record_bad) ran =
     let are = records_at call.before.shelf.files held name record_bad.0 (Err record_bad.1) names.told record_bad.2 in
     (ended_at call names.name (Some name) run.Whole record_bad.0 (Some (Err record_bad.1)) ran are).1.capture_is
 
-bad_endpoint : (call : Call) (held : List File) (name text : List ℕ) (endpoint : ℕ) (names : NamesScript call held (Some name) text) → IsBadCapture held name → NoneRose call → Ran call.natives call.before call.after names.name (Some name) (run.Endpoint endpoint) → ⊥
-bad_endpoint call held name text endpoint names (inl header) calm ran = headers_differ held name header.0 (header_at call.before.shelf.files held name names.told ran.header) header.1
-bad_endpoint call held name text endpoint names (inr record_bad) calm ran =
-    endpoint_rose call names.name (Some name) endpoint record_bad.0 (Some (Err record_bad.1)) ran (records_at call.before.shelf.files held name record_bad.0 (Err record_bad.1) names.told record_bad.2) calm
-
 capture_at : (call : Call) (end : End) → call.status ≡ number end → HasCause call end → KnowsCapture call
 capture_at call Whole is cause held name text names script bad calm =
     absurd (bad_whole call held name text names bad (as_run call held (Some name) text Whole names cause).2)
@@ -309,7 +301,7 @@ capture_at call NoScript is cause held name text names script bad calm = absurd 
 capture_at call NoPackets is cause held name text names script bad calm = absurd (calm.absences (as_run call held (Some name) text NoPackets names cause).0.absences)
 capture_at call NoMemory is cause held name text names script bad calm = inr is
 capture_at call (Endpoint number) is cause held name text names script bad calm =
-    absurd (bad_endpoint call held name text number names bad calm (as_run call held (Some name) text (Endpoint number) names cause).1)
+    absurd (endpoint_rose call names.name (Some name) number (as_run call held (Some name) text (Endpoint number) names cause).1 calm)
 
 -- nothing bad
 
@@ -332,8 +324,7 @@ complete_at call NoScript is cause held packets text names script good calm = ab
 complete_at call NoPackets is cause held packets text names script good calm = absurd (calm.absences (as_run call held packets text NoPackets names cause).0.absences)
 complete_at call NoMemory is cause held packets text names script good calm = inr is
 complete_at call (Endpoint number) is cause held packets text names script good calm =
-    let records = good_records call.before.shelf.files held packets names.told good in
-    absurd (endpoint_rose call names.name packets number records.frames records.rest (as_run call held packets text (Endpoint number) names cause).1 records.are calm)
+    absurd (endpoint_rose call names.name packets number (as_run call held packets text (Endpoint number) names cause).1 calm)
 
 -- ---- the table
 

@@ -3,6 +3,7 @@ use Rattle.std.specs.Prelude.{◌≡◌, ◌+◌, ℕ, Option, Some, None, List,
 use Rattle.spin_outside.specs.Counts.{raised_by}
 use Rattle.spin_outside.specs.Files.{File, content, IsLacking}
 use Rattle.spin_outside.specs.Seen.{ShelfSeen}
+use Rattle.spin_outside.specs.Sources.{SourceSeen}
 use Rattle.spin_pcap.specs.declared.fault.PcapFault.{PcapFault}
 use Rattle.spin_pcap.specs.declared.next.Next.{Next}
 use Rattle.spin_pcap.specs.declared.order.Order.{Order}
@@ -76,6 +77,13 @@ pub record IsBehindHeader (held : List File) (before after : ShelfSeen) (name : 
   pub left : left_for reader.held (after.left file) ≡ Some (drop 24 bytes)
   pub named : after.found_as file ≡ Some name
   pub under : after.reads name ≡ raised_by (before.reads name) (24 + length reader.held)
+
+-- What was taken of this source is what was read under the name of the capture, where one is named and the shelf tells
+-- its files.
+abbrev pub IsTakenUnder : Option (List ℕ) → ShelfSeen → SourceSeen → Type 0
+IsTakenUnder None shelf source = ⊤
+IsTakenUnder (Some name) shelf source =
+    IfSome shelf.files (λ _. source.taken ≡ Some (shelf.reads name))
 
 -- A fresh reader stands behind the header of the file of that name.
 pub record IsOpened (before after : ShelfSeen) (name : List ℕ) (file : ℕ) (reader : ReaderState)

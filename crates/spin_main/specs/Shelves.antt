@@ -1,6 +1,7 @@
 -- What a call does to the shelf.
-use Rattle.std.specs.Prelude.{◌≡◌}
+use Rattle.std.specs.Prelude.{◌≡◌, ℕ, List, IfSome}
 use Rattle.spin_outside.specs.Counts.{Rose}
+use Rattle.spin_outside.specs.Files.{OthersKeep}
 use Rattle.spin_outside.specs.Seen.{ShelfSeen}
 
 -- The shelf's files and counts are as before.
@@ -20,3 +21,7 @@ pub record ShelfLacked (before after : ShelfSeen) : Type 0 where
   pub files : after.files ≡ before.files
   pub faults : after.faults ≡ before.faults
   pub absences : Rose before.absences after.absences
+
+-- Where the shelf tells its files, nothing was read under any other name.
+abbrev pub ReadsOnly : ShelfSeen → ShelfSeen → List ℕ → Type 0
+ReadsOnly before after name = IfSome before.files (λ _. OthersKeep before.reads after.reads name)

@@ -1,5 +1,5 @@
 -- How the top call ends, and why.
-use Rattle.std.specs.Prelude.{◌≡◌, ◌<◌, ◌⊎◌, ℕ, Option, Some, None, List, length, map, slice_index_or, Result, Ok, Err, ⊤}
+use Rattle.std.specs.Prelude.{◌≡◌, ◌≢◌, ◌<◌, ◌+◌, ◌⊎◌, ℕ, Option, Some, None, List, length, Result, Ok, Err, ⊤}
 use Rattle.spin_outside.specs.Counts.{Rose}
 use Rattle.spin_outside.specs.Files.{File, content, IsLacking}
 use Rattle.spin_outside.specs.Seen.{ShelfSeen, SinkSeen}
@@ -7,11 +7,12 @@ use Rattle.spin_outside.specs.Sources.{SourceSeen}
 use Rattle.spin_endpoint.specs.Named.{NamedEnd}
 use Rattle.spin_pcap.specs.declared.fault.PcapFault.{PcapFault}
 use Rattle.spin_pcap.specs.declared.next.Next.{Next}
+use Rattle.spin_pcap.specs.declared.limits.TheConstants.{MAX_HELD}
 use Rattle.spin_script.specs.Language.{IsScript}
 use Rattle.spin_script.specs.States.{NativeData, ScriptData}
 use Rattle.spin_run.specs.declared.end.RunEnd.{RunEnd}
 use Rattle.spin_run.specs.declared.end.RunEnd.TheVariants as run
-use Rattle.spin_run.specs.Ends.{seen, EndsBy, CountsBy}
+use Rattle.spin_run.specs.Ends.{seen, faults_at, EndsBy, CountsBy}
 use Rattle.spin_main.specs.declared.end.End.{End}
 use Rattle.spin_main.specs.declared.end.End.TheVariants.{Whole, Usage, Refused, Capture, ReadScript, ReadPackets, WriteFault, NoScript, NoPackets, NoMemory, Endpoint}
 use Rattle.spin_main.specs.declared.words.Asked.{Asked}
@@ -20,7 +21,7 @@ use Rattle.spin_main.specs.Words.{IsAsked}
 use Rattle.spin_main.specs.Ends.{number, stop_line, Tells}
 use Rattle.spin_main.specs.Shelves.{ShelfStood, ShelfFailed, ShelfLacked}
 use Rattle.spin_main.specs.Loading.{IsLoaded, IsRefused}
-use Rattle.spin_main.specs.Captures.{IsNamed, HasHeader, HasBadHeader, IsLackingCapture, IsBadHeader, IsCaptureFile, AreRecordsOf}
+use Rattle.spin_main.specs.Captures.{IsNamed, HasHeader, HasBadHeader, IsLackingCapture, IsBadHeader, IsCaptureFile, AreRecordsOf, IsTakenUnder}
 
 -- what contracts see of the shelf, of the sink and of the endpoints at one moment
 pub record Outside : Type 0 where
@@ -56,20 +57,25 @@ end_of run.NoMemory = NoMemory
 end_of (run.Endpoint at) = Endpoint at
 
 -- The script was read, and the header of the capture, if one is named; the run over the script and the capture's
--- records ended so; and then the line of that end was written.
+-- records ended so; and then the line of that end was written. Of the capture no more was read than its header, the
+-- records that are wanted up to a stop in a segment, and 65,536 bytes past these.
 pub record Ran (natives : NativeData) (before after : Outside) (name : List ℕ)
     (packets : Option (List ℕ)) (ended : RunEnd) : Type 0 where
   pub script : ScriptData
   pub loaded : IsLoaded natives before.shelf.files name script
   pub header : HasHeader before.shelf.files packets
-  -- the capture's file when the run began, and when it ended, and the sink when it ended
+  -- the capture's file when it was found, and when the run ended, and the sink when it ended
   pub from : SourceSeen
   pub to : SourceSeen
   pub sink : SinkSeen
+  pub taken : packets ≢ Some name
+      → IsTakenUnder packets before.shelf from × IsTakenUnder packets after.shelf to
   pub ended_so : (frames : List (List ℕ)) (rest : Option (Result Next PcapFault))
       → AreRecordsOf before.shelf.files packets frames rest
-      → EndsBy script frames rest (seen from before.sink before.ends) (seen to sink after.ends) ended
-  pub counts : CountsBy (seen from before.sink before.ends) (seen to sink after.ends) ended
+      → EndsBy script (24 + MAX_HELD) frames rest
+      (seen from before.sink before.ends) (seen to sink after.ends) ended
+  pub counts : CountsBy script.endpoints
+      (seen from before.sink before.ends) (seen to sink after.ends) ended
   pub line : Tells sink after.sink (stop_line (end_of ended))
 
 -- Why a run of these files ended so, what was written, and what the endpoints received.
@@ -181,9 +187,6 @@ IsScriptText natives text = (script : ScriptData) × IsScript natives text (Ok s
 -- The shelf's count of faults didn't rise.
 abbrev pub NoReadFailed : Call → Type 0
 NoReadFailed call = Rose call.before.shelf.faults call.after.shelf.faults → ⊥
-
-abbrev pub faults_at : List NamedEnd → ℕ → ℕ
-faults_at ends place = slice_index_or (map (λ end. end.object.faults) ends) place 0
 
 -- No count rose in the call.
 pub record NoneRose (call : Call) : Type 0 where

@@ -1,6 +1,6 @@
 //! The command `run`: a script, over a capture or none.
 
-ghost use Rattle.std.specs.Prelude.{◌≡◌, ◌≤◌, IfOk, IfErr, IfSome};
+ghost use Rattle.std.specs.Prelude.{◌≡◌, ◌≤◌, IfOk, OnOk, IfErr, IfSome};
 ghost use Rattle.spin_word.specs.declared.command.TheConstants.{MAX_PLACE};
 ghost use Rattle.spin_pcap.specs.Passing.{IsFresh};
 ghost use Rattle.spin_script.specs.States.{natives_seen};
@@ -10,7 +10,7 @@ ghost use Rattle.spin_script.specs.Soundness.{AreValid, command_lines};
 ghost use Rattle.spin_main.specs.Captures.{AreOpened, NoCaptureBy};
 ghost use Rattle.spin_main.specs.Inner.Running.{RunsOver};
 ghost use Rattle.spin_main.specs.Loading.{IsLoaded, NoScriptBy, end_by};
-ghost use Rattle.spin_main.specs.Shelves.{ShelfStood};
+ghost use Rattle.spin_main.specs.Shelves.{ShelfStood, ReadsOnly};
 ghost use Rattle.spin_main.specs.Statuses.{outside, end_of, IsRunStatus};
 
 use crate::capture::{Capture, OpenFault, open};
@@ -60,6 +60,7 @@ fn script_of<F: Shelf>(
 ) -> Result<Script, End>
     requires sincere { ⟦<Natives as Sincere>⟧.sincere natives }
     ensures stood { IfOk result (λ _. ShelfStood (F.seen shelf.old) (F.seen shelf.new)) }
+    ensures reads { OnOk result (ReadsOnly (F.seen shelf.old) (F.seen shelf.new) name.now) }
     ensures loaded { IfOk result (λ script.
         IsLoaded (natives_seen natives) (F.seen shelf.old).files name.now (script_seen script)) }
     ensures sincere { IfOk result

@@ -1,8 +1,9 @@
 //! The script's text, from the shelf.
 
-ghost use Rattle.std.specs.Prelude.{◌≤◌, length, IfOk, IsErrOf, ◌≡◌};
+ghost use Rattle.std.specs.Prelude.{◌≤◌, length, IfOk, OnOk, IsErrOf, ◌≡◌};
 ghost use Rattle.spin_outside.specs.Files.{IsLacking};
 ghost use Rattle.spin_main.specs.Loading.{IsContent, IsOver, LoadsByCount};
+ghost use Rattle.spin_main.specs.Shelves.{ReadsOnly};
 ghost use Rattle.spin_grammar.specs.declared.limits.TheConstants.{MAX_TEXT};
 
 use spin_outside::{FindFault, Shelf, TakeFault, read_up_to};
@@ -38,6 +39,7 @@ pub fn load<F: Shelf>(alloc: Global, shelf: &mut F, name: &Text) -> Result<Octet
     ensures absent { IsErrOf result LoadFault.Absent
         → IsLacking (F.seen shelf.old).files name.now }
     ensures files { (F.seen shelf.new).files ≡ (F.seen shelf.old).files }
+    ensures reads { OnOk result (ReadsOnly (F.seen shelf.old) (F.seen shelf.new) name.now) }
     ensures cause { LoadsByCount (F.seen shelf.old) (F.seen shelf.new) result }
 {
     let file = match shelf.find(name) {

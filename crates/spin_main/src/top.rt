@@ -89,7 +89,9 @@ fn choose<R: Threads + Sync, F: Shelf, K: Sink, G: Gate>(
 /// | 8 | only where the count of endpoint P rose | `stop 8 endpoint P` |
 ///
 /// A stop line follows what was written before. A stop line that can't be written leaves the status. A stop before the
-/// report began leaves the endpoints as they were.
+/// report began leaves the endpoints as they were. The capture is read as the segments need it: after a stop in a
+/// segment, where the capture has all records that the segments up to this one want, at most 65,536 bytes past its
+/// header and these records were read.
 pub fn spin<R: Threads + Sync, F: Shelf, K: Sink, G: Gate>(
     rt: &R,
     alloc: Global,

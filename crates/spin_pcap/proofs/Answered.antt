@@ -11,7 +11,7 @@ use Rattle.spin_pcap.specs.declared.order.Order.{Order}
 use Rattle.spin_pcap.specs.declared.order.Order.TheVariants as order
 use Rattle.spin_pcap.specs.declared.limits.TheConstants.{MAX_RECORDS, MAX_CAPTURED}
 use Rattle.spin_pcap.specs.Captures.{number, number_at, captured, IsRecord, IsCut, IsBad}
-use Rattle.spin_pcap.specs.Passing.{Passes, left_for, IsAnswer}
+use Rattle.spin_pcap.specs.Passing.{Passes, left_for, IsAnswer, IsWithinRecord}
 use Rattle.spin_pcap.proofs.Passed.{before-rest, before-end, passes-then, passes-skip}
 
 pub number-front : (way : Order) (width : ℕ) (xs ys : List ℕ) → width ≤ length xs → number way width (xs ++ ys) ≡ number way width xs
@@ -34,6 +34,15 @@ pub passes-record : (held held' held'' frame : List ℕ) (source source' source'
 passes-record held held' held'' frame source source' source'' p size q =
     passes-then [] (take 16 held' ++ frame) held held' held'' source source' source'' p
     (passes-then (take 16 held') frame held' (drop 16 held') held'' source' source' source'' (passes-skip held' source' 16 size) q)
+
+-- what is gone of a record whose bytes are copied
+pub within_record : (way : Order) (held frame : List ℕ) (says : ℕ) → 16 ≤ length held → captured way held ≡ says → length frame ≤ says → says ≤ MAX_CAPTURED → IsWithinRecord way (take 16 held ++ frame)
+within_record way held frame says size is few small =
+    let long = length-append (take 16 held) frame in
+    let header = length-take 16 held in record {
+      few = omega (arith, long, header, few, small);
+      says = λ _. omega (arith, long, header, few, captured-held way held frame size ∙ is);
+    }
 
 pub answers-packet : (way : Order) (given : ℕ) (held held' held'' frame : List ℕ) (source source' source'' : SourceSeen) → Passes [] held source held' source' → 16 ≤ length held' → Passes frame (drop 16 held') source' held'' source'' → given < MAX_RECORDS → captured way held' ≡ length frame → length frame ≤ MAX_CAPTURED → IfSome (left_for held source.left) (λ bytes. IsAnswer way given bytes (Ok next.Packet) frame (left_for held'' source''.left))
 answers-packet way given held held' held'' frame source source' source'' p size q few says small =

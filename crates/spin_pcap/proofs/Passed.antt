@@ -13,7 +13,8 @@ use Rattle.spin_pcap.specs.Inner.Filling.{Copies}
 raised_twice : (x n m : ℕ) → raised_by (raised_by x n) m ≡ raised_by x (n + m)
 raised_twice x n m = omega arith
 
-more_twice : (taken : Option ℕ) (n m : ℕ) → taken_more (taken_more taken n) m ≡ taken_more taken (n + m)
+-- what is taken twice is taken at once
+pub more_twice : (taken : Option ℕ) (n m : ℕ) → taken_more (taken_more taken n) m ≡ taken_more taken (n + m)
 more_twice None n m = refl
 more_twice (Some x) n m = ap Some (raised_twice x n m)
 

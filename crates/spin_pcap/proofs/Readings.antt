@@ -10,6 +10,7 @@ use Rattle.spin_pcap.specs.declared.order.Order.{Order}
 use Rattle.spin_pcap.specs.declared.limits.TheConstants.{MAX_RECORDS, MAX_CAPTURED}
 use Rattle.spin_pcap.specs.Captures.{captured, header_of, IsRecord, IsCut, IsBad, IsRest, IsBody, IsCapture}
 use Rattle.spin_pcap.specs.Laws.{OneReading, OneAnswer}
+use Rattle.spin_pcap.specs.Passing.{IsWithinRecord}
 use Rattle.spin_pcap.proofs.Answered.{number_at-front}
 
 -- the captured length of a record that stands at the front
@@ -36,6 +37,15 @@ one-record way given bytes frame frame' rest rest' r r' = (
 record-size : (way : Order) (given : ℕ) (bytes frame rest : List ℕ) → IsRecord way given bytes frame rest → 16 + captured way bytes ≤ length bytes
 record-size way given bytes frame rest r =
     omega (arith, ap length r.whole, length-append (r.header ++ frame) rest, length-append r.header frame, r.size, record-says way given bytes frame rest r)
+
+-- of a record at the front no more is gone than it has
+pub part_fits : (way : Order) (given : ℕ) (gone more frame rest : List ℕ) → IsWithinRecord way gone → IsRecord way given (gone ++ more) frame rest → length gone ≤ 16 + length frame
+part_fits way given gone more frame rest part r = elim (cases_lt (length gone) 16) [
+  | inl lt ↦ omega (arith, lt)
+  | inr le ↦
+      let says : captured way gone ≡ length frame = sym (number_at-front way 8 4 gone more (omega (arith, le))) ∙ record-says way given (gone ++ more) frame rest r in
+      omega (arith, part.says le, says)
+]
 
 not-both : (way : Order) (given : ℕ) (bytes frame rest : List ℕ) (ending : Result Next PcapFault) → IsRecord way given bytes frame rest → IsRest way given bytes ending → ⊥
 not-both way given bytes frame rest (Ok next.Packet) r e = e

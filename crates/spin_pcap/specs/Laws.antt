@@ -1,9 +1,9 @@
 -- Laws of capture files.
-use Rattle.std.specs.Prelude.{◌≡◌, ℕ, List, Result}
+use Rattle.std.specs.Prelude.{◌≡◌, ℕ, List, Result, Ok}
 use Rattle.spin_pcap.specs.declared.fault.PcapFault.{PcapFault}
 use Rattle.spin_pcap.specs.declared.next.Next.{Next}
 use Rattle.spin_pcap.specs.declared.order.Order.{Order}
-use Rattle.spin_pcap.specs.Captures.{IsCapture, IsRecord, IsRest}
+use Rattle.spin_pcap.specs.Captures.{header_of, IsCapture, IsBody, IsRecord, IsRest}
 
 -- Two readings of one file are one.
 abbrev pub OneReading : Type 0
@@ -24,3 +24,16 @@ OneAnswer = (way : Order) (given : ℕ) (bytes : List ℕ) →
     IsRecord way given bytes frame rest → IsRest way given bytes ending → ⊥)
     × ((ending ending' : Result Next PcapFault) →
     IsRest way given bytes ending → IsRest way given bytes ending' → ending ≡ ending')
+
+-- However many records came before, whatever bytes stand there are whole records and then a rest.
+abbrev pub EachHasBody : Type 0
+EachHasBody =
+    (way : Order) (given : ℕ) (bytes : List ℕ) →
+    (frames : List (List ℕ)) × (ending : Result Next PcapFault)
+    × IsBody way given bytes frames ending
+
+-- Each file with the header of a capture is a capture.
+abbrev pub EachIsCapture : Type 0
+EachIsCapture =
+    (file : List ℕ) (way : Order) → header_of file ≡ Ok way →
+    (frames : List (List ℕ)) × (ending : Result Next PcapFault) × IsCapture file way frames ending

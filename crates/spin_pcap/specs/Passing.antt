@@ -11,7 +11,7 @@ use Rattle.spin_pcap.specs.declared.next.Next.TheVariants as next
 use Rattle.spin_pcap.specs.declared.order.Order.{Order}
 use Rattle.spin_pcap.specs.declared.state.State.{State}
 use Rattle.spin_pcap.specs.declared.state.State.TheVariants as state
-use Rattle.spin_pcap.specs.Captures.{header_of, IsRecord, IsRest}
+use Rattle.spin_pcap.specs.Captures.{header_of, captured, IsRecord, IsRest}
 use Rattle.spin_pcap.specs.declared.limits.TheConstants.{MAX_CAPTURED, MAX_HELD}
 
 -- a reader: the order of the fields, the bytes that it took and hasn't given yet, how many records
@@ -114,14 +114,20 @@ IsAnswer way given bytes (Ok (next.Cut count)) frame left =
 IsAnswer way given bytes (Err wrong) frame left =
     UnlessFailed wrong (IsRest way given bytes (Err wrong))
 
--- A record that was given is gone, its header and its bytes; in any other case at most as many
--- bytes are gone as a record can have.
-abbrev pub IsGone : Result Next PcapFault → List ℕ → List ℕ → Type 0
-IsGone (Ok next.Packet) gone frame =
+-- These bytes lie within one record: they are no more than its header, if that is among them, says, and no more than a
+-- record can have.
+pub record IsWithinRecord (way : Order) (bytes : List ℕ) : Type 0 where
+  pub few : length bytes ≤ 16 + MAX_CAPTURED
+  pub says : 16 ≤ length bytes → length bytes ≤ 16 + captured way bytes
+
+-- A record that was given is gone, its header and its bytes; in any other case at most a part of
+-- one record is gone.
+abbrev pub IsGone : Order → Result Next PcapFault → List ℕ → List ℕ → Type 0
+IsGone way (Ok next.Packet) gone frame =
     (length gone ≡ 16 + length frame) × (length frame ≤ MAX_CAPTURED)
-IsGone (Ok next.End) gone frame = length gone ≤ 16 + MAX_CAPTURED
-IsGone (Ok (next.Cut count)) gone frame = length gone ≤ 16 + MAX_CAPTURED
-IsGone (Err wrong) gone frame = length gone ≤ 16 + MAX_CAPTURED
+IsGone way (Ok next.End) gone frame = IsWithinRecord way gone
+IsGone way (Ok (next.Cut count)) gone frame = IsWithinRecord way gone
+IsGone way (Err wrong) gone frame = IsWithinRecord way gone
 
 -- The frame has no bytes, unless a record was given.
 abbrev pub EmptyUnlessPacket : Result Next PcapFault → List ℕ → Type 0

@@ -3,7 +3,8 @@
 //!
 //! - [`Reader`] gives the records, each as a [`Next`]; [`PcapFault`] says why a capture isn't read;
 //! - [`MAX_RECORDS`], [`MAX_CAPTURED`] and [`MAX_HELD`] are its limits;
-//! - [`one_reading`] and [`one_answer`] are laws: a file is one capture at most.
+//! - [`one_reading`], [`one_answer`] and [`each_has_reading`] are laws: a file with the header of a capture is one
+//!   capture.
 //!
 //! Times, the time zone, the accuracy, the snapshot length and the original lengths aren't looked at.
 #![tactic(auto)]
@@ -19,7 +20,7 @@ mod state;
 mod window;
 
 pub use fault::PcapFault;
-pub use laws::{one_answer, one_reading};
+pub use laws::{each_has_reading, one_answer, one_reading};
 pub use limits::{MAX_CAPTURED, MAX_HELD, MAX_RECORDS, limits_are_stated};
 pub use next::Next;
 pub use reader::Reader;

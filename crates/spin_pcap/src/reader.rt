@@ -104,7 +104,7 @@ fn read_record<S: Source>(
     ensures few { result ≡ Ok Next.Packet → given < MAX_RECORDS }
     ensures passed { (gone : List ℕ)
         × Passes gone window.old (S.seen source.old) window.new (S.seen source.new)
-        × IsGone result gone frame.new }
+        × IsGone order result gone frame.new }
     ensures bound { length window.new ≤ MAX_HELD }
     ensures cause { ReadsByCount (S.seen source.old).faults (S.seen source.new).faults result }
 {
@@ -180,7 +180,8 @@ impl Reader {
     /// - [`PcapFault::NoMemory`] for want of memory.
     ///
     /// The time is linear in the bytes that are taken and given: each byte is copied at most twice. At any time
-    /// the reader holds at most 65,536 bytes past the records that it gave.
+    /// the reader holds at most 65,536 bytes past the records that it gave; a call that gives none has passed at most
+    /// a part of one record.
     pub fn next<S: Source>(&mut self, source: &mut S, frame: &mut Octets) -> Result<Next, PcapFault>
         ensures repeats { Repeats self.old.state result }
         ensures answer { IfReading self.old.state
@@ -198,8 +199,8 @@ impl Reader {
         ensures frame { EmptyUnlessPacket result frame.new }
         ensures passed { (gone : List ℕ)
             × Passes gone self.old.held (S.seen source.old) self.new.held (S.seen source.new)
-            × IsGone result gone frame.new }
-        ensures bound { length self.new.held ≤ MAX_HELD }
+            × IsGone self.old.order result gone frame.new }
+        ensures bound { (length self.old.held ≤ MAX_HELD) × (length self.new.held ≤ MAX_HELD) }
         ensures few { result ≡ Ok Next.Packet → self.old.given < MAX_RECORDS }
         ensures cause { ReadsByCount (S.seen source.old).faults (S.seen source.new).faults result }
     {

@@ -19,7 +19,7 @@ use Rattle.spin_report.specs.Histories.{HistorySeen, end_line, front_lines, fron
 use Rattle.spin_report.specs.Runs.{Captured, AreRun, start_with, frames_of, counts_of}
 use Rattle.spin_run.specs.declared.end.RunEnd.{RunEnd}
 use Rattle.spin_run.specs.declared.end.RunEnd.TheVariants as end
-use Rattle.spin_run.specs.Records.{AreRecords}
+use Rattle.spin_run.specs.Records.{AreRecords, room_of}
 use Rattle.spin_run.specs.Ends.{RunSeen, HasRun, retired_before, IsReadWhole, IsWhole, end_text, Writes, WritesInto, EndsBy}
 use Rattle.spin_run.specs.Inner.Reading.{given_by, IsCutRest}
 use Rattle.spin_run.specs.Inner.Ending.{AreCounts, Finishes}
@@ -83,10 +83,10 @@ frames_are capture s frames (Some (Ok (next.Cut n))) used left told r h = refl
 frames_are capture s frames (Some (Ok next.Packet)) used left told r h = absurd h
 frames_are capture s frames (Some (Err wrong)) used left told r h = absurd h
 
-abbrev history_of : (script : ScriptData) (frames : List (List ℕ)) (rest : Option (Result Next PcapFault)) (before : RunSeen) (now : Moment) → Stands script frames rest before (length script.segments) now → Option CaptureCounts → HistorySeen
-history_of script frames rest before now s told = record { segments = s.parts; end = now.state.place; capture = told }
+abbrev history_of : (script : ScriptData) (capture : Option ReaderState) (frames : List (List ℕ)) (rest : Option (Result Next PcapFault)) (before : RunSeen) (now : Moment) → Stands script capture frames rest before (length script.segments) now → Option CaptureCounts → HistorySeen
+history_of script capture frames rest before now s told = record { segments = s.parts; end = now.state.place; capture = told }
 
-is_whole : (script : ScriptData) (capture : Option ReaderState) (frames : List (List ℕ)) (rest : Option (Result Next PcapFault)) (before : RunSeen) (now : Moment) (told : Option CaptureCounts) → AreRecords capture before.source frames rest → (s : Stands script frames rest before (length script.segments) now) → AreCounts (given_by now.capture) (length s.left) rest told → IsWhole script frames rest before.ends now.outside.ends (history_of script frames rest before now s told)
+is_whole : (script : ScriptData) (capture : Option ReaderState) (frames : List (List ℕ)) (rest : Option (Result Next PcapFault)) (before : RunSeen) (now : Moment) (told : Option CaptureCounts) → AreRecords capture before.source frames rest → (s : Stands script capture frames rest before (length script.segments) now) → AreCounts (given_by now.capture) (length s.left) rest told → IsWhole script frames rest before.ends now.outside.ends (history_of script capture frames rest before now s told)
 is_whole script capture frames rest before now told r s h =
     let run : HasRun script frames before.ends (length script.segments) s.parts (standing now s.left) = s.run in
     record {
@@ -115,16 +115,16 @@ behind_all (x ∷ xs) = behind_all xs
 none_retired : (script : ScriptData) (ends : List NamedEnd) → retired_before script (length script.segments) ends ≡ ends
 none_retired script ends = ap (λ (o : Option Segment). option_map_or (λ (t : Segment). all_retired script.endpoints t.retires ends) o ends) (behind_all script.segments)
 
-pub ends_whole : (script : ScriptData) (capture : Option ReaderState) (frames : List (List ℕ)) (rest : Option (Result Next PcapFault)) (before : RunSeen) (now : Moment) (log_length : ℕ) (after : RunSeen) → after.ends ≡ now.outside.ends → log_length ≡ now.state.place → AreRecords capture before.source frames rest → (s : Stands script frames rest before (length script.segments) now) → Finishes log_length now.capture now.outside.sink after.sink (Ok tt) s.left rest → EndsBy script frames rest before after end.Whole
+pub ends_whole : (script : ScriptData) (capture : Option ReaderState) (frames : List (List ℕ)) (rest : Option (Result Next PcapFault)) (before : RunSeen) (now : Moment) (log_length : ℕ) (after : RunSeen) → after.ends ≡ now.outside.ends → log_length ≡ now.state.place → AreRecords capture before.source frames rest → (s : Stands script capture frames rest before (length script.segments) now) → Finishes log_length now.capture now.outside.sink after.sink (Ok tt) s.left rest → EndsBy script (room_of capture) frames rest before after end.Whole
 ends_whole script capture frames rest before now log_length after ends place r s h =
-    let history = history_of script frames rest before now s h.0 in
+    let history = history_of script capture frames rest before now s h.0 in
     let line : Writes now.outside after (end_text history) = subst (λ (n : ℕ). Appends now.outside.sink.told after.sink.told (ended (end_line n h.0))) place h.2 in
     let text : Writes before after (report_text history) = subst (λ (x : List ℕ). Writes before after x) (sym (report_more history)) (writes_more before now.outside after (front_text s.parts) (end_text history) s.text line) in
     (history, subst (λ (x : List NamedEnd). IsWhole script frames rest before.ends x history) (sym ends) (is_whole script capture frames rest before now h.0 r s h.1), text)
 
-pub ends_stopped : (script : ScriptData) (capture : Option ReaderState) (frames : List (List ℕ)) (rest : Option (Result Next PcapFault)) (before : RunSeen) (now : Moment) (log_length : ℕ) (after : RunSeen) (stop : RunEnd) → after.ends ≡ now.outside.ends → log_length ≡ now.state.place → AreRecords capture before.source frames rest → (s : Stands script frames rest before (length script.segments) now) → Finishes log_length now.capture now.outside.sink after.sink (Err stop) s.left rest → EndsBy script frames rest before after stop
+pub ends_stopped : (script : ScriptData) (capture : Option ReaderState) (frames : List (List ℕ)) (rest : Option (Result Next PcapFault)) (before : RunSeen) (now : Moment) (log_length : ℕ) (after : RunSeen) (stop : RunEnd) → after.ends ≡ now.outside.ends → log_length ≡ now.state.place → AreRecords capture before.source frames rest → (s : Stands script capture frames rest before (length script.segments) now) → Finishes log_length now.capture now.outside.sink after.sink (Err stop) s.left rest → EndsBy script (room_of capture) frames rest before after stop
 ends_stopped script capture frames rest before now log_length after end.WriteFault ends place r s h =
-    let history = history_of script frames rest before now s h.0 in
+    let history = history_of script capture frames rest before now s h.0 in
     let line : WritesInto now.outside after [] (end_text history) = subst (λ (n : ℕ). (k : ℕ) × (k < length (ended (end_line n h.0))) × Appends now.outside.sink.told after.sink.told (take k (ended (end_line n h.0)))) place (h.2, h.3, h.4) in
     inr (inr (history, subst (λ (x : List NamedEnd). IsWhole script frames rest before.ends x history) (sym ends) (is_whole script capture frames rest before now h.0 r s h.1), writes_into before now.outside after (front_text s.parts) (end_text history) s.text line))
 ends_stopped script capture frames rest before now log_length after (end.Capture n reason) ends place r s h =
@@ -150,6 +150,7 @@ ends_stopped script capture frames rest before now log_length after end.ReadFaul
   s.run,
   writes_nothing before now.outside after (front_text s.parts) s.text h.1,
   ends ∙ sym (none_retired script now.outside.ends),
+  λ there. absurd (omega (arith, there)),
 )
 ends_stopped script capture frames rest before now log_length after end.NoMemory ends place r s h = (
   length script.segments,
@@ -158,6 +159,7 @@ ends_stopped script capture frames rest before now log_length after end.NoMemory
   s.run,
   writes_nothing before now.outside after (front_text s.parts) s.text h.1,
   inl ends,
+  λ there. absurd (omega (arith, there)),
 )
 ends_stopped script capture frames rest before now log_length after end.Whole ends place r s h = absurd h.0
 ends_stopped script capture frames rest before now log_length after (end.Endpoint p) ends place r s h = absurd h.0

@@ -27,3 +27,5 @@ pub mod OneSegment
 pub mod Reading
 pub mod Sent
 pub mod Steps
+pub mod Taking
+pub mod Faults

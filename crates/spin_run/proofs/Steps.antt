@@ -1,13 +1,13 @@
 -- Segments that are run one after another, and the ends of a run.
-use Rattle.std.proofs.Common.{◌≡◌, ◌<◌, ◌+◌, ℕ, List, [], ◌∷◌, ◌++◌, length, take, Option, Some, None, Result, refl, sym, ap, subst, ◌∙◌, inl, inr, ◌⊎◌, arith, append_assoc, get_or, IfSome}
+use Rattle.std.proofs.Common.{◌≡◌, ◌<◌, ◌≤◌, ◌+◌, ◌-◌, ℕ, List, [], ◌∷◌, ◌++◌, length, take, drop, Option, Some, None, Result, Ok, Err, refl, sym, ap, subst, ◌∙◌, inl, inr, ◌⊎◌, arith, append_assoc, get_or, IfSome}
 use Rattle.std.specs.Prelude.{slice_get, sum_by}
 use Rattle.std.specs.List.{flat_map, enumerate_from}
 use Rattle.std.specs.Option.{option_map_or}
 use Rattle.std.specs.Io.KnownBytes.{Appends}
-use Rattle.std.proofs.lemmas.List.{append-nil, length-take-le, take_more}
+use Rattle.std.proofs.lemmas.List.{append-nil, drop-drop, length-drop, length-take-le, take_more}
 use Rattle.std.proofs.lemmas.Option.{slice_get_within, get_or_from_slice_get}
 use Rattle.std.proofs.lemmas.List.Sums.{sum_by_push}
-use Rattle.spin_outside.specs.Counts.{Rose}
+use Rattle.spin_outside.specs.Sources.{SourceSeen}
 use Rattle.spin_pcap.specs.declared.fault.PcapFault.{PcapFault}
 use Rattle.spin_pcap.specs.declared.next.Next.{Next}
 use Rattle.spin_pcap.specs.Passing.{ReaderState, IsFresh}
@@ -21,11 +21,12 @@ use Rattle.spin_report.specs.Segments.{wanted_by}
 use Rattle.spin_report.specs.Runs.{Standing, IsSegmentRun, AreRun, sends_in, start_with}
 use Rattle.spin_run.specs.declared.end.RunEnd.{RunEnd}
 use Rattle.spin_run.specs.declared.end.RunEnd.TheVariants as end
-use Rattle.spin_run.specs.Records.{AreRecords}
-use Rattle.spin_run.specs.Ends.{RunSeen, HasRun, retired_before, segment_text, wanted_to, Writes, WritesInto, EndsWithin, EndsBy, CountsBy}
-use Rattle.spin_run.specs.Inner.Reading.{given_by, EndByCount}
+use Rattle.spin_run.specs.Records.{AreRecords, room_of, IsTakenPast}
+use Rattle.spin_run.specs.Ends.{RunSeen, HasRun, retired_before, segment_text, wanted_to, Writes, WritesInto, EndsWithin, TakesFor, EndsBy}
+use Rattle.spin_run.specs.Inner.Reading.{given_by, HasTaken, TakesFrames}
 use Rattle.spin_run.specs.Inner.Steps.{Moment, standing, setting_of, RunsFrom, retired_for, HasRunOne, StopsOne, Stands}
 use Rattle.spin_run.proofs.JoinedTexts.{Appends-append}
+use Rattle.spin_run.proofs.Taking.{took_none, took_segments, past_none, past_segments}
 
 -- ---- one segment behind others
 
@@ -78,22 +79,34 @@ writes_into a b c xs ys h k = (k.0, k.1, writes_more a b c xs (take k.0 ys) h k.
 
 -- ---- moments
 
-pub stands_start : (script : ScriptData) (frames : List (List ℕ)) (rest : Option (Result Next PcapFault)) (before : RunSeen) (now : Moment) → now.state ≡ (start_with script frames before.ends).state → now.outside.ends ≡ before.ends → given_by now.capture ≡ 0 → AreRecords now.capture now.outside.source frames rest → Writes before now.outside (ended first_line) → Stands script frames rest before 0 now
-stands_start script frames rest before now state ends given records text = record {
+-- the records that are wanted with one segment more
+wanted_next : (script : ScriptData) (count : ℕ) (segment : Segment) → slice_get script.segments count ≡ Some segment → wanted_to script (count + 1) ≡ wanted_to script count + wanted_by segment.lines
+wanted_next script count segment there =
+    ap (λ (x : List Segment). sum_by (λ (t : Segment). wanted_by t.lines) x) (take_next script.segments count segment there) ∙ sum_by_push (λ (t : Segment). wanted_by t.lines) (take count script.segments) segment
+
+-- how many records are left, where all wanted so far were there
+left_long : (script : ScriptData) (reader : Option ReaderState) (frames : List (List ℕ)) (rest : Option (Result Next PcapFault)) (before : RunSeen) (count : ℕ) (now : Moment) (s : Stands script reader frames rest before count now) → length s.left ≡ length frames - wanted_to script count
+left_long script reader frames rest before count now s = ap length s.left_is ∙ length-drop (wanted_to script count) frames
+
+pub stands_start : (script : ScriptData) (reader : Option ReaderState) (frames : List (List ℕ)) (rest : Option (Result Next PcapFault)) (before : RunSeen) (now : Moment) → now.capture ≡ reader → now.outside.source ≡ before.source → now.state ≡ (start_with script frames before.ends).state → now.outside.ends ≡ before.ends → given_by now.capture ≡ 0 → AreRecords now.capture now.outside.source frames rest → Writes before now.outside (ended first_line) → Stands script reader frames rest before 0 now
+stands_start script reader frames rest before now same source state ends given records text = record {
   parts = [];
   left = frames;
   run = record { there = omega arith; run = (refl, λ i. record { state = state i; left = frames; ends = ends i }) };
   text = subst (λ (x : List ℕ). Writes before now.outside x) (sym (append-nil (ended first_line))) text;
   records = records;
+  left_is = refl;
+  taken = λ le. subst (λ (x : Option ReaderState × SourceSeen). HasTaken reader x.0 before.source x.1 []) (λ i. (sym same i, sym source i)) (took_none reader before.source);
   total = omega (arith, given);
   going = λ g. given;
 }
 
-pub stands_next : (script : ScriptData) (frames : List (List ℕ)) (rest : Option (Result Next PcapFault)) (before : RunSeen) (count : ℕ) (segment : Segment) (now next : Moment) → slice_get script.segments count ≡ Some segment → (s : Stands script frames rest before count now) → HasRunOne (setting_of script) count segment now next s.left rest → Stands script frames rest before (count + 1) next
-stands_next script frames rest before count segment now next there s one =
+pub stands_next : (script : ScriptData) (reader : Option ReaderState) (frames : List (List ℕ)) (rest : Option (Result Next PcapFault)) (before : RunSeen) (count : ℕ) (segment : Segment) (now next : Moment) → slice_get script.segments count ≡ Some segment → (s : Stands script reader frames rest before count now) → HasRunOne (setting_of script) count segment now next s.left rest → TakesFrames {T = Unit {0}} (wanted_by segment.lines) now.capture next.capture now.outside.source next.outside.source (Ok tt) s.left → Stands script reader frames rest before (count + 1) next
+stands_next script reader frames rest before count segment now next there s one took =
     let h : HasRun script frames before.ends count s.parts (standing now s.left) = s.run in
     let at = slice_at script.segments count segment there in
     let more : take (count + 1) script.segments ≡ take count script.segments ++ segment ∷ [] = take_next script.segments count segment there in
+    let sum = wanted_next script count segment there in
     let long : length s.parts ≡ count = length_run script (take count script.segments) _ s.parts _ h.run ∙ length-take-le count script.segments h.there in
     record {
       parts = s.parts ++ one.part ∷ [];
@@ -105,10 +118,15 @@ stands_next script frames rest before count segment now next there s one =
       };
       text = subst (λ (x : List ℕ). Writes before next.outside x) (sym (front_more s.parts one.part count long)) (writes_more before now.outside next.outside (front_text s.parts) (segment_text count one.part) s.text one.text);
       records = one.records;
+      left_is = one.run.left ∙ ap (drop (wanted_by segment.lines)) s.left_is ∙ drop-drop (wanted_by segment.lines) (wanted_to script count) frames ∙ ap (λ n. drop n frames) (sym sum);
+      taken = λ le.
+          let few : wanted_to script count + wanted_by segment.lines ≤ length frames = omega (arith, le, sum) in
+          subst (λ n. HasTaken reader next.capture before.source next.outside.source (take n frames)) (sym sum)
+          (took_segments reader now.capture next.capture before.source now.outside.source next.outside.source frames s.left (wanted_to script count) (wanted_by segment.lines) s.left_is few
+          (s.taken (omega (arith, few))) (took (omega (arith, few, left_long script reader frames rest before count now s))));
       total = one.total ∙ s.total;
       going = λ g. let one_going = one.going g in
-          one_going.1 ∙ ap (λ n. n + wanted_by segment.lines) (s.going one_going.0)
-          ∙ sym (ap (λ (x : List Segment). sum_by (λ (t : Segment). wanted_by t.lines) x) more ∙ sum_by_push (λ (t : Segment). wanted_by t.lines) (take count script.segments) segment);
+          one_going.1 ∙ ap (λ n. n + wanted_by segment.lines) (s.going one_going.0) ∙ sym sum;
     }
 
 retired_is : (script : ScriptData) (count : ℕ) (segment : Segment) (ends : List NamedEnd) → slice_get script.segments count ≡ Some segment → all_retired script.endpoints segment.retires ends ≡ retired_before script count ends
@@ -119,12 +137,19 @@ within script count segment now left ends there (inl same) = inl same
 within script count segment now left ends there (inr (inl retired)) = inr (inl (retired ∙ retired_is script count segment now.outside.ends there))
 within script count segment now left ends there (inr (inr all)) = inr (inr (all.0, all.1, record { segment = segment; there = there; run = all.2 }, all.3))
 
+-- what was taken by a run that stopped in a segment
+takes_for : (script : ScriptData) (reader : Option ReaderState) (frames : List (List ℕ)) (rest : Option (Result Next PcapFault)) (before : RunSeen) (count : ℕ) (segment : Segment) (now next : Moment) (stop : RunEnd) → slice_get script.segments count ≡ Some segment → (s : Stands script reader frames rest before count now) → TakesFrames {T = Unit {0}} (wanted_by segment.lines) now.capture next.capture now.outside.source next.outside.source (Err stop) s.left → TakesFor script (room_of reader) frames count before next.outside
+takes_for script reader frames rest before count segment now next stop there s took = λ _ le.
+    let sum = wanted_next script count segment there in
+    let few : wanted_to script count + wanted_by segment.lines ≤ length frames = omega (arith, le, sum) in
+    subst (λ n. IsTakenPast (room_of reader) before.source next.outside.source (take n frames)) (sym sum)
+    (past_segments reader now.capture before.source now.outside.source next.outside.source frames s.left (wanted_to script count) (wanted_by segment.lines) s.left_is few
+    (s.taken (omega (arith, few))) (took (omega (arith, few, left_long script reader frames rest before count now s))))
+
 -- the end of a run that stopped in a segment
-pub one_ends : (script : ScriptData) (frames : List (List ℕ)) (rest : Option (Result Next PcapFault)) (before : RunSeen) (count : ℕ) (segment : Segment) (now next : Moment) (stop : RunEnd) → slice_get script.segments count ≡ Some segment → (s : Stands script frames rest before count now) → StopsOne (setting_of script) count segment now next s.left rest stop → EndsBy script frames rest before next.outside stop
-one_ends script frames rest before count segment now next (end.Capture n reason) there s h =
-    let more : take (count + 1) script.segments ≡ take count script.segments ++ segment ∷ [] = take_next script.segments count segment there in
-    let sum : wanted_to script (count + 1) ≡ wanted_to script count + wanted_by segment.lines =
-    ap (λ (x : List Segment). sum_by (λ (t : Segment). wanted_by t.lines) x) more ∙ sum_by_push (λ (t : Segment). wanted_by t.lines) (take count script.segments) segment in
+pub one_ends : (script : ScriptData) (reader : Option ReaderState) (frames : List (List ℕ)) (rest : Option (Result Next PcapFault)) (before : RunSeen) (count : ℕ) (segment : Segment) (now next : Moment) (stop : RunEnd) → slice_get script.segments count ≡ Some segment → (s : Stands script reader frames rest before count now) → StopsOne (setting_of script) count segment now next s.left rest stop → TakesFrames {T = Unit {0}} (wanted_by segment.lines) now.capture next.capture now.outside.source next.outside.source (Err stop) s.left → EndsBy script (room_of reader) frames rest before next.outside stop
+one_ends script reader frames rest before count segment now next (end.Capture n reason) there s h took =
+    let sum = wanted_next script count segment there in
     let r = h.0 in
     let number_is : n ≡ length frames + 1 = omega (arith, r.3, s.total) in
     let given = s.going r.4 in (
@@ -140,15 +165,16 @@ one_ends script frames rest before count segment now next (end.Capture n reason)
       writes_nothing before now.outside next.outside (front_text s.parts) s.text h.3,
       h.2 ∙ retired_is script count segment now.outside.ends there,
     )
-one_ends script frames rest before count segment now next end.ReadFault there s h = (
+one_ends script reader frames rest before count segment now next end.ReadFault there s h took = (
   count,
   s.parts,
   standing now s.left,
   s.run,
   writes_nothing before now.outside next.outside (front_text s.parts) s.text h.1,
   h.0 ∙ retired_is script count segment now.outside.ends there,
+  takes_for script reader frames rest before count segment now next end.ReadFault there s took,
 )
-one_ends script frames rest before count segment now next end.WriteFault there s h = inr (inl (
+one_ends script reader frames rest before count segment now next end.WriteFault there s h took = inr (inl (
   count,
   s.parts,
   standing now s.left,
@@ -158,16 +184,18 @@ one_ends script frames rest before count segment now next end.WriteFault there s
   record { segment = segment; there = there; run = h.2 },
   writes_into before now.outside next.outside (front_text s.parts) (segment_text count h.0) s.text h.4,
   h.3,
+  takes_for script reader frames rest before count segment now next end.WriteFault there s took,
 ))
-one_ends script frames rest before count segment now next end.NoMemory there s h = (
+one_ends script reader frames rest before count segment now next end.NoMemory there s h took = (
   count,
   s.parts,
   standing now s.left,
   s.run,
   writes_nothing before now.outside next.outside (front_text s.parts) s.text h.1,
   within script count segment now s.left next.outside.ends there h.0,
+  takes_for script reader frames rest before count segment now next end.NoMemory there s took,
 )
-one_ends script frames rest before count segment now next (end.Endpoint p) there s h = (
+one_ends script reader frames rest before count segment now next (end.Endpoint p) there s h took = (
   count,
   s.parts,
   standing now s.left,
@@ -177,44 +205,28 @@ one_ends script frames rest before count segment now next (end.Endpoint p) there
   record { segment = segment; there = there; run = h.2 },
   subst (λ (x : List NamedEnd). StopsAt script.endpoints (sends_in h.0) p x next.outside.ends) (retired_is script count segment now.outside.ends there) h.3,
   writes_nothing before now.outside next.outside (front_text s.parts) s.text h.4,
+  takes_for script reader frames rest before count segment now next (end.Endpoint p) there s took,
 )
-one_ends script frames rest before count segment now next end.Whole there s h = absurd h
-
--- which counts a read that stopped raises
-pub counts_reading : (stop : RunEnd) (before after : RunSeen) → EndByCount stop before.source.faults after.source.faults → after.sink.faults ≡ before.sink.faults → CountsBy before after stop
-counts_reading end.Whole before after h same = (h, same)
-counts_reading (end.Capture n reason) before after h same = (h, same)
-counts_reading end.ReadFault before after h same = (h, same)
-counts_reading end.WriteFault before after h same = absurd h
-counts_reading end.NoMemory before after h same = (h, same)
-counts_reading (end.Endpoint p) before after h same = (h, same)
+one_ends script reader frames rest before count segment now next end.Whole there s h took = absurd h
 
 -- ---- the first line
 
 -- the sink failed at it
-pub ends_first : (script : ScriptData) (frames : List (List ℕ)) (rest : Option (Result Next PcapFault)) (before after : RunSeen) (n : ℕ) → after.ends ≡ before.ends → n < length (ended first_line) → Appends before.sink.told after.sink.told (take n (ended first_line)) → EndsBy script frames rest before after end.WriteFault
-ends_first script frames rest before after n same short h = inl ((n, short, h), same)
+pub ends_first : (script : ScriptData) (reader : Option ReaderState) (frames : List (List ℕ)) (rest : Option (Result Next PcapFault)) (before after : RunSeen) (n : ℕ) → after.ends ≡ before.ends → after.source ≡ before.source → n < length (ended first_line) → Appends before.sink.told after.sink.told (take n (ended first_line)) → EndsBy script (room_of reader) frames rest before after end.WriteFault
+ends_first script reader frames rest before after n same source short h =
+    inl ((n, short, h), same, subst (λ (x : SourceSeen). IsTakenPast (room_of reader) before.source x []) (sym source) (past_none (room_of reader) before.source []))
 
 -- there was no memory behind it
-pub ends_empty : (script : ScriptData) (frames : List (List ℕ)) (rest : Option (Result Next PcapFault)) (before after : RunSeen) → after.ends ≡ before.ends → Appends before.sink.told after.sink.told (ended first_line) → EndsBy script frames rest before after end.NoMemory
-ends_empty script frames rest before after same h = (
+pub ends_empty : (script : ScriptData) (reader : Option ReaderState) (frames : List (List ℕ)) (rest : Option (Result Next PcapFault)) (before after : RunSeen) → after.ends ≡ before.ends → after.source ≡ before.source → Appends before.sink.told after.sink.told (ended first_line) → EndsBy script (room_of reader) frames rest before after end.NoMemory
+ends_empty script reader frames rest before after same source h = (
   0,
   [],
   start_with script frames before.ends,
   record { there = omega arith; run = (refl, refl) },
   subst (λ (x : List ℕ). Writes before after x) (sym (append-nil (ended first_line))) h,
   inl same,
+  λ _ _. subst (λ (x : SourceSeen). IsTakenPast (room_of reader) before.source x (take (wanted_to script (0 + 1)) frames)) (sym source) (past_none (room_of reader) before.source (take (wanted_to script (0 + 1)) frames)),
 )
-
--- ---- counts
-
-pub counts_later : (stop : RunEnd) (a b c : RunSeen) → b.source.faults ≡ a.source.faults → b.sink.faults ≡ a.sink.faults → CountsBy b c stop → CountsBy a c stop
-counts_later end.ReadFault a b c source sink h = (subst (λ (n : ℕ). Rose n c.source.faults) source h.0, h.1 ∙ sink)
-counts_later end.WriteFault a b c source sink h = (h.0 ∙ source, subst (λ (n : ℕ). Rose n c.sink.faults) sink h.1)
-counts_later end.Whole a b c source sink h = (h.0 ∙ source, h.1 ∙ sink)
-counts_later end.NoMemory a b c source sink h = (h.0 ∙ source, h.1 ∙ sink)
-counts_later (end.Capture n reason) a b c source sink h = (h.0 ∙ source, h.1 ∙ sink)
-counts_later (end.Endpoint p) a b c source sink h = (h.0 ∙ source, h.1 ∙ sink)
 
 -- a reader that gave nothing yet
 pub fresh_given : (capture : Option ReaderState) → IfSome capture IsFresh → given_by capture ≡ 0

@@ -1,5 +1,6 @@
 -- How a run ends, and what it has done by then.
-use Rattle.std.specs.Prelude.{◌≡◌, ◌<◌, ◌≤◌, ◌⊎◌, ◌+◌, ℕ, List, [], ◌++◌, length, take, sum_by, slice_get, Option, Some, None, Result, Ok, Err}
+use Rattle.std.specs.Prelude.{◌≡◌, ◌<◌, ◌≤◌, ◌⊎◌, ◌+◌, ℕ, true, List, [], ◌++◌, length, map, take, sum_by, slice_get, slice_index_or, Option, Some, None, Result, Ok, Err}
+use Rattle.std.specs.List.{HoldsAt}
 use Rattle.std.specs.Option.{option_map_or}
 use Rattle.std.specs.Io.KnownBytes.{Appends}
 use Rattle.spin_outside.specs.Counts.{Rose}
@@ -9,8 +10,8 @@ use Rattle.spin_pcap.specs.declared.fault.PcapFault.{PcapFault}
 use Rattle.spin_pcap.specs.declared.next.Next.{Next}
 use Rattle.spin_pcap.specs.declared.next.Next.TheVariants as next
 use Rattle.spin_pcap.specs.Passing.{number}
-use Rattle.spin_endpoint.specs.Named.{NamedEnd}
-use Rattle.spin_endpoint.specs.Sends.{StopsAt, all_retired}
+use Rattle.spin_endpoint.specs.Named.{NamedEnd, stands_as}
+use Rattle.spin_endpoint.specs.Sends.{StopsAt, all_retired, name_of}
 use Rattle.spin_script.specs.declared.script.Segment.{Segment}
 use Rattle.spin_script.specs.States.{ScriptData}
 use Rattle.spin_text.specs.Words.{ended, text_of}
@@ -19,6 +20,7 @@ use Rattle.spin_report.specs.Segments.{wanted_by}
 use Rattle.spin_report.specs.Runs.{Standing, Captured, AreRun, IsSegmentRun, IsRun, sends_in, start_with}
 use Rattle.spin_run.specs.declared.end.RunEnd.{RunEnd}
 use Rattle.spin_run.specs.declared.end.RunEnd.TheVariants as end
+use Rattle.spin_run.specs.Records.{IsTakenPast}
 
 -- what contracts see of the source, the sink and the endpoints at one moment
 pub record RunSeen : Type 0 where
@@ -79,6 +81,13 @@ WritesInto before after text behind =
 
 -- ---- the capture
 
+-- Where segment `count` is there, and the capture has all records that the segments up to it want, it included: of the
+-- capture no more was taken than these, and so many bytes past them.
+abbrev pub TakesFor : ScriptData → ℕ → List (List ℕ) → ℕ → RunSeen → RunSeen → Type 0
+TakesFor script past frames count before after =
+    count < length script.segments → wanted_to script (count + 1) ≤ length frames
+    → IsTakenPast past before.source after.source (take (wanted_to script (count + 1)) frames)
+
 -- what is told of a capture that was read whole: none where there is none
 abbrev pub IsReadWhole : List (List ℕ) → Option (Result Next PcapFault) → Option Captured → Type 0
 IsReadWhole frames None captured = captured ≡ None
@@ -110,25 +119,29 @@ EndsWithin script count at ends =
     ⊎ ((part : SegmentSeen) × (next : Standing) × RunsNext script count at part next × (ends ≡ next.ends)))
 
 -- The sink failed in the first line, in the text of a segment that was run, or in the last line.
-abbrev pub StopsWriting : ScriptData → List (List ℕ) → Option (Result Next PcapFault)
+abbrev pub StopsWriting : ScriptData → ℕ → List (List ℕ) → Option (Result Next PcapFault)
     → RunSeen → RunSeen → Type 0
-StopsWriting script frames rest before after =
-    (WritesInto before after [] (ended first_line) × (after.ends ≡ before.ends))
+StopsWriting script past frames rest before after =
+    (WritesInto before after [] (ended first_line) × (after.ends ≡ before.ends)
+    × IsTakenPast past before.source after.source [])
     ⊎ (((count : ℕ) × (parts : List SegmentSeen) × (at : Standing)
     × HasRun script frames before.ends count parts at
     × (part : SegmentSeen) × (next : Standing) × RunsNext script count at part next
     × WritesInto before after (front_text parts) (segment_text count part)
-    × (after.ends ≡ next.ends))
+    × (after.ends ≡ next.ends)
+    × TakesFor script past frames count before after)
     ⊎ ((history : HistorySeen) × IsWhole script frames rest before.ends after.ends history
     × WritesInto before after (front_text history.segments) (end_text history)))
 
--- A run of the script ends so, where the capture has these records and then that rest.
-abbrev pub EndsBy : ScriptData → List (List ℕ) → Option (Result Next PcapFault)
+-- A run of the script ends so, where the capture has these records and then that rest. Of the capture no more is taken
+-- than the records that are wanted up to the stop, and so many bytes past them; a run that comes to the end of the
+-- capture takes all of it.
+abbrev pub EndsBy : ScriptData → ℕ → List (List ℕ) → Option (Result Next PcapFault)
     → RunSeen → RunSeen → RunEnd → Type 0
-EndsBy script frames rest before after end.Whole =
+EndsBy script past frames rest before after end.Whole =
     (history : HistorySeen) × IsWhole script frames rest before.ends after.ends history
     × Writes before after (report_text history)
-EndsBy script frames rest before after (end.Capture at_record fault) =
+EndsBy script past frames rest before after (end.Capture at_record fault) =
     (wrong : PcapFault) × (rest ≡ Some (Err wrong)) × (fault ≡ number wrong)
     × (at_record ≡ length frames + 1)
     × (count : ℕ) × (parts : List SegmentSeen) × (at : Standing)
@@ -136,29 +149,54 @@ EndsBy script frames rest before after (end.Capture at_record fault) =
     × IsReadAt script at_record count
     × Writes before after (front_text parts)
     × (after.ends ≡ retired_before script count at.ends)
-EndsBy script frames rest before after end.ReadFault =
+EndsBy script past frames rest before after end.ReadFault =
     (count : ℕ) × (parts : List SegmentSeen) × (at : Standing)
     × HasRun script frames before.ends count parts at
     × Writes before after (front_text parts)
     × (after.ends ≡ retired_before script count at.ends)
-EndsBy script frames rest before after end.WriteFault = StopsWriting script frames rest before after
-EndsBy script frames rest before after end.NoMemory =
+    × TakesFor script past frames count before after
+EndsBy script past frames rest before after end.WriteFault = StopsWriting script past frames rest before after
+EndsBy script past frames rest before after end.NoMemory =
     (count : ℕ) × (parts : List SegmentSeen) × (at : Standing)
     × HasRun script frames before.ends count parts at
     × Writes before after (front_text parts)
     × EndsWithin script count at after.ends
-EndsBy script frames rest before after (end.Endpoint endpoint) =
+    × TakesFor script past frames count before after
+EndsBy script past frames rest before after (end.Endpoint endpoint) =
     (count : ℕ) × (parts : List SegmentSeen) × (at : Standing)
     × HasRun script frames before.ends count parts at
     × (part : SegmentSeen) × (next : Standing) × RunsNext script count at part next
     × StopsAt script.endpoints (sends_in part) endpoint (retired_before script count at.ends) after.ends
     × Writes before after (front_text parts)
+    × TakesFor script past frames count before after
 
--- Which counts rose: the source's at a failed read, the sink's at a failed write, and no other.
-abbrev pub CountsBy : RunSeen → RunSeen → RunEnd → Type 0
-CountsBy before after end.ReadFault =
+-- ---- counts of faults
+
+abbrev pub faults_of : List NamedEnd → List ℕ
+faults_of ends = map (λ end. end.object.faults) ends
+
+abbrev pub faults_at : List NamedEnd → ℕ → ℕ
+faults_at ends place = slice_index_or (faults_of ends) place 0
+
+-- An endpoint stands under the name, and its count of faults rose.
+pub record EndRose (name : List ℕ) (before after : List NamedEnd) : Type 0 where
+  pub place : ℕ
+  pub there : place < length before
+  pub stands : HoldsAt (λ end. stands_as name end ≡ true) after place
+  pub rose : Rose (faults_at before place) (faults_at after place)
+
+-- Which counts rose: the source's at a failed read, the sink's at a failed write, and at a failed delivery that of the
+-- endpoint that stands under the name of the number. Else none rose.
+abbrev pub CountsBy : List (List ℕ) → RunSeen → RunSeen → RunEnd → Type 0
+CountsBy names before after end.ReadFault =
     Rose before.source.faults after.source.faults × (after.sink.faults ≡ before.sink.faults)
-CountsBy before after end.WriteFault =
+    × (faults_of after.ends ≡ faults_of before.ends)
+CountsBy names before after end.WriteFault =
     (after.source.faults ≡ before.source.faults) × Rose before.sink.faults after.sink.faults
-CountsBy before after other =
+    × (faults_of after.ends ≡ faults_of before.ends)
+CountsBy names before after (end.Endpoint endpoint) =
     (after.source.faults ≡ before.source.faults) × (after.sink.faults ≡ before.sink.faults)
+    × EndRose (name_of names endpoint) before.ends after.ends
+CountsBy names before after other =
+    (after.source.faults ≡ before.source.faults) × (after.sink.faults ≡ before.sink.faults)
+    × (faults_of after.ends ≡ faults_of before.ends)

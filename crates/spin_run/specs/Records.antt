@@ -1,6 +1,7 @@
--- The records of a capture that are left for its reader.
-use Rattle.std.specs.Prelude.{◌≡◌, ℕ, List, [], Option, Some, None, Result, Ok}
-use Rattle.spin_outside.specs.Sources.{SourceSeen}
+-- The records of a capture that are left for its reader, and how many bytes were taken for records.
+use Rattle.std.specs.Prelude.{◌≡◌, ◌+◌, ◌-◌, ◌≤◌, ℕ, List, [], length, sum_by, Option, Some, None, Result, Ok}
+use Rattle.spin_outside.specs.Sources.{SourceSeen, taken_more}
+use Rattle.spin_pcap.specs.declared.limits.TheConstants.{MAX_HELD}
 use Rattle.spin_pcap.specs.declared.fault.PcapFault.{PcapFault}
 use Rattle.spin_pcap.specs.declared.next.Next.{Next}
 use Rattle.spin_pcap.specs.declared.next.Next.TheVariants as next
@@ -33,3 +34,20 @@ AreRecords None source frames rest = (frames ≡ []) × (rest ≡ None)
 AreRecords (Some reader) source frames rest =
     (ending : Result Next PcapFault) × (rest ≡ Some ending)
     × AreLeftBy reader.state reader source.left frames ending
+
+-- ---- how many bytes were taken
+
+-- how many bytes records with these captured bytes have, each with its header of 16
+abbrev pub bytes_in : List (List ℕ) → ℕ
+bytes_in frames = sum_by (λ frame. 16 + length frame) frames
+
+-- how many bytes more the reader can hold, which it hasn't given yet; without a reader none are held
+abbrev pub room_of : Option ReaderState → ℕ
+room_of None = 0
+room_of (Some reader) = MAX_HELD - length reader.held
+
+-- Of the source no more was taken than these records have, and so many bytes past them.
+pub record IsTakenPast (past : ℕ) (before after : SourceSeen) (frames : List (List ℕ)) : Type 0 where
+  pub count : ℕ
+  pub few : count ≤ bytes_in frames + past
+  pub taken : after.taken ≡ taken_more before.taken count

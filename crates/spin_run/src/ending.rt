@@ -68,7 +68,7 @@ pub(crate) fn finish<S: Source, K: Sink>(
     ensures answer { ForRecords capture.old (S.seen source.old)
         (Finishes length capture.old (K.seen out.old) (K.seen out.new) result) }
     ensures keep { (S.seen source.new).keep ≡ (S.seen source.old).keep }
-    ensures counts { ResultCounts (seen (S.seen source.old) (K.seen out.old) [])
+    ensures counts { ResultCounts [] (seen (S.seen source.old) (K.seen out.old) [])
         (seen (S.seen source.new) (K.seen out.new) []) result }
 {
     let counts = match rest_counts(alloc, capture, source) {

@@ -13,7 +13,7 @@ ghost use Rattle.spin_run.specs.Segments.{AreReady, IsFitSegment, commands_in, f
 ghost use Rattle.spin_script.specs.States.{ScriptData, deed_count};
 ghost use Rattle.spin_script.specs.Checks.{most_deeds};
 ghost use Rattle.spin_run.specs.Inner.Lining.{counts_to};
-ghost use Rattle.spin_run.specs.Inner.Reading.{ForRecords};
+ghost use Rattle.spin_run.specs.Inner.Reading.{ForRecords, TakesFrames};
 ghost use Rattle.spin_run.specs.Ends.{seen};
 ghost use Rattle.spin_run.specs.Inner.Steps.{moment, setting, OneBy, ResultCounts};
 
@@ -111,12 +111,15 @@ pub(crate) fn run_one<R: Threads + Sync, S: Source, K: Sink, G: Gate>(
         OnOk result (AreReady d hub.now.log.id hub.now.log.lanes lanes.new) }
     ensures taken { let most = length (front_of lanes.old) + commands_in segment.now.lines in
         OnOk result (length (front_of lanes.new) ≤ most) }
+    ensures took { ForRecords capture.old (S.seen source.old) (λ left rest.
+        TakesFrames (specs.wanted_by segment.now.lines)
+        capture.old capture.new (S.seen source.old) (S.seen source.new) result left) }
     ensures keep { (S.seen source.new).keep ≡ (S.seen source.old).keep }
     ensures counts { let before = seen (S.seen source.old) (K.seen out.old)
         (⟦<Ends as EndsSeen>⟧.all ends.old) in
         let after = seen (S.seen source.new) (K.seen out.new)
         (⟦<Ends as EndsSeen>⟧.all ends.new) in
-        ResultCounts before after result }
+        ResultCounts names.now before after result }
 {
     let Ok(retired) = retire(alloc, ends, names, segment.retires.as_slice()) else {
         return Err(RunEnd::NoMemory);

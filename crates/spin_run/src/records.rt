@@ -2,6 +2,7 @@
 
 ghost use Rattle.std.specs.Prelude.{◌≡◌, List, ℕ, Option, Result, Ok};
 ghost use Rattle.spin_run.specs.Inner.Reading.{ForRecords, stop_of, CountsOn, GivesNext, GivesFrames, GivesRest, ReadsByCount};
+ghost use Rattle.spin_run.specs.Inner.Reading.{TakesNext, TakesFrames};
 
 use crate::end::RunEnd;
 use spin_outside::Source;
@@ -35,6 +36,7 @@ fn next_record<S: Source>(
     ensures answer { ForRecords capture.old (S.seen source.old)
         (GivesNext capture.old capture.new (S.seen source.new) frame.new result) }
     ensures counted { result ≡ Ok Next.Packet → CountsOn capture.old capture.new }
+    ensures took { TakesNext capture.old capture.new (S.seen source.old) (S.seen source.new) frame.new result }
     ensures keep { (S.seen source.new).keep ≡ (S.seen source.old).keep }
     ensures cause { ReadsByCount (S.seen source.old).faults (S.seen source.new).faults result }
 {
@@ -56,6 +58,8 @@ pub(crate) fn read_records<S: Source>(
 ) -> Result<Frames, RunEnd>
     ensures answer { ForRecords capture.old (S.seen source.old)
         (GivesFrames wanted capture.old capture.new (S.seen source.new) result) }
+    ensures took { ForRecords capture.old (S.seen source.old) (λ frames rest.
+        TakesFrames wanted capture.old capture.new (S.seen source.old) (S.seen source.new) result frames) }
     ensures keep { (S.seen source.new).keep ≡ (S.seen source.old).keep }
     ensures cause { ReadsByCount (S.seen source.old).faults (S.seen source.new).faults result }
 {

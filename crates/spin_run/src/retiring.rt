@@ -6,6 +6,7 @@ ghost use Rattle.spin_endpoint.specs.declared.ends.TheConstants.{MAX_ENDPOINTS};
 ghost use Rattle.spin_endpoint.specs.Sends.{all_retired};
 ghost use Rattle.spin_report.specs.Histories.{retire_line};
 ghost use Rattle.spin_report.specs.Runs.{retirements};
+ghost use Rattle.spin_run.specs.Ends.{faults_of};
 
 use crate::lines::add_retired;
 use crate::writing::TextLines;
@@ -53,6 +54,8 @@ pub(crate) fn retire(
     ensures memory { let old = ⟦<Ends as EndsSeen>⟧.all ends.old in
         let new = ⟦<Ends as EndsSeen>⟧.all ends.new in
         OnErr result ((new ≡ old) ⊎ (new ≡ all_retired names.now numbers.now old)) }
+    ensures faults { faults_of (⟦<Ends as EndsSeen>⟧.all ends.new)
+        ≡ faults_of (⟦<Ends as EndsSeen>⟧.all ends.old) }
 {
     let bytes = in_bytes(alloc, numbers)?;
     let mut stood = unset(alloc, numbers.len())?;

@@ -7,6 +7,7 @@ ghost use Rattle.spin_script.specs.Scripts.{script_seen};
 ghost use Rattle.spin_script.specs.Segments.{IsOrderly};
 ghost use Rattle.spin_script.specs.Soundness.{AreValid, command_lines};
 ghost use Rattle.spin_run.specs.Ends.{seen, EndsBy, CountsBy};
+ghost use Rattle.spin_run.specs.Records.{room_of};
 ghost use Rattle.spin_run.specs.Inner.Reading.{ForRecords};
 ghost use Rattle.spin_run.specs.Inner.Steps.{AllBy, ResultCounts};
 
@@ -45,13 +46,13 @@ fn run_segments<R: Threads + Sync, S: Source, K: Sink, G: Gate>(
         let after = seen (S.seen source.new) (K.seen out.new)
         (⟦<Ends as EndsSeen>⟧.all ends.new) in
         ForRecords capture.old (S.seen source.old)
-        (AllBy (script_seen script) before capture.new after result) }
+        (AllBy (script_seen script) capture.old before capture.new after result) }
     ensures keep { (S.seen source.new).keep ≡ (S.seen source.old).keep }
     ensures counts { let before = seen (S.seen source.old) (K.seen out.old)
         (⟦<Ends as EndsSeen>⟧.all ends.old) in
         let after = seen (S.seen source.new) (K.seen out.new)
         (⟦<Ends as EndsSeen>⟧.all ends.new) in
-        ResultCounts before after result }
+        ResultCounts (script_seen script).endpoints before after result }
 {
     if let Err(_) = write_all(out, b"report 1\n") {
         return Err(RunEnd::WriteFault);
@@ -88,7 +89,11 @@ fn run_segments<R: Threads + Sync, S: Source, K: Sink, G: Gate>(
 ///
 /// A run stops at the first thing that fails, and [`RunEnd`] says which. What has been done by then stays: whole lines
 /// are written, but where the sink failed. A failed read comes only where the source's count of faults rose, a failed
-/// write only where the sink's did. A failed endpoint comes, where the capture is told, only where its own count did.
+/// write only where the sink's did, and a failed endpoint only where its own count did.
+///
+/// The capture is read as the segments need it: where it stops in a segment, and the capture has all records that the
+/// segments up to this one want, no more than 65,536 bytes past these were taken, those among them that the reader held
+/// from the start.
 ///
 /// The script is one that [`read_script`](spin_script::read_script) gives, the capture is as
 /// [`Reader::start`](spin_pcap::Reader::start) left it, and the catalogue's objects do what they were handed in with.
@@ -112,13 +117,14 @@ pub fn run_script<R: Threads + Sync, S: Source, K: Sink, G: Gate>(
         let after = seen (S.seen source.new) (K.seen out.new)
         (⟦<Ends as EndsSeen>⟧.all ends.new) in
         ForRecords capture (S.seen source.old)
-        (λ frames rest. EndsBy (script_seen script) frames rest before after result) }
+        (λ frames rest.
+        EndsBy (script_seen script) (room_of capture) frames rest before after result) }
     ensures keep { (S.seen source.new).keep ≡ (S.seen source.old).keep }
     ensures counts { let before = seen (S.seen source.old) (K.seen out.old)
         (⟦<Ends as EndsSeen>⟧.all ends.old) in
         let after = seen (S.seen source.new) (K.seen out.new)
         (⟦<Ends as EndsSeen>⟧.all ends.new) in
-        CountsBy before after result }
+        CountsBy (script_seen script).endpoints before after result }
 {
     let mut capture = capture;
     match run_segments(rt, alloc, script, &mut capture, source, out, ends, gate) {

@@ -4,7 +4,7 @@ ghost use Rattle.std.specs.Prelude.{◌≡◌, ◌<◌, ◌≤◌, ◌++◌, ◌
 ghost use Rattle.std.specs.List.{flat_map, filter_map};
 ghost use Rattle.spin_endpoint.specs.declared.ends.TheConstants.{MAX_ENDPOINTS};
 ghost use Rattle.spin_report.specs.Runs.{sent_by, sends_of_reply, sends_of};
-ghost use Rattle.spin_run.specs.Inner.Sending.{sends_made, SendsAll};
+ghost use Rattle.spin_run.specs.Inner.Sending.{sends_made, SendsAll, SendsByCount};
 
 use crate::end::RunEnd;
 use spin_endpoint::{Ends, EndsSeen, Lost, Sent};
@@ -93,8 +93,10 @@ pub(crate) fn send_all(
 ) -> Result<Lost, RunEnd>
     requires few { length names.now ≤ MAX_ENDPOINTS }
     requires named { All (λ sent. sent.endpoint < length names.now) (sends_made entries.now replies.now) }
-    ensures { SendsAll names.now (sends_made entries.now replies.now) result
+    ensures sends { SendsAll names.now (sends_made entries.now replies.now) result
         (⟦<Ends as EndsSeen>⟧.all ends.old) (⟦<Ends as EndsSeen>⟧.all ends.new) }
+    ensures counts { SendsByCount names.now
+        (⟦<Ends as EndsSeen>⟧.all ends.old) (⟦<Ends as EndsSeen>⟧.all ends.new) result }
 {
     let Ok(sends) = sends_of_segment(alloc, entries, replies) else {
         return Err(RunEnd::NoMemory);

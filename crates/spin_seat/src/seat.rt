@@ -113,6 +113,7 @@ impl Seat {
         ensures seat { IsSeatOf (data_of hub.now.setup) self.new }
         ensures pen { self.new.pen ≡ self.old.pen }
         ensures ok { OnOk result (self.new.kept ≡ None) }
+        ensures err { OnErr result (self.new ≡ self.old) }
     {
         let _front = self.pen.front();
         let Some(command) = unpack(&row) else {
@@ -132,7 +133,7 @@ impl Seat {
     }
 
     /// Applies the row that it has read and not yet applied, if there is one, so that its version is
-    /// that of its whole front. The pen stays, also after want of memory.
+    /// that of its whole front. The pen stays, and after want of memory the seat is as before.
     ///
     /// The last clause tells what is so of every pen, as [`Pen::front`](spin_log::Pen::front) does.
     pub fn apply(&mut self, alloc: Global, hub: &Hub) -> Result<(), NoMemory>
@@ -141,6 +142,7 @@ impl Seat {
         ensures seat { IsSeatOf (data_of hub.now.setup) self.new }
         ensures pen { self.new.pen ≡ self.old.pen }
         ensures ok { OnOk result (self.new.kept ≡ None) }
+        ensures err { OnErr result (self.new ≡ self.old) }
         ensures is_pen { IsPen self.new.pen }
     {
         let _front = self.pen.front();

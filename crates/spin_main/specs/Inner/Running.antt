@@ -7,7 +7,7 @@ use Rattle.spin_pcap.specs.Passing.{ReaderState}
 use Rattle.spin_script.specs.States.{ScriptData}
 use Rattle.spin_run.specs.declared.end.RunEnd.{RunEnd}
 use Rattle.spin_run.specs.Ends.{seen, EndsBy, CountsBy}
-use Rattle.spin_run.specs.Records.{AreRecords}
+use Rattle.spin_run.specs.Records.{AreRecords, room_of}
 use Rattle.spin_main.specs.Statuses.{Outside}
 
 -- The run ended so, over a source with the records of that file of the shelf.
@@ -19,9 +19,9 @@ pub record RunsOver (script : ScriptData) (file : ℕ) (reader : Option ReaderSt
   pub keep : (file_seen after.shelf file' reference').keep ≡ (file_seen before.shelf file reference).keep
   pub ended_so : (frames : List (List ℕ)) (rest : Option (Result Next PcapFault))
       → AreRecords reader (file_seen before.shelf file reference) frames rest
-      → EndsBy script frames rest
+      → EndsBy script (room_of reader) frames rest
       (seen (file_seen before.shelf file reference) before.sink before.ends)
       (seen (file_seen after.shelf file' reference') after.sink after.ends) ended
-  pub counts : CountsBy
+  pub counts : CountsBy script.endpoints
       (seen (file_seen before.shelf file reference) before.sink before.ends)
       (seen (file_seen after.shelf file' reference') after.sink after.ends) ended

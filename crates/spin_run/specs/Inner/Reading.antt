@@ -1,7 +1,7 @@
 -- What reading on in a capture gives, of the records that are left.
-use Rattle.std.specs.Prelude.{◌≡◌, ◌<◌, ◌+◌, ℕ, List, [], ◌∷◌, length, take, drop, Option, Some, None, Result, Ok, Err, ⊤, MatchResult}
+use Rattle.std.specs.Prelude.{◌≡◌, ◌<◌, ◌≤◌, ◌+◌, ℕ, List, [], ◌∷◌, length, take, drop, Option, Some, None, Result, Ok, Err, ⊤, MatchResult}
 use Rattle.spin_outside.specs.Counts.{Rose}
-use Rattle.spin_outside.specs.Sources.{SourceSeen}
+use Rattle.spin_outside.specs.Sources.{SourceSeen, taken_more}
 use Rattle.spin_pcap.specs.declared.fault.PcapFault.{PcapFault}
 use Rattle.spin_pcap.specs.declared.fault.PcapFault.TheVariants as fault
 use Rattle.spin_pcap.specs.declared.limits.TheConstants.{MAX_RECORDS}
@@ -11,7 +11,7 @@ use Rattle.spin_pcap.specs.declared.state.State.TheVariants as state
 use Rattle.spin_pcap.specs.Passing.{ReaderState, number}
 use Rattle.spin_run.specs.declared.end.RunEnd.{RunEnd}
 use Rattle.spin_run.specs.declared.end.RunEnd.TheVariants as end
-use Rattle.spin_run.specs.Records.{AreRecords}
+use Rattle.spin_run.specs.Records.{AreRecords, bytes_in, room_of, IsTakenPast}
 
 -- P holds of the records that are left, and of how the rest is answered, by any reading.
 abbrev pub ForRecords : Option ReaderState → SourceSeen
@@ -111,10 +111,42 @@ GivesRest before after (Ok cut) frames rest =
 GivesRest before after (Err stop) frames rest =
     StopsBy (IsRefused before frames rest) stop
 
--- Only a failed read raises the source's count of faults. No failed write stops reading.
+-- ---- how many bytes were taken
+
+-- As many bytes were taken of the source as these records have, and as many more as the reader has less room.
+pub record HasTaken (before after : Option ReaderState) (source source' : SourceSeen)
+    (frames : List (List ℕ)) : Type 0 where
+  pub count : ℕ
+  pub taken : source'.taken ≡ taken_more source.taken count
+  pub balance : count + room_of after ≡ bytes_in frames + room_of before
+
+-- for one record; where it isn't given although it is there, no more than it has, and what the reader has room for
+abbrev pub TakesNext : Option ReaderState → Option ReaderState → SourceSeen → SourceSeen → List ℕ
+    → Result Next RunEnd → Type 0
+TakesNext before after source source' frame (Ok next.Packet) =
+    HasTaken before after source source' (frame ∷ [])
+TakesNext before after source source' frame (Ok next.End) = ⊤
+TakesNext before after source source' frame (Ok (next.Cut count)) = ⊤
+TakesNext before after source source' frame (Err stop) =
+    (first : List ℕ) (others : List (List ℕ)) (rest : Option (Result Next PcapFault))
+    → AreRecords before source (first ∷ others) rest
+    → IsTakenPast (room_of before) source source' (first ∷ [])
+
+-- for so many records, where so many are there
+abbrev pub TakesFrames : {T : Type 0} → ℕ → Option ReaderState → Option ReaderState → SourceSeen
+    → SourceSeen → Result T RunEnd → List (List ℕ) → Type 0
+TakesFrames wanted before after source source' result frames =
+    wanted ≤ length frames → MatchResult result
+    (λ _. HasTaken before after source source' (take wanted frames))
+    (λ _. IsTakenPast (room_of before) source source' (take wanted frames))
+
+-- ---- counts
+
+-- Only a failed read raises the source's count of faults. No failed write stops reading, and no failed delivery.
 abbrev pub EndByCount : RunEnd → ℕ → ℕ → Type 0
 EndByCount end.ReadFault before now = Rose before now
 EndByCount end.WriteFault before now = ⊥
+EndByCount (end.Endpoint endpoint) before now = ⊥
 EndByCount other before now = now ≡ before
 
 abbrev pub ReadsByCount : {T : Type 0} → ℕ → ℕ → Result T RunEnd → Type 0

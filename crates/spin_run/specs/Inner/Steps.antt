@@ -1,5 +1,5 @@
 -- What one segment does, from one moment between segments to the next.
-use Rattle.std.specs.Prelude.{◌≡◌, ◌<◌, ◌⊎◌, ◌+◌, ℕ, List, [], length, Option, Result, Ok, Err}
+use Rattle.std.specs.Prelude.{◌≡◌, ◌<◌, ◌≤◌, ◌⊎◌, ◌+◌, ℕ, List, [], length, take, drop, Option, Result, Ok, Err}
 use Rattle.spin_outside.specs.Seen.{SinkSeen}
 use Rattle.spin_outside.specs.Sources.{SourceSeen}
 use Rattle.spin_pcap.specs.declared.fault.PcapFault.{PcapFault}
@@ -16,9 +16,9 @@ use Rattle.spin_report.specs.Segments.{wanted_by}
 use Rattle.spin_report.specs.Runs.{Standing, IsSegmentRun, sends_in}
 use Rattle.spin_run.specs.declared.end.RunEnd.{RunEnd}
 use Rattle.spin_run.specs.declared.end.RunEnd.TheVariants as end
-use Rattle.spin_run.specs.Records.{AreRecords}
+use Rattle.spin_run.specs.Records.{AreRecords, room_of}
 use Rattle.spin_run.specs.Ends.{RunSeen, HasRun, segment_text, wanted_to, Writes, WritesInto, EndsBy, CountsBy}
-use Rattle.spin_run.specs.Inner.Reading.{given_by, IsGoing, IsRefused}
+use Rattle.spin_run.specs.Inner.Reading.{given_by, IsGoing, IsRefused, HasTaken}
 
 -- ---- moments between segments
 
@@ -110,28 +110,32 @@ OneBy s number segment before after (Err stop) left rest =
     StopsOne s number segment before after left rest stop
 
 -- which counts rose
-abbrev pub ResultCounts : {T : Type 0} → RunSeen → RunSeen → Result T RunEnd → Type 0
-ResultCounts before after (Ok done) = CountsBy before after end.Whole
-ResultCounts before after (Err stop) = CountsBy before after stop
+abbrev pub ResultCounts : {T : Type 0} → List (List ℕ) → RunSeen → RunSeen → Result T RunEnd → Type 0
+ResultCounts names before after (Ok done) = CountsBy names before after end.Whole
+ResultCounts names before after (Err stop) = CountsBy names before after stop
 
 -- ---- the segments so far
 
--- So many segments were run, from the start on to this moment.
-pub record Stands (script : ScriptData) (frames : List (List ℕ)) (rest : Option (Result Next PcapFault))
-    (start : RunSeen) (count : ℕ) (now : Moment) : Type 0 where
+-- So many segments were run, from the start on, where the capture had this reader, to this moment.
+pub record Stands (script : ScriptData) (reader : Option ReaderState) (frames : List (List ℕ))
+    (rest : Option (Result Next PcapFault)) (start : RunSeen) (count : ℕ) (now : Moment) : Type 0 where
   pub parts : List SegmentSeen
   pub left : List (List ℕ)
   pub run : HasRun script frames start.ends count parts (standing now left)
   pub text : Writes start now.outside (front_text parts)
   pub records : AreRecords now.capture now.outside.source left rest
+  pub left_is : left ≡ drop (wanted_to script count) frames
+  pub taken : wanted_to script count ≤ length frames
+      → HasTaken reader now.capture start.source now.outside.source (take (wanted_to script count) frames)
   pub total : given_by now.capture + length left ≡ length frames
   pub going : IsGoing now.capture → given_by now.capture ≡ wanted_to script count
 
 -- All were run, and the log has that length; or it stopped so.
-abbrev pub AllBy : ScriptData → RunSeen → (Option ReaderState) → RunSeen → Result ℕ RunEnd
-    → List (List ℕ) → Option (Result Next PcapFault) → Type 0
-AllBy script start capture after (Ok end_length) frames rest =
+abbrev pub AllBy : ScriptData → Option ReaderState → RunSeen → Option ReaderState → RunSeen
+    → Result ℕ RunEnd → List (List ℕ) → Option (Result Next PcapFault) → Type 0
+AllBy script reader start capture after (Ok end_length) frames rest =
     (state : State) × (end_length ≡ state.place)
-    × Stands script frames rest start (length script.segments)
+    × Stands script reader frames rest start (length script.segments)
     (record { state = state; capture = capture; outside = after })
-AllBy script start capture after (Err stop) frames rest = EndsBy script frames rest start after stop
+AllBy script reader start capture after (Err stop) frames rest =
+    EndsBy script (room_of reader) frames rest start after stop

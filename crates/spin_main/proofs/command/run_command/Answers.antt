@@ -12,4 +12,4 @@ returns-in-Err-capture_of g c =
 pub returns : goal.returns
 returns g c =
     let line = rw c.end_of.ensures at c.stop-2.ensures.line in
-    (end_of c.run_over-ended.result, c.stop-2.ensures.status ∙ ap number c.end_of.ensures, was_run _ _ _ _ _ _ _ _ _ _ _ c.run_over-ended.result c.in-Ok.ensures.stood c.in-Ok.ensures.loaded c.in-Ok-capture_of.ensures.opened c.run_over-ended.ensures line)
+    (end_of c.run_over-ended.result, c.stop-2.ensures.status ∙ ap number c.end_of.ensures, was_run _ _ _ _ _ _ _ _ _ _ _ c.run_over-ended.result c.in-Ok.ensures.stood c.in-Ok.ensures.loaded c.in-Ok-capture_of.ensures.opened c.in-Ok.ensures.reads c.run_over-ended.ensures line)

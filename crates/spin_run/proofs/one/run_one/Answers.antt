@@ -42,7 +42,7 @@ returns-in-Err-send_all-clause-one g c =
       woven = c.in-Ok-run_segment.ensures.woven;
       replies_are = c.in-Ok-run_segment.ensures.replies;
     } in
-    let sent = sends_as c.args.names.now _ w.entries _ w.replies _ _ (all c.send_all.new.ends.ends.items) (Err c.in-Err-send_all.end) c.as_slice-entries.ensures c.as_slice-3.ensures retired c.in-Err-send_all.ensures in
+    let sent = sends_as c.args.names.now _ w.entries _ w.replies _ _ (all c.send_all.new.ends.ends.items) (Err c.in-Err-send_all.end) c.as_slice-entries.ensures c.as_slice-3.ensures retired c.in-Err-send_all.ensures.sends in
     stops_sending s c.args.number c.args.segment.now before after left c.in-Ok-read_records.frames rest (state_of d c.run_segment.new.lanes) w.entries w.jobs w.replies c.in-Err-send_all.end refl answered sent
 
 pub returns-in_default-part_lines-clause-one : goal.returns-in_default-part_lines-clause-one
@@ -63,7 +63,7 @@ returns-in_default-part_lines-clause-one g c =
       woven = c.in-Ok-run_segment.ensures.woven;
       replies_are = c.in-Ok-run_segment.ensures.replies;
     } in
-    let sent = sends_as c.args.names.now _ w.entries _ w.replies _ _ (all c.send_all.new.ends.ends.items) (Ok c.in-Ok-send_all.lost) c.as_slice-entries.ensures c.as_slice-3.ensures retired c.in-Ok-send_all.ensures in
+    let sent = sends_as c.args.names.now _ w.entries _ w.replies _ _ (all c.send_all.new.ends.ends.items) (Ok c.in-Ok-send_all.lost) c.as_slice-entries.ensures c.as_slice-3.ensures retired c.in-Ok-send_all.ensures.sends in
     stops_lining s c.args.number c.args.segment.now before after left c.in-Ok-read_records.frames rest w.entries w.jobs w.replies c.in-Ok-send_all.lost refl answered (record { sent = sent })
 
 pub returns-in-Ok-write_lines-clause-one : goal.returns-in-Ok-write_lines-clause-one
@@ -84,7 +84,7 @@ returns-in-Ok-write_lines-clause-one g c =
       woven = c.in-Ok-run_segment.ensures.woven;
       replies_are = c.in-Ok-run_segment.ensures.replies;
     } in
-    let sent = sends_as c.args.names.now _ w.entries _ w.replies _ _ (all c.send_all.new.ends.ends.items) (Ok c.in-Ok-send_all.lost) c.as_slice-entries.ensures c.as_slice-3.ensures retired c.in-Ok-send_all.ensures in
+    let sent = sends_as c.args.names.now _ w.entries _ w.replies _ _ (all c.send_all.new.ends.ends.items) (Ok c.in-Ok-send_all.lost) c.as_slice-entries.ensures c.as_slice-3.ensures retired c.in-Ok-send_all.ensures.sends in
     let made : HasLines s c.args.number c.args.segment.now before w.entries w.jobs w.replies c.in-Ok-send_all.lost c.in-Ok.retired c.in-Ok-part_lines.lines = record {
       few = c.requires.few;
       retired_are = c.in-Ok.ensures.lines ∙ ap (λ x. map ended (map retire_line (retirements c.args.names.now x (all c.args.ends.now.ends.items)))) c.as_slice.ensures;
@@ -113,7 +113,7 @@ returns-clause-one g c =
       woven = c.in-Ok-run_segment.ensures.woven;
       replies_are = c.in-Ok-run_segment.ensures.replies;
     } in
-    let sent = sends_as c.args.names.now _ w.entries _ w.replies _ _ (all c.send_all.new.ends.ends.items) (Ok c.in-Ok-send_all.lost) c.as_slice-entries.ensures c.as_slice-3.ensures retired c.in-Ok-send_all.ensures in
+    let sent = sends_as c.args.names.now _ w.entries _ w.replies _ _ (all c.send_all.new.ends.ends.items) (Ok c.in-Ok-send_all.lost) c.as_slice-entries.ensures c.as_slice-3.ensures retired c.in-Ok-send_all.ensures.sends in
     let made : HasLines s c.args.number c.args.segment.now before w.entries w.jobs w.replies c.in-Ok-send_all.lost c.in-Ok.retired c.in-Ok-part_lines.lines = record {
       few = c.requires.few;
       retired_are = c.in-Ok.ensures.lines ∙ ap (λ x. map ended (map retire_line (retirements c.args.names.now x (all c.args.ends.now.ends.items)))) c.as_slice.ensures;

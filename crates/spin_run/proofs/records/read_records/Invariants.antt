@@ -1,5 +1,5 @@
 use Rattle.std.proofs.Common.{◌≡◌, length}
-use Rattle.spin_run.specs.Inner.Reading.{ForRecords}
+use Rattle.spin_run.specs.Inner.Reading.{ForRecords, HasTaken}
 use Rattle.spin_run.proofs.Reading.{HasRead}
 use Rattle.spin_run.proofs.records.read_records.Given as goal
 
@@ -8,6 +8,7 @@ invariant-loop g l =
     let seen = g.S.Source.seen in
     record {
       read : ForRecords l.fn.capture (seen l.fn.source) (λ frames rest. HasRead l.fn.capture l.capture (seen l.source) l.frames frames rest);
+      took : HasTaken l.fn.capture l.capture (seen l.fn.source) (seen l.source) l.frames;
       count : length l.frames ≡ l.counter;
       keep : (seen l.source).keep ≡ (seen l.fn.source).keep;
       stood : (seen l.source).faults ≡ (seen l.fn.source).faults;

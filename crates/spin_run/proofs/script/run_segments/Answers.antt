@@ -7,26 +7,35 @@ use Rattle.spin_table.specs.SetupOf.{data_of}
 use Rattle.spin_seat.specs.Seats.{IsSeatOf}
 use Rattle.spin_script.specs.Scripts.{script_seen}
 use Rattle.spin_script.specs.Segments.{SendsBelow}
-use Rattle.spin_run.specs.Ends.{seen}
+use Rattle.spin_run.specs.Ends.{seen, CountsBy}
 use Rattle.spin_run.specs.Segments.{AreReady, IsFitSegment, state_of}
 use Rattle.spin_run.specs.Inner.Steps.{moment, setting, StopsOne, HasRunOne, Stands}
 use Rattle.spin_run.proofs.Fitting.{fits, retires_named, commands_more}
-use Rattle.spin_run.proofs.Steps.{ends_empty, stands_start, stands_next, one_ends, fresh_given}
+use Rattle.spin_run.proofs.Faults.{counts_later}
+use Rattle.spin_run.proofs.Steps.{ends_first, ends_empty, stands_start, stands_next, one_ends, fresh_given}
 use Rattle.spin_run.proofs.script.run_segments.Goals as goal
+
+pub returns-in-Err-clause-end : goal.returns-in-Err-clause-end
+returns-in-Err-clause-end g c =
+    let all = λ (ends : _). map (view_of (λ e. (goal.Endpoint-dyn g (e.object.vtable, e.object.value)).seen e.object.value)) ends in
+    let before = seen (g.S.Source.seen c.args.source.now) (g.K.Sink.seen c.args.out.now) (all c.args.ends.now.ends.items) in
+    let after = seen (g.S.Source.seen c.args.source.now) (g.K.Sink.seen c.write_all.new.out) (all c.args.ends.now.ends.items) in
+    let cut = c.in-Err.ensures.taken in
+    λ frames rest r. ends_first (script_seen c.args.script) c.args.capture.now frames rest before after cut.0 refl refl cut.1 cut.2
 
 pub returns-in_default-new-clause-end : goal.returns-in_default-new-clause-end
 returns-in_default-new-clause-end g c =
     let all = λ (ends : _). map (view_of (λ e. (goal.Endpoint-dyn g (e.object.vtable, e.object.value)).seen e.object.value)) ends in
     let before = seen (g.S.Source.seen c.args.source.now) (g.K.Sink.seen c.args.out.now) (all c.args.ends.now.ends.items) in
     let after = seen (g.S.Source.seen c.args.source.now) (g.K.Sink.seen c.write_all.new.out) (all c.args.ends.now.ends.items) in
-    λ frames rest r. ends_empty (script_seen c.args.script) frames rest before after refl c.in_default.ensures.taken
+    λ frames rest r. ends_empty (script_seen c.args.script) c.args.capture.now frames rest before after refl refl c.in_default.ensures.taken
 
 pub returns-in_default-of_seats-clause-end : goal.returns-in_default-of_seats-clause-end
 returns-in_default-of_seats-clause-end g c =
     let all = λ (ends : _). map (view_of (λ e. (goal.Endpoint-dyn g (e.object.vtable, e.object.value)).seen e.object.value)) ends in
     let before = seen (g.S.Source.seen c.args.source.now) (g.K.Sink.seen c.args.out.now) (all c.args.ends.now.ends.items) in
     let after = seen (g.S.Source.seen c.args.source.now) (g.K.Sink.seen c.write_all.new.out) (all c.args.ends.now.ends.items) in
-    λ frames rest r. ends_empty (script_seen c.args.script) frames rest before after refl c.in_default.ensures.taken
+    λ frames rest r. ends_empty (script_seen c.args.script) c.args.capture.now frames rest before after refl refl c.in_default.ensures.taken
 
 pub of_seats-requires-clause-seats : goal.of_seats-requires-clause-seats
 of_seats-requires-clause-seats g c =
@@ -41,12 +50,13 @@ loop-number-init g c =
     let now = moment (state_of script.setup lanes) c.args.capture.now (g.S.Source.seen c.args.source.now) (g.K.Sink.seen c.write_all.new.out) (all c.args.ends.now.ends.items) in
     let start : state_of script.setup lanes ≡ start_of script.setup = subst (λ st. state_of (data_of st) lanes ≡ start_of (data_of st)) c.in-Ok.ensures.setup c.in-Ok-of_seats.ensures.start in
     record {
-      stands = λ frames rest r. stands_start script frames rest before now start refl (fresh_given c.args.capture.now c.requires.fresh) r c.in_default.ensures.taken;
+      stands = λ frames rest r. stands_start script c.args.capture.now frames rest before now refl refl start refl (fresh_given c.args.capture.now c.requires.fresh) r c.in_default.ensures.taken;
       ready = subst (λ st. AreReady (data_of st) c.in-Ok.hub.log.id c.in-Ok.hub.log.lanes lanes) c.in-Ok.ensures.setup c.in-Ok-of_seats.ensures.ready;
       room = omega (arith, ap length c.in-Ok-of_seats.ensures.front);
       keep = refl;
       reads = refl;
       writes = c.in_default.ensures.cause;
+      faults = refl;
     }
 
 pub run_one-requires-clause-sincere : goal.run_one-requires-clause-sincere
@@ -100,7 +110,18 @@ returns-in-Err-run_one-clause-end g c =
     let of_setup = subst (λ st. StopsOne (setting (data_of st) (length c.loop-number.lanes) c.as_slice-names.result.now) number segment (now_in st) (next_in st) s.left rest stop) c.in-Ok.ensures.setup one in
     let of_lanes = subst (λ (n : ℕ). StopsOne (setting script.setup n c.as_slice-names.result.now) number segment (now_in c.args.script.setup) (next_in c.args.script.setup) s.left rest stop) lanes_are of_setup in
     let moved = subst (λ (names : List (List ℕ)). StopsOne (setting script.setup script.lanes names) number segment (now_in c.args.script.setup) (next_in c.args.script.setup) s.left rest stop) c.as_slice-names.ensures of_lanes in
-    one_ends script frames rest before number segment (now_in c.args.script.setup) (next_in c.args.script.setup) stop c.get-segment.ensures s moved
+    one_ends script c.args.capture.now frames rest before number segment (now_in c.args.script.setup) (next_in c.args.script.setup) stop c.get-segment.ensures s moved (c.in-Err-run_one.ensures.took s.left rest s.records)
+
+pub returns-in-Err-run_one-clause-counts : goal.returns-in-Err-run_one-clause-counts
+returns-in-Err-run_one-clause-counts g c =
+    let all = λ (ends : _). map (view_of (λ e. (goal.Endpoint-dyn g (e.object.vtable, e.object.value)).seen e.object.value)) ends in
+    let source = g.S.Source.seen in
+    let sink = g.K.Sink.seen in
+    let before = seen (source c.args.source.now) (sink c.args.out.now) (all c.args.ends.now.ends.items) in
+    let now = seen (source c.loop-number.source) (sink c.loop-number.out) (all c.loop-number.ends.ends.items) in
+    let next = seen (source c.run_one.new.source) (sink c.run_one.new.out) (all c.run_one.new.ends.ends.items) in
+    counts_later (script_seen c.args.script).endpoints c.in-Err-run_one.end before now next c.loop-number.invariant.reads c.loop-number.invariant.writes c.loop-number.invariant.faults
+    (subst (λ (names : List (List ℕ)). CountsBy names now next c.in-Err-run_one.end) c.as_slice-names.ensures c.in-Err-run_one.ensures.counts)
 
 pub loop-number-preserved : goal.loop-number-preserved
 loop-number-preserved g c =
@@ -122,12 +143,13 @@ loop-number-preserved g c =
           let of_setup = subst (λ st. HasRunOne (setting (data_of st) (length c.loop-number.lanes) c.as_slice-names.result.now) number segment (now_in st) (next_in st) s.left rest) c.in-Ok.ensures.setup one in
           let of_lanes = subst (λ (n : ℕ). HasRunOne (setting script.setup n c.as_slice-names.result.now) number segment (now_in c.args.script.setup) (next_in c.args.script.setup) s.left rest) lanes_are of_setup in
           let moved = subst (λ (names : List (List ℕ)). HasRunOne (setting script.setup script.lanes names) number segment (now_in c.args.script.setup) (next_in c.args.script.setup) s.left rest) c.as_slice-names.ensures of_lanes in
-          stands_next script frames rest before number segment (now_in c.args.script.setup) (next_in c.args.script.setup) c.get-segment.ensures s moved;
+          stands_next script c.args.capture.now frames rest before number segment (now_in c.args.script.setup) (next_in c.args.script.setup) c.get-segment.ensures s moved (c.in_default-run_one.ensures.took s.left rest s.records);
       ready = subst (λ st. AreReady (data_of st) c.in-Ok.hub.log.id c.in-Ok.hub.log.lanes c.run_one.new.lanes) c.in-Ok.ensures.setup c.in_default-run_one.ensures.ready;
       room = omega (arith, c.in_default-run_one.ensures.taken, c.loop-number.invariant.room, more.0);
       keep = c.in_default-run_one.ensures.keep ∙ c.loop-number.invariant.keep;
       reads = c.in_default-run_one.ensures.counts.0 ∙ c.loop-number.invariant.reads;
       writes = c.in_default-run_one.ensures.counts.1 ∙ c.loop-number.invariant.writes;
+      faults = c.in_default-run_one.ensures.counts.2 ∙ c.loop-number.invariant.faults;
     }
 
 pub place-requires : goal.place-requires
@@ -150,5 +172,5 @@ returns-clause-end g c =
     λ frames rest r. (
       state_of script.setup lanes,
       place,
-      subst (λ (n : ℕ). Stands script frames rest before n now) done (c.loop-number.invariant.stands frames rest r),
+      subst (λ (n : ℕ). Stands script c.args.capture.now frames rest before n now) done (c.loop-number.invariant.stands frames rest r),
     )

@@ -2,7 +2,7 @@ use Rattle.std.proofs.Common.{◌≡◌, ◌≤◌, length, map, take}
 use Rattle.spin_endpoint.specs.Inner.View.{view_of}
 use Rattle.spin_script.specs.Scripts.{script_seen}
 use Rattle.spin_script.specs.Soundness.{command_lines}
-use Rattle.spin_run.specs.Ends.{seen}
+use Rattle.spin_run.specs.Ends.{faults_of, seen}
 use Rattle.spin_run.specs.Segments.{AreReady, front_of, state_of}
 use Rattle.spin_run.specs.Inner.Reading.{ForRecords}
 use Rattle.spin_run.specs.Inner.Steps.{moment, Stands}
@@ -17,11 +17,12 @@ invariant-loop-number g l =
     let script = script_seen l.fn.script in
     record {
       stands : ForRecords l.fn.capture (source l.fn.source) (λ frames rest.
-          Stands script frames rest (seen (source l.fn.source) (sink l.fn.out) (all l.fn.ends.ends.items)) l.number
+          Stands script l.fn.capture frames rest (seen (source l.fn.source) (sink l.fn.out) (all l.fn.ends.ends.items)) l.number
           (moment (state_of script.setup l.lanes) l.capture (source l.source) (sink l.out) (all l.ends.ends.items)));
       ready : AreReady script.setup l.hub.log.id l.hub.log.lanes l.lanes;
       room : length (front_of l.lanes) ≤ command_lines (take l.number script.segments);
       keep : (source l.source).keep ≡ (source l.fn.source).keep;
       reads : (source l.source).faults ≡ (source l.fn.source).faults;
       writes : (sink l.out).faults ≡ (sink l.fn.out).faults;
+      faults : faults_of (all l.ends.ends.items) ≡ faults_of (all l.fn.ends.ends.items);
     }
