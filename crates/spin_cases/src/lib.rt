@@ -40,3 +40,5 @@ mod scripts;
 mod seats;
 #[cfg(test)]
 mod setups;
+#[cfg(test)]
+mod values;

@@ -18,7 +18,7 @@ use thiserror::Error;
 #[derive(Clone, Copy, PartialEq, Eq, Debug, Error)]
 pub enum ActFault {
     /// An expression or a test is deeper than [`MAX_DEPTH`].
-    #[error("an expression or test is deeper than 8")]
+    #[error("there are more than 8 levels")]
     TooDeep,
     /// There are more than [`MAX_NODES`] steps, parts, expressions and tests.
     #[error("there are more than 64 nodes")]

@@ -17,8 +17,6 @@ mod limits;
 mod merge;
 mod nodes;
 mod test;
-#[cfg(test)]
-mod tests;
 mod uses;
 
 pub use act::{Act, ActStep, Layer, Part, Parts, Steplist};

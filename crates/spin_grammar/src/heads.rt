@@ -1,10 +1,10 @@
-//! The words that begin something, one by one: each function finds what a word stands for at its
-//! place.
+//! The words that begin something, one by one: a table for each place says what its words stand for,
+//! and a function finds it.
 
 ghost use Rattle.std.specs.Prelude.{◌≡◌};
 ghost use Rattle.spin_grammar.specs.Grammar as grammar;
 ghost use Rattle.spin_grammar.specs.Grammar.{accepts};
-ghost use Rattle.spin_grammar.specs.Inner.Heads.{step_of, expr_next, test_next, part_next};
+ghost use Rattle.spin_grammar.specs.Inner.Heads.{looked_up, step_of, expr_next, test_next, part_next};
 ghost use Rattle.spin_grammar.specs.Inner.Heads.{step_next, layer_next, merge_next, op_next};
 ghost use Rattle.spin_grammar.specs.Inner.Heads.{handler_next, own_next, effect_next, forced_next};
 ghost use Rattle.spin_grammar.specs.Inner.Heads.{apart_next, spot_next, place_next, mode_next};
@@ -18,7 +18,7 @@ use spin_policy::{Forced, OpMatch};
 use spin_word::{Mode, Op, Place};
 
 /// What the first word of an expression says.
-#[derive(Clone, Copy, Debug)]
+#[derive(Clone, Copy)]
 pub enum ExprWord {
     /// This number.
     Const(u64),
@@ -31,7 +31,7 @@ pub enum ExprWord {
 }
 
 /// What joins two expressions.
-#[derive(Clone, Copy, Debug)]
+#[derive(Clone, Copy)]
 pub enum Operator {
     /// The sum.
     Plus,
@@ -42,7 +42,7 @@ pub enum Operator {
 }
 
 /// What the first word of a test says.
-#[derive(Clone, Copy, Debug)]
+#[derive(Clone, Copy)]
 pub enum TestWord {
     /// It always holds.
     True,
@@ -57,7 +57,7 @@ pub enum TestWord {
 }
 
 /// What joins two tests.
-#[derive(Clone, Copy, Debug)]
+#[derive(Clone, Copy)]
 pub enum Joint {
     /// Both hold.
     All,
@@ -66,7 +66,7 @@ pub enum Joint {
 }
 
 /// What the first word of a part says.
-#[derive(Clone, Copy, Debug)]
+#[derive(Clone, Copy)]
 pub enum PartWord {
     /// A word, whose expression follows.
     Word,
@@ -75,7 +75,7 @@ pub enum PartWord {
 }
 
 /// What the first word of a step says.
-#[derive(Clone, Copy, Debug)]
+#[derive(Clone, Copy)]
 pub enum StepWord {
     /// Sets an argument.
     Set,
@@ -90,7 +90,7 @@ pub enum StepWord {
 }
 
 /// What the first word of a merge says.
-#[derive(Clone, Copy, Debug)]
+#[derive(Clone, Copy)]
 pub enum MergeWord {
     /// The last result stands.
     Last,
@@ -99,7 +99,7 @@ pub enum MergeWord {
 }
 
 /// What the first word of an effect says.
-#[derive(Clone, Copy, Debug)]
+#[derive(Clone, Copy)]
 pub enum EffectWord {
     /// It allows.
     Allow,
@@ -114,7 +114,7 @@ pub enum EffectWord {
 }
 
 /// What the first word of a binding's place says, where it may be before or after one other.
-#[derive(Clone, Copy, Debug)]
+#[derive(Clone, Copy)]
 pub enum SpotWord {
     /// It is this place.
     At(Place),
@@ -125,7 +125,7 @@ pub enum SpotWord {
 }
 
 /// What the first word of a deed says.
-#[derive(Clone, Copy, Debug)]
+#[derive(Clone, Copy)]
 pub enum DeedWord {
     /// Installs a binding.
     Install,
@@ -143,6 +143,18 @@ pub enum DeedWord {
     Later,
     /// Raises an event with the next records.
     Packet,
+}
+
+/// What a word stands for, by the first row of a table that has the word.
+fn meaning<A: Copy>(word: &[u8], rows: &[(&[u8], A)]) -> Result<A, Cause>
+    ensures { result ≡ looked_up (λ row. row.0.now) (λ row. row.1) rows.now word.now }
+{
+    for row in rows {
+        if word == row.0 {
+            return Ok(row.1);
+        }
+    }
+    Err(Cause::Word)
 }
 
 /// The first word of an expression.
@@ -164,90 +176,93 @@ pub(crate) fn expr_word(word: &[u8]) -> Result<ExprWord, Cause>
     }
 }
 
+/// The first words of tests.
+const TESTS: [(&[u8], TestWord); 9] = [
+    (b"true", TestWord::True),
+    (b"==", TestWord::Compare(Cmp::Eq)),
+    (b"!=", TestWord::Compare(Cmp::Ne)),
+    (b"<", TestWord::Compare(Cmp::Lt)),
+    (b"<=", TestWord::Compare(Cmp::Le)),
+    (b"has", TestWord::Has),
+    (b"not", TestWord::Not),
+    (b"all", TestWord::Pair(Joint::All)),
+    (b"any", TestWord::Pair(Joint::Any)),
+];
+
 /// The first word of a test.
 #[tactic(auto, unfolding(crate::specs::Grammar::accepts))]
 pub(crate) fn test_word(word: &[u8]) -> Result<TestWord, Cause>
     ensures { step_of test_next result ≡ accepts grammar.Test word.now }
 {
-    match word {
-        b"true" => Ok(TestWord::True),
-        b"==" => Ok(TestWord::Compare(Cmp::Eq)),
-        b"!=" => Ok(TestWord::Compare(Cmp::Ne)),
-        b"<" => Ok(TestWord::Compare(Cmp::Lt)),
-        b"<=" => Ok(TestWord::Compare(Cmp::Le)),
-        b"has" => Ok(TestWord::Has),
-        b"not" => Ok(TestWord::Not),
-        b"all" => Ok(TestWord::Pair(Joint::All)),
-        b"any" => Ok(TestWord::Pair(Joint::Any)),
-        _ => Err(Cause::Word),
-    }
+    meaning(word, TESTS.as_slice())
 }
+
+/// The first words of parts.
+const PARTS: [(&[u8], PartWord); 2] = [(b"w", PartWord::Word), (b"b", PartWord::Bytes)];
 
 /// The first word of a part.
 #[tactic(auto, unfolding(crate::specs::Grammar::accepts))]
 pub(crate) fn part_word(word: &[u8]) -> Result<PartWord, Cause>
     ensures { step_of part_next result ≡ accepts grammar.Part word.now }
 {
-    match word {
-        b"w" => Ok(PartWord::Word),
-        b"b" => Ok(PartWord::Bytes),
-        _ => Err(Cause::Word),
-    }
+    meaning(word, PARTS.as_slice())
 }
+
+/// The first words of steps.
+const STEPS: [(&[u8], StepWord); 5] = [
+    (b"set", StepWord::Set),
+    (b"send", StepWord::Send),
+    (b"result", StepWord::Result),
+    (b"up", StepWord::Up),
+    (b"layer", StepWord::Layer),
+];
 
 /// The first word of a step.
 #[tactic(auto, unfolding(crate::specs::Grammar::accepts))]
 pub(crate) fn step_word(word: &[u8]) -> Result<StepWord, Cause>
     ensures { step_of step_next result ≡ accepts grammar.Steps word.now }
 {
-    match word {
-        b"set" => Ok(StepWord::Set),
-        b"send" => Ok(StepWord::Send),
-        b"result" => Ok(StepWord::Result),
-        b"up" => Ok(StepWord::Up),
-        b"layer" => Ok(StepWord::Layer),
-        _ => Err(Cause::Word),
-    }
+    meaning(word, STEPS.as_slice())
 }
+
+/// The headers that a layer step may read.
+const LAYERS: [(&[u8], Layer); 2] = [(b"ipv4", Layer::Ipv4), (b"udp", Layer::Udp)];
 
 /// The headers that a layer step reads.
 #[tactic(auto, unfolding(crate::specs::Grammar::accepts))]
 pub(crate) fn layer_word(word: &[u8]) -> Result<Layer, Cause>
     ensures { step_of layer_next result ≡ accepts grammar.LayerKind word.now }
 {
-    match word {
-        b"ipv4" => Ok(Layer::Ipv4),
-        b"udp" => Ok(Layer::Udp),
-        _ => Err(Cause::Word),
-    }
+    meaning(word, LAYERS.as_slice())
 }
+
+/// The first words of merges.
+const MERGES: [(&[u8], MergeWord); 2] = [(b"last", MergeWord::Last), (b"fold", MergeWord::Fold)];
 
 /// The first word of a merge.
 #[tactic(auto, unfolding(crate::specs::Grammar::accepts))]
 pub(crate) fn merge_word(word: &[u8]) -> Result<MergeWord, Cause>
     ensures { step_of merge_next result ≡ accepts grammar.Merge word.now }
 {
-    match word {
-        b"last" => Ok(MergeWord::Last),
-        b"fold" => Ok(MergeWord::Fold),
-        _ => Err(Cause::Word),
-    }
+    meaning(word, MERGES.as_slice())
 }
+
+/// The ops that a rule may speak of.
+const OPS: [(&[u8], OpMatch); 6] = [
+    (b"install", OpMatch::One(Op::Install)),
+    (b"remove", OpMatch::One(Op::Remove)),
+    (b"replace", OpMatch::One(Op::Replace)),
+    (b"default", OpMatch::One(Op::Default)),
+    (b"nodefault", OpMatch::One(Op::NoDefault)),
+    (b"any", OpMatch::Any),
+];
 
 /// The ops that a rule speaks of.
 #[tactic(auto, unfolding(crate::specs::Grammar::accepts))]
 pub(crate) fn op_word(word: &[u8]) -> Result<OpMatch, Cause>
     ensures { step_of op_next result ≡ accepts grammar.Op word.now }
 {
-    match word {
-        b"install" => Ok(OpMatch::One(Op::Install)),
-        b"remove" => Ok(OpMatch::One(Op::Remove)),
-        b"replace" => Ok(OpMatch::One(Op::Replace)),
-        b"default" => Ok(OpMatch::One(Op::Default)),
-        b"nodefault" => Ok(OpMatch::One(Op::NoDefault)),
-        b"any" => Ok(OpMatch::Any),
-        _ => Err(Cause::Word),
-    }
+    meaning(word, OPS.as_slice())
 }
 
 /// The handler that a rule speaks of.
@@ -265,97 +280,108 @@ pub(crate) fn handler_word(word: &[u8]) -> Result<Option<u16>, Cause>
     }
 }
 
+/// Whether a rule may speak of own bindings only.
+const OWN: [(&[u8], bool); 2] = [(b"own", true), (b"all", false)];
+
 /// Whether a rule speaks of own bindings only.
 #[tactic(auto, unfolding(crate::specs::Grammar::accepts))]
 pub(crate) fn own_word(word: &[u8]) -> Result<bool, Cause>
     ensures { step_of own_next result ≡ accepts grammar.Own word.now }
 {
-    match word {
-        b"own" => Ok(true),
-        b"all" => Ok(false),
-        _ => Err(Cause::Word),
-    }
+    meaning(word, OWN.as_slice())
 }
+
+/// The first words of effects.
+const EFFECTS: [(&[u8], EffectWord); 5] = [
+    (b"allow", EffectWord::Allow),
+    (b"deny", EffectWord::Deny),
+    (b"quota", EffectWord::Quota),
+    (b"impose", EffectWord::Impose),
+    (b"force", EffectWord::Force),
+];
 
 /// The first word of an effect, in a script of this version.
 #[tactic(auto, unfolding(crate::specs::Grammar::accepts))]
 pub(crate) fn effect_word(word: &[u8], version: u8) -> Result<EffectWord, Cause>
     ensures { step_of effect_next result ≡ accepts (grammar.Effect version) word.now }
 {
-    match word {
-        b"allow" => Ok(EffectWord::Allow),
-        b"deny" => Ok(EffectWord::Deny),
-        b"quota" => Ok(EffectWord::Quota),
-        b"impose" => Ok(EffectWord::Impose),
-        b"force" if version >= 2 => Ok(EffectWord::Force),
-        _ => Err(Cause::Word),
+    match meaning(word, EFFECTS.as_slice())? {
+        EffectWord::Force if version < 2 => Err(Cause::Word),
+        effect => Ok(effect),
     }
 }
+
+/// The places that a rule may force.
+const FORCED_PLACES: [(&[u8], Forced); 3] = [
+    (b"keep", Forced::Keep),
+    (b"first", Forced::First),
+    (b"last", Forced::Last),
+];
 
 /// The place that a rule forces.
 #[tactic(auto, unfolding(crate::specs::Grammar::accepts))]
 pub(crate) fn forced_word(word: &[u8]) -> Result<Forced, Cause>
     ensures { step_of forced_next result ≡ accepts grammar.ForcedPlace word.now }
 {
-    match word {
-        b"keep" => Ok(Forced::Keep),
-        b"first" => Ok(Forced::First),
-        b"last" => Ok(Forced::Last),
-        _ => Err(Cause::Word),
-    }
+    meaning(word, FORCED_PLACES.as_slice())
 }
+
+/// Whether a rule may force asynchronous running.
+const FORCED_MODES: [(&[u8], bool); 2] = [(b"keep", false), (b"async", true)];
 
 /// Whether a rule forces asynchronous running.
 #[tactic(auto, unfolding(crate::specs::Grammar::accepts))]
 pub(crate) fn apart_word(word: &[u8]) -> Result<bool, Cause>
     ensures { step_of apart_next result ≡ accepts grammar.ForcedMode word.now }
 {
-    match word {
-        b"keep" => Ok(false),
-        b"async" => Ok(true),
-        _ => Err(Cause::Word),
-    }
+    meaning(word, FORCED_MODES.as_slice())
 }
+
+/// The first words of places that may be before or after another binding.
+const SPOTS: [(&[u8], SpotWord); 5] = [
+    (b"free", SpotWord::At(Place::Free)),
+    (b"first", SpotWord::At(Place::First)),
+    (b"last", SpotWord::At(Place::Last)),
+    (b"before", SpotWord::Before),
+    (b"after", SpotWord::After),
+];
 
 /// The first word of a place that may be before or after another binding.
 #[tactic(auto, unfolding(crate::specs::Grammar::accepts))]
 pub(crate) fn spot_word(word: &[u8]) -> Result<SpotWord, Cause>
     ensures { step_of spot_next result ≡ accepts grammar.Spot word.now }
 {
-    match word {
-        b"free" => Ok(SpotWord::At(Place::Free)),
-        b"first" => Ok(SpotWord::At(Place::First)),
-        b"last" => Ok(SpotWord::At(Place::Last)),
-        b"before" => Ok(SpotWord::Before),
-        b"after" => Ok(SpotWord::After),
-        _ => Err(Cause::Word),
-    }
+    meaning(word, SPOTS.as_slice())
 }
+
+/// The places apart from other bindings.
+const PLACES: [(&[u8], Place); 3] = [
+    (b"free", Place::Free),
+    (b"first", Place::First),
+    (b"last", Place::Last),
+];
 
 /// A place apart from other bindings.
 #[tactic(auto, unfolding(crate::specs::Grammar::accepts))]
 pub(crate) fn place_word(word: &[u8]) -> Result<Place, Cause>
     ensures { step_of place_next result ≡ accepts grammar.Place word.now }
 {
-    match word {
-        b"free" => Ok(Place::Free),
-        b"first" => Ok(Place::First),
-        b"last" => Ok(Place::Last),
-        _ => Err(Cause::Word),
-    }
+    meaning(word, PLACES.as_slice())
 }
+
+/// The modes of bindings.
+const MODES: [(&[u8], Mode); 3] = [
+    (b"plain", Mode::Plain),
+    (b"filter", Mode::Filter),
+    (b"async", Mode::Async),
+];
 
 /// The mode of a binding.
 #[tactic(auto, unfolding(crate::specs::Grammar::accepts))]
 pub(crate) fn mode_word(word: &[u8]) -> Result<Mode, Cause>
     ensures { step_of mode_next result ≡ accepts grammar.Mode word.now }
 {
-    match word {
-        b"plain" => Ok(Mode::Plain),
-        b"filter" => Ok(Mode::Filter),
-        b"async" => Ok(Mode::Async),
-        _ => Err(Cause::Word),
-    }
+    meaning(word, MODES.as_slice())
 }
 
 /// The first word of a deed, in a script of this version.

@@ -2,9 +2,8 @@
 //!
 //! The format is read from left to right: what is wanted at a place, and the word there, fix what
 //! is wanted next.
-//! So a table says which words there are ([`heads`] has one function for each row group), and a
-//! line is read in
-//! one pass, without recursion on its depth. Only what isn't too deep is kept.
+//! So tables say which words there are ([`heads`] has one for each place), and a line is read in one
+//! pass, without recursion on its depth. Only what isn't too deep is kept.
 //!
 //! - [`breaks`] takes the lines off a text, [`words`] the words off a line;
 //! - [`limits`] has the limits of numbers, names and texts;

@@ -1,6 +1,6 @@
 //! What no case shows: shelves, sinks and endpoints that fail, what an endpoint received, and the drop of a native.
 
-ghost use Rattle.std.specs.Prelude.{None, []};
+ghost use Rattle.std.specs.Prelude.{◌≡◌, None, [], IfOk};
 
 use crate::top::spin;
 use spin_code::{Act, Sincere, Steplist};
@@ -82,39 +82,74 @@ fn status_of<R: Threads + Sync>(
     status_with(rt, alloc, texts, shelf, out, Natives::new(alloc), &mut ends)
 }
 
+/// A run of the script into a sink that fails at a call: its status, and what was written.
+fn run_into_a_faulty_sink<R: Threads + Sync>(
+    rt: &R,
+    alloc: Global,
+    call: u32,
+) -> Result<(u8, MemSink), NoMemory> {
+    let mut shelf = shelf_with(alloc, SCRIPT)?;
+    let mut out = MemSink::new(alloc, 1000)?;
+    out.fail_at(call)?;
+    let status = status_of(
+        rt,
+        alloc,
+        &[b"run".as_slice(), b"script"],
+        &mut shelf,
+        &mut out,
+    )?;
+    Ok((status, out))
+}
+
 #[test]
 fn a_sink_fails_at_each_call_in_turn(rt: HostRuntime) -> Result<(), NoMemory> {
     for (call, taken) in [(0, 0), (1, 9), (2, 24), (3, 41), (4, 80), (5, 86)] {
-        let mut shelf = shelf_with(rt.alloc(), SCRIPT)?;
-        let mut out = MemSink::new(rt.alloc(), 1000)?;
-        out.fail_at(call)?;
-        let status = status_of(&rt, rt.alloc(), &[b"run", b"script"], &mut shelf, &mut out)?;
+        let (status, out) = run_into_a_faulty_sink(&rt, rt.alloc(), call)?;
         assert_eq!(rt; status, if call < 5 { 5 } else { 0 }, "{call}");
         assert_eq!(rt; out.bytes(), &REPORT[..taken], "{call}");
     }
     Ok(())
 }
 
+/// A run of the shelf's script over its packets: its status, and what was written.
+fn run_over<R: Threads + Sync>(
+    rt: &R,
+    alloc: Global,
+    shelf: &mut MemShelf,
+    ends: &mut Ends,
+) -> Result<(u8, MemSink), NoMemory> {
+    let mut out = MemSink::new(alloc, 1000)?;
+    let texts = [b"run".as_slice(), b"script", b"packets"];
+    let natives = Natives::new(alloc);
+    let status = status_with(rt, alloc, &texts, shelf, &mut out, natives, ends)?;
+    Ok((status, out))
+}
+
+/// A call's number that no run comes to.
+const NEVER: u32 = 9;
+
+/// A run over a shelf with the script alone, whose find and read of these numbers fail.
+fn run_without_packets<R: Threads + Sync>(
+    rt: &R,
+    alloc: Global,
+    find: u32,
+    read: u32,
+) -> Result<(u8, MemSink), NoMemory> {
+    let mut shelf = shelf_with(alloc, SCRIPT)?;
+    shelf.fail_find(find)?;
+    shelf.fail_read(read)?;
+    run_over(rt, alloc, &mut shelf, &mut Ends::new(alloc))
+}
+
 #[test]
-fn a_shelf_fails_or_lacks_a_file(rt: HostRuntime) -> Result<(), NoMemory> {
-    let mut no_find = shelf_with(rt.alloc(), SCRIPT)?;
-    no_find.fail_find(0)?;
-    let mut no_read = shelf_with(rt.alloc(), SCRIPT)?;
-    no_read.fail_read(0)?;
-    let mut no_second_find = shelf_with(rt.alloc(), SCRIPT)?;
-    no_second_find.fail_find(1)?;
-    let no_script = MemShelf::new(rt.alloc());
-    let no_packets = shelf_with(rt.alloc(), SCRIPT)?;
-    for (mut shelf, wanted, line) in [
-        (no_find, 4, b"stop 4 read script\n".as_slice()),
-        (no_read, 4, b"stop 4 read script\n"),
-        (no_second_find, 4, b"stop 4 read packets\n"),
-        (no_script, 6, b"stop 6 script\n"),
-        (no_packets, 6, b"stop 6 packets\n"),
+fn a_shelf_fails_or_lacks_packets(rt: HostRuntime) -> Result<(), NoMemory> {
+    for (find, read, wanted, line) in [
+        (0, NEVER, 4, b"stop 4 read script\n".as_slice()),
+        (NEVER, 0, 4, b"stop 4 read script\n"),
+        (1, NEVER, 4, b"stop 4 read packets\n"),
+        (NEVER, NEVER, 6, b"stop 6 packets\n"),
     ] {
-        let mut out = MemSink::new(rt.alloc(), 1000)?;
-        let texts = [b"run".as_slice(), b"script", b"packets"];
-        let status = status_of(&rt, rt.alloc(), &texts, &mut shelf, &mut out)?;
+        let (status, out) = run_without_packets(&rt, rt.alloc(), find, read)?;
         assert_eq!(rt; status, wanted);
         assert_eq!(rt; out.bytes(), line);
     }
@@ -122,8 +157,28 @@ fn a_shelf_fails_or_lacks_a_file(rt: HostRuntime) -> Result<(), NoMemory> {
 }
 
 #[test]
+fn a_shelf_is_empty(rt: HostRuntime) -> Result<(), NoMemory> {
+    let alloc = rt.alloc();
+    let (status, out) = run_over(&rt, alloc, &mut MemShelf::new(alloc), &mut Ends::new(alloc))?;
+    assert_eq!(rt; status, 6);
+    assert_eq!(rt; out.bytes(), b"stop 6 script\n".as_slice());
+    Ok(())
+}
+
+/// A call with words that are none of a command, over a shelf with the script: its status, and what was written.
+fn misspelled<R: Threads + Sync>(
+    rt: &R,
+    alloc: Global,
+    texts: &[&[u8]],
+) -> Result<(u8, MemSink), NoMemory> {
+    let mut shelf = shelf_with(alloc, SCRIPT)?;
+    let mut out = MemSink::new(alloc, 1000)?;
+    let status = status_of(rt, alloc, texts, &mut shelf, &mut out)?;
+    Ok((status, out))
+}
+
+#[test]
 fn words_of_no_command(rt: HostRuntime) -> Result<(), NoMemory> {
-    let mut shelf = shelf_with(rt.alloc(), SCRIPT)?;
     for texts in [
         [].as_slice(),
         &[b"run".as_slice()],
@@ -137,8 +192,7 @@ fn words_of_no_command(rt: HostRuntime) -> Result<(), NoMemory> {
         &[b"run".as_slice(), b"script", b"packets", b"more"],
         &[b"run".as_slice(), b"script", b"packets", b"more", b"more"],
     ] {
-        let mut out = MemSink::new(rt.alloc(), 1000)?;
-        let status = status_of(&rt, rt.alloc(), texts, &mut shelf, &mut out)?;
+        let (status, out) = misspelled(&rt, rt.alloc(), texts)?;
         assert_eq!(rt; status, 1);
         assert_eq!(rt; out.bytes(), USAGE);
     }
@@ -221,27 +275,27 @@ impl Endpoint for Noting {
     }
 }
 
-#[test]
-fn an_endpoint_receives_what_a_filter_sends(rt: HostRuntime) -> Result<(), NoMemory> {
-    let alloc = rt.alloc();
-    let notes = Rc::new(alloc, RefCell::new(Octets::new(alloc)))?;
-    let noting = Noting {
-        notes: notes.clone()?,
-        finishes: 0,
-    };
+/// The endpoints of which this is the only one.
+fn ends_of(alloc: Global, end: Box<dyn Endpoint>) -> Result<Ends, NoMemory> {
     let mut ends = Ends::new(alloc);
-    let object: Box<dyn Endpoint> = Box::new(alloc, noting)?;
-    assert!(rt; ends.add(text(alloc, b"out0")?, object).is_ok());
+    match ends.add(text(alloc, b"out0")?, end) {
+        Ok(()) => Ok(ends),
+        Err(_) => Err(NoMemory),
+    }
+}
+
+/// A run of the filter over a capture of five records.
+fn run_of_the_filter<R: Threads + Sync>(
+    rt: &R,
+    alloc: Global,
+    ends: &mut Ends,
+) -> Result<(u8, MemSink), NoMemory> {
     let mut shelf = shelf_with(alloc, FILTER)?;
     shelf.put(text(alloc, b"packets")?, capture(alloc, 5)?)?;
-    let mut out = MemSink::new(alloc, 1000)?;
-    let texts = [b"run".as_slice(), b"script", b"packets"];
-    let natives = Natives::new(alloc);
-    let status = status_with(&rt, alloc, &texts, &mut shelf, &mut out, natives, &mut ends)?;
-    assert_eq!(rt; status, 0);
-    assert_eq!(rt;
-        out.bytes(),
-        b"report 1
+    run_over(rt, alloc, &mut shelf, ends)
+}
+
+const FILTERED: &[u8] = b"report 1
 segment 0 at 0
 1 0 6 install ok
 segment 1 at 1
@@ -254,69 +308,92 @@ segment 2 at 1
 1 0 12.2 packet run 0 1 send 0 3 = done
 lost 0 1
 end 1 records 5 used 5 cut 5
-"
-            .as_slice()
-    );
-    let received = notes
-        .try_borrow()
-        .map(|it| it.as_slice() == b"\x08\x00+,\x08\x00+,.".as_slice());
-    assert!(rt; matches!(received, Ok(true)));
+";
+
+/// The only endpoint notes here.
+fn noting_ends(alloc: Global, notes: &Rc<RefCell<Octets>>) -> Result<Ends, NoMemory> {
+    let noting = Noting {
+        notes: notes.clone()?,
+        finishes: 0,
+    };
+    ends_of(alloc, Box::new(alloc, noting)?)
+}
+
+/// Whether just this was noted.
+fn noted(notes: &Rc<RefCell<Octets>>, bytes: &[u8]) -> bool {
+    match notes.try_borrow() {
+        Ok(notes) => notes.as_slice() == bytes,
+        Err(_) => false,
+    }
+}
+
+#[test]
+fn an_endpoint_receives_what_a_filter_sends(rt: HostRuntime) -> Result<(), NoMemory> {
+    let notes = Rc::new(rt.alloc(), RefCell::new(Octets::new(rt.alloc())))?;
+    let mut ends = noting_ends(rt.alloc(), &notes)?;
+    let (status, out) = run_of_the_filter(&rt, rt.alloc(), &mut ends)?;
+    assert_eq!(rt; status, 0);
+    assert_eq!(rt; out.bytes(), FILTERED);
+    assert!(rt; noted(&notes, b"\x08\x00+,\x08\x00+,."));
     Ok(())
+}
+
+/// The only endpoint fails at a call.
+fn failing_ends(alloc: Global, call: u32) -> Result<Ends, NoMemory> {
+    let mut keep = KeepEnd::new(alloc, 9, 100)?;
+    keep.fail_at(call)?;
+    ends_of(alloc, Box::new(alloc, keep)?)
 }
 
 #[test]
 fn an_endpoint_fails(rt: HostRuntime) -> Result<(), NoMemory> {
-    let alloc = rt.alloc();
-    for (call, report) in [
-        (
-            0,
-            b"report 1\nsegment 0 at 0\n1 0 6 install ok\nstop 8 endpoint 0\n".as_slice(),
-        ),
-        (
-            1,
-            b"report 1\nsegment 0 at 0\n1 0 6 install ok\nstop 8 endpoint 0\n",
-        ),
-    ] {
-        let mut keep = KeepEnd::new(alloc, 9, 100)?;
-        keep.fail_at(call)?;
-        let object: Box<dyn Endpoint> = Box::new(alloc, keep)?;
-        let mut ends = Ends::new(alloc);
-        assert!(rt; ends.add(text(alloc, b"out0")?, object).is_ok());
-        let mut shelf = shelf_with(alloc, FILTER)?;
-        shelf.put(text(alloc, b"packets")?, capture(alloc, 5)?)?;
-        let mut out = MemSink::new(alloc, 1000)?;
-        let texts = [b"run".as_slice(), b"script", b"packets"];
-        let natives = Natives::new(alloc);
-        let status = status_with(&rt, alloc, &texts, &mut shelf, &mut out, natives, &mut ends)?;
+    for call in 0..2 {
+        let mut ends = failing_ends(rt.alloc(), call)?;
+        let (status, out) = run_of_the_filter(&rt, rt.alloc(), &mut ends)?;
         assert_eq!(rt; status, 8);
+        assert_eq!(rt;
+            out.bytes(),
+            b"report 1\nsegment 0 at 0\n1 0 6 install ok\nstop 8 endpoint 0\n".as_slice()
+        );
+    }
+    Ok(())
+}
+
+/// A run of a script without lines over these packets, whose read of this number fails.
+fn run_of_nothing<R: Threads + Sync>(
+    rt: &R,
+    alloc: Global,
+    packets: Octets,
+    read: u32,
+) -> Result<(u8, MemSink), NoMemory> {
+    let mut shelf = shelf_with(alloc, b"spin 1\n")?;
+    shelf.put(text(alloc, b"packets")?, packets)?;
+    shelf.fail_read(read)?;
+    run_over(rt, alloc, &mut shelf, &mut Ends::new(alloc))
+}
+
+#[test]
+fn a_capture_is_cut_or_fails(rt: HostRuntime) -> Result<(), NoMemory> {
+    for (read, wanted, report) in [
+        (
+            NEVER,
+            0,
+            b"report 1\nsegment 0 at 0\nend 0 records 1 used 0 cut 5\n".as_slice(),
+        ),
+        (2, 4, b"stop 4 read packets\n"),
+    ] {
+        let (status, out) = run_of_nothing(&rt, rt.alloc(), capture(rt.alloc(), 1)?, read)?;
+        assert_eq!(rt; status, wanted);
         assert_eq!(rt; out.bytes(), report);
     }
     Ok(())
 }
 
 #[test]
-fn captures_that_are_cut_or_none_or_fail(rt: HostRuntime) -> Result<(), NoMemory> {
-    let alloc = rt.alloc();
-    let no_read = 2;
-    for (bytes, failing, wanted, report) in [
-        (
-            capture(alloc, 1)?,
-            9,
-            0,
-            b"report 1\nsegment 0 at 0\nend 0 records 1 used 0 cut 5\n".as_slice(),
-        ),
-        (Octets::new(alloc), 9, 3, b"stop 3 record 0 fault 5\n"),
-        (capture(alloc, 1)?, no_read, 4, b"stop 4 read packets\n"),
-    ] {
-        let mut shelf = shelf_with(alloc, b"spin 1\n")?;
-        shelf.put(text(alloc, b"packets")?, bytes)?;
-        shelf.fail_read(failing)?;
-        let mut out = MemSink::new(alloc, 1000)?;
-        let texts = [b"run".as_slice(), b"script", b"packets"];
-        let status = status_of(&rt, alloc, &texts, &mut shelf, &mut out)?;
-        assert_eq!(rt; status, wanted);
-        assert_eq!(rt; out.bytes(), report);
-    }
+fn a_capture_is_empty(rt: HostRuntime) -> Result<(), NoMemory> {
+    let (status, out) = run_of_nothing(&rt, rt.alloc(), Octets::new(rt.alloc()), NEVER)?;
+    assert_eq!(rt; status, 3);
+    assert_eq!(rt; out.bytes(), b"stop 3 record 0 fault 5\n".as_slice());
     Ok(())
 }
 
@@ -340,34 +417,56 @@ impl Handler for Counted {
     }
 }
 
+/// Natives of this handler alone, which does nothing.
+fn natives_of(alloc: Global, object: Box<dyn Handler + Send + Sync>) -> Result<Natives, Fail>
+    requires { does object ≡ record { steps = [] } }
+    ensures { IfOk result (λ natives. ⟦<Natives as Sincere>⟧.sincere natives) }
+{
+    let sig = EventType {
+        params: Params::new(alloc),
+        gives: false,
+    };
+    let steps = Steplist::new(alloc);
+    let mut natives = Natives::new(alloc);
+    natives.add_handler(text(alloc, b"idle")?, sig, Act { steps }, object)?;
+    Ok(natives)
+}
+
+/// Natives of one handler that counts its drops here.
+fn counting(alloc: Global, drops: &Arc<AtomicU64>) -> Result<Natives, Fail>
+    ensures { IfOk result (λ natives. ⟦<Natives as Sincere>⟧.sincere natives) }
+{
+    let counted = Counted {
+        drops: Arc::try_clone(drops)?,
+    };
+    natives_of(alloc, Box::new(alloc, counted)?)
+}
+
+/// The status of a run of the script with these natives.
+fn run_with<R: Threads + Sync>(
+    rt: &R,
+    alloc: Global,
+    script: &[u8],
+    natives: Natives,
+) -> Result<u8, NoMemory>
+    requires sincere { ⟦<Natives as Sincere>⟧.sincere natives }
+{
+    let mut shelf = shelf_with(alloc, script)?;
+    let mut out = MemSink::new(alloc, 1000)?;
+    let texts = [b"run".as_slice(), b"script"];
+    let mut ends = Ends::new(alloc);
+    status_with(rt, alloc, &texts, &mut shelf, &mut out, natives, &mut ends)
+}
+
 #[test]
 fn a_native_is_dropped_once(rt: HostRuntime) -> Result<(), Fail> {
-    let alloc = rt.alloc();
     for (script, wanted) in [
         (b"spin 1\nhandler 1 native idle\n".as_slice(), 0),
         (b"spin 1\nhandler 1 native other\n", 2),
     ] {
-        let drops = Arc::new(alloc, AtomicU64::new(0))?;
-        let counted = Counted {
-            drops: Arc::try_clone(&drops)?,
-        };
-        let object: Box<dyn Handler + Send + Sync> = Box::new(alloc, counted)?;
-        let sig = EventType {
-            params: Params::new(alloc),
-            gives: false,
-        };
-        let steps = Steplist::new(alloc);
-        let mut natives = Natives::new(alloc);
-        natives.add_handler(text(alloc, b"idle")?, sig, Act { steps }, object)?;
-        let mut shelf = shelf_with(alloc, script)?;
-        let mut out = MemSink::new(alloc, 1000)?;
-        let words = words(alloc, &[b"run".as_slice(), b"script"])?;
-        let mut ends = Ends::new(alloc);
-        let gate = OpenGate;
-        let status = spin(
-            &rt, alloc, &words, &mut shelf, &mut out, natives, &mut ends, &gate,
-        );
-        assert_eq!(rt; status, wanted);
+        let drops = Arc::new(rt.alloc(), AtomicU64::new(0))?;
+        let natives = counting(rt.alloc(), &drops)?;
+        assert_eq!(rt; run_with(&rt, rt.alloc(), script, natives)?, wanted);
         assert_eq!(rt; drops.load(Ordering::SeqCst), 1);
     }
     Ok(())

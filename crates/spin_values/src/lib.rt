@@ -11,8 +11,6 @@ mod limits;
 mod list;
 mod no_memory;
 mod steps;
-#[cfg(test)]
-mod tests;
 mod text;
 mod types;
 mod values;

@@ -1,6 +1,7 @@
 -- What each word that begins something stands for, and what is wanted behind it.
 use Rattle.std.specs.Prelude.{ℕ, Bool, List, [], ◌∷◌, ◌++◌, codes, Option, None, Some, Result, Ok}
-use Rattle.std.specs.Prelude.{Err}
+use Rattle.std.specs.Prelude.{Err, if◌then◌else◌}
+use Rattle.std.specs.Str.{bytes_eq}
 use Rattle.spin_values.specs.declared.types.EventType.{EventType}
 use Rattle.spin_code.specs.declared.act.Layer.{Layer}
 use Rattle.spin_word.specs.declared.command.Place.{Place}
@@ -14,6 +15,7 @@ use Rattle.spin_grammar.specs.declared.limits.TheConstants.{MAX_QUOTA, MAX_IMPOS
 use Rattle.spin_grammar.specs.declared.limits.TheConstants.{LAST_TARGET, LAST_MODULE, LAST_HANDLER}
 use Rattle.spin_grammar.specs.declared.limits.TheConstants.{MAX_PACKETS}
 use Rattle.spin_grammar.specs.declared.cause.Cause.{Cause}
+use Rattle.spin_grammar.specs.declared.cause.Cause.TheVariants as cause
 use Rattle.spin_grammar.specs.declared.heads.ExprWord.{ExprWord}
 use Rattle.spin_grammar.specs.declared.heads.ExprWord.TheVariants as expr
 use Rattle.spin_grammar.specs.declared.heads.Operator.{Operator}
@@ -48,6 +50,12 @@ Next = Atom × List Want
 abbrev pub step_of : {A : Type 0} → (A → Next) → Result A Cause → Step
 step_of next (Err c) = Err c
 step_of next (Ok a) = Ok (next a)
+
+-- what the first row of a word has
+abbrev pub looked_up : {R A : Type 0} → (R → List ℕ) → (R → A) → List R → List ℕ → Result A Cause
+looked_up word_of means [] w = Err cause.Word
+looked_up word_of means (row ∷ rows) w =
+    if bytes_eq w (word_of row) then Ok (means row) else looked_up word_of means rows w
 
 abbrev pub alone : List ℕ → Next
 alone w = (Fixed w, [])

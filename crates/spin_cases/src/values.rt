@@ -1,8 +1,8 @@
-//! Each call once, with ample memory.
+//! Arguments, lists, texts and counts of steps: each call once, with ample memory.
 
 ghost use Rattle.std.specs.Prelude.{◌≡◌, ◌<◌};
 
-use crate::{Args, NoMemory, Numbers, Octets, SetFault, Steps, Text, Texts, Value, set};
+use spin_values::{Args, NoMemory, Numbers, Octets, SetFault, Steps, Text, Texts, Value, set};
 use std::marker::Brand;
 use std::sync::ledger::{Blank, Ledger};
 
