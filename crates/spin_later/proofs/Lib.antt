@@ -1,0 +1,4 @@
+pub mod Filters
+pub mod Keeping
+pub mod Passes
+pub mod Making

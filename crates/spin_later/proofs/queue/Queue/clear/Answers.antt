@@ -1,0 +1,15 @@
+use Rattle.crossbeam_queue.specs.Passes.{view}
+use Rattle.spin_later.proofs.Keeping.{clears, learns}
+use Rattle.spin_later.proofs.Making.{still_all, still_some, cleared}
+use Rattle.spin_later.proofs.queue.Queue.clear.Goals as goal
+
+pub pop_as-requires-clause-rule : goal.pop_as-requires-clause-rule
+pop_as-requires-clause-rule g c =
+    let v = view c.args.taker.now in
+    let w = view c.loop.taker in
+    let is = c.loop.invariant.4 in
+    let has = still_some v w c.loop.left is c.requires.some in
+    (clears _ w (still_all v w c.loop.left is c.requires.all) has, learns _ w has)
+
+pub returns-in-None-pop_as : goal.returns-in-None-pop_as
+returns-in-None-pop_as g c = cleared (view c.args.taker.now) (view c.loop.taker) c.loop.left c.loop.invariant.4 c.in-None-pop_as.ensures.rule.1

@@ -1,0 +1,5 @@
+use Rattle.spin_later.proofs.Keeping.{opens}
+use Rattle.spin_later.proofs.queue.Queue.new.Goals as goal
+
+pub ruled-requires-clause-rule : goal.ruled-requires-clause-rule
+ruled-requires-clause-rule c = opens

@@ -1,0 +1,2 @@
+-- What invariants and the contracts of private functions cite alone.
+pub mod Passes

@@ -1,0 +1,5 @@
+pub mod History
+pub mod Inner
+pub mod Limits
+pub mod Parties
+pub mod Rule

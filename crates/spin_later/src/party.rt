@@ -1,0 +1,110 @@
+//! Parties, which put tasks into a queue and take tasks out of it.
+
+use crate::known::Known;
+use crate::queue::Queue;
+use crate::rule::{Puts, Takes};
+use crate::task::{Full, Task};
+use crossbeam_queue::Pass;
+use spin_proto::JobCall;
+use spin_table::Version;
+use spin_values::Sequence;
+use std::marker::Model;
+use std::sync::{Arc, Wait};
+
+/// Parties, in order.
+pub type Parties = Sequence<Party>;
+
+/// Puts tasks into a queue and takes tasks out of it. Contracts see its queue with the number of parties, its number,
+/// the tasks that it sent and those that it took, both in order.
+#[derive(Drop)]
+pub struct Party {
+    pub(crate) pass: Pass<Task, Known>,
+    pub(crate) number: u8,
+    /// How many tasks it sent.
+    pub(crate) sent: u32,
+}
+
+impl Model for Party {
+    ghost use Rattle.crossbeam_queue.specs.Passes.{view as view_of};
+    ghost use Rattle.spin_later.specs.Parties.{PartyValue, party_value};
+    ghost use Rattle.spin_later.specs.Inner.Passes.{only_hand, IsPartyPass};
+
+    ghost Value = { PartyValue };
+
+    ghost view = { λ p. party_value p.pass.table_id (view_of p.pass).parties (only_hand (view_of p.pass).hands) };
+
+    ghost invariant = { λ p. IsPartyPass p.pass p.number p.sent };
+}
+
+impl Party {
+    ghost use Rattle.spin_later.specs.declared.task.Task.{Task as TaskValue};
+    ghost use Rattle.std.specs.Prelude.{◌≡◌, ◌-◌, ◌<◌, ◌^◌, length, MatchResult, MatchOption};
+    ghost use Rattle.spin_later.specs.Parties.{sent as sent_after, took, IsNext, WasAt};
+
+    /// The party's number.
+    pub fn number(&self) -> u8
+        ensures { result ≡ self.now.number }
+    {
+        self.number
+    }
+
+    /// How many tasks it sent.
+    pub fn sent(&self) -> u32
+        ensures { result ≡ length self.now.sent }
+    {
+        self.sent
+    }
+
+    /// Puts a task with this version and call at the queue's end, and answers its number, which counts this party's
+    /// tasks from 0. [`Full`] comes only where the queue held as many tasks as it may at a step of this call; the task
+    /// comes back then, and nothing is sent. The party has sent fewer than 4,294,967,295 tasks.
+    ///
+    /// It may wait for another thread that is in the middle of a put or a take.
+    pub fn put<W: Wait + Sync>(
+        &mut self,
+        wait: &W,
+        queue: &Queue,
+        version: Arc<Version>,
+        call: JobCall,
+    ) -> Result<u32, Full>
+        requires queue { self.old.queue ≡ queue.now.id }
+        requires room { length self.old.sent < 2 ^ 32 - 1 }
+        ensures { let task : TaskValue = record {
+          sender = self.old.number;
+          number = length self.old.sent;
+          version = version;
+          call = call;
+        } in
+            MatchResult result
+            (λ number. (number ≡ length self.old.sent) × (self.new ≡ sent_after self.old task))
+            (λ full. (full.task ≡ task) × (self.new ≡ self.old) × WasAt self.old queue.now.capacity) }
+    {
+        let number = self.sent;
+        let task = Task {
+            sender: self.number,
+            number,
+            version,
+            call,
+        };
+        match queue.ring.push_as::<Puts, W>(wait, &mut self.pass, task) {
+            Ok(()) => {
+                self.sent += 1;
+                Ok(number)
+            }
+            Err(task) => Err(Full { task }),
+        }
+    }
+
+    /// Takes the task at the queue's front. Of each sender the tasks come in the order sent. `None` comes only where
+    /// the queue was empty at a step of this call.
+    ///
+    /// It may wait for another thread that is in the middle of a put or a take.
+    pub fn take<W: Wait + Sync>(&mut self, wait: &W, queue: &Queue) -> Option<Task>
+        requires queue { self.old.queue ≡ queue.now.id }
+        ensures { MatchOption result
+            ((self.new ≡ self.old) × WasAt self.old 0)
+            (λ task. (self.new ≡ took self.old task) × (task.sender < self.old.parties) × IsNext self.old.taken task) }
+    {
+        queue.ring.pop_as::<Takes, W>(wait, &mut self.pass)
+    }
+}
