@@ -5,3 +5,4 @@ pub mod Truth
 pub mod Uses
 pub mod Value
 pub mod Limits
+pub mod Required

@@ -3,6 +3,7 @@
 //! - [`expr`] has numbers that are computed from arguments, [`test`] what is asked of arguments;
 //! - [`act`] has what a handler does, step by step, [`merge`] how several results become one;
 //! - [`check`] finds the first fault of a test, an act or a merge, over [`depth`], [`nodes`] and [`uses`];
+//! - [`requirement`] finds what a test requires of an argument or a field;
 //! - [`guards`] is what is asked of a collection of guards.
 //!
 //! No call of this crate takes memory.
@@ -16,6 +17,7 @@ mod guards;
 mod limits;
 mod merge;
 mod nodes;
+mod requirement;
 mod test;
 mod uses;
 
@@ -27,4 +29,5 @@ pub use guards::{Guards, Sincere};
 pub use limits::limits_are_stated;
 pub use merge::Merge;
 pub use nodes::MAX_NODES;
+pub use requirement::{is_same_read, required, requirements_are_met};
 pub use test::{Cmp, Test, holds};
