@@ -15,6 +15,8 @@ mod endpoints;
 #[cfg(test)]
 mod expressions;
 #[cfg(test)]
+mod generated;
+#[cfg(test)]
 mod headers;
 #[cfg(test)]
 mod jobs;
