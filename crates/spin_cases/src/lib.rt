@@ -17,6 +17,8 @@ mod expressions;
 #[cfg(test)]
 mod filter;
 #[cfg(test)]
+mod generated;
+#[cfg(test)]
 mod headers;
 #[cfg(test)]
 mod jobs;
