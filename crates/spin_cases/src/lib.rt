@@ -27,6 +27,8 @@ mod outside;
 #[cfg(test)]
 mod plans;
 #[cfg(test)]
+mod reassembly;
+#[cfg(test)]
 mod replies;
 #[cfg(test)]
 mod rows;
