@@ -7,7 +7,7 @@ use spin_pcap::{Next, PcapFault, Reader};
 use std::alloc::Global;
 
 /// The header of a file whose writer put the lowest byte first, with times in microseconds.
-const LITTLE: [u8; 24] = [
+pub(crate) const LITTLE: [u8; 24] = [
     0xd4, 0xc3, 0xb2, 0xa1, 2, 0, 4, 0, 0, 0, 0, 0, 0, 0, 0, 0, 0, 0, 4, 0, 1, 0, 0, 0,
 ];
 
@@ -43,7 +43,7 @@ fn frame_of(number: u32) -> &'static [u8] {
 }
 
 /// The header of a record, lowest byte first.
-fn record(seconds: u32, captured: u32, original: u32) -> [u8; 16] {
+pub(crate) fn record(seconds: u32, captured: u32, original: u32) -> [u8; 16] {
     let [a, b, c, d] = seconds.to_le_bytes();
     let [e, f, g, h] = captured.to_le_bytes();
     let [i, j, k, l] = original.to_le_bytes();

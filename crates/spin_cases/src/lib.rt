@@ -31,6 +31,8 @@ mod outside;
 #[cfg(test)]
 mod plans;
 #[cfg(test)]
+mod reassembly;
+#[cfg(test)]
 mod replies;
 #[cfg(test)]
 mod rows;

@@ -1,0 +1,312 @@
+//! Fragments joined in captures, and replies to echo requests.
+
+ghost use Rattle.std.specs.Prelude.{◌≤◌, None, length};
+
+use crate::captures::{LITTLE, record};
+use spin_endpoint::{Endpoint, Failed};
+use spin_headers::{HeaderFault, checksum, read_fragment, read_ipv4, write_ipv4};
+use spin_outside::{MemSource, NoMemory, Octets};
+use spin_reass::{EchoEnd, EchoFault, JoinFault, echo_reply, join_capture};
+use std::alloc::Global;
+use std::cell::RefCell;
+use std::rc::Rc;
+
+const SOURCE: u32 = 0x0a00_0001;
+
+const DESTINATION: u32 = 0x0a00_0002;
+
+/// The header of each frame.
+const ETHER: &[u8; 14] = b"\x02\0\0\0\0\x02\x02\0\0\0\0\x01\x08\0";
+
+/// What the datagrams carry, from its front on.
+const PAYLOAD: &[u8; 24] = b"\x00\x35\x04\x00\x00\x18\0\0abcdefghijklmnop";
+
+/// A fragment: its offset in units of 8 bytes, whether more follow, its time to live, and its bytes.
+type Fragment = (u16, bool, u8, &'static [u8]);
+
+/// The frame of a fragment.
+fn frame_of(alloc: Global, ident: u16, fragment: Fragment) -> Result<Octets, NoMemory> {
+    let (offset, more, ttl, bytes) = fragment;
+    let len = u16::try_from(bytes.len()).unwrap_or(0).min(65_515);
+    let mut header = [0u8; 20];
+    write_ipv4(ident, ttl, 17, SOURCE, DESTINATION, len, &mut header);
+    let flag = if more { 0x2000 } else { 0 };
+    let [high, low] = (offset % 0x2000 + flag).to_be_bytes();
+    header[6] = high;
+    header[7] = low;
+    header[10] = 0;
+    header[11] = 0;
+    let [high, low] = checksum(&header).to_be_bytes();
+    header[10] = high;
+    header[11] = low;
+    let mut frame = Octets::from_bytes(alloc, ETHER)?;
+    frame.extend_from_slice(&header)?;
+    frame.extend_from_slice(bytes)?;
+    Ok(frame)
+}
+
+/// The frame of the whole datagram.
+fn whole_frame(alloc: Global, ttl: u8) -> Result<Octets, NoMemory> {
+    let mut header = [0u8; 20];
+    write_ipv4(1, ttl, 17, SOURCE, DESTINATION, 24, &mut header);
+    let mut frame = Octets::from_bytes(alloc, ETHER)?;
+    frame.extend_from_slice(&header)?;
+    frame.extend_from_slice(PAYLOAD)?;
+    Ok(frame)
+}
+
+/// Adds the record of a frame.
+fn push_record(file: &mut Octets, frame: &[u8]) -> Result<(), NoMemory> {
+    let len = u32::try_from(frame.len()).unwrap_or(0);
+    file.extend_from_slice(&record(0, len, len))?;
+    file.extend_from_slice(frame)
+}
+
+/// The joined capture of these bytes, which come in pieces.
+fn join(alloc: Global, file: &Octets) -> Result<Result<Octets, JoinFault>, NoMemory> {
+    let mut source = MemSource::new(file.copy()?);
+    source.in_pieces(11);
+    Ok(join_capture(alloc, &mut source))
+}
+
+/// Whether the capture of these fragments is joined so: the one of that number, from 0, becomes the whole datagram
+/// with that time to live, and the others stay; or all stay, where there is none.
+fn joins(
+    alloc: Global,
+    fragments: &[Fragment],
+    whole: Option<(usize, u8)>,
+) -> Result<bool, NoMemory> {
+    let mut file = Octets::from_bytes(alloc, &LITTLE)?;
+    let mut wanted = Octets::from_bytes(alloc, &LITTLE)?;
+    for (number, fragment) in fragments.iter().enumerate() {
+        let frame = frame_of(alloc, 1, *fragment)?;
+        push_record(&mut file, frame.as_slice())?;
+        match whole {
+            Some((at, ttl)) if at == number => {
+                let joined = whole_frame(alloc, ttl)?;
+                push_record(&mut wanted, joined.as_slice())?;
+            }
+            _ => push_record(&mut wanted, frame.as_slice())?,
+        }
+    }
+    match join(alloc, &file)? {
+        Ok(joined) => Ok(joined.as_slice() == wanted.as_slice()),
+        Err(_) => Ok(false),
+    }
+}
+
+/// The first 16 bytes, and the last 8.
+const FRONT: Fragment = (0, true, 64, b"\x00\x35\x04\x00\x00\x18\0\0abcdefgh");
+
+const BACK: Fragment = (2, false, 64, b"ijklmnop");
+
+/// Fragments, and what becomes of them.
+const CASES: [(&[Fragment], Option<(usize, u8)>); 16] = [
+    (&[FRONT, BACK], Some((1, 64))),
+    (&[BACK, FRONT], Some((1, 64))),
+    (&[FRONT, FRONT], None),
+    (&[FRONT, FRONT, BACK], Some((2, 64))),
+    // the first of two that share a byte counts
+    (&[FRONT, (1, true, 64, b"--------"), BACK], Some((2, 64))),
+    (&[(1, true, 64, b"abcdefghijklmnop"), FRONT, BACK], None),
+    // no bytes, bytes that are no multiple of 8, and bytes past the longest datagram
+    (&[(0, true, 64, b""), FRONT, BACK], Some((2, 64))),
+    (
+        &[(0, true, 64, b"--------7654321"), FRONT, BACK],
+        Some((2, 64)),
+    ),
+    (&[(8_189, false, 64, b"----"), FRONT, BACK], Some((2, 64))),
+    (&[(8_189, false, 64, b"---"), FRONT, BACK], None),
+    // a last part behind another, before another, and before one that ends behind it
+    (&[FRONT, BACK, BACK], Some((1, 64))),
+    (&[(3, false, 64, b"q"), FRONT, BACK], None),
+    (&[(1, false, 64, b"a"), FRONT, BACK], None),
+    (&[BACK, (4, true, 64, b"--------"), FRONT], Some((2, 64))),
+    // the time to live of the part that begins the datagram counts
+    (
+        &[
+            (2, false, 9, b"ijklmnop"),
+            (0, true, 7, b"\x00\x35\x04\x00\x00\x18\0\0abcdefgh"),
+        ],
+        Some((1, 7)),
+    ),
+    (
+        &[
+            (0, true, 7, b"\x00\x35\x04\x00\x00\x18\0\0abcdefgh"),
+            (2, false, 9, b"ijklmnop"),
+        ],
+        Some((1, 7)),
+    ),
+];
+
+#[test]
+fn fragments_are_joined(rt: HostRuntime) -> Result<(), NoMemory> {
+    for (fragments, whole) in CASES {
+        assert!(rt; joins(rt.alloc(), fragments, whole)?);
+    }
+    Ok(())
+}
+
+/// A capture of the fronts of so many datagrams, and then the back of the one of that number.
+fn many(alloc: Global, fronts: u16, back: u16) -> Result<Octets, NoMemory> {
+    let mut file = Octets::from_bytes(alloc, &LITTLE)?;
+    for ident in 0..fronts {
+        let frame = frame_of(alloc, ident, FRONT)?;
+        push_record(&mut file, frame.as_slice())?;
+    }
+    let frame = frame_of(alloc, back, BACK)?;
+    push_record(&mut file, frame.as_slice())?;
+    Ok(file)
+}
+
+#[test]
+fn the_first_of_65_is_forgotten(rt: HostRuntime) -> Result<(), NoMemory> {
+    // a whole datagram is 16 bytes longer than its back
+    for (fronts, back, longer) in [(64, 0, 16), (65, 0, 0), (65, 1, 16), (65, 64, 16)] {
+        let file = many(rt.alloc(), fronts, back)?;
+        let Ok(joined) = join(rt.alloc(), &file)? else {
+            return Err(NoMemory);
+        };
+        assert_eq!(rt; joined.len().wrapping_sub(file.len()), longer);
+    }
+    Ok(())
+}
+
+#[test]
+fn bad_captures_are_refused(rt: HostRuntime) -> Result<(), NoMemory> {
+    let file = many(rt.alloc(), 2, 0)?;
+    // a cut rest stays as long
+    for cut in [1usize, 15, 16, 40] {
+        let mut longer = file.copy()?;
+        longer.extend_from_slice(&[0; 8])?;
+        longer.extend_from_slice(b"\0\0\x04\0\0\0\0\0")?;
+        longer.extend_from_slice(&[0; 24])?;
+        let end = file.len().saturating_add(cut).min(longer.len());
+        let cut_file = Octets::from_bytes(rt.alloc(), &longer.as_slice()[..end])?;
+        let Ok(joined) = join(rt.alloc(), &cut_file)? else {
+            return Err(NoMemory);
+        };
+        assert_eq!(rt; joined.len().wrapping_sub(file.len()), cut.wrapping_add(16));
+    }
+    let mut bad = file.copy()?;
+    bad.extend_from_slice(&record(0, 262_145, 0))?;
+    let refused = Err(JoinFault::Capture {
+        number: 4,
+        fault: 6,
+    });
+    assert!(rt; join(rt.alloc(), &bad)?.map(|_| ()) == refused);
+    let none = Octets::new(rt.alloc());
+    let short = Err(JoinFault::Capture {
+        number: 0,
+        fault: 5,
+    });
+    assert!(rt; join(rt.alloc(), &none)?.map(|_| ()) == short);
+    Ok(())
+}
+
+#[test]
+fn fragments_are_read(rt: HostRuntime) -> Result<(), NoMemory> {
+    for fragment in [
+        FRONT,
+        BACK,
+        (0, false, 64, b"whole"),
+        (8_191, true, 64, b""),
+    ] {
+        let frame = frame_of(rt.alloc(), 1, fragment)?;
+        let (offset, more, _, _) = fragment;
+        let packet = frame.as_slice().get(14..).unwrap_or(b"");
+        let Ok(read) = read_fragment(packet) else {
+            return Err(NoMemory);
+        };
+        assert_eq!(rt; (read.offset, read.more), (offset, more));
+        let whole = !more && offset == 0;
+        let answer = if whole {
+            Ok(read.header)
+        } else {
+            Err(HeaderFault::Fragment)
+        };
+        assert_eq!(rt; read_ipv4(packet), answer);
+    }
+    Ok(())
+}
+
+/// An echo request, and its reply.
+const REQUEST: &[u8; 10] = b"\x08\0\x84\x68\x12\x34\0\x01ab";
+
+const REPLY: &[u8; 10] = b"\0\0\x8c\x68\x12\x34\0\x01ab";
+
+/// Messages, and why they get no reply.
+const MESSAGES: [(&[u8], EchoFault); 5] = [
+    (b"\x08\0\xf7\xff", EchoFault::Short),
+    (REPLY, EchoFault::NotEcho),
+    (b"\x08\x01\x84\x67\x12\x34\0\x01ab", EchoFault::NotEcho),
+    (b"\x08\0\x84\x69\x12\x34\0\x01ab", EchoFault::Checksum),
+    (b"\x08\0\x84\x68\x12\x34\0\x01a", EchoFault::Checksum),
+];
+
+#[test]
+fn requests_are_answered(rt: HostRuntime) {
+    let mut out = [0xffu8; 10];
+    assert_eq!(rt; echo_reply(REQUEST, &mut out), Ok(()));
+    assert_eq!(rt; &out, REPLY);
+    for (message, fault) in MESSAGES {
+        let mut out = [0xffu8; 10];
+        if message.len() <= 10 {
+            assert_eq!(rt; echo_reply(message, &mut out[..message.len()]), Err(fault));
+        }
+        assert_eq!(rt; out, [0xffu8; 10]);
+    }
+}
+
+/// Keeps the bytes that it takes, and tells nothing.
+#[derive(Drop)]
+struct Noting {
+    bytes: Rc<RefCell<Octets>>,
+    finishes: u64,
+    faults: u64,
+}
+
+impl Endpoint for Noting {
+    ghost seen = { λ n. record { pieces = None; finishes = n.finishes; faults = n.faults } };
+
+    fn take(&mut self, bytes: &[u8]) -> Result<(), Failed> {
+        let kept = match self.bytes.try_borrow_mut() {
+            Ok(mut kept) => kept.extend_from_slice(bytes).is_ok(),
+            Err(_) => false,
+        };
+        if kept {
+            return Ok(());
+        }
+        self.faults = self.faults.saturating_add(1);
+        Err(Failed)
+    }
+
+    fn finish(&mut self) {
+        self.finishes = self.finishes.saturating_add(1);
+    }
+}
+
+#[test]
+fn replies_alone_are_handed_on(rt: HostRuntime) -> Result<(), NoMemory> {
+    let bytes = Rc::new(rt.alloc(), RefCell::new(Octets::new(rt.alloc())))?;
+    let inner = Noting {
+        bytes: bytes.clone()?,
+        finishes: 0,
+        faults: 0,
+    };
+    let mut end = EchoEnd::new(rt.alloc(), inner)?;
+    for piece in [
+        &REQUEST[..],
+        &REPLY[..],
+        b"",
+        b"\x08\0\x84\x69\x12\x34\0\x01ab",
+    ] {
+        assert_eq!(rt; end.take(piece), Ok(()));
+    }
+    end.finish();
+    match bytes.try_borrow() {
+        Ok(kept) => assert_eq!(rt; kept.as_slice(), &REPLY[..]),
+        Err(_) => return Err(NoMemory),
+    }
+    Ok(())
+}

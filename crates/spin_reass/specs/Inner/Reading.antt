@@ -1,0 +1,35 @@
+-- What reading the records of a capture, and joining them, gives.
+use Rattle.std.specs.Prelude.{◌≡◌, ℕ, ◌+◌, List, [], ◌++◌, length, Result, Ok, Err, ⊤}
+use Rattle.std.specs.List.{flat_map}
+use Rattle.spin_pcap.specs.declared.fault.PcapFault.{PcapFault}
+use Rattle.spin_pcap.specs.declared.fault.PcapFault.TheVariants as fault
+use Rattle.spin_pcap.specs.declared.next.Next.{Next}
+use Rattle.spin_pcap.specs.declared.order.Order.{Order}
+use Rattle.spin_pcap.specs.declared.state.State.TheVariants as state
+use Rattle.spin_pcap.specs.Captures.{IsBody}
+use Rattle.spin_pcap.specs.Passing.{ReaderState, number}
+use Rattle.spin_reass.specs.declared.fault.JoinFault.{JoinFault}
+use Rattle.spin_reass.specs.declared.fault.JoinFault.TheVariants as stop
+use Rattle.spin_reass.specs.JoinedCaptures.{record_of}
+use Rattle.spin_reass.specs.Joining.{joined_frames}
+
+-- a reader that gave no record yet
+abbrev pub IsFreshReader : ReaderState → Type 0
+IsFreshReader reader = (reader.given ≡ 0) × (reader.state ≡ state.Reading)
+
+-- why joining stops at a fault of the record of that number
+abbrev pub stop_of : ℕ → PcapFault → JoinFault
+stop_of at fault.ReadFault = stop.ReadFault
+stop_of at fault.NoMemory = stop.NoMemory
+stop_of at other = stop.Capture at (number other)
+
+-- What joining the records that begin these bytes gives, behind the bytes before.
+abbrev pub JoinsBody : Order → List ℕ → List ℕ → List ℕ → Result Next JoinFault → Type 0
+JoinsBody way bytes before after (Ok ending) =
+    (frames : List (List ℕ)) × IsBody way 0 bytes frames (Ok ending)
+    × (after ≡ before ++ flat_map record_of (joined_frames [] frames))
+JoinsBody way bytes before after (Err (stop.Capture at reason)) =
+    (frames : List (List ℕ)) × (wrong : PcapFault) × IsBody way 0 bytes frames (Err wrong)
+    × (at ≡ length frames + 1) × (reason ≡ number wrong)
+JoinsBody way bytes before after (Err stop.ReadFault) = ⊤
+JoinsBody way bytes before after (Err stop.NoMemory) = ⊤
