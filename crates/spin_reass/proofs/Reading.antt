@@ -145,8 +145,8 @@ after_packet reader reader' answer B r e h =
     (ap (λ (x : ReaderState). x.state) is, ap (λ (x : ReaderState). x.order) is, ap (λ (x : ReaderState). x.given) is)
 
 -- the bytes of a record are few
-pub packet_few : (answer : Next) (gone frame : List ℕ) → answer ≡ next.Packet → IsGone (Ok answer) gone frame → length frame ≤ MAX_CAPTURED
-packet_few answer gone frame e h = (subst (λ (x : Next). IsGone (Ok x) gone frame) e h).1
+pub packet_few : (way : Order) (answer : Next) (gone frame : List ℕ) → answer ≡ next.Packet → IsGone way (Ok answer) gone frame → length frame ≤ MAX_CAPTURED
+packet_few way answer gone frame e h = (subst (λ (x : Next). IsGone way (Ok x) gone frame) e h).1
 
 pub next_packet : (way : Order) (bytes before : List ℕ) (reader reader' : ReaderState) (answer : Next) (left left' : Option (List ℕ)) (ds ds' : List OpenDatagram) (out out' frame frame' : List ℕ) (A B : Type 0) → reader.state ≡ state.Reading → reader.order ≡ way → answer ≡ next.Packet → IfReading reader.state (IfSome (left_for reader.held left) (λ bs. IsAnswer reader.order reader.given bs (Ok answer) frame (left_for reader'.held left'))) A → IfReading reader.state (reader' ≡ after reader reader' (Ok answer)) B → ds' ≡ (joined ds frame).0 → frame' ≡ (joined ds frame).1 → out' ≡ out ++ record_of frame' → HasJoined way bytes before reader.given (left_for reader.held left) ds out → HasJoined way bytes before reader'.given (left_for reader'.held left') ds' out'
 next_packet way bytes before reader reader' answer left left' ds ds' out out' frame frame' A B r w e a b d f o h =

@@ -14,7 +14,7 @@ records-init g c = record {
 
 pub put_record-requires : goal.put_record-requires
 put_record-requires g c =
-    let few = packet_few c.in-Ok-Packet.field-0 _ c.next.new.frame c.in-Ok-Packet.field-0-is c.in-Ok-Packet.ensures.passed.2 in
+    let few = packet_few _ c.in-Ok-Packet.field-0 _ c.next.new.frame c.in-Ok-Packet.field-0-is c.in-Ok-Packet.ensures.passed.2 in
     let is : c.deref.result.now ≡ c.join.new.frame = search rules in
     omega (arith, c.in_ok-join-in-Ok-Packet.ensures.bound, ap length is)
 
