@@ -1,5 +1,5 @@
 -- Regions by rising start: which of them has a page, and one more of them.
-use Rattle.std.proofs.Common.{rules, subst, inl, inr, ◌⊎◌, cond, ◌≡◌, ◌+◌, ◌-◌, ◌<◌, ◌≤◌, ◌&&◌, ◌||◌, ℕ, zero, suc, true, false, List, [], ◌∷◌, length, refl, sym, ap, ◌∙◌, arith, tests}
+use Rattle.std.proofs.Common.{rules, subst, inl, inr, ◌⊎◌, cond, ◌≡◌, ◌+◌, ◌-◌, ◌<◌, ◌≤◌, ◌&&◌, ◌||◌, ℕ, zero, suc, true, false, List, [], ◌∷◌, length, refl, sym, ap, ◌∙◌, arith}
 use Rattle.std.specs.Prelude.{nat_lt, Bool, Option, Some, None, slice_get, IfSome, slice_index_or}
 use Rattle.std.specs.Option.{unwrap_or}
 use Rattle.std.proofs.lemmas.Option.{same_Some}
@@ -8,7 +8,7 @@ use Rattle.std.specs.List.Sorted.{IsPartitionedBy}
 use Rattle.spin_vm.specs.declared.limits.TheConstants.{PAGES}
 use Rattle.spin_vm.specs.declared.line.Region.{Region}
 use Rattle.spin_vm.specs.Regions.{has_some, with_region}
-use Rattle.spin_vm.specs.Inner.Apart.{AreApartFrom, AreApart, count_before, last_before}
+use Rattle.spin_vm.specs.Inner.Apart.{AreApartFrom, count_before, last_before}
 
 -- the list begins later, too
 pub from_earlier : (low page : ℕ) (xs : List Region) → low ≤ page → AreApartFrom page xs → AreApartFrom low xs

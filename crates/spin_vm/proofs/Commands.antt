@@ -1,6 +1,5 @@
 -- Commands one after another.
 use Rattle.std.proofs.Common.{filter, Result, Err, subst, rules, ◌≡◌, ◌+◌, ◌<◌, ◌≤◌, ◌&&◌, ◌==◌, ℕ, zero, suc, Bool, true, false, List, [], ◌∷◌, length, Option, Some, None, MatchOption, count_by, slice_get, slice_index_or, refl, sym, ap, ◌∙◌, arith, append-nil}
-use Rattle.std.specs.List.{list_all}
 use Rattle.std.proofs.lemmas.Option.{same_Some}
 use Rattle.spin_script.specs.declared.script.Line.{Line}
 use Rattle.spin_script.specs.declared.script.Segment.{Segment}
@@ -13,7 +12,7 @@ use Rattle.spin_table.specs.declared.refusal.Verdicted.TheVariants as verdicted
 use Rattle.spin_table.specs.Setups.{SetupData}
 use Rattle.spin_table.specs.States.{State}
 use Rattle.spin_table.specs.Refusals.{refusal_of}
-use Rattle.spin_table.specs.Steps.{ChangesTo, IsStep, IsAnswer}
+use Rattle.spin_table.specs.Steps.{ChangesTo, IsAnswer}
 use Rattle.spin_table.specs.declared.refusal.StepFault.{StepFault}
 use Rattle.spin_table.specs.declared.refusal.StepFault.TheVariants as fault
 use Rattle.std.proofs.lemmas.List.Sums.{length-filter}
@@ -90,5 +89,5 @@ pub all_commands : (script : ScriptData) (s : Segment) → is_suited script ≡ 
 all_commands script s e read = first_commands script.segments s (suited_parts script e).1 read
 
 -- a command that is refused has a verdict
-pub leads_refused : (d : SetupData) (s : State) (c : Command) (r : Result State StepFault) (f : Refusal) → r ≡ Err (fault.Refused f) → IsAnswer d s c r → LeadsBy d s c s
-leads_refused d s c r f is h = (verdicted.Refused f, subst (IsAnswer d s c) is h)
+pub leads_refused : (d : SetupData) (s : State) (c : Command) (r : Result State StepFault) (e : StepFault) (f : Refusal) → r ≡ Err e → e ≡ fault.Refused f → IsAnswer d s c r → LeadsBy d s c s
+leads_refused d s c r e f is why h = (verdicted.Refused f, subst (λ (x : StepFault). IsAnswer d s c (Err x)) why (subst (IsAnswer d s c) is h))

@@ -1,6 +1,5 @@
 -- How the output of a trace ends, by what was written of it.
-use Rattle.std.proofs.Common.{◌≡◌, ℕ, List, Option, Result, Ok, Err, IfOk, refl, sym, ap, subst, inl, inr}
-use Rattle.spin_outside.specs.Counts.{Rose}
+use Rattle.std.proofs.Common.{◌≡◌, ℕ, List, Result, Ok, Err, IfOk, refl, sym, subst, inl, inr}
 use Rattle.spin_outside.specs.Seen.{SinkSeen}
 use Rattle.spin_word.specs.declared.work.Deed.{Deed}
 use Rattle.spin_table.specs.Setups.{SetupData}
@@ -14,7 +13,6 @@ use Rattle.spin_vm.specs.declared.line.TraceLine.{TraceLine}
 use Rattle.spin_vm.specs.declared.writing.Stop.{Stop}
 use Rattle.spin_vm.specs.declared.writing.Stop.TheVariants as stop
 use Rattle.spin_vm.specs.declared.end.VmEnd.{VmEnd}
-use Rattle.spin_vm.specs.declared.end.VmEnd.TheVariants as end
 use Rattle.spin_vm.specs.Traces.{outcome}
 use Rattle.spin_vm.specs.Output.{output}
 use Rattle.spin_vm.specs.Scripts.{IsLast, AreReplies}
@@ -35,20 +33,20 @@ module _ (script : ScriptData) (trace shown : List TraceLine) (same : shown ≡ 
   abbrev Writes : {A : Type 0} → Result A Stop → Type 0
   Writes r = (reply : Deed → Reply) → AreReplies script.setup last reply → WroteWithin a c (output reply shown) r
 
-  written : {A : Type 0} (r : Result A Stop) → Writes r → (reply : Deed → Reply) × AreReplies script.setup last reply × WroteWithin a c (output reply trace) r
-  written r h =
+  written : (A : Type 0) (r : Result A Stop) → Writes r → (reply : Deed → Reply) × AreReplies script.setup last reply × WroteWithin a c (output reply trace) r
+  written A r h =
       let rs = the_replies script.setup last sound in
       (rs.0, rs.1, subst (λ (t : List TraceLine). WroteWithin a c (output rs.0 t) r) same (h rs.0 rs.1))
 
-  pub output_ends : {A : Type 0} (r : Result A Stop) → Writes r → OutputEnds script trace a c r
-  output_ends (Ok x) h = let w = written (Ok x) h in (output w.0 trace, the_output script trace last is w.0 w.1, w.2)
-  output_ends (Err stop.WriteFault) h = let w = written (Err stop.WriteFault) h in (output w.0 trace, the_output script trace last is w.0 w.1, w.2.0)
-  output_ends (Err stop.NoMemory) h = let w = written (Err stop.NoMemory) h in inr (output w.0 trace, the_output script trace last is w.0 w.1, w.2.0)
+  pub output_ends : (A : Type 0) (r : Result A Stop) → Writes r → OutputEnds script trace a c r
+  output_ends A (Ok x) h = let w = written A (Ok x) h in (output w.0 trace, the_output script trace last is w.0 w.1, w.2)
+  output_ends A (Err stop.WriteFault) h = let w = written A (Err stop.WriteFault) h in (output w.0 trace, the_output script trace last is w.0 w.1, w.2.0)
+  output_ends A (Err stop.NoMemory) h = let w = written A (Err stop.NoMemory) h in inr (output w.0 trace, the_output script trace last is w.0 w.1, w.2.0)
 
-  pub output_counts : {A : Type 0} (r : Result A Stop) → Writes r → IfOk r (λ _. c.faults ≡ a.faults) → OutputCounts a c r
-  output_counts (Ok x) h stood = stood
-  output_counts (Err stop.WriteFault) h stood = (written (Err stop.WriteFault) h).2.1
-  output_counts (Err stop.NoMemory) h stood = (written (Err stop.NoMemory) h).2.1
+  pub output_counts : (A : Type 0) (r : Result A Stop) → Writes r → IfOk r (λ _. c.faults ≡ a.faults) → OutputCounts a c r
+  output_counts A (Ok x) h stood = stood
+  output_counts A (Err stop.WriteFault) h stood = (written A (Err stop.WriteFault) h).2.1
+  output_counts A (Err stop.NoMemory) h stood = (written A (Err stop.NoMemory) h).2.1
 
 -- a trace that was read ends as its output does
 pub trace_ends : {A : Type 0} (script : ScriptData) (text : List ℕ) (trace : List TraceLine) (a c : SinkSeen) (r : Result A Stop) (e : VmEnd) → e ≡ end_of r → outcome text ≡ Ok trace → OutputEnds script trace a c r → EndsBy script text a c e

@@ -1,6 +1,6 @@
 -- Spaces by number, and their regions.
-use Rattle.std.proofs.Common.{rules, ◌≡◌, ◌+◌, ◌<◌, ◌≤◌, ℕ, zero, suc, true, false, cond, Bool, List, [], ◌∷◌, length, map, Option, Some, None, Result, Ok, Err, IfOk, subst, refl, sym, ap, ◌∙◌, arith, nat_le}
-use Rattle.std.specs.Prelude.{slice_get, slice_set, slice_index_or}
+use Rattle.std.proofs.Common.{rules, ◌≡◌, ◌<◌, ℕ, zero, suc, true, false, cond, Bool, List, [], ◌∷◌, length, Option, Some, None, Result, Ok, Err, IfOk, subst, refl, sym, ap, ◌∙◌, arith, nat_le}
+use Rattle.std.specs.Prelude.{slice_set, slice_index_or}
 use Rattle.std.proofs.lemmas.List.{map-set, length-map}
 use Rattle.spin_values.specs.declared.no_memory.NoMemory.{NoMemory}
 use Rattle.spin_word.specs.declared.work.Deed.{Deed}
@@ -8,7 +8,6 @@ use Rattle.spin_proto.specs.declared.reply.Reply.{Reply}
 use Rattle.spin_vm.specs.declared.came.Came.{Came}
 use Rattle.spin_vm.specs.declared.line.Said.{Said}
 use Rattle.spin_values.specs.First.{first_of}
-use Rattle.spin_vm.specs.declared.cause.TraceCause.{TraceCause}
 use Rattle.spin_vm.specs.declared.cause.TraceCause.TheVariants as cause
 use Rattle.spin_vm.specs.declared.line.Region.{Region}
 use Rattle.spin_vm.specs.declared.line.Request.{Request}

@@ -1,6 +1,5 @@
 -- Texts that are written one after another.
-use Rattle.std.proofs.Common.{decimal, drop_of_length-le, Result, Ok, Err, suc, drop-cons, add-one, slice_index_or, rules, ◌≡◌, ◌<◌, ◌≤◌, ◌+◌, ℕ, Option, Some, None, List, [], ◌∷◌, ◌++◌, map, length, take, drop, length-drop, refl, sym, ap, subst, ◌∙◌, arith, append_assoc, inl, inr}
-use Rattle.std.specs.List.{flat_map}
+use Rattle.std.proofs.Common.{decimal, drop_of_length-le, Result, Ok, Err, suc, drop-cons, add-one, slice_index_or, ◌≡◌, ◌<◌, ◌≤◌, ◌+◌, ℕ, Option, Some, None, List, [], ◌∷◌, ◌++◌, map, length, take, drop, length-drop, refl, sym, ap, subst, ◌∙◌, arith, append_assoc}
 use Rattle.std.proofs.lemmas.List.{append-nil, length-append, take-append-drop, map-append}
 use Rattle.std.proofs.lemmas.List.Concat.{flat_map-append}
 use Rattle.std.specs.Io.KnownBytes.{Appends}
@@ -96,6 +95,10 @@ within_behind a b c xs zs (Err stop.WriteFault) told stood h =
     (front_behind a b c xs zs told h.0, subst (λ (n : ℕ). Rose n c.faults) stood h.1)
 within_behind a b c xs zs (Err stop.NoMemory) told stood h =
     (front_behind a b c xs zs told h.0, h.1 ∙ stood)
+
+-- the same, where a default stands for what isn't there
+pub next_at : {X : Type 0} (xs : List X) (i : ℕ) (d : X) → i < length xs → drop i xs ≡ slice_index_or xs i d ∷ drop (i + 1) xs
+next_at xs i d lt = drop-cons xs i d lt ∙ ap (λ k. slice_index_or xs i d ∷ drop k xs) (sym (add-one i))
 
 -- a line of a list, and the lines behind it
 pub next_line : {X : Type 0} (xs : List X) (i : ℕ) (x : X) → i < length xs → x ≡ slice_index_or xs i x → drop i xs ≡ x ∷ drop (i + 1) xs

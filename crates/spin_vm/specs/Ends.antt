@@ -1,5 +1,5 @@
 -- How a trace ends, and what was written by then.
-use Rattle.std.specs.Prelude.{◌≡◌, ◌<◌, ◌⊎◌, ℕ, List, ◌++◌, length, Result, Ok, Err}
+use Rattle.std.specs.Prelude.{◌≡◌, ◌<◌, ◌⊎◌, ℕ, List, ◌++◌, length, Ok, Err}
 use Rattle.std.specs.Io.KnownBytes.{Appends}
 use Rattle.spin_outside.specs.Counts.{Rose}
 use Rattle.spin_outside.specs.Seen.{SinkSeen}

@@ -2,8 +2,6 @@
 use Rattle.std.specs.Prelude.{ℕ, Bool, true, false, ◌&&◌, if◌then◌else◌, List, [], ◌∷◌, Option, Some, None, codes, bytes_eq}
 use Rattle.spin_text.specs.Words.{Word}
 use Rattle.spin_grammar.specs.Spelling.{number, within, greatest}
-use Rattle.spin_vm.specs.declared.line.Region.{Region}
-use Rattle.spin_vm.specs.declared.line.Request.{Request}
 use Rattle.spin_vm.specs.declared.line.Request.TheVariants as request
 use Rattle.spin_vm.specs.declared.line.Said.{Said}
 use Rattle.spin_vm.specs.declared.line.Said.TheVariants as said

@@ -1,5 +1,4 @@
 -- Commands one after another.
-use Rattle.std.specs.Prelude.{◌≡◌}
 use Rattle.spin_word.specs.declared.command.Command.{Command}
 use Rattle.spin_table.specs.declared.refusal.Verdicted.{Verdicted}
 use Rattle.spin_table.specs.Setups.{SetupData}

@@ -11,7 +11,7 @@ use Rattle.spin_vm.specs.declared.line.TraceLine.{TraceLine}
 use Rattle.spin_vm.specs.declared.came.Came.{Came}
 use Rattle.spin_vm.specs.declared.writing.Stop.{Stop}
 use Rattle.spin_vm.specs.declared.writing.Stop.TheVariants as stop
-use Rattle.spin_vm.specs.Spaces.{Space, answered_if, said_came, answers, last_spaces, mapped_pages}
+use Rattle.spin_vm.specs.Spaces.{Space, answered_if, answers, last_spaces, mapped_pages}
 use Rattle.spin_vm.specs.Output.{answered_line, end_line}
 use Rattle.spin_vm.specs.Ends.{WritesFront}
 

@@ -1,12 +1,9 @@
-use Rattle.std.proofs.Common.{◌≡◌, ◌/◌, ap, ◌∙◌}
-use Rattle.spin_word.specs.declared.work.Deed.{Deed}
+use Rattle.std.proofs.Common.{ap, ◌∙◌}
 use Rattle.spin_table.specs.SetupOf.{data_of}
-use Rattle.spin_proto.specs.declared.reply.Reply.{Reply}
 use Rattle.spin_report.proofs.Answering.{one_reply}
 use Rattle.spin_vm.specs.declared.came.Came.{Came}
 use Rattle.spin_vm.specs.declared.came.Came.TheVariants as came
-use Rattle.spin_vm.specs.Scripts.{AreReplies}
-use Rattle.spin_vm.specs.Spaces.{page_of, look_up, access_came, raise_of, faulted, mapped}
+use Rattle.spin_vm.specs.Spaces.{page_of, access_came, raise_of, faulted, mapped}
 use Rattle.spin_vm.proofs.answering.access.Goals as goal
 
 pub returns-clause-came : goal.returns-clause-came

@@ -1,4 +1,4 @@
-use Rattle.std.proofs.Common.{◌≡◌, ◌+◌, ◌≤◌, length, List, [], Ok}
+use Rattle.std.proofs.Common.{◌≡◌, ◌+◌, ◌≤◌, length, Ok}
 use Rattle.std.specs.Str.Lines.{lines}
 use Rattle.spin_vm.specs.Traces.{start, comes_to}
 use Rattle.spin_vm.proofs.Reading.{GoesOn}

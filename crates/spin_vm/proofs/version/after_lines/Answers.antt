@@ -1,4 +1,4 @@
-use Rattle.std.proofs.Common.{◌+◌, ◌<◌, ◌≤◌, List, length, refl, sym, subst, arith}
+use Rattle.std.proofs.Common.{◌<◌, ◌≤◌, List, length, refl, sym, subst, arith}
 use Rattle.spin_script.specs.declared.script.Line.{Line}
 use Rattle.spin_table.specs.SetupOf.{data_of}
 use Rattle.spin_vm.specs.Scripts.{AllLead}

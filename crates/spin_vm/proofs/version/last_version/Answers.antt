@@ -1,7 +1,7 @@
-use Rattle.std.proofs.Common.{◌≡◌, ◌≤◌, ◌∙◌, true, List, length, All, IfOk, IsTrue, count_by, sym, ap, subst, arith}
+use Rattle.std.proofs.Common.{◌≡◌, ◌∙◌, true, List, length, All, IfOk, count_by, sym, ap, subst, arith}
 use Rattle.spin_script.specs.declared.script.Line.{Line}
 use Rattle.spin_script.specs.Scripts.{script_seen}
-use Rattle.spin_script.specs.Soundness.{lines_in, IsValidWork, is_command_work, command_lines}
+use Rattle.spin_script.specs.Soundness.{IsValidWork, is_command_work, command_lines}
 use Rattle.spin_table.specs.SetupOf.{data_of}
 use Rattle.spin_table.specs.States.{start_of}
 use Rattle.spin_vm.specs.Scripts.{AllLead, are_commands}

@@ -1,4 +1,4 @@
-use Rattle.std.proofs.Common.{◌≡◌, ◌<◌, ◌+◌, ◌∙◌, ◌&&◌, nat_lt, true, false, sym, ap, refl, arith}
+use Rattle.std.proofs.Common.{◌≡◌, ◌+◌, ◌∙◌, ◌&&◌, nat_lt, true, false, sym, ap, refl, arith}
 use Rattle.spin_vm.proofs.Apart.{any_is, writes_is, reaches, lets_write}
 use Rattle.spin_vm.proofs.regions.Regions.at.Goals as goal
 

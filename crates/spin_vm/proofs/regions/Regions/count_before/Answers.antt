@@ -1,4 +1,4 @@
-use Rattle.std.proofs.Common.{of_calls, rules, nat_lt, ◌≡◌, ◌∙◌, ap, subst, sym}
+use Rattle.std.proofs.Common.{of_calls, rules, nat_lt, ◌∙◌, ap, subst, sym}
 use Rattle.std.proofs.lemmas.Fn.{always_returns_same}
 use Rattle.spin_vm.specs.declared.line.Region.{Region}
 use Rattle.spin_vm.specs.Inner.Apart.{AreApart, count_before}
