@@ -1,0 +1,68 @@
+use Rattle.std.proofs.Common.{◌≡◌, ◌+◌, ◌<◌, ◌++◌, ◌∙◌, ℕ, List, [], length, drop, slice_index_or, sym, ap, subst, arith}
+use Rattle.spin_text.specs.Words.{ended}
+use Rattle.spin_vm.specs.declared.line.Region.{Region}
+use Rattle.spin_vm.specs.declared.line.Said.TheVariants as said
+use Rattle.spin_vm.specs.declared.line.TraceLine.{TraceLine}
+use Rattle.spin_vm.specs.Traces.{AreGood}
+use Rattle.spin_vm.specs.Spaces.{said_came, mapped_pages}
+use Rattle.spin_vm.specs.Output.{end_line}
+use Rattle.spin_vm.specs.Inner.Lines.{regions_of, text_if, text_behind, WroteWithin}
+use Rattle.spin_vm.proofs.Texts.{Appends-append, next_at, no_more, text_next, text_last, stopped, some_behind, wrote_behind}
+use Rattle.spin_vm.proofs.writing.write_lines.Goals as goal
+
+pub loop-line-preserved : goal.loop-line-preserved
+loop-line-preserved g c =
+    let trace = c.args.trace.now in
+    let i = c.loop-line.line-index in
+    let spaces = c.loop-line.spaces.items in
+    let next = c.write_line.new.spaces.items in
+    let d : TraceLine = record { number = 0; said = said.Space 0 } in
+    let line = slice_index_or trace i d in
+    let at = next_at trace i d c.loop-line-test.true in
+    let good = subst (AreGood (regions_of spaces)) at c.loop-line.invariant.good in
+    record {
+      written = λ reply are.
+          let before = c.loop-line.invariant.written reply are in
+          let text = text_if line (said_came reply spaces line.said) in (
+            before.0 ++ text,
+            text_next reply spaces next trace i line (text_behind reply [] trace) before.0 at (c.in-Ok.ensures.spaces reply are) before.1,
+            Appends-append (g.K.Sink.seen c.args.out.now).told (g.K.Sink.seen c.loop-line.out).told (g.K.Sink.seen c.write_line.new.out).told before.0 text before.2 (c.in-Ok.ensures.written reply are),
+          );
+      good = subst (λ (rs : List (List Region)). AreGood rs (drop (i + 1) trace)) (sym c.in-Ok.ensures.regions) good.1;
+      pages = omega (arith, c.in-Ok.ensures.pages, c.loop-line.invariant.pages);
+      stood = c.in-Ok.ensures.counts ∙ c.loop-line.invariant.stood;
+    }
+
+pub returns-in-Err-clause-written : goal.returns-in-Err-clause-written
+returns-in-Err-clause-written g c reply are =
+    let trace = c.args.trace.now in
+    let i = c.loop-line.line-index in
+    let d : TraceLine = record { number = 0; said = said.Space 0 } in
+    let before = c.loop-line.invariant.written reply are in
+    stopped reply c.loop-line.spaces.items trace i (slice_index_or trace i d) (text_behind reply [] trace) before.0
+    (g.K.Sink.seen c.args.out.now) (g.K.Sink.seen c.loop-line.out) (g.K.Sink.seen c.write_line.new.out) c.in-Err.stop
+    (next_at trace i d c.loop-line-test.true) before.1 before.2 c.loop-line.invariant.stood (c.in-Err.ensures.written reply are)
+
+pub returns-in_default-clause-written : goal.returns-in_default-clause-written
+returns-in_default-clause-written g c reply are =
+    let rest = drop c.loop-line.line-index c.args.trace.now in
+    let spaces = c.loop-line.spaces.items in
+    let before = c.loop-line.invariant.written reply are in
+    ((before.0, text_behind reply spaces rest, before.1, some_behind reply spaces rest, before.2), c.loop-line.invariant.stood)
+
+pub returns-clause-written : goal.returns-clause-written
+returns-clause-written g c reply are =
+    let trace = c.args.trace.now in
+    let i = c.loop-line.line-index in
+    let spaces = c.loop-line.spaces.items in
+    let a = g.K.Sink.seen c.args.out.now in
+    let b = g.K.Sink.seen c.loop-line.out in
+    let z = g.K.Sink.seen c.write_text.new.out in
+    let before = c.loop-line.invariant.written reply are in
+    let text = c.as_slice.result.now in
+    let made = c.as_slice.ensures ∙ c.in-Ok-end_text.ensures ∙ ap (λ n. ended (end_line n)) (c.mapped_pages.ensures ∙ ap mapped_pages c.deref.ensures.value) in
+    let rest : text_behind reply spaces (drop i trace) ≡ text = ap (text_behind reply spaces) (no_more trace i c.loop-line-test.false) ∙ text_last reply spaces ∙ sym made in
+    let whole : text_behind reply [] trace ≡ before.0 ++ text = before.1 ∙ ap (λ xs. before.0 ++ xs) rest in
+    let some = subst (λ (xs : List ℕ). 0 < length xs) rest (some_behind reply spaces (drop i trace)) in
+    subst (λ (xs : List ℕ). WroteWithin a z xs c.write_text.result) (sym whole)
+    (wrote_behind a b z before.0 text c.write_text.result before.2 c.loop-line.invariant.stood some c.write_text.ensures.written)

@@ -1,0 +1,11 @@
+pub mod Limits
+pub mod Forms
+pub mod Regions
+pub mod Traces
+pub mod Reading
+pub mod Spaces
+pub mod Output
+pub mod Scripts
+pub mod Ends
+pub mod Laws
+pub mod Inner

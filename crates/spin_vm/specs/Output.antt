@@ -1,0 +1,50 @@
+-- The output of a trace.
+use Rattle.std.specs.Prelude.{ℕ, Bool, true, false, List, [], ◌∷◌, ◌++◌, map, Option, Some, None, decimal, codes}
+use Rattle.spin_text.specs.Words.{Word, line_of, text_of}
+use Rattle.spin_word.specs.declared.work.Deed.{Deed}
+use Rattle.spin_proto.specs.declared.reply.Reply.{Reply}
+use Rattle.spin_report.specs.Replies.{reply_words}
+use Rattle.spin_vm.specs.declared.line.TraceLine.{TraceLine}
+use Rattle.spin_vm.specs.declared.fault.Fault.{Fault}
+use Rattle.spin_vm.specs.declared.fault.Fault.TheVariants as fault
+use Rattle.spin_vm.specs.declared.came.Came.{Came}
+use Rattle.spin_vm.specs.declared.came.Came.TheVariants as came
+use Rattle.spin_vm.specs.Spaces.{Answered, answers, last_spaces, mapped_pages}
+
+abbrev pub fault_word : Fault → Word
+fault_word fault.PageNotPresent = codes "page_not_present"
+fault_word fault.BadAddress = codes "bad_address"
+fault_word fault.ProtectionFault = codes "protection_fault"
+
+abbrev pub frame_words : Option ℕ → List Word
+frame_words None = codes "none" ∷ []
+frame_words (Some frame) = codes "frame" ∷ decimal frame ∷ []
+
+abbrev pub unmapped_word : Bool → Word
+unmapped_word true = codes "ok"
+unmapped_word false = codes "none"
+
+abbrev pub came_words : Came → List Word
+came_words (came.Found frame) = frame_words (Some frame)
+came_words (came.Faulted f answered frame) =
+    fault_word f ∷ reply_words answered ++ frame_words frame
+came_words (came.Unmapped was) = codes "unmap" ∷ unmapped_word was ∷ []
+
+abbrev pub answered_line : Answered → List ℕ
+answered_line a = line_of (decimal a.number ∷ came_words a.came)
+
+abbrev pub first_line : List ℕ
+first_line = line_of (codes "vm" ∷ codes "1" ∷ [])
+
+abbrev pub end_line : ℕ → List ℕ
+end_line pages = line_of (codes "end" ∷ decimal pages ∷ [])
+
+-- the output's lines, where `reply` replies to raises
+abbrev pub output_lines : (Deed → Reply) → List TraceLine → List (List ℕ)
+output_lines reply trace =
+    first_line
+    ∷ map answered_line (answers reply [] trace)
+    ++ end_line (mapped_pages (last_spaces reply [] trace)) ∷ []
+
+abbrev pub output : (Deed → Reply) → List TraceLine → List ℕ
+output reply trace = text_of (output_lines reply trace)

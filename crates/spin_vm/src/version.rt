@@ -1,0 +1,98 @@
+//! The version that a script leaves.
+
+ghost use Rattle.std.specs.Prelude.{◌≡◌, ◌+◌, ◌<◌, ◌≤◌, length, IsTrue, IfOk, All, true};
+ghost use Rattle.spin_word.specs.declared.command.TheConstants.{MAX_PLACE};
+ghost use Rattle.spin_word.specs.Commands.{is_command};
+ghost use Rattle.spin_table.specs.SetupOf.{data_of};
+ghost use Rattle.spin_table.specs.Soundness.{IsSound};
+ghost use Rattle.spin_table.specs.States.{start_of};
+ghost use Rattle.spin_script.specs.Scripts.{script_seen};
+ghost use Rattle.spin_script.specs.Soundness.{AreValid, IsValidWork, command_lines, is_command_work};
+ghost use Rattle.spin_vm.specs.Scripts.{are_commands, is_suited, Leads, AllLead, IsLast};
+ghost use Rattle.spin_vm.specs.Inner.Commands.{LeadsBy};
+
+use spin_code::Sincere;
+use spin_objects::Catalogue;
+use spin_script::{Line, Script, Work};
+use spin_table::{Setup, StepFault, Version};
+use spin_values::{NoMemory, Steps};
+use spin_word::Command;
+use std::alloc::Global;
+use std::marker::Brand;
+use std::sync::ledger::{Blank, Ledger};
+
+/// The version after the command, which may be refused.
+fn step<L: Ledger>(
+    alloc: Global,
+    setup: &Setup,
+    version: Version,
+    command: &Command,
+    blank: Blank,
+) -> Result<Version, NoMemory>
+    requires name { blank.name ≡ L.name }
+    requires parts { blank.parts ≡ L.parts }
+    requires some { 0 < L.parts }
+    requires sincere { ⟦<Catalogue as Sincere>⟧.sincere setup.now.catalogue }
+    requires valid { IsTrue (is_command command.now) }
+    requires room { version.place < MAX_PLACE }
+    requires sound { IsSound (data_of setup.now) version }
+    ensures leads { IfOk result (LeadsBy (data_of setup.now) version command.now) }
+    ensures sound { IfOk result (λ next. IsSound (data_of setup.now) next) }
+{
+    let mut steps = Steps::<L>::new(blank);
+    match version.after(alloc, setup, command, &mut steps) {
+        Ok(next) => Ok(next),
+        Err(StepFault::Refused(_)) => Ok(version),
+        Err(StepFault::NoMemory) => Err(NoMemory),
+    }
+}
+
+/// The version after what a line asks for, which is a command.
+fn after_work(
+    alloc: Global,
+    setup: &Setup,
+    version: Version,
+    work: &Work,
+) -> Result<Version, NoMemory>
+    requires command { IsTrue (is_command_work work.now) }
+    requires sincere { ⟦<Catalogue as Sincere>⟧.sincere setup.now.catalogue }
+    requires valid { IsValidWork work.now }
+    requires room { version.place < MAX_PLACE }
+    requires sound { IsSound (data_of setup.now) version }
+    ensures leads { IfOk result (Leads (data_of setup.now) version work.now) }
+    ensures sound { IfOk result (λ next. IsSound (data_of setup.now) next) }
+{
+    match work {
+        Work::Command(command) => step::<Brand>(alloc, setup, version, command, Blank::new(1)),
+        _ => unreachable!(),
+    }
+}
+
+/// The version after the commands of lines, one after another.
+fn after_lines(alloc: Global, setup: &Setup, lines: &[Line]) -> Result<Version, NoMemory>
+    requires commands { IsTrue (are_commands lines.now) }
+    requires valid { All (λ line. IsValidWork line.work) lines.now }
+    requires few { length lines.now ≤ MAX_PLACE }
+    requires sincere { ⟦<Catalogue as Sincere>⟧.sincere setup.now.catalogue }
+    ensures last { IfOk result
+        (AllLead (data_of setup.now) (start_of (data_of setup.now)) lines.now) }
+    ensures sound { IfOk result (λ version. IsSound (data_of setup.now) version) }
+{
+    let mut version = Version::start(alloc, setup)?;
+    for line in lines {
+        version = after_work(alloc, setup, version, &line.work)?;
+    }
+    Ok(version)
+}
+
+/// The version that a script leaves, whose commands are applied in order.
+pub(crate) fn last_version(alloc: Global, script: &Script) -> Result<Version, NoMemory>
+    requires suited { IsTrue (is_suited (script_seen script.now)) }
+    requires valid { AreValid script.now.segments }
+    requires few { command_lines script.now.segments ≤ MAX_PLACE }
+    requires sincere { ⟦<Catalogue as Sincere>⟧.sincere script.now.setup.catalogue }
+    ensures last { IfOk result (IsLast (script_seen script.now)) }
+    ensures sound { IfOk result (λ version. IsSound (data_of script.now.setup) version) }
+{
+    after_lines(alloc, &script.setup, &script.segments.get(0).lines)
+}
