@@ -95,9 +95,9 @@ fn frame(number: u8) -> &'static [u8] {
     }
 }
 
-/// Adds a record.
+/// Adds a record of fewer than 256 bytes.
 fn put_record(file: &mut Octets, frame: &[u8]) -> Result<(), NoMemory> {
-    let length = (frame.len() as u32).to_le_bytes();
+    let length = [(frame.len() % 256) as u8, 0, 0, 0];
     file.extend_from_slice(&[0; 8])?;
     file.extend_from_slice(&length)?;
     file.extend_from_slice(&length)?;
