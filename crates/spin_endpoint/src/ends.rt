@@ -119,6 +119,16 @@ impl Ends {
         None
     }
 
+    /// Whether an endpoint stands under the name. It takes no memory, and changes nothing.
+    pub fn stands(&self, name: &Text) -> bool
+        ensures { result ≡ stands name.now (⟦<Ends as EndsSeen>⟧.all self.now) }
+    {
+        if let Some(_at) = self.find(name) {
+            return true;
+        }
+        false
+    }
+
     /// Adds an endpoint, which stands. A refused object comes back. `SameName` comes exactly where an endpoint
     /// stands under the name; else `TooMany` comes exactly where 64 were added, retired ones counted.
     pub fn add(

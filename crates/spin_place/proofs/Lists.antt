@@ -1,9 +1,9 @@
 -- Pairs of a list, and lists of numbers with the same elements.
-use Rattle.std.proofs.Common.{◌≡◌, ℕ, zero, suc, ◌+◌, ◌<◌, Bool, true, false, cond, eqb, List, [], ◌∷◌, get_or, take, refl, sym, ap, subst, ◌∙◌, inl, inr, ◌⊎◌, arith, count_by}
+use Rattle.std.proofs.Common.{◌≡◌, ℕ, zero, suc, ◌+◌, ◌<◌, Bool, true, false, cond, eqb, List, [], ◌∷◌, length, get_or, take, refl, sym, ap, subst, ◌∙◌, inl, inr, ◌⊎◌, arith, count_by}
 use Rattle.std.specs.List.{All, AllPairs, Any, Contains, remove}
 use Rattle.std.specs.List.Sorted.{IsPermutation}
 use Rattle.std.proofs.lemmas.Bool.{cases_eq, eqb-true, eq-eqb, ne_eqb, cases_Bool}
-use Rattle.std.proofs.lemmas.List.{length-take, get_or-take}
+use Rattle.std.proofs.lemmas.List.{length-take, get_or-take, get_or_default}
 use Rattle.std.proofs.lemmas.List.Sums.{sum_by-cons, sum_by-le, get_or-le-sum_by}
 use Rattle.std.proofs.lemmas.List.Sorted.{IsPermutation-refl, IsPermutation-sym, IsPermutation-trans, IsPermutation-cons, IsPermutation-remove, sum_by-IsPermutation}
 
@@ -116,4 +116,26 @@ some_passes p (x ∷ xs) h =
       | inr f ↦
           let rest = some_passes p xs (omega (arith, sum_by-cons (λ y. cond (p y) 1 0) x xs, ap one_if f)) in
           (suc rest.0, rest.1, omega arith, rest.3, rest.4)
+    ]
+
+-- a number that stands before its index too stands twice
+pub repeats : (ns : List ℕ) (at : ℕ) → at < length ns → Any (λ n. n ≡ get_or ns at 0) (take at ns) → AllPairs (λ m n. m ≡ n → ⊥) ns → ⊥
+repeats ns at lt h distinct =
+    let here : h.0 < at = omega (arith, h.2, length-take at ns) in
+    let first : get_or ns h.0 0 ≡ get_or ns at 0 =
+    get_or_default ns h.0 0 h.1 (omega arith) ∙ sym (get_or-take at ns h.0 h.1 here) ∙ h.3 ∙ h.4 in
+    distinct h.0 at 0 here lt first
+
+-- one that doesn't is unlike all before it
+pub distinct_more : (ns : List ℕ) (at : ℕ) → at < length ns → (Any (λ n. n ≡ get_or ns at 0) (take at ns) → ⊥)
+    → ((i j d : ℕ) → i < j → j < at → get_or ns i d ≡ get_or ns j d → ⊥)
+    → (i j d : ℕ) → i < j → j < at + 1 → get_or ns i d ≡ get_or ns j d → ⊥
+distinct_more ns at lt none before i j d less within same =
+    elim (cases_eq j at) [
+      | inl is ↦
+          let here : i < length (take at ns) = omega (arith, length-take at ns) in
+          let value : get_or (take at ns) i d ≡ get_or ns at 0 =
+          get_or-take at ns i d (omega arith) ∙ same ∙ ap (λ k. get_or ns k d) is ∙ get_or_default ns at d 0 lt in
+          none (i, get_or (take at ns) i d, here, get_or_default (take at ns) i (get_or (take at ns) i d) d here, value)
+      | inr other ↦ before i j d less (omega arith) same
     ]

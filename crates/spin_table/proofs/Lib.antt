@@ -12,3 +12,4 @@ pub mod Starting
 pub mod Stepping
 pub mod Types
 pub mod OneStep
+pub mod Conflicts

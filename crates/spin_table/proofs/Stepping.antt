@@ -43,13 +43,13 @@ at_set xs at k x y read other =
 
 module _ (d : SetupData) (s : State) (c : Command) (e : EventDef) (t : EventState)
     (read_e : slice_get d.events c.event ≡ Some e) (read_t : slice_get s.events c.event ≡ Some t) where
-  known : refusal_of d s c ≡ first_of (refusals_at d e t.bindings c)
+  pub known : refusal_of d s c ≡ first_of (refusals_at d e t.bindings c)
   known = ap (λ o. refusal_on d c o (slice_get s.events c.event)) read_e ∙ ap (λ o. refusal_on d c (Some e) o) read_t
 
   events : events_after d.policies (s.place + 1) c (slice_get d.events c.event) (slice_get s.events c.event) s.events ≡ slice_set s.events c.event (event_after d.policies e (s.place + 1) c t)
   events = ap (λ o. events_after d.policies (s.place + 1) c o (slice_get s.events c.event) s.events) read_e ∙ ap (λ o. events_after d.policies (s.place + 1) c (Some e) o s.events) read_t
 
-  next_bindings : bindings_at (state_after d c s) c.event ≡ (event_after d.policies e (s.place + 1) c t).bindings
+  pub next_bindings : bindings_at (state_after d c s) c.event ≡ (event_after d.policies e (s.place + 1) c t).bindings
   next_bindings =
       ap (λ es. bindings_if (slice_get es c.event)) events ∙ ap bindings_if (slice_get-set_same s.events c.event (event_after d.policies e (s.place + 1) c t) (slice_get_within s.events c.event t read_t))
 
@@ -88,7 +88,7 @@ IsOldOr ns new n = Contains ns n ⊎ (n ≡ new)
 all_old : (ns : List ℕ) (new : ℕ) → All (IsOldOr ns new) ns
 all_old ns new = λ k d l. inl (k, l, get_or_default ns k (get_or ns k d) d l)
 
-numbers_after : (d : SetupData) (e : EventDef) (t : EventState) (c : Command) (new : ℕ) (o : Op)
+pub numbers_after : (d : SetupData) (e : EventDef) (t : EventState) (c : Command) (new : ℕ) (o : Op)
     → All (IsOldOr (numbers_of t.bindings) new) (numbers_of (bindings_after (rules_of d.policies e.authority) (answer_to d.policies e t.bindings c) new c o t.bindings))
 numbers_after d e t c new op.Install =
     subst (λ ns. All (IsOldOr (numbers_of t.bindings) new) ns) (sym (map-append (λ (b : Binding). b.number) t.bindings _))

@@ -138,6 +138,10 @@ IsStep d s c v next =
     MatchOption (refusal_of d s c) (ChangesTo d s c v next)
     (λ r. (v ≡ verdicted.Refused r) × (next ≡ s))
 
+-- the command may be refused at the state by a conflict of this cycle
+abbrev pub MayConflict : SetupData → State → Command → List ℕ → Type 0
+MayConflict d s c cycle = IsStep d s c (verdicted.Refused (refusal.Conflict cycle)) s
+
 -- the answer to a command at the state: the next state, or a refusal; want of memory comes only where none of the
 -- refusals but a conflict applies
 abbrev pub IsAnswer : SetupData → State → Command → Result State StepFault → Type 0

@@ -27,7 +27,7 @@ use spin_policy::{Policy, Request, Verdict, judge};
 use spin_values::EventType;
 use spin_word::{Command, Mode, Op};
 
-fn is_install(op: Op) -> bool
+pub(crate) fn is_install(op: Op) -> bool
     ensures { result ≡ is_install op }
 {
     matches!(op, Op::Install)

@@ -2,14 +2,14 @@
 
 ghost use Rattle.std.specs.Prelude.{◌≡◌, ◌≤◌, ◌<◌, ◌+◌, ℕ, List, [], map, IsTrue, IfOk, Some};
 ghost use Rattle.std.specs.Prelude.{None, MatchResult, length, slice_get, slice_set};
-ghost use Rattle.std.specs.Prelude.{IsSomeAnd};
+ghost use Rattle.std.specs.Prelude.{IsSomeAnd, Decides};
 ghost use Rattle.spin_word.specs.Commands.{is_command};
 ghost use Rattle.spin_place.specs.Precedence.{IsTheOrder, HasLawfulOrder};
 ghost use Rattle.spin_values.specs.First.{first_of};
 ghost use Rattle.spin_table.specs.Setups.{has_authority};
 ghost use Rattle.spin_table.specs.Refusals.{refusals_at};
 ghost use Rattle.spin_table.specs.Steps as specs;
-ghost use Rattle.spin_table.specs.Steps.{event_after, OnRefused};
+ghost use Rattle.spin_table.specs.Steps.{event_after, OnRefused, MayConflict};
 ghost use Rattle.spin_table.specs.Orders.{arranged, IsChangeFault};
 ghost use Rattle.spin_table.specs.Soundness.{IsSound, IsSoundEvent};
 ghost use Rattle.spin_table.specs.SetupOf.{data_of};
@@ -20,13 +20,13 @@ ghost use Rattle.std.specs.Arc.{arc_value};
 
 use crate::changes::{Bindings, bindings_after};
 use crate::event::EventDef;
-use crate::judging::{answer, refusal, rules};
+use crate::judging::{answer, is_install, refusal, rules};
 use crate::lists::EventLists;
 use crate::refusal::{Refusal, StepFault};
 use crate::setup::Setup;
 use spin_code::Sincere;
 use spin_objects::Catalogue;
-use spin_place::Binding;
+use spin_place::{Binding, is_cycle};
 use spin_plan::Plan;
 use spin_values::{NoMemory, Sequence, Steps};
 use spin_word::{Command, Op};
@@ -337,5 +337,35 @@ impl Version {
                 Ok(self.with_event(alloc, c.event, changed)?)
             }
         }
+    }
+    /// Whether the command may be refused with a conflict of this cycle: no other refusal applies to it, it is an
+    /// install, and the numbers are a cycle of the bindings that the event would then have. [`Version::after`] names
+    /// one such cycle; this tells of every one. It takes time linear in the numbers beside the event's bindings.
+    pub fn may_conflict(
+        &self,
+        alloc: Global,
+        setup: &Setup,
+        c: &Command,
+        cycle: &[u16],
+    ) -> Result<bool, NoMemory>
+        requires sincere { ⟦<Catalogue as Sincere>⟧.sincere setup.now.catalogue }
+        requires room { self.now.place < MAX_PLACE }
+        requires sound { IsSound (data_of setup.now) self.now }
+        ensures { IfOk result (λ told.
+            Decides told (MayConflict (data_of setup.now) self.now c.now cycle.now)) }
+    {
+        if c.event >= setup.events() {
+            return Ok(false);
+        }
+        let def = setup.event(c.event);
+        let slot = self.events.get(c.event as usize);
+        if let Some(_) = refusal(setup, def, slot.lists.bindings(), c) {
+            return Ok(false);
+        }
+        if !is_install(c.op) {
+            return Ok(false);
+        }
+        let bindings = slot.bindings_after(alloc, setup, def, self.place, c)?;
+        Ok(is_cycle(bindings.as_slice(), cycle))
     }
 }
