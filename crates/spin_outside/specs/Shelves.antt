@@ -1,14 +1,16 @@
 -- What the files of a shelf in memory tell.
-use Rattle.std.specs.Prelude.{ℕ, zero, suc, false, Option, Some, None, List, [], ◌∷◌, map, drop}
+use Rattle.std.specs.Prelude.{ℕ, zero, suc, false, Option, Some, None, List, [], ◌∷◌, map, drop, take}
 use Rattle.std.specs.Prelude.{if◌then◌else◌, bytes_eq}
 use Rattle.spin_outside.specs.declared.mem_file.MemFile.{MemFile}
 use Rattle.spin_outside.specs.Calls.{CallsState, no_call}
 use Rattle.spin_outside.specs.Files.{File}
 use Rattle.spin_outside.specs.Seen.{ShelfSeen}
+use Rattle.spin_outside.specs.Sources.{moved_at_most}
 
--- a shelf in memory: its files, its finds and reads, and its counts
+-- a shelf in memory: its files, how many bytes a read moves at most, its finds and reads, and its counts
 pub record ShelfState : Type 0 where
   pub files : List MemFile
+  pub piece : Option ℕ
   pub finds : CallsState
   pub reads : CallsState
   pub faults : ℕ
@@ -16,7 +18,14 @@ pub record ShelfState : Type 0 where
 
 -- a shelf without files, as it is made
 abbrev pub empty_shelf : ShelfState
-empty_shelf = record { files = []; finds = no_call; reads = no_call; faults = 0; absences = 0 }
+empty_shelf = record {
+  files = [];
+  piece = None;
+  finds = no_call;
+  reads = no_call;
+  faults = 0;
+  absences = 0;
+}
 
 abbrev pub file_of : MemFile → File
 file_of file = record { name = file.name; bytes = file.bytes }
@@ -76,3 +85,7 @@ shelf_seen shelf = record {
   faults = shelf.faults;
   absences = shelf.absences;
 }
+
+-- the bytes that a read of that file moves into a buffer of that size
+abbrev pub handed_at : ShelfState → ℕ → ℕ → List ℕ
+handed_at shelf file size = take (moved_at_most shelf.piece size) (left_at shelf.files file)

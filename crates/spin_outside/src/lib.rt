@@ -4,7 +4,7 @@
 //! - [`Source`] is what gives bytes; one file of a shelf is one ([`ShelfSource`]);
 //! - [`Shelf`] is where files are found by name and read, and [`read_up_to`] takes a whole file;
 //! - [`MemSink`], [`MemSource`] and [`MemShelf`] are in memory. They tell what they hold, and of their calls those of
-//!   listed numbers fail ([`FailingCalls`]);
+//!   listed numbers fail ([`FailingCalls`]); on demand a call moves at most a piece;
 //! - [`StdSink`] is a writer of std, as standard output, and [`FolderShelf`] the working folder, which tells nothing;
 //! - [`Gate`] is what lanes pass before each deed, and [`OpenGate`] the one that holds up nothing;
 //! - [`Failed`], [`FindFault`] and [`TakeFault`] are the answers that aren't success.
@@ -22,6 +22,7 @@ mod mem_files;
 mod mem_shelf;
 mod mem_sink;
 mod mem_source;
+mod pieces;
 mod shelf;
 mod shelf_source;
 mod sink;

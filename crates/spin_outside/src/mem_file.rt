@@ -57,6 +57,7 @@ impl MemFile {
         requires { 0 < length buf.old }
         ensures bound { result ≤ length buf.new }
         ensures taken { rest_of self.old ≡ take result buf.new ++ rest_of self.new }
+        ensures handed { take result buf.new ≡ take (length buf.old) (rest_of self.old) }
         ensures end { result ≡ 0 → rest_of self.new ≡ [] }
         ensures closed { self.old.opened ≡ false → result ≡ 0 }
         ensures counted { self.new.taken ≡ raised_by self.old.taken result }

@@ -66,6 +66,7 @@ pub fn read_at(files: &mut [MemFile], at: usize, buf: &mut [u8]) -> usize
     requires apart { AreNamedApart (held files.old) }
     ensures bound { result ≤ length buf.new }
     ensures taken { left_at files.old at ≡ take result buf.new ++ left_at files.new at }
+    ensures handed { take result buf.new ≡ take (length buf.old) (left_at files.old at) }
     ensures end { result ≡ 0 → left_at files.new at ≡ [] }
     ensures held { held files.new ≡ held files.old }
     ensures left_others { OthersKeep (left_at files.old) (left_at files.new) at }

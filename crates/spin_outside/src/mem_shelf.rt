@@ -9,12 +9,13 @@ ghost use Rattle.spin_outside.specs.Calls.{FindsByList, with_failing, next_fails
 ghost use Rattle.spin_outside.specs.Counts.{FailsByCount, FindsByCount};
 ghost use Rattle.spin_outside.specs.Files.{IsWholeFile, IsLacking, OthersKeep, AllKeep};
 ghost use Rattle.spin_outside.specs.Files.{ReadsUnder};
-ghost use Rattle.spin_outside.specs.Shelves.{empty_shelf, shelf_seen, with_file};
+ghost use Rattle.spin_outside.specs.Shelves.{empty_shelf, handed_at, shelf_seen, with_file};
 
 use crate::calls::FailingCalls;
 use crate::faults::{Failed, FindFault};
 use crate::mem_file::MemFile;
 use crate::mem_files::{open_at, place_of, read_at, refill_at};
+use crate::pieces::moved_at_most;
 use crate::shelf::Shelf;
 use spin_values::{NoMemory, Octets, Text};
 use std::alloc::Global;
@@ -25,6 +26,7 @@ use std::marker::Model;
 #[derive(Debug, Drop)]
 pub struct MemShelf {
     files: Vec<MemFile>,
+    piece: Option<u32>,
     finds: FailingCalls,
     reads: FailingCalls,
     faults: u64,
@@ -32,6 +34,7 @@ pub struct MemShelf {
 }
 
 impl Model for MemShelf {
+    ghost use Rattle.std.specs.Prelude.{◌<◌, IfSome};
     ghost use Rattle.spin_outside.specs.Shelves.{ShelfState, held};
     ghost use Rattle.spin_outside.specs.Inner.Apart.{AreNamedApart};
 
@@ -39,13 +42,15 @@ impl Model for MemShelf {
 
     ghost view = { λ s. record {
       files = s.files.items;
+      piece = s.piece;
       finds = s.finds;
       reads = s.reads;
       faults = s.faults;
       absences = s.absences;
     } };
 
-    ghost invariant = { λ s. AreNamedApart (held s.files.items) };
+    ghost invariant = { λ s.
+        AreNamedApart (held s.files.items) × IfSome s.piece (λ piece. 0 < piece) };
 }
 
 impl MemShelf {
@@ -55,6 +60,7 @@ impl MemShelf {
     {
         MemShelf {
             files: Vec::new(alloc),
+            piece: None,
             finds: FailingCalls::new(alloc),
             reads: FailingCalls::new(alloc),
             faults: 0,
@@ -97,6 +103,14 @@ impl MemShelf {
         ensures err { OnErr result (self.new ≡ self.old) }
     {
         self.reads.fail_at(call)
+    }
+
+    /// From now on a read moves at most so many bytes.
+    pub fn in_pieces(&mut self, size: u32)
+        requires { 0 < size }
+        ensures { self.new ≡ record self.old { piece = Some size } }
+    {
+        self.piece = Some(size);
     }
 }
 
@@ -145,7 +159,8 @@ impl Shelf for MemShelf {
         Ok(file)
     }
 
-    /// Takes bytes from the front of what is left. It fails exactly where the number of the call is listed.
+    /// Takes bytes from the front of what is left, as many as there are, fit and are allowed in a call. It fails
+    /// exactly where the number of the call is listed.
     fn read(&mut self, file: u32, buf: &mut [u8]) -> Result<usize, Failed>
         requires { 0 < length buf.old }
         ensures some { ReadsAtMost result buf.new }
@@ -161,6 +176,9 @@ impl Shelf for MemShelf {
         ensures absences { self.new.absences ≡ self.old.absences }
         ensures cause { FailsByCount self.old.faults self.new.faults result }
         ensures exactly { is_err result ≡ next_fails self.old.reads }
+        ensures handed { IfOk result
+            (λ n. take n buf.new ≡ handed_at self.old file (length buf.old)) }
+        ensures piece { self.new.piece ≡ self.old.piece }
         ensures reads { self.new.reads ≡ counted self.old.reads }
         ensures finds { self.new.finds ≡ self.old.finds }
     {
@@ -168,6 +186,7 @@ impl Shelf for MemShelf {
             self.faults = self.faults.saturating_add(1);
             return Err(Failed);
         }
-        Ok(read_at(&mut self.files, file as usize, buf))
+        let room = moved_at_most(self.piece, buf.len());
+        Ok(read_at(&mut self.files, file as usize, &mut buf[..room]))
     }
 }

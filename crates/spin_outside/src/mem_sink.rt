@@ -9,6 +9,7 @@ ghost use Rattle.spin_outside.specs.Memory.{empty_sink, sink_seen, refuses, writ
 
 use crate::calls::FailingCalls;
 use crate::faults::Failed;
+use crate::pieces::moved_at_most;
 use crate::sink::Sink;
 use spin_values::NoMemory;
 use std::alloc::Global;
@@ -19,12 +20,13 @@ use std::marker::Model;
 pub struct MemSink {
     taken: Vec<u8>,
     room: u32,
+    piece: Option<u32>,
     calls: FailingCalls,
     faults: u64,
 }
 
 impl Model for MemSink {
-    ghost use Rattle.std.specs.Prelude.{◌≤◌, ◌≡◌, length, vec_capacity};
+    ghost use Rattle.std.specs.Prelude.{◌≤◌, ◌<◌, ◌≡◌, length, vec_capacity, IfSome};
     ghost use Rattle.spin_outside.specs.Memory.{SinkState};
 
     ghost Value = { SinkState };
@@ -32,11 +34,13 @@ impl Model for MemSink {
     ghost view = { λ s. record {
       taken = s.taken.items;
       room = s.room;
+      piece = s.piece;
       calls = s.calls;
       faults = s.faults;
     } };
 
-    ghost invariant = { λ s. (length s.taken.items ≤ s.room) × (s.room ≤ vec_capacity s.taken) };
+    ghost invariant = { λ s. (length s.taken.items ≤ s.room) × (s.room ≤ vec_capacity s.taken)
+        × IfSome s.piece (λ piece. 0 < piece) };
 }
 
 impl MemSink {
@@ -47,6 +51,7 @@ impl MemSink {
         Ok(MemSink {
             taken: Vec::with_capacity(alloc, room as usize)?,
             room,
+            piece: None,
             calls: FailingCalls::new(alloc),
             faults: 0,
         })
@@ -67,13 +72,21 @@ impl MemSink {
     {
         self.calls.fail_at(call)
     }
+
+    /// From now on a call moves at most so many bytes.
+    pub fn in_pieces(&mut self, size: u32)
+        requires { 0 < size }
+        ensures { self.new ≡ record self.old { piece = Some size } }
+    {
+        self.piece = Some(size);
+    }
 }
 
 impl Sink for MemSink {
     ghost seen = { sink_seen };
 
-    /// Takes as many bytes of the piece as the room left takes, and no memory. It fails exactly where the number
-    /// of the call is listed, or no room is left.
+    /// Takes as many bytes as the room left takes and are allowed in a call, and no memory. It fails exactly where
+    /// the number of the call is listed, or no room is left.
     fn write(&mut self, bytes: &[u8]) -> Result<usize, Failed>
         requires { 0 < length bytes.now }
         ensures some { IfOk result (λ n. (0 < n) × (n ≤ length bytes.now)) }
@@ -89,7 +102,7 @@ impl Sink for MemSink {
             self.faults = self.faults.saturating_add(1);
             return Err(Failed);
         }
-        let count = bytes.len().min(left);
+        let count = bytes.len().min(moved_at_most(self.piece, left));
         match self.taken.extend_from_slice(&bytes[..count]) {
             Ok(()) => Ok(count),
             Err(_) => {

@@ -7,10 +7,11 @@ ghost use Rattle.std.specs.Io.KnownBytes.{ReadConsumes};
 ghost use Rattle.spin_outside.specs.Calls.{with_failing, next_fails};
 ghost use Rattle.spin_outside.specs.Counts.{FailsByCount};
 ghost use Rattle.spin_outside.specs.Sources.{TakesMore, full_source, memory_seen, handed};
-ghost use Rattle.spin_outside.specs.Sources.{after_read, moved_at_most};
+ghost use Rattle.spin_outside.specs.Sources.{after_read};
 
 use crate::calls::FailingCalls;
 use crate::faults::Failed;
+use crate::pieces::moved_at_most;
 use crate::source::Source;
 use spin_values::{NoMemory, Octets};
 use std::marker::Model;
@@ -77,19 +78,6 @@ impl MemSource {
         self.piece = Some(size);
     }
 
-    /// How many bytes a call moves at most into a buffer of that size.
-    fn moved_at_most(&self, size: usize) -> usize
-        requires { 0 < size }
-        ensures most { result ≡ moved_at_most self.now.piece size }
-        ensures some { 0 < result }
-        ensures fits { result ≤ size }
-    {
-        match self.piece {
-            Some(piece) => size.min(piece as usize),
-            None => size,
-        }
-    }
-
     /// How many bytes were taken in all.
     pub fn taken(&self) -> u64
         ensures { result ≡ self.now.taken }
@@ -118,7 +106,7 @@ impl Source for MemSource {
             self.faults = self.faults.saturating_add(1);
             return Err(Failed);
         }
-        let room = self.moved_at_most(buf.len());
+        let room = moved_at_most(self.piece, buf.len());
         let left = &self.bytes.as_slice()[self.position..];
         let count = left.len().min(room);
         buf[..count].copy_from_slice(&left[..count]);

@@ -1,4 +1,5 @@
 use Rattle.std.proofs.Common.{ℕ, List, Option, set, subst, ◌<◌, ◌++◌, arith, None, [], length, take, ap, sym, ◌∙◌}
+use Rattle.std.proofs.Math.Seq.{take-nil}
 use Rattle.std.proofs.lemmas.List.{get_or_default}
 use Rattle.spin_outside.specs.Shelves.{reads_under, rest_of, name_of, file_of}
 use Rattle.spin_outside.specs.Files.{ReadsMore}
@@ -13,6 +14,15 @@ pub returns-clause-taken : goal.returns-clause-taken
 returns-clause-taken c =
     let lt : c.args.at < length c.args.files.now = omega arith in
     view_at-get rest_of [] _ _ _ lt ∙ c.take.ensures.taken ∙ ap (λ ys. take c.take.result c.take.new.buf ++ ys) (sym (view_at-set_same rest_of [] c.args.files.now c.args.at c.take.new.self lt))
+
+pub returns-then-at-files-clause-handed : goal.returns-then-at-files-clause-handed
+returns-then-at-files-clause-handed c =
+    sym (ap (take (length c.args.buf.now)) (view_at-past rest_of [] _ _ c.if-at-files.true) ∙ take-nil (length c.args.buf.now))
+
+pub returns-clause-handed : goal.returns-clause-handed
+returns-clause-handed c =
+    let lt : c.args.at < length c.args.files.now = omega arith in
+    c.take.ensures.handed ∙ ap (take (length c.args.buf.now)) (sym (view_at-get rest_of [] c.args.files.now c.args.at c.index-files-at.result lt))
 
 pub returns-clause-end : goal.returns-clause-end
 returns-clause-end c =
