@@ -4,34 +4,23 @@
 //! and writes the report to standard output. What is sent to the endpoints `out0` to `out3` goes to the files
 //! `out0.bin` to `out3.bin` of that folder.
 //!
-//! - [`top`] has the one call, [`spin`], which works over any shelf, sink and endpoints and chooses the command;
-//! - [`words`] says what the words ask for, [`command`] does it;
-//! - [`load`] reads the script, [`capture`] opens the capture;
-//! - [`natives`] are those that the program hands in;
-//! - [`end`] has the ends of a call, their statuses and lines.
+//! The one call, [`spin`](spin_top::spin), works over any shelf, sink, endpoints, natives and gate; [`natives`] are those
+//! that the program hands in.
 #![tactic(auto)]
 
-mod capture;
-mod command;
-mod end;
-mod load;
 mod natives;
-#[cfg(test)]
-mod tests;
-mod top;
-mod words;
 
 ghost use Rattle.std.specs.Prelude.{IfOk};
 ghost use Rattle.spin_main.specs.Natives as program;
-ghost use Rattle.spin_main.specs.Statuses.{Call, outside, IsStatus};
+ghost use Rattle.spin_top.specs.Outside.{outside};
+ghost use Rattle.spin_top.specs.Statuses.{Call, IsStatus};
 
-use crate::end::{End, stop};
 use crate::natives::{IsIpv4, first_word_object, natives_of, own_two_object};
-use crate::top::spin;
 use spin_endpoint::{Endpoint, Ends, EndsSeen, FileEnd};
 use spin_objects::{Guard, Handler};
 use spin_outside::{FolderShelf, OpenGate, Shelf, Sink, StdSink};
 use spin_policy::Authoriser;
+use spin_top::{End, spin, stop};
 use spin_values::{NoMemory, Text};
 use std::alloc::Global;
 use std::io::ErrorKind;

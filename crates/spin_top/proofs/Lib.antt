@@ -1,0 +1,9 @@
+pub mod Exactly
+pub mod Forms
+pub mod OneReading
+pub mod Opening
+pub mod Outcomes
+pub mod Parsing
+pub mod RunCauses
+pub mod RunKnown
+pub mod Shelf

@@ -1,0 +1,9 @@
+pub mod Captures
+pub mod Ends
+pub mod Inner
+pub mod Loading
+pub mod Outside
+pub mod Run
+pub mod Shelves
+pub mod Statuses
+pub mod Words

@@ -1,0 +1,3 @@
+//! The commands, each with its own words.
+
+pub mod run;
