@@ -43,12 +43,12 @@ differs : (word name : List ℕ) (b : Bool) → bytes_eq word name ≡ b → (wo
 differs word name true same other = absurd (other ((bytes_eq-Decides word name).0 same))
 differs word name false same other = same
 
+unknown_word : (word : List ℕ) (names : List (List ℕ)) → (word ≡ codes "run" → ⊥) → asked_of (word ∷ names) ≡ None
+unfolding asked_of
+unknown_word word names run = rw (differs word (codes "run") (bytes_eq word (codes "run")) refl run) refl
+
 pub no_word : (word : List ℕ) (names : List (List ℕ)) → (word ≡ codes "run" → ⊥) → (asked : Asked) → word ∷ names ≡ spelling asked → ⊥
-no_word word names run = no_spelling (word ∷ names) (unknown word names run)
-  where
-    unknown : (word : List ℕ) (names : List (List ℕ)) → (word ≡ codes "run" → ⊥) → asked_of (word ∷ names) ≡ None
-    unfolding asked_of
-    unknown word names run = rw (differs word (codes "run") (bytes_eq word (codes "run")) refl run) refl
+no_word word names run = no_spelling (word ∷ names) (unknown_word word names run)
 
 pub no_run : (names : List (List ℕ)) → run_of names ≡ None → (asked : Asked) → codes "run" ∷ names ≡ spelling asked → ⊥
 unfolding asked_of
