@@ -8,10 +8,7 @@ use Rattle.spin_outside.specs.Sources.{file_seen, kept_reads, reads_beside, take
 use Rattle.spin_pcap.specs.Captures.{header_of}
 use Rattle.spin_pcap.specs.Passing.{ReaderState, IsFresh, left_for}
 use Rattle.spin_top.specs.Captures.{IsBehindHeader, IsOpened}
-
-if_some : {X : Type 0} (o : Option X) (P : X → Type 0) → ((x : X) → o ≡ Some x → P x) → IfSome o P
-if_some None P all = tt
-if_some (Some x) P all = all x refl
+use Rattle.spin_top.proofs.Shelf.{if_some}
 
 same_name : (own name : List ℕ) → bytes_eq own name ≡ true → own ≡ name
 same_name own name same = (bytes_eq-Decides own name).0 same

@@ -100,7 +100,7 @@ fresh_known before after (Some name) file None opened = absurd opened
 fresh_known before after (Some name) file (Some reader) opened = opened.fresh
 
 -- nothing was to be written
-tells_nothing : (a b : SinkSeen) → Tells a b [] → b.faults ≡ a.faults
+pub tells_nothing : (a b : SinkSeen) → Tells a b [] → b.faults ≡ a.faults
 tells_nothing a b (inl w) = w.0
 tells_nothing a b (inr w) = absurd (omega (arith, w.1))
 
@@ -145,7 +145,7 @@ taken_from : (before loaded : ShelfSeen) (source : SourceSeen) (name : List ℕ)
 taken_from before loaded source name None files other reads = tt
 taken_from before loaded source name (Some capture) files other reads = kept_reads_of before loaded name capture before.files files other reads
 
-none_taken : (past : ℕ) (a b : Option ℕ) (from to : SourceSeen) (frames : List (List ℕ)) → from.taken ≡ a → to.taken ≡ b → b ≡ taken_more a 0 → IsTakenPast past from to frames
+pub none_taken : (past : ℕ) (a b : Option ℕ) (from to : SourceSeen) (frames : List (List ℕ)) → from.taken ≡ a → to.taken ≡ b → b ≡ taken_more a 0 → IsTakenPast past from to frames
 none_taken past a b from to frames is is' same = record {
   count = 0;
   few = omega arith;
@@ -191,7 +191,7 @@ past_header loaded found after (Some name) file file' ref ref' (Some reader) ope
     past_opened loaded found after name file file' ref ref' reader loaded.files refl opened kept frames p
 
 -- the end of a run, as other sources tell what was taken
-ends_moved : (script : ScriptData) (past past' : ℕ) (frames : List (List ℕ)) (rest : Option (Result Next PcapFault)) (a b : RunSeen) (from to : SourceSeen) (ended : RunEnd) → ((fs : List (List ℕ)) → IsTakenPast past a.source b.source fs → IsTakenPast past' from to fs) → EndsBy script past frames rest a b ended → EndsBy script past' frames rest (seen from a.sink a.ends) (seen to b.sink b.ends) ended
+pub ends_moved : (script : ScriptData) (past past' : ℕ) (frames : List (List ℕ)) (rest : Option (Result Next PcapFault)) (a b : RunSeen) (from to : SourceSeen) (ended : RunEnd) → ((fs : List (List ℕ)) → IsTakenPast past a.source b.source fs → IsTakenPast past' from to fs) → EndsBy script past frames rest a b ended → EndsBy script past' frames rest (seen from a.sink a.ends) (seen to b.sink b.ends) ended
 ends_moved script past past' frames rest a b from to run.Whole move h = h
 ends_moved script past past' frames rest a b from to (run.Capture n fault) move h = h
 ends_moved script past past' frames rest a b from to run.ReadFault move h =
@@ -205,7 +205,7 @@ ends_moved script past past' frames rest a b from to run.NoMemory move h =
 ends_moved script past past' frames rest a b from to (run.Endpoint p) move h =
     (h.0, h.1, h.2, h.3, h.4, h.5, h.6, h.7, h.8, λ there le. move _ (h.9 there le))
 
-counts_moved : (names : List (List ℕ)) (a b : RunSeen) (from to : SourceSeen) (ended : RunEnd) → from.faults ≡ a.source.faults → to.faults ≡ b.source.faults → CountsBy names a b ended → CountsBy names (seen from a.sink a.ends) (seen to b.sink b.ends) ended
+pub counts_moved : (names : List (List ℕ)) (a b : RunSeen) (from to : SourceSeen) (ended : RunEnd) → from.faults ≡ a.source.faults → to.faults ≡ b.source.faults → CountsBy names a b ended → CountsBy names (seen from a.sink a.ends) (seen to b.sink b.ends) ended
 counts_moved names a b from to run.Whole is is' h = (is' ∙ h.0 ∙ sym is, h.1, h.2)
 counts_moved names a b from to (run.Capture n fault) is is' h = (is' ∙ h.0 ∙ sym is, h.1, h.2)
 counts_moved names a b from to run.ReadFault is is' h = (subst (λ (n : ℕ × ℕ). Rose n.0 n.1) (λ i. (sym is i, sym is' i)) h.0, h.1, h.2)

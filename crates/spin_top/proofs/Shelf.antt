@@ -1,5 +1,5 @@
 -- What calls do to the shelf, one after the other, and a file that is too large.
-use Rattle.std.proofs.Common.{◌≡◌, ◌<◌, ◌+◌, ℕ, Option, Some, None, List, length, subst, ◌∙◌, arith, IfSome}
+use Rattle.std.proofs.Common.{◌≡◌, ◌<◌, ◌+◌, ℕ, Option, Some, None, List, length, refl, subst, ◌∙◌, arith, IfSome}
 use Rattle.std.proofs.Math.ListN.{replicate}
 use Rattle.std.proofs.lemmas.List.{length-replicate}
 use Rattle.spin_outside.specs.Counts.{Rose}
@@ -25,3 +25,8 @@ too_large_file None name left limit whole large =
     (replicate (limit + 1) byte, tt, omega (arith, long))
 too_large_file (Some held) name left limit whole large =
     (whole.0, whole.1, let P : Option (List ℕ) → Type 0 = λ o. IfSome o (λ bytes. limit < length bytes) in subst P whole.2 large)
+
+-- what holds of each value that it may have
+pub if_some : {X : Type 0} (o : Option X) (P : X → Type 0) → ((x : X) → o ≡ Some x → P x) → IfSome o P
+if_some None P all = tt
+if_some (Some x) P all = all x refl
