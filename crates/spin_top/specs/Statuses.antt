@@ -5,9 +5,10 @@ use Rattle.spin_top.specs.declared.end.End.{End}
 use Rattle.spin_top.specs.declared.end.End.TheVariants.{Usage, Refused, Capture, Unread, WriteFault, Absent, NoMemory, Endpoint}
 use Rattle.spin_top.specs.declared.end.Input.{Input}
 use Rattle.spin_top.specs.declared.words.Asked.{Asked}
-use Rattle.spin_top.specs.declared.words.Asked.TheVariants.{Run}
+use Rattle.spin_top.specs.declared.words.Asked.TheVariants.{Run, Join}
 use Rattle.spin_top.specs.Ends.{number}
 use Rattle.spin_top.specs.Outside.{Outside, OnlyStops}
+use Rattle.spin_top.specs.Join.{JoinHasCause, JoinKnows}
 use Rattle.spin_top.specs.Run.{RunHasCause, RunKnows}
 use Rattle.spin_top.specs.Shelves.{ShelfStood}
 use Rattle.spin_top.specs.Words.{IsAsked}
@@ -26,11 +27,15 @@ pub record Call : Type 0 where
 abbrev pub CommandHasCause : NativeData → Outside → Outside → Asked → End → Type 0
 CommandHasCause natives before after (Run name packets) end =
     RunHasCause natives before after name packets end
+CommandHasCause natives before after (Join name packets) end =
+    JoinHasCause natives before after name packets end
 
 -- Which status a command always comes to.
 abbrev pub CommandKnows : NativeData → Outside → Outside → Asked → ℕ → Type 0
 CommandKnows natives before after (Run name packets) status =
     RunKnows natives before after name packets status
+CommandKnows natives before after (Join name packets) status =
+    JoinKnows natives before after name packets status
 
 -- ---- causes
 
