@@ -2,8 +2,12 @@ use Rattle.std.proofs.Common.{◌∙◌, refl, ap}
 use Rattle.spin_script.specs.Scripts.{script_seen}
 use Rattle.spin_top.specs.Ends.{number}
 use Rattle.spin_top.specs.Run.{end_of}
-use Rattle.spin_top.proofs.RunCauses.{not_opened, was_run}
+use Rattle.spin_top.proofs.RunCauses.{not_loaded, not_opened, was_run}
 use Rattle.spin_top.proofs.commands.run.run_command.Goals as goal
+
+pub returns-in-Err : goal.returns-in-Err
+returns-in-Err g c =
+    (c.in-Err.end, c.stop.ensures.status, not_loaded _ _ _ _ _ c.in-Err.end c.in-Err.ensures.refused (record { ends = refl; tells = c.stop.ensures.line }))
 
 pub returns-in-Err-capture_of : goal.returns-in-Err-capture_of
 returns-in-Err-capture_of g c =
