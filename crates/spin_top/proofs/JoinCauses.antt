@@ -89,7 +89,7 @@ records_left bytes left reader frames rest behind are =
 
 -- a source that never fails has no read that failed
 never : Rose 0 0 → ⊥
-never rose = ?
+never rose = omega (arith, rose)
 
 by_end : (natives : NativeData) (names : List (List ℕ)) (before after : Outside) (sink : SinkSeen) (name packets bytes left left' : List ℕ) (ended : RunEnd) → ShelfStood before.shelf after.shelf → CountsBy names (seen (held_seen left) before.sink before.ends) (seen (held_seen left') sink after.ends) ended → Tells sink after.sink (stop_line (end_of ended)) → ((number fault : ℕ) → ended ≡ run.Capture number fault → before.shelf.files ≡ None) → RanJoined natives before after name packets ended → JoinHasCause natives before after name packets (end_of ended)
 by_end natives names before after sink name packets bytes left left' run.Whole stood counts line untold ran =
