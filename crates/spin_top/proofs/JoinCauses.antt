@@ -141,3 +141,9 @@ was_joined natives before after mid sink name packets bytes left script reader e
     } in
     by_end natives script.endpoints before after sink name packets bytes left over.left' ended (stood_stood before.shelf mid after.shelf stood joined.0) over.counts line
     (λ number fault is. none_if before.shelf.files (λ held told. not_bad natives before after held name packets number fault ended told is ran)) ran
+
+pub over_known : (script : ScriptData) (left left' : List ℕ) (reader : ReaderState) (sink sink' : SinkSeen) (ends ends' : List NamedEnd) (ended : RunEnd)
+    → ((frames : List (List ℕ)) (rest : Option (Result Next PcapFault)) → AreRecords (Some reader) (held_seen left) frames rest → EndsBy script (room_of (Some reader)) frames rest (seen (held_seen left) sink ends) (seen (held_seen left') sink' ends') ended)
+    → CountsBy script.endpoints (seen (held_seen left) sink ends) (seen (held_seen left') sink' ends') ended
+    → RunsJoined script left reader sink ends sink' ends' ended
+over_known script left left' reader sink sink' ends ends' ended by counts = record { left' = left'; ended_so = by; counts = counts }

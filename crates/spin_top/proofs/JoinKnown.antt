@@ -1,5 +1,5 @@
 -- Which status a run over a joined capture always comes to, from the causes of all its ends.
-use Rattle.std.proofs.Common.{◌≡◌, ◌⊎◌, ℕ, Option, Some, None, List, sym, ap, subst, ◌∙◌, inl, inr, IfSome}
+use Rattle.std.proofs.Common.{◌≡◌, ◌⊎◌, ◌+◌, ℕ, Option, Some, None, List, length, refl, sym, ap, subst, ◌∙◌, inl, inr, IfSome}
 use Rattle.std.specs.Prelude.{Result, Ok, Err}
 use Rattle.spin_outside.specs.Files.{File, content}
 use Rattle.spin_pcap.proofs.Readings.{one_reading}
