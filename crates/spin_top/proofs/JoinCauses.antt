@@ -1,5 +1,5 @@
 -- What the end of a run over a joined capture rests on.
-use Rattle.std.proofs.Common.{◌≡◌, ◌+◌, ℕ, Option, Some, None, List, refl, sym, ap, subst, ◌∙◌, inl, inr, IfSome}
+use Rattle.std.proofs.Common.{◌≡◌, ◌+◌, ℕ, Option, Some, None, List, [], arith, refl, sym, ap, subst, ◌∙◌, inl, inr, IfSome}
 use Rattle.std.specs.Prelude.{Result, Ok, Err, drop}
 use Rattle.spin_outside.specs.Counts.{Rose}
 use Rattle.spin_outside.specs.Files.{File, IsLacking}
@@ -115,8 +115,8 @@ not_bad natives before after held name packets number fault ended told is ran =
     ok_not_err file.last by.0 (Some (Ok file.last)) refl by.1
 
 none_if : {X : Type 0} (o : Option X) → ((x : X) → o ≡ Some x → ⊥) → o ≡ None
-none_if None no = refl
-none_if (Some x) no = absurd (no x refl)
+none_if None never_some = refl
+none_if (Some x) never_some = absurd (never_some x refl)
 
 pub was_joined : (natives : NativeData) (before after : Outside) (mid : ShelfSeen) (sink : SinkSeen) (name packets bytes left : List ℕ) (script : ScriptData) (reader : ReaderState) (ended : RunEnd) → ShelfStood before.shelf mid → IsLoaded natives before.shelf.files name script → IsJoinedBy mid after.shelf packets bytes → IsBehind bytes left reader → RunsJoined script left reader before.sink before.ends sink after.ends ended → Tells sink after.sink (stop_line (end_of ended)) → JoinHasCause natives before after name packets (end_of ended)
 was_joined natives before after mid sink name packets bytes left script reader ended stood loaded joined behind over line =
