@@ -45,4 +45,6 @@ mod seats;
 #[cfg(test)]
 mod setups;
 #[cfg(test)]
+mod top;
+#[cfg(test)]
 mod values;

@@ -1,5 +1,5 @@
 use Rattle.spin_main.specs.Natives.{natives}
-use Rattle.spin_main.proofs.Exactly.{with_natives}
+use Rattle.spin_top.proofs.Exactly.{with_natives}
 use Rattle.spin_main.proofs.run_with_natives.Goals as goal
 
 pub returns : goal.returns

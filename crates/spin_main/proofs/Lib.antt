@@ -1,5 +1,0 @@
-pub mod Causes
-pub mod Exactly
-pub mod Opening
-pub mod Outcomes
-pub mod Parsing

@@ -1,3 +1,0 @@
--- What the contracts of private functions cite alone.
-pub mod Parsing
-pub mod Running

@@ -1,0 +1,11 @@
+pub mod Exactly
+pub mod Forms
+pub mod JoinCauses
+pub mod JoinKnown
+pub mod OneReading
+pub mod Opening
+pub mod Outcomes
+pub mod Parsing
+pub mod RunCauses
+pub mod RunKnown
+pub mod Shelf

@@ -1,0 +1,8 @@
+use Rattle.spin_top.proofs.Exactly.{table_known, whole_known}
+use Rattle.spin_top.proofs.top.spin.Goals as goal
+
+pub returns-clause-whole : goal.returns-clause-whole
+returns-clause-whole g c = whole_known _ c.choose.ensures
+
+pub returns-clause-table : goal.returns-clause-table
+returns-clause-table g c = table_known _ c.choose.ensures

@@ -1,0 +1,132 @@
+-- Captures on a shelf, and what opening one comes to.
+use Rattle.std.specs.Prelude.{◌≡◌, ◌+◌, ◌⊎◌, ℕ, Option, Some, None, List, [], length, drop, IfSome, Result, Ok, Err, ⊤}
+use Rattle.spin_outside.specs.Counts.{raised_by}
+use Rattle.spin_outside.specs.Files.{File, content, IsLacking}
+use Rattle.spin_outside.specs.Seen.{ShelfSeen}
+use Rattle.spin_outside.specs.Sources.{SourceSeen}
+use Rattle.spin_pcap.specs.declared.fault.PcapFault.{PcapFault}
+use Rattle.spin_pcap.specs.declared.next.Next.{Next}
+use Rattle.spin_pcap.specs.declared.order.Order.{Order}
+use Rattle.spin_pcap.specs.Captures.{header_of, IsCapture}
+use Rattle.spin_pcap.specs.Passing.{ReaderState, IsFresh, left_for, number}
+use Rattle.spin_top.specs.declared.capture.OpenFault.{OpenFault}
+use Rattle.spin_top.specs.declared.capture.OpenFault.TheVariants as cause
+use Rattle.spin_top.specs.declared.end.End.{End}
+use Rattle.spin_top.specs.declared.end.End.TheVariants.{Capture, Unread, Absent, NoMemory}
+use Rattle.spin_top.specs.declared.end.Input.TheVariants.{Packets}
+use Rattle.spin_top.specs.Shelves.{ShelfStood, ShelfFailed, ShelfLacked}
+
+-- The file of that name is no capture: its header has the fault of that number.
+pub record IsBadHeader (held : List File) (name : List ℕ) (fault : ℕ) : Type 0 where
+  pub bytes : List ℕ
+  pub found : content held name ≡ Some bytes
+  pub wrong : PcapFault
+  pub refused : header_of bytes ≡ Err wrong
+  pub fault_is : fault ≡ number wrong
+
+-- The file of that name has the header of a capture.
+pub record IsGoodHeader (held : List File) (name : List ℕ) : Type 0 where
+  pub bytes : List ℕ
+  pub found : content held name ≡ Some bytes
+  pub order : Order
+  pub header : header_of bytes ≡ Ok order
+
+-- Where a capture is named, on a shelf that tells its files: it has its header; or a bad one, by the fault of that
+-- number; or it isn't there.
+abbrev pub HasHeader : Option (List File) → Option (List ℕ) → Type 0
+HasHeader files None = ⊤
+HasHeader files (Some name) = IfSome files (λ held. IsGoodHeader held name)
+
+abbrev pub HasBadHeader : Option (List File) → Option (List ℕ) → ℕ → Type 0
+HasBadHeader files None fault = ⊥
+HasBadHeader files (Some name) fault = IfSome files (λ held. IsBadHeader held name fault)
+
+abbrev pub IsLackingCapture : Option (List File) → Option (List ℕ) → Type 0
+IsLackingCapture files None = ⊥
+IsLackingCapture files (Some name) = IsLacking files name
+
+-- A capture is named.
+abbrev pub IsNamed : Option (List ℕ) → Type 0
+IsNamed None = ⊥
+IsNamed (Some name) = ⊤
+
+-- The file of that name is a capture with these records, whose rest is answered so.
+pub record IsCaptureFile (held : List File) (name : List ℕ) (frames : List (List ℕ))
+    (ending : Result Next PcapFault) : Type 0 where
+  pub bytes : List ℕ
+  pub found : content held name ≡ Some bytes
+  pub order : Order
+  pub capture : IsCapture bytes order frames ending
+
+-- The capture is refused by its header or by a record.
+abbrev pub IsBadCapture : List File → List ℕ → Type 0
+IsBadCapture held name =
+    ((fault : ℕ) × IsBadHeader held name fault)
+    ⊎ ((frames : List (List ℕ)) × (wrong : PcapFault) × IsCaptureFile held name frames (Err wrong))
+
+-- No capture is named, or a good one: its rest is empty or cut.
+abbrev pub IsGoodCapture : List File → Option (List ℕ) → Type 0
+IsGoodCapture held None = ⊤
+IsGoodCapture held (Some name) =
+    (frames : List (List ℕ)) × (last : Next) × IsCaptureFile held name frames (Ok last)
+
+-- These are the records of the capture, where one is named, on a shelf that tells its files; without one there are
+-- none, and no rest.
+abbrev pub AreRecordsOf : Option (List File) → Option (List ℕ) → List (List ℕ)
+    → Option (Result Next PcapFault) → Type 0
+AreRecordsOf files None frames rest = (frames ≡ []) × (rest ≡ None)
+AreRecordsOf None (Some name) frames rest = ⊥
+AreRecordsOf (Some held) (Some name) frames rest =
+    (ending : Result Next PcapFault) × (rest ≡ Some ending)
+    × IsCaptureFile held name frames ending
+
+-- Where the shelf tells its files, the reader read the header of the file of that name, and the bytes behind it are
+-- left for it.
+pub record IsBehindHeader (held : List File) (before after : ShelfSeen) (name : List ℕ) (file : ℕ)
+    (reader : ReaderState) : Type 0 where
+  pub bytes : List ℕ
+  pub found : content held name ≡ Some bytes
+  pub header : header_of bytes ≡ Ok reader.order
+  pub left : left_for reader.held (after.left file) ≡ Some (drop 24 bytes)
+  pub named : after.found_as file ≡ Some name
+  pub under : after.reads name ≡ raised_by (before.reads name) (24 + length reader.held)
+
+-- What was taken of this source is what was read under the name of the capture, where one is named and the shelf tells
+-- its files.
+abbrev pub IsTakenUnder : Option (List ℕ) → ShelfSeen → SourceSeen → Type 0
+IsTakenUnder None shelf source = ⊤
+IsTakenUnder (Some name) shelf source =
+    IfSome shelf.files (λ _. source.taken ≡ Some (shelf.reads name))
+
+-- A fresh reader stands behind the header of the file of that name.
+pub record IsOpened (before after : ShelfSeen) (name : List ℕ) (file : ℕ) (reader : ReaderState)
+    : Type 0 where
+  pub stood : ShelfStood before after
+  pub fresh : IsFresh reader
+  pub behind : IfSome before.files (λ held. IsBehindHeader held before after name file reader)
+
+-- Why the file of that name wasn't opened.
+abbrev pub NotOpenedBy : ShelfSeen → ShelfSeen → List ℕ → OpenFault → Type 0
+NotOpenedBy before after name cause.Absent =
+    ShelfLacked before after × IsLacking before.files name
+NotOpenedBy before after name cause.Failed = ShelfFailed before after
+NotOpenedBy before after name (cause.Bad fault) =
+    ShelfStood before after × IfSome before.files (λ held. IsBadHeader held name fault)
+NotOpenedBy before after name cause.NoMemory = ShelfStood before after
+
+-- Why there is no open capture.
+abbrev pub NoCaptureBy : ShelfSeen → ShelfSeen → Option (List ℕ) → End → Type 0
+NoCaptureBy before after packets (Capture at fault) =
+    ShelfStood before after × (at ≡ 0) × HasBadHeader before.files packets fault
+NoCaptureBy before after packets (Unread Packets) = ShelfFailed before after × IsNamed packets
+NoCaptureBy before after packets (Absent Packets) =
+    ShelfLacked before after × IsLackingCapture before.files packets
+NoCaptureBy before after packets NoMemory = ShelfStood before after
+NoCaptureBy before after packets other = ⊥
+
+-- The capture was opened, if one is named: its file, and what reads it.
+abbrev pub AreOpened : ShelfSeen → ShelfSeen → Option (List ℕ) → ℕ → Option ReaderState → Type 0
+AreOpened before after None file None = ShelfStood before after
+AreOpened before after None file (Some reader) = ⊥
+AreOpened before after (Some name) file None = ⊥
+AreOpened before after (Some name) file (Some reader) = IsOpened before after name file reader

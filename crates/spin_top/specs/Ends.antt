@@ -1,0 +1,54 @@
+-- How the top call ends: the statuses of its ends, and the lines that are written at them.
+use Rattle.std.specs.Prelude.{◌≡◌, ◌<◌, ◌⊎◌, ℕ, List, [], ◌++◌, length, take, codes, decimal}
+use Rattle.std.specs.Io.KnownBytes.{Appends}
+use Rattle.spin_outside.specs.Counts.{Rose}
+use Rattle.spin_outside.specs.Seen.{SinkSeen}
+use Rattle.spin_text.specs.Words.{ended}
+use Rattle.spin_top.specs.declared.end.End.{End}
+use Rattle.spin_top.specs.declared.end.End.TheVariants.{Whole, Usage, Refused, Capture, Unread, WriteFault, Absent, NoMemory, Endpoint}
+use Rattle.spin_top.specs.declared.end.Input.{Input}
+use Rattle.spin_top.specs.declared.end.Input.TheVariants.{Script, Packets}
+
+-- the exit status of an end
+abbrev pub number : End → ℕ
+number Whole = 0
+number Usage = 1
+number (Refused line cause) = 2
+number (Capture at fault) = 3
+number (Unread input) = 4
+number WriteFault = 5
+number (Absent input) = 6
+number NoMemory = 7
+number (Endpoint at) = 8
+
+-- the words of every command
+abbrev pub usage : List ℕ
+usage =
+    codes "usage: spin run SCRIPT [PACKETS]"
+    ++ codes " | spin join SCRIPT PACKETS"
+
+-- the word for a file in a stop line
+abbrev pub input_word : Input → List ℕ
+input_word Script = codes "script"
+input_word Packets = codes "packets"
+
+-- the line that is written at an end
+abbrev pub stop_line : End → List ℕ
+stop_line Whole = []
+stop_line Usage = ended usage
+stop_line (Refused line cause) =
+    ended (codes "stop 2 line " ++ decimal line ++ codes " cause " ++ decimal cause)
+stop_line (Capture at fault) =
+    ended (codes "stop 3 record " ++ decimal at ++ codes " fault " ++ decimal fault)
+stop_line (Unread input) = ended (codes "stop 4 read " ++ input_word input)
+stop_line WriteFault = []
+stop_line (Absent input) = ended (codes "stop 6 " ++ input_word input)
+stop_line NoMemory = ended (codes "stop 7 memory")
+stop_line (Endpoint at) = ended (codes "stop 8 endpoint " ++ decimal at)
+
+-- The bytes were appended, or the sink failed, and a front of them was.
+abbrev pub Tells : SinkSeen → SinkSeen → List ℕ → Type 0
+Tells before after bytes =
+    ((after.faults ≡ before.faults) × Appends before.told after.told bytes)
+    ⊎ ((n : ℕ) × (n < length bytes) × Rose before.faults after.faults
+    × Appends before.told after.told (take n bytes))

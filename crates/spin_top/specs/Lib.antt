@@ -1,0 +1,11 @@
+pub mod Captures
+pub mod Ends
+pub mod Held
+pub mod Inner
+pub mod Join
+pub mod Loading
+pub mod Outside
+pub mod Run
+pub mod Shelves
+pub mod Statuses
+pub mod Words

@@ -1,0 +1,99 @@
+-- How the top call ends, and why.
+use Rattle.std.specs.Prelude.{◌≡◌, ◌⊎◌, ℕ, List}
+use Rattle.spin_script.specs.States.{NativeData}
+use Rattle.spin_top.specs.declared.end.End.{End}
+use Rattle.spin_top.specs.declared.end.End.TheVariants.{Usage, Refused, Capture, Unread, WriteFault, Absent, NoMemory, Endpoint}
+use Rattle.spin_top.specs.declared.end.Input.{Input}
+use Rattle.spin_top.specs.declared.words.Asked.{Asked}
+use Rattle.spin_top.specs.declared.words.Asked.TheVariants.{Run, Join}
+use Rattle.spin_top.specs.Ends.{number}
+use Rattle.spin_top.specs.Outside.{Outside, OnlyStops}
+use Rattle.spin_top.specs.Join.{JoinHasCause, JoinKnows}
+use Rattle.spin_top.specs.Run.{RunHasCause, RunKnows}
+use Rattle.spin_top.specs.Shelves.{ShelfStood}
+use Rattle.spin_top.specs.Words.{IsAsked}
+
+-- a call: the natives and the words that are handed in, what is seen before and after it, and the status
+pub record Call : Type 0 where
+  pub natives : NativeData
+  pub words : List (List ℕ)
+  pub before : Outside
+  pub after : Outside
+  pub status : ℕ
+
+-- ---- each command
+
+-- Why a command ended so.
+abbrev pub CommandHasCause : NativeData → Outside → Outside → Asked → End → Type 0
+CommandHasCause natives before after (Run name packets) end =
+    RunHasCause natives before after name packets end
+CommandHasCause natives before after (Join name packets) end =
+    JoinHasCause natives before after name packets end
+
+-- Which status a command always comes to.
+abbrev pub CommandKnows : NativeData → Outside → Outside → Asked → ℕ → Type 0
+CommandKnows natives before after (Run name packets) status =
+    RunKnows natives before after name packets status
+CommandKnows natives before after (Join name packets) status =
+    JoinKnows natives before after name packets status
+
+-- ---- causes
+
+-- The status of a command is the number of an end that has its cause.
+abbrev pub IsCommandStatus : NativeData → Outside → Outside → Asked → ℕ → Type 0
+IsCommandStatus natives before after asked status =
+    (end : End) × (status ≡ number end) × CommandHasCause natives before after asked end
+
+-- The words ask for a command, and that ended so.
+abbrev pub ByCommand : Call → End → Type 0
+ByCommand call end =
+    (asked : Asked) × IsAsked call.words asked
+    × CommandHasCause call.natives call.before call.after asked end
+
+-- The words ask for nothing.
+abbrev pub AsksNothing : Call → Type 0
+AsksNothing call = (asked : Asked) → IsAsked call.words asked → ⊥
+
+-- Why the call ended so. Memory may be lacking before the words are known.
+abbrev pub HasCause : Call → End → Type 0
+HasCause call Usage =
+    AsksNothing call × ShelfStood call.before.shelf call.after.shelf
+    × OnlyStops call.before call.after Usage
+HasCause call NoMemory =
+    (ShelfStood call.before.shelf call.after.shelf × OnlyStops call.before call.after NoMemory)
+    ⊎ ByCommand call NoMemory
+HasCause call other = ByCommand call other
+
+-- The status is the number of an end that has its cause.
+abbrev pub IsStatus : Call → Type 0
+IsStatus call = (end : End) × (call.status ≡ number end) × HasCause call end
+
+-- The status is the number of this end only where the end has its cause.
+abbrev pub Row : Call → End → Type 0
+Row call end = call.status ≡ number end → HasCause call end
+
+-- Words that ask for nothing are usage, unless memory ran out.
+abbrev pub KnowsUsage : Call → Type 0
+KnowsUsage call = AsksNothing call → (call.status ≡ 1) ⊎ (call.status ≡ 7)
+
+-- The status is what the command that the words ask for always comes to.
+abbrev pub KnowsCommand : Call → Type 0
+KnowsCommand call =
+    (asked : Asked) → IsAsked call.words asked
+    → CommandKnows call.natives call.before call.after asked call.status
+
+-- ---- the table of statuses
+
+-- Each status comes with its cause, and some come always where their cause holds.
+pub record KeepsTable (call : Call) : Type 0 where
+  pub status : IsStatus call
+  pub usage : Row call Usage
+  pub usage_always : KnowsUsage call
+  pub refused : call.status ≡ 2 → (line : ℕ) × (cause : ℕ) × HasCause call (Refused line cause)
+  pub capture : call.status ≡ 3 → (at : ℕ) × (fault : ℕ) × HasCause call (Capture at fault)
+  pub read_fault : call.status ≡ 4 → (input : Input) × HasCause call (Unread input)
+  pub write_fault : Row call WriteFault
+  pub absent : call.status ≡ 6 → (input : Input) × HasCause call (Absent input)
+  pub memory : Row call NoMemory
+  pub endpoint : call.status ≡ 8 → (at : ℕ) × HasCause call (Endpoint at)
+  pub commands : KnowsCommand call

@@ -1,0 +1,4 @@
+//! The commands, each with its own words.
+
+pub mod join;
+pub mod run;

@@ -1,0 +1,21 @@
+//! The top call of the program: what the words of a command line ask for, over any shelf, sink, endpoints, natives and
+//! gate.
+//!
+//! - [`top`] has the call, [`spin`], which chooses the command;
+//! - [`words`] says what the words ask for;
+//! - [`commands`] has a module for each command;
+//! - [`load`] reads a file and the script whole, [`capture`] opens a capture;
+//! - [`held`] is a source over bytes in memory;
+//! - [`end`] has the ends of a call, their statuses and lines.
+#![tactic(auto)]
+
+mod capture;
+mod commands;
+mod end;
+mod held;
+mod load;
+mod top;
+mod words;
+
+pub use end::{End, Input, stop};
+pub use top::spin;

@@ -1,0 +1,133 @@
+//! The top call: all that the program does.
+
+ghost use Rattle.spin_script.specs.States.{natives_seen};
+ghost use Rattle.spin_top.specs.declared.end.End.TheVariants as end;
+ghost use Rattle.spin_top.specs.Outside.{outside};
+ghost use Rattle.spin_top.specs.Statuses.{Call, IsCommandStatus, IsStatus, Row, KeepsTable};
+
+use crate::commands::join::join_command;
+use crate::commands::run::run_command;
+use crate::end::{End, stop};
+use crate::words::{Asked, read_words};
+use spin_code::Sincere;
+use spin_endpoint::{Ends, EndsSeen};
+use spin_objects::Natives;
+use spin_outside::{Gate, Shelf, Sink};
+use spin_values::{NoMemory, Text};
+use std::alloc::Global;
+use std::thread::Threads;
+
+/// Does the command that is asked for, and answers the status, which has its cause.
+fn do_command<R: Threads + Sync, F: Shelf, K: Sink, G: Gate>(
+    rt: &R,
+    alloc: Global,
+    asked: Asked,
+    shelf: &mut F,
+    out: &mut K,
+    natives: Natives,
+    ends: &mut Ends,
+    gate: &G,
+) -> u8
+    requires sincere { ⟦<Natives as Sincere>⟧.sincere natives }
+    ensures { IsCommandStatus (natives_seen natives)
+        (outside (F.seen shelf.old) (K.seen out.old) (⟦<Ends as EndsSeen>⟧.all ends.old))
+        (outside (F.seen shelf.new) (K.seen out.new) (⟦<Ends as EndsSeen>⟧.all ends.new))
+        asked result }
+{
+    match asked {
+        Asked::Run { script, packets } => {
+            run_command(rt, alloc, script, packets, shelf, out, natives, ends, gate)
+        }
+        Asked::Join { script, packets } => {
+            join_command(rt, alloc, script, packets, shelf, out, natives, ends, gate)
+        }
+    }
+}
+
+/// Does the command that the words ask for, and answers the status, which has its cause.
+fn choose<R: Threads + Sync, F: Shelf, K: Sink, G: Gate>(
+    rt: &R,
+    alloc: Global,
+    words: &[Text],
+    shelf: &mut F,
+    out: &mut K,
+    natives: Natives,
+    ends: &mut Ends,
+    gate: &G,
+) -> u8
+    requires sincere { ⟦<Natives as Sincere>⟧.sincere natives }
+    ensures { let call : Call = record {
+      natives = natives_seen natives;
+      words = words.now;
+      before = outside (F.seen shelf.old) (K.seen out.old) (⟦<Ends as EndsSeen>⟧.all ends.old);
+      after = outside (F.seen shelf.new) (K.seen out.new) (⟦<Ends as EndsSeen>⟧.all ends.new);
+      status = result;
+    } in
+        IsStatus call }
+{
+    match read_words(alloc, words) {
+        Ok(Some(asked)) => do_command(rt, alloc, asked, shelf, out, natives, ends, gate),
+        Ok(None) => stop(out, End::Usage),
+        Err(NoMemory) => stop(out, End::NoMemory),
+    }
+}
+
+/// The top call: does what the words ask for over the shelf, the sink and the endpoints, and answers the exit status.
+///
+/// The words are those of one command, `run SCRIPT`, `run SCRIPT PACKETS` or `join SCRIPT PACKETS`; each is UTF-8,
+/// isn't empty, and doesn't begin with `-`. The script is found, read and checked, and may name the natives that are
+/// handed in. Then the capture, if one is named, is found and its header read; under `join` it is read whole, and its
+/// joined capture takes its place, in memory. Then the script is run over it by
+/// [`run_script`](spin_run::run_script), its lanes on threads, which writes the report and delivers what is sent to
+/// the endpoints. A stop ends the call at once, so the status is that of the first that is met.
+///
+/// | status | comes | line |
+/// |---|---|---|
+/// | 0 | the whole report was written, script and capture read to their ends | none |
+/// | 1 | exactly where the words have none of the forms | `usage: ..`, the words of every command |
+/// | 2 | exactly where the script is read and is refused at line N for cause C | `stop 2 line N cause C` |
+/// | 3 | exactly where record N of the capture is refused by fault F; record 0 is its header | `stop 3 record N fault F` |
+/// | 4 | only where the shelf's count of faults rose | `stop 4 read script`, `stop 4 read packets` |
+/// | 5 | only where the sink's count of faults rose | none |
+/// | 6 | only where the shelf's count of absences rose | `stop 6 script`, `stop 6 packets` |
+/// | 7 | want of memory | `stop 7 memory` |
+/// | 8 | only where the count of endpoint P rose | `stop 8 endpoint P` |
+///
+/// A stop line follows what was written before. A stop line that can't be written leaves the status. A stop before the
+/// report began leaves the endpoints as they were. Under `run` the capture is read as the segments need it: after a
+/// stop in a segment, where the capture has all records that the segments up to this one want, at most 65,536 bytes
+/// past its header and these records were read.
+pub fn spin<R: Threads + Sync, F: Shelf, K: Sink, G: Gate>(
+    rt: &R,
+    alloc: Global,
+    words: &[Text],
+    shelf: &mut F,
+    out: &mut K,
+    natives: Natives,
+    ends: &mut Ends,
+    gate: &G,
+) -> u8
+    // Each native does what it was handed in with.
+    requires sincere { ⟦<Natives as Sincere>⟧.sincere natives }
+    // 0: the report of a legal history that answers what the script asks, each once and in order, was written, and
+    // each endpoint has received its sends of that history.
+    ensures whole { let call : Call = record {
+      natives = natives_seen natives;
+      words = words.now;
+      before = outside (F.seen shelf.old) (K.seen out.old) (⟦<Ends as EndsSeen>⟧.all ends.old);
+      after = outside (F.seen shelf.new) (K.seen out.new) (⟦<Ends as EndsSeen>⟧.all ends.new);
+      status = result;
+    } in
+        Row call end.Whole }
+    // Each other status comes with its cause, and some come always where their cause holds.
+    ensures table { let call : Call = record {
+      natives = natives_seen natives;
+      words = words.now;
+      before = outside (F.seen shelf.old) (K.seen out.old) (⟦<Ends as EndsSeen>⟧.all ends.old);
+      after = outside (F.seen shelf.new) (K.seen out.new) (⟦<Ends as EndsSeen>⟧.all ends.new);
+      status = result;
+    } in
+        KeepsTable call }
+{
+    choose(rt, alloc, words, shelf, out, natives, ends, gate)
+}

@@ -1,0 +1,185 @@
+//! The words of the command line.
+
+ghost use Rattle.std.specs.Prelude.{◌≡◌, ◌<◌, ◌≤◌, List, ℕ, Some, ◌∷◌, IfOk, IfSome, IfNone, IsTrue, map, length, codes, option_map};
+ghost use Rattle.std.specs.List.{All};
+ghost use Rattle.clap.specs.Words.{app_of, raw_values, matched_of, found_of};
+ghost use Rattle.spin_top.specs.Inner.Parsing.{app};
+ghost use Rattle.spin_top.specs.Words.{IsPlain, IsAsked, spelling};
+
+use clap::error::ErrorKind;
+use clap::{Arg, ArgMatches, Command};
+use spin_values::{NoMemory, Text};
+use std::alloc::Global;
+
+/// What the words ask for.
+#[derive(Debug, Drop)]
+pub enum Asked {
+    /// `run SCRIPT [PACKETS]`.
+    Run {
+        /// The name of the script.
+        script: Text,
+        /// The name of the capture, if one is named.
+        packets: Option<Text>,
+    },
+    /// `join SCRIPT PACKETS`.
+    Join {
+        /// The name of the script.
+        script: Text,
+        /// The name of the capture.
+        packets: Text,
+    },
+}
+
+/// The word as text, where it is UTF-8, isn't empty and doesn't begin with `-`.
+fn plain_word(word: &[u8]) -> Option<&str>
+    ensures found { IfSome result (λ text. (text.now ≡ word.now) × IsPlain word.now) }
+    ensures none { IfNone result (IsPlain word.now → ⊥) }
+{
+    if word.is_empty() || word[0] == b'-' {
+        return None;
+    }
+    std::str::from_utf8(word).ok()
+}
+
+/// The words as text, where each is plain.
+fn plain_words(alloc: Global, words: &[Text]) -> Result<Option<Vec<&str>>, NoMemory>
+    ensures found { IfOk result (λ plain. IfSome plain
+        (λ texts. (map (λ text. text.now) texts.items ≡ words.now) × All IsPlain words.now)) }
+    ensures none { IfOk result (λ plain. IfNone plain (All IsPlain words.now → ⊥)) }
+{
+    let mut plain = Vec::new(alloc);
+    for word in words {
+        let Some(text) = plain_word(word.as_slice()) else {
+            return Ok(None);
+        };
+        plain.push(text)?;
+    }
+    Ok(Some(plain))
+}
+
+/// The command, which has one to four words and no option.
+fn command<'a>(alloc: Global) -> Result<Command<'a>, NoMemory>
+    ensures { IfOk result (λ command. app_of command ≡ app) }
+{
+    let words = Arg::new(alloc, "words")
+        .required(true)
+        .num_args(1..=4)
+        .trailing_var_arg(true);
+    let command = Command::new(alloc, "spin")
+        .no_binary_name(true)
+        .disable_help_flag(true);
+    Ok(command.arg(words)?)
+}
+
+/// The matches of one to four words, none of which is an option.
+fn parse<'a>(alloc: Global, words: &'a [&'a str]) -> Result<Option<ArgMatches<'a>>, NoMemory>
+    requires plain { All IsPlain (map (λ text. text.now) words.now) }
+    ensures found { IfOk result (λ parsed. IfSome parsed
+        (λ matches. option_map raw_values (matched_of (found_of matches) (codes "words"))
+        ≡ Some (map (λ text. text.now) words.now))) }
+    ensures none { IfOk result (λ parsed. IfNone parsed
+        (0 < length words.now → length words.now ≤ 4 → ⊥)) }
+{
+    let command = match command(alloc) {
+        Ok(command) => command,
+        Err(NoMemory) => return Err(NoMemory),
+    };
+    match command.try_get_matches_from(words) {
+        Ok(matches) => Ok(Some(matches)),
+        Err(error) => match error.kind() {
+            ErrorKind::OutOfMemory => Err(NoMemory),
+            _ => Ok(None),
+        },
+    }
+}
+
+fn is_run(word: &str) -> bool
+    ensures yes { IsTrue result → word.now ≡ codes "run" }
+    ensures no { word.now ≡ codes "run" → IsTrue result }
+{
+    word == "run"
+}
+
+/// The words after `run`.
+fn run_form(alloc: Global, names: &[&str]) -> Result<Option<Asked>, NoMemory>
+    ensures found { IfOk result (λ form. IfSome form
+        (λ asked. codes "run" ∷ map (λ text. text.now) names.now ≡ spelling asked)) }
+    ensures none { IfOk result (λ form. IfNone form
+        ((asked : Asked) → codes "run" ∷ map (λ text. text.now) names.now ≡ spelling asked → ⊥)) }
+{
+    match names.len() {
+        1 => Ok(Some(Asked::Run {
+            script: Text::from_bytes(alloc, names[0].as_bytes())?,
+            packets: None,
+        })),
+        2 => Ok(Some(Asked::Run {
+            script: Text::from_bytes(alloc, names[0].as_bytes())?,
+            packets: Some(Text::from_bytes(alloc, names[1].as_bytes())?),
+        })),
+        _ => Ok(None),
+    }
+}
+
+fn is_join(word: &str) -> bool
+    ensures yes { IsTrue result → word.now ≡ codes "join" }
+    ensures no { word.now ≡ codes "join" → IsTrue result }
+{
+    word == "join"
+}
+
+/// The words after `join`.
+fn join_form(alloc: Global, names: &[&str]) -> Result<Option<Asked>, NoMemory>
+    ensures found { IfOk result (λ form. IfSome form
+        (λ asked. codes "join" ∷ map (λ text. text.now) names.now ≡ spelling asked)) }
+    ensures none { IfOk result (λ form. IfNone form
+        ((asked : Asked) → codes "join" ∷ map (λ text. text.now) names.now ≡ spelling asked → ⊥)) }
+{
+    match names.len() {
+        2 => Ok(Some(Asked::Join {
+            script: Text::from_bytes(alloc, names[0].as_bytes())?,
+            packets: Text::from_bytes(alloc, names[1].as_bytes())?,
+        })),
+        _ => Ok(None),
+    }
+}
+
+/// The form that the words have.
+fn form_of(alloc: Global, words: &[&str]) -> Result<Option<Asked>, NoMemory>
+    ensures found { IfOk result (λ form. IfSome form
+        (λ asked. map (λ text. text.now) words.now ≡ spelling asked)) }
+    ensures none { IfOk result (λ form. IfNone form
+        ((asked : Asked) → map (λ text. text.now) words.now ≡ spelling asked → ⊥)) }
+{
+    if words.is_empty() {
+        return Ok(None);
+    }
+    if is_run(words[0]) {
+        return run_form(alloc, &words[1..]);
+    }
+    if is_join(words[0]) {
+        return join_form(alloc, &words[1..]);
+    }
+    Ok(None)
+}
+
+/// What the words ask for, or none exactly where they have none of the forms.
+pub fn read_words(alloc: Global, words: &[Text]) -> Result<Option<Asked>, NoMemory>
+    ensures found { IfOk result (λ form. IfSome form (IsAsked words.now)) }
+    ensures none { IfOk result (λ form. IfNone form
+        ((asked : Asked) → IsAsked words.now asked → ⊥)) }
+{
+    let plain = match plain_words(alloc, words) {
+        Ok(Some(plain)) => plain,
+        Ok(None) => return Ok(None),
+        Err(NoMemory) => return Err(NoMemory),
+    };
+    let matches = match parse(alloc, plain.as_slice()) {
+        Ok(Some(matches)) => matches,
+        Ok(None) => return Ok(None),
+        Err(NoMemory) => return Err(NoMemory),
+    };
+    match matches.get_strs("words") {
+        Some(words) => form_of(alloc, words),
+        None => Ok(None),
+    }
+}
