@@ -4,3 +4,4 @@ pub mod Passes
 pub mod Making
 pub mod Crossing
 pub mod Zipping
+pub mod Team
