@@ -17,6 +17,8 @@ mod executor;
 #[cfg(test)]
 mod expressions;
 #[cfg(test)]
+mod faults;
+#[cfg(test)]
 mod filter;
 #[cfg(test)]
 mod generated;
