@@ -1,7 +1,8 @@
 -- The workers of a run, before and after it.
-use Rattle.std.proofs.Common.{◌≡◌, ℕ, zero, suc, ◌+◌, ◌<◌, ◌≤◌, List, [], ◌∷◌, ◌++◌, length, map, slice_index_or, refl, sym, ap, subst, ◌∙◌, arith}
+use Rattle.std.proofs.Common.{◌≡◌, ℕ, zero, suc, ◌+◌, ◌<◌, ◌≤◌, List, [], ◌∷◌, ◌++◌, length, map, take, drop, slice_index_or, append-nil, refl, sym, ap, subst, ◌∙◌, arith}
 use Rattle.std.specs.Prelude.{All, Any}
 use Rattle.std.specs.List.{flat_map}
+use Rattle.std.proofs.lemmas.List.{take_all, drop_all}
 use Rattle.std.proofs.lemmas.List.Elements.{All-nil, All-cons, All-map, All-append}
 use Rattle.atomic_table.specs.Seated.{TableId}
 use Rattle.spin_table.specs.Setups.{SetupData}
@@ -61,7 +62,7 @@ pub all_fresh : (q : QueueValue) (n : ℕ) (team : List Worker) → parties_of t
 all_fresh q n team is many idle =
     let hands = new_hands-idle q.parties 0 q.parties (omega arith) in
     let new : All (IsNew q n) (new_parties q.id q.parties) = All-map (IsNew q n) (party_value q.id q.parties) (new_hands 0 q.parties)
-        (λ k d lt. let h = hands k d lt in ((refl, refl), (let less = h.0 in omega arith), h.1)) in
+    (λ k d lt. let h = hands k d lt in ((refl, refl), (let less = h.0 in omega arith), h.1)) in
     let each = all_from_map (λ (w : Worker). w.party) (IsNew q n) team (subst (All (IsNew q n)) (sym is) new) in
     λ k d lt. let p = each k d lt in (p.0, p.1, p.2, idle k d lt)
 
@@ -75,6 +76,14 @@ all_there q old new is same = λ m lt.
     let before : Any (λ (w : Worker). w.party.number ≡ m) old = any_from_map (λ (w : Worker). w.party) (λ p. p.number ≡ m) old party in
     let number : Any At (numbers_of new) = subst (Any At) (sym same) (any_to_map (λ (w : Worker). w.party.number) At old before) in
     any_to_map (λ (w : Worker). w.party) (λ p. p.number ≡ m) new (any_from_map (λ (w : Worker). w.party.number) At new number)
+
+-- what a slice of all workers leaves where it is written back
+pub same_numbers : (old new : List Worker) (len : ℕ) → len ≡ length old → length new ≡ length old → ((k : ℕ) (d : Worker) → k < length old → (slice_index_or new k d).party.number ≡ (slice_index_or old k d).party.number)
+    → numbers_of (take len (new ++ drop (length new) old)) ≡ numbers_of old
+same_numbers old new len whole long each =
+    let none : drop (length new) old ≡ [] = drop_all (length new) old (omega arith) in
+    let back : take len (new ++ drop (length new) old) ≡ new = ap (λ (l : List Worker). take len (new ++ l)) none ∙ ap (take len) (append-nil new) ∙ take_all len new (omega arith) in
+    ap numbers_of back ∙ same_map (λ (w : Worker). w.party.number) old new long each
 
 pub all_parties : (q : QueueValue) (d : SetupData) (batches : List (List Call)) (team : List Worker) → All (HasEnded q d batches) team → All (IsPartyOf q) (parties_of team)
 all_parties q d batches team h = All-map (IsPartyOf q) (λ (w : Worker). w.party) team (λ k e lt. (h k e lt).0)
