@@ -4,7 +4,6 @@ use Rattle.std.specs.Prelude.{All, Any}
 use Rattle.std.specs.List.{flat_map}
 use Rattle.std.proofs.lemmas.List.{take_all, drop_all}
 use Rattle.std.proofs.lemmas.List.Elements.{All-nil, All-cons, All-map, All-append}
-use Rattle.atomic_table.specs.Seated.{TableId}
 use Rattle.spin_table.specs.Setups.{SetupData}
 use Rattle.spin_later.specs.declared.known.Hand.{Hand}
 use Rattle.spin_later.specs.declared.batch.Call.{Call}

@@ -1,5 +1,5 @@
 -- What the parties of a run do.
-use Rattle.std.specs.Prelude.{◌≡◌, ℕ, ◌<◌, List, [], Option, None, length, map, All, IfSome, IsSomeAnd, slice_get}
+use Rattle.std.specs.Prelude.{◌≡◌, ℕ, ◌<◌, List, [], Option, None, map, All, IfSome, IsSomeAnd, slice_get}
 use Rattle.std.specs.List.{AllZip, flat_map}
 use Rattle.spin_table.specs.Setups.{SetupData}
 use Rattle.spin_proto.specs.declared.reply.Reply.{Reply}
