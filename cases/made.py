@@ -355,6 +355,9 @@ def captures():
     yield "cut.pcap", capture_header() + b"".join(mixed[:2]) + bytes(5)
     yield "four.pcap", capture_header() + b"".join(records(short))
     yield "long.pcap", capture_header() + b"".join(records(short[:2])) + too_long
+    yield "longest.pcap", capture_header() + too_long
+    yield "header.pcap", capture_header()
+    yield "short.pcap", capture_header()[:23]
     yield "big.pcap", capture_header(">", 0xA1B23C4D) + b"".join(records(short, ">"))
     yield "version.pcap", capture_header(minor=3)
     yield "link.pcap", capture_header(link=113)

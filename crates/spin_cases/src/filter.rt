@@ -11,7 +11,7 @@ use std::alloc::Global;
 use std::test::Fail;
 use std::thread::Threads;
 
-const SCRIPT: &[u8] = b"\
+pub(crate) const SCRIPT: &[u8] = b"\
 spin 1
 event 0 0 b last
 event 1 0 bwww last
@@ -104,12 +104,18 @@ fn put_record(file: &mut Octets, frame: &[u8]) -> Result<(), NoMemory> {
     file.extend_from_slice(frame)
 }
 
-/// The 40 records in turn, and so many copies of the first one behind them.
-fn capture(alloc: Global, copies: u32) -> Result<Octets, NoMemory> {
+/// The header, and so many records in turn.
+pub(crate) fn first_records(alloc: Global, count: u8) -> Result<Octets, NoMemory> {
     let mut file = Octets::from_bytes(alloc, &HEADER)?;
-    for number in 1..41 {
+    for number in 1..=count {
         put_record(&mut file, frame(number))?;
     }
+    Ok(file)
+}
+
+/// The 40 records in turn, and so many copies of the first one behind them.
+fn capture(alloc: Global, copies: u32) -> Result<Octets, NoMemory> {
+    let mut file = first_records(alloc, 40)?;
     for _ in 0..copies {
         put_record(&mut file, &ARP)?;
     }
@@ -127,15 +133,32 @@ fn put_packet(report: &mut Octets, number: u8) -> Result<(), NoMemory> {
     report.extend_from_slice(TOLD[usize::from(number % 4)])
 }
 
-/// The report of a whole run.
-fn whole_report(alloc: Global) -> Result<Octets, NoMemory> {
+/// The report of a whole run over so many records, which has this last line.
+pub(crate) fn report_of(alloc: Global, records: u8, end: &[u8]) -> Result<Octets, NoMemory> {
     let mut report = Octets::from_bytes(alloc, INSTALLED)?;
     report.extend_from_slice(b"segment 1 at 4\n")?;
-    for number in 1..41 {
+    for number in 1..=records {
         put_packet(&mut report, number)?;
     }
-    report.extend_from_slice(b"end 4 records 40 used 40 cut 0\n")?;
+    report.extend_from_slice(end)?;
     Ok(report)
+}
+
+/// The report of a whole run over the 40 records.
+fn whole_report(alloc: Global) -> Result<Octets, NoMemory> {
+    report_of(alloc, 40, b"end 4 records 40 used 40 cut 0\n")
+}
+
+/// What is sent of so many queries and their answers in turn, with a comma behind each.
+pub(crate) fn payloads(alloc: Global, queries: u8) -> Result<Octets, NoMemory> {
+    let mut bytes = Octets::new(alloc);
+    for _ in 0..queries {
+        bytes.extend_from_slice(&QUERY[42..])?;
+        bytes.push(b',')?;
+        bytes.extend_from_slice(&ANSWER[42..])?;
+        bytes.push(b',')?;
+    }
+    Ok(bytes)
 }
 
 /// Runs the filter over the capture, with an endpoint that has room for so many pieces, and so many bytes of them.

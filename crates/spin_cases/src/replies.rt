@@ -22,7 +22,7 @@ use std::sync::ledger::{Blank, Ledger};
 use std::test::Fail;
 
 /// The version after the command, or this one where it is refused, and what became of the command.
-fn step<L: Ledger>(
+pub(crate) fn step<L: Ledger>(
     rt: &impl Abort,
     alloc: Global,
     setup: &Setup,

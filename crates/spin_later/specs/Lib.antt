@@ -1,3 +1,4 @@
+pub mod Batches
 pub mod History
 pub mod Inner
 pub mod Limits

@@ -24,13 +24,20 @@
 //! step. That they return isn't promised.
 #![tactic(auto)]
 
+mod background;
+mod batch;
+mod doing;
 mod known;
 mod limits;
 mod party;
+mod places;
 mod queue;
 mod rule;
 mod task;
+mod worker;
 
+pub use background::run_background;
+pub use batch::{Batch, BatchReplies, Batches, Call};
 pub use known::{Hand, Known};
 pub use limits::limits_are_stated;
 pub use party::{Parties, Party};
