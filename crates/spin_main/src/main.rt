@@ -104,7 +104,7 @@ fn add<R: AllocGlobal>(
 }
 
 /// The endpoints of the program.
-fn ends_of<R: Files + Clone + Drop + AllocGlobal>(rt: &R) -> Result<Ends, NoMemory> {
+fn ends_of<R: Files + Clone + Drop + AllocGlobal + 'static>(rt: &R) -> Result<Ends, NoMemory> {
     let mut ends = Ends::new(rt.alloc());
     for (name, file) in [
         (b"out0", b"out0.bin"),
