@@ -4,6 +4,7 @@
 //! - a [`Queue`] is shared by reference; [`Queue::new`] makes it with its parties, and [`Queue::close`] gives what is
 //!   left in it;
 //! - a [`Party`] puts tasks into it by [`Party::put`] and takes tasks out of it by [`Party::take`];
+//! - [`run_background`] does the calls of [`Batches`] by parties side by side, which share a queue;
 //! - [`HistoryRule`] names the fact that holds between any two steps, over what each pass knows of it, a [`Known`].
 //!
 //! # What a caller learns, and when
@@ -18,9 +19,10 @@
 //! | [`Party::put`] | the task is the last that the party sent, and its number counts them; where it is [`Full`], some history has what the party did, and the queue held its capacity |
 //! | [`Party::take`] | the task is the last that the party took, and of its sender it comes after all that the party took before; where there is none, some history has what the party did, and the queue was empty |
 //! | [`Queue::close`] | one history has what all parties did, and leaves just the tasks that are given: each sent task was taken once or is left once, with its version and call |
+//! | [`run_background`] | each reply is what its call comes to on its version, in the order of the batches and their calls |
 //! | never | what the queue holds at present, when a step is made, that a call returns |
 //!
-//! `put`, `take` and `close` take [`Wait`](std::sync::Wait): each may spin while another thread is in the middle of a
+//! `put`, `take`, `close` and `run_background` take [`Wait`](std::sync::Wait): each may spin while another thread is in the middle of a
 //! step. That they return isn't promised.
 #![tactic(auto)]
 
