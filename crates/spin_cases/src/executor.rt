@@ -125,7 +125,33 @@ fn close<R: Wait + Sync>(
     queue.close(rt, alloc, parties)
 }
 
-/// Makes the moves in a queue of this capacity, each of which comes to what it should. The tasks that are left.
+/// Makes the moves, each of which comes to what it should.
+fn make_all<R: Wait + Abort + Sync>(
+    rt: &R,
+    alloc: Global,
+    queue: &Queue,
+    first: &mut Party,
+    second: &mut Party,
+    moves: &[Move],
+) -> Result<(), Fail>
+    requires first { IsPartyOf queue.now first.old }
+    requires second { IsPartyOf queue.now second.old }
+    ensures first { IsSameParty first.old first.new }
+    ensures second { IsSameParty second.old second.new }
+{
+    let version = version_of(alloc)?;
+    for &(party, puts, wanted) in moves {
+        let comes = if party == 0 {
+            make(rt, alloc, queue, first, &version, puts)?
+        } else {
+            make(rt, alloc, queue, second, &version, puts)?
+        };
+        assert_eq!(rt; comes, wanted);
+    }
+    Ok(())
+}
+
+/// The tasks that are left when the moves were made in a queue of this capacity.
 fn left_after<R: Wait + Abort + Sync>(
     rt: &R,
     alloc: Global,
@@ -134,7 +160,6 @@ fn left_after<R: Wait + Abort + Sync>(
 ) -> Result<Tasks, Fail>
     requires { (1 ≤ capacity) × (capacity ≤ MAX_CAPACITY) }
 {
-    let version = version_of(alloc)?;
     let (queue, mut parties) = Queue::new(alloc, 2, capacity)?;
     let Some(mut first) = parties.take_first() else {
         unreachable!()
@@ -142,14 +167,7 @@ fn left_after<R: Wait + Abort + Sync>(
     let Some(mut second) = parties.take_first() else {
         unreachable!()
     };
-    for &(party, puts, wanted) in moves {
-        let comes = if party == 0 {
-            make(rt, alloc, &queue, &mut first, &version, puts)?
-        } else {
-            make(rt, alloc, &queue, &mut second, &version, puts)?
-        };
-        assert_eq!(rt; comes, wanted);
-    }
+    make_all(rt, alloc, &queue, &mut first, &mut second, moves)?;
     Ok(close(rt, alloc, queue, first, second)?)
 }
 
