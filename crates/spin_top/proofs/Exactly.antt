@@ -2,10 +2,10 @@
 use Rattle.std.proofs.Common.{◌≡◌, ◌⊎◌, ℕ, zero, suc, List, sym, subst, ◌∙◌, inl, inr}
 use Rattle.spin_script.specs.States.{NativeData}
 use Rattle.spin_top.specs.declared.end.End.{End}
-use Rattle.spin_top.specs.declared.end.End.TheVariants.{Whole, Usage, Refused, Capture, Unread, WriteFault, Absent, NoMemory, Endpoint}
+use Rattle.spin_top.specs.declared.end.End.TheVariants.{Whole, Usage, Refused, Capture, Unread, WriteFault, Absent, NoMemory, Endpoint, Trace, Unsuited}
 use Rattle.spin_top.specs.declared.end.Input.{Input}
 use Rattle.spin_top.specs.declared.words.Asked.{Asked}
-use Rattle.spin_top.specs.declared.words.Asked.TheVariants.{Run}
+use Rattle.spin_top.specs.declared.words.Asked.TheVariants.{Run, Vm}
 use Rattle.spin_top.specs.Words.{IsAsked}
 use Rattle.spin_top.specs.Ends.{number}
 use Rattle.spin_top.specs.Outside.{OnlyStops, Outside}
@@ -13,20 +13,24 @@ use Rattle.spin_top.specs.Shelves.{ShelfStood}
 use Rattle.spin_top.specs.Statuses.{AsksNothing, ByCommand, Call, CommandHasCause, CommandKnows, HasCause, IsCommandStatus, IsStatus, KeepsTable, KnowsCommand, KnowsUsage, Row}
 use Rattle.spin_top.proofs.Forms.{one_spelling}
 use Rattle.spin_top.proofs.RunKnown.{run_known}
+use Rattle.spin_top.proofs.VmKnown.{vm_known}
 
 -- ---- each command
 
 -- nothing was done for want of memory, which is a cause of every command
 only_memory : (natives : NativeData) (before after : Outside) (asked : Asked) → ShelfStood before.shelf after.shelf → OnlyStops before after NoMemory → CommandHasCause natives before after asked NoMemory
 only_memory natives before after (Run name packets) stood only = (stood, inl only)
+only_memory natives before after (Vm name trace) stood only = (stood, inl only)
 
 -- words that ask for a command aren't usage
 not_usage : (natives : NativeData) (before after : Outside) (asked : Asked) → CommandHasCause natives before after asked Usage → ⊥
 not_usage natives before after (Run name packets) cause = cause
+not_usage natives before after (Vm name trace) cause = cause
 
 -- which status a command always comes to
 command_known : (natives : NativeData) (before after : Outside) (asked : Asked) (status : ℕ) → IsCommandStatus natives before after asked status → CommandKnows natives before after asked status
 command_known natives before after (Run name packets) status is = run_known natives before after name packets status is.0 is.1 is.2
+command_known natives before after (Vm name trace) status is = vm_known natives before after name trace status is.0 is.1 is.2
 
 -- ---- one end for a status
 
@@ -41,6 +45,8 @@ ByStatus call (suc (suc (suc (suc (suc zero))))) = HasCause call WriteFault
 ByStatus call (suc (suc (suc (suc (suc (suc zero)))))) = (input : Input) × HasCause call (Absent input)
 ByStatus call (suc (suc (suc (suc (suc (suc (suc zero))))))) = HasCause call NoMemory
 ByStatus call (suc (suc (suc (suc (suc (suc (suc (suc zero)))))))) = (at : ℕ) × HasCause call (Endpoint at)
+ByStatus call (suc (suc (suc (suc (suc (suc (suc (suc (suc (suc (suc zero))))))))))) = (line : ℕ) × (cause : ℕ) × HasCause call (Trace line cause)
+ByStatus call (suc (suc (suc (suc (suc (suc (suc (suc (suc (suc (suc (suc zero)))))))))))) = HasCause call Unsuited
 ByStatus call other = ⊥
 
 by_end : (call : Call) (end : End) → HasCause call end → ByStatus call (number end)
@@ -53,6 +59,8 @@ by_end call WriteFault cause = cause
 by_end call (Absent input) cause = (input, cause)
 by_end call NoMemory cause = cause
 by_end call (Endpoint number) cause = (number, cause)
+by_end call (Trace line number) cause = (line, number, cause)
+by_end call Unsuited cause = cause
 
 by_status : (call : Call) (status : ℕ) → IsStatus call → call.status ≡ status → ByStatus call status
 by_status call status is same = subst (λ n. ByStatus call n) (sym is.1 ∙ same) (by_end call is.0 is.2)
@@ -97,6 +105,8 @@ table_known call is = record {
   absent = λ same. by_status call 6 is same;
   memory = λ same. by_status call 7 is same;
   endpoint = λ same. by_status call 8 is same;
+  trace = λ same. by_status call 11 is same;
+  unsuited = λ same. by_status call 12 is same;
   commands = commands_known call is;
 }
 

@@ -3,7 +3,7 @@ use Rattle.std.proofs.Common.{◌≡◌, ℕ, Bool, true, false, Option, Some, N
 use Rattle.std.specs.Prelude.{bytes_eq, if◌then◌else◌}
 use Rattle.std.proofs.lemmas.Slice.Eq.{bytes_eq-Decides}
 use Rattle.spin_top.specs.declared.words.Asked.{Asked}
-use Rattle.spin_top.specs.declared.words.Asked.TheVariants.{Run}
+use Rattle.spin_top.specs.declared.words.Asked.TheVariants.{Run, Vm}
 use Rattle.spin_top.specs.Words.{spelling}
 
 -- what the words behind `run` ask for
@@ -12,11 +12,17 @@ run_of (script ∷ []) = Some (Run script None)
 run_of (script ∷ packets ∷ []) = Some (Run script (Some packets))
 run_of other = None
 
+-- what the words behind `vm` ask for
+abbrev pub vm_of : List (List ℕ) → Option Asked
+vm_of (script ∷ trace ∷ []) = Some (Vm script trace)
+vm_of other = None
+
 -- what the words ask for, by the first
 asked_of : List (List ℕ) → Option Asked
 asked_of [] = None
 asked_of (word ∷ names) =
     if bytes_eq word (codes "run") then run_of names
+    else if bytes_eq word (codes "vm") then vm_of names
     else None
 
 -- each spelling is read as what it spells
@@ -24,6 +30,7 @@ read_back : (asked : Asked) → asked_of (spelling asked) ≡ Some asked
 unfolding asked_of
 read_back (Run script None) = refl
 read_back (Run script (Some packets)) = refl
+read_back (Vm script trace) = refl
 
 some_is : {X : Type 0} (x y : X) → Some x ≡ Some y → x ≡ y
 some_is x y same = cc
@@ -43,12 +50,17 @@ differs : (word name : List ℕ) (b : Bool) → bytes_eq word name ≡ b → (wo
 differs word name true same other = absurd (other ((bytes_eq-Decides word name).0 same))
 differs word name false same other = same
 
-unknown_word : (word : List ℕ) (names : List (List ℕ)) → (word ≡ codes "run" → ⊥) → asked_of (word ∷ names) ≡ None
+unknown_word : (word : List ℕ) (names : List (List ℕ)) → (word ≡ codes "run" → ⊥) → (word ≡ codes "vm" → ⊥) → asked_of (word ∷ names) ≡ None
 unfolding asked_of
-unknown_word word names run = rw (differs word (codes "run") (bytes_eq word (codes "run")) refl run) refl
+unknown_word word names run vm =
+    rw (
+      differs word (codes "run") (bytes_eq word (codes "run")) refl run,
+      differs word (codes "vm") (bytes_eq word (codes "vm")) refl vm,
+    )
+    refl
 
-pub no_word : (word : List ℕ) (names : List (List ℕ)) → (word ≡ codes "run" → ⊥) → (asked : Asked) → word ∷ names ≡ spelling asked → ⊥
-no_word word names run = no_spelling (word ∷ names) (unknown_word word names run)
+pub no_word : (word : List ℕ) (names : List (List ℕ)) → (word ≡ codes "run" → ⊥) → (word ≡ codes "vm" → ⊥) → (asked : Asked) → word ∷ names ≡ spelling asked → ⊥
+no_word word names run vm = no_spelling (word ∷ names) (unknown_word word names run vm)
 
 pub no_run : (names : List (List ℕ)) → run_of names ≡ None → (asked : Asked) → codes "run" ∷ names ≡ spelling asked → ⊥
 unfolding asked_of
@@ -59,3 +71,13 @@ run_of_many [] not_one not_two = refl
 run_of_many (a ∷ []) not_one not_two = absurd (not_one refl)
 run_of_many (a ∷ b ∷ []) not_one not_two = absurd (not_two refl)
 run_of_many (a ∷ b ∷ c ∷ names) not_one not_two = refl
+
+pub no_vm : (names : List (List ℕ)) → vm_of names ≡ None → (asked : Asked) → codes "vm" ∷ names ≡ spelling asked → ⊥
+unfolding asked_of
+no_vm names none = no_spelling (codes "vm" ∷ names) none
+
+pub vm_of_others : (names : List (List ℕ)) → (length names ≡ 2 → ⊥) → vm_of names ≡ None
+vm_of_others [] not_two = refl
+vm_of_others (a ∷ []) not_two = refl
+vm_of_others (a ∷ b ∷ []) not_two = absurd (not_two refl)
+vm_of_others (a ∷ b ∷ c ∷ names) not_two = refl

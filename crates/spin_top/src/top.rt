@@ -6,6 +6,7 @@ ghost use Rattle.spin_top.specs.Outside.{outside};
 ghost use Rattle.spin_top.specs.Statuses.{Call, IsCommandStatus, IsStatus, Row, KeepsTable};
 
 use crate::commands::run::run_command;
+use crate::commands::vm::vm_command;
 use crate::end::{End, stop};
 use crate::words::{Asked, read_words};
 use spin_code::Sincere;
@@ -37,6 +38,7 @@ fn do_command<R: Threads + Sync, F: Shelf, K: Sink, G: Gate>(
         Asked::Run { script, packets } => {
             run_command(rt, alloc, script, packets, shelf, out, natives, ends, gate)
         }
+        Asked::Vm { script, trace } => vm_command(alloc, script, trace, shelf, out, natives),
     }
 }
 

@@ -21,6 +21,13 @@ pub enum Asked {
         /// The name of the capture, if one is named.
         packets: Option<Text>,
     },
+    /// `vm SCRIPT TRACE`.
+    Vm {
+        /// The name of the script.
+        script: Text,
+        /// The name of the trace.
+        trace: Text,
+    },
 }
 
 /// The word as text, where it is UTF-8, isn't empty and doesn't begin with `-`.
@@ -113,6 +120,29 @@ fn run_form(alloc: Global, names: &[&str]) -> Result<Option<Asked>, NoMemory>
     }
 }
 
+fn is_vm(word: &str) -> bool
+    ensures yes { IsTrue result → word.now ≡ codes "vm" }
+    ensures no { word.now ≡ codes "vm" → IsTrue result }
+{
+    word == "vm"
+}
+
+/// The words after `vm`.
+fn vm_form(alloc: Global, names: &[&str]) -> Result<Option<Asked>, NoMemory>
+    ensures found { IfOk result (λ form. IfSome form
+        (λ asked. codes "vm" ∷ map (λ text. text.now) names.now ≡ spelling asked)) }
+    ensures none { IfOk result (λ form. IfNone form
+        ((asked : Asked) → codes "vm" ∷ map (λ text. text.now) names.now ≡ spelling asked → ⊥)) }
+{
+    match names.len() {
+        2 => Ok(Some(Asked::Vm {
+            script: Text::from_bytes(alloc, names[0].as_bytes())?,
+            trace: Text::from_bytes(alloc, names[1].as_bytes())?,
+        })),
+        _ => Ok(None),
+    }
+}
+
 /// The form that the words have.
 fn form_of(alloc: Global, words: &[&str]) -> Result<Option<Asked>, NoMemory>
     ensures found { IfOk result (λ form. IfSome form
@@ -120,10 +150,16 @@ fn form_of(alloc: Global, words: &[&str]) -> Result<Option<Asked>, NoMemory>
     ensures none { IfOk result (λ form. IfNone form
         ((asked : Asked) → map (λ text. text.now) words.now ≡ spelling asked → ⊥)) }
 {
-    if words.is_empty() || !is_run(words[0]) {
+    if words.is_empty() {
         return Ok(None);
     }
-    run_form(alloc, &words[1..])
+    if is_run(words[0]) {
+        return run_form(alloc, &words[1..]);
+    }
+    if is_vm(words[0]) {
+        return vm_form(alloc, &words[1..]);
+    }
+    Ok(None)
 }
 
 /// What the words ask for, or none exactly where they have none of the forms.
