@@ -202,7 +202,7 @@ def headers():
 
 # ---- the smallest example of each status, cause, fault and refusal, which docs/FORMATS.md shows
 
-USAGE = "usage: spin run SCRIPT [PACKETS]\n"
+USAGE = "usage: spin run SCRIPT [PACKETS] | spin join SCRIPT PACKETS\n"
 TWO_EVENTS = ["event 0 0 b last", "event 1 0 bwww last", "handler 1 b layer ipv4 1", INSTALL.strip()]
 TWO_LAYERS = ["event 0 0 bwww last", "event 1 0 bwwww last", "handler 1 bwww layer udp 1", INSTALL.strip()]
 
@@ -280,7 +280,7 @@ def table():
     rows = ["| what is written | script, and further words |", "|---|---|"]
     for _, lines_, words, stdout in smallest():
         told = [line for line in stdout.splitlines() if SHOWN.match(line)]
-        shown = [line for line in told if not line.startswith("end")] or told
+        shown = [line.replace("|", "\\|") for line in told if not line.startswith("end")] or told
         code = " ".join(f"`{line}`" for line in lines_).replace("|", "\\|").replace("\x01", "\\x01")
         if len(code) > 400:
             code = f"{code[:150]} .. `"
@@ -326,6 +326,15 @@ def capture_header(order="<", magic=0xA1B2C3D4, minor=4, link=1):
     return struct.pack(f"{order}IHHIIII", magic, 2, minor, 0, 0, 262_144, link)
 
 
+# The two fragments of a datagram to port 53, the first of which has its header, and the second its last eight bytes.
+FRAGMENTS = [
+    frame_header(2, 1, "0800") + bytes.fromhex(
+        "4500002400012000401146c60a0000010a000002" "00350400001800000000000000000000"
+    ),
+    frame_header(2, 1, "0800") + bytes.fromhex("4500001c00010002401166cc0a0000010a000002") + bytes(8),
+]
+
+
 def records(frames, order="<"):
     for number, frame in enumerate(frames, 1):
         yield struct.pack(f"{order}IIII", 1_700_000_000 + number, 0, len(frame), len(frame)) + frame
@@ -350,6 +359,9 @@ def captures():
     yield "version.pcap", capture_header(minor=3)
     yield "link.pcap", capture_header(link=113)
     yield "empty.pcap", b""
+    yield "fragments.pcap", capture_header() + b"".join(records(FRAGMENTS))
+    yield "fragments_turned.pcap", capture_header() + b"".join(records(reversed(FRAGMENTS)))
+    yield "fragment_twice.pcap", capture_header() + b"".join(records(FRAGMENTS[:1] * 2))
     yield "next.pcapng", bytes.fromhex("0a0d0d0a1c0000004d3c2b1a01000000ffffffffffffffff1c000000")
 
 

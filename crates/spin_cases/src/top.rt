@@ -30,7 +30,7 @@ segment 0 at 0
 end 1
 ";
 
-const USAGE: &[u8] = b"usage: spin run SCRIPT [PACKETS]\n";
+const USAGE: &[u8] = b"usage: spin run SCRIPT [PACKETS] | spin join SCRIPT PACKETS\n";
 
 fn text(alloc: Global, bytes: &[u8]) -> Result<Text, NoMemory> {
     Text::from_bytes(alloc, bytes)
@@ -190,6 +190,9 @@ fn words_of_no_command(rt: HostRuntime) -> Result<(), NoMemory> {
         &[b"run".as_slice(), b"--", b"script"],
         &[b"run".as_slice(), b"script", b"-packets"],
         &[b"run".as_slice(), b"script", b"packets", b"more"],
+        &[b"join".as_slice()],
+        &[b"join".as_slice(), b"script"],
+        &[b"join".as_slice(), b"script", b"packets", b"more"],
         &[b"run".as_slice(), b"script", b"packets", b"more", b"more"],
     ] {
         let (status, out) = misspelled(&rt, rt.alloc(), texts)?;

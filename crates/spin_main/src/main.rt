@@ -1,8 +1,9 @@
 //! The program: a script in, the report of its history out.
 //!
 //! `spin run SCRIPT [PACKETS]` reads the script, and the capture if one is named, from the folder where it is called,
-//! and writes the report to standard output. What is sent to the endpoints `out0` to `out3` goes to the files
-//! `out0.bin` to `out3.bin` of that folder.
+//! and writes the report to standard output; `spin join SCRIPT PACKETS` does so over the joined capture. What is sent to
+//! the endpoints `out0` to `out3` goes to the files `out0.bin` to `out3.bin` of that folder, and the replies to the echo
+//! requests that are sent to the endpoint `echo` to `echo.bin`.
 //!
 //! The one call, [`spin`](spin_top::spin), works over any shelf, sink, endpoints, natives and gate; [`natives`] are those
 //! that the program hands in.
@@ -20,6 +21,7 @@ use spin_endpoint::{Endpoint, Ends, EndsSeen, FileEnd};
 use spin_objects::{Guard, Handler};
 use spin_outside::{FolderShelf, OpenGate, Shelf, Sink, StdSink};
 use spin_policy::Authoriser;
+use spin_reass::EchoEnd;
 use spin_top::{End, spin, stop};
 use spin_values::{NoMemory, Text};
 use std::alloc::Global;
@@ -82,21 +84,27 @@ fn run<R: Env + Files + Threads + Sync + AllocGlobal, K: Sink>(
     run_with_natives(rt, rt.alloc(), &words, &mut shelf, out, ends)
 }
 
-/// An endpoint of that name over that file.
-fn file_end<R: Files + Clone + Drop + AllocGlobal>(
-    rt: &R,
-    name: &[u8],
-    file: &[u8],
-) -> Result<(Text, Box<FileEnd<R>>), NoMemory> {
-    let end = FileEnd::new(rt.clone()?, Text::from_bytes(rt.alloc(), file)?);
-    Ok((
-        Text::from_bytes(rt.alloc(), name)?,
-        Box::new(rt.alloc(), end)?,
-    ))
+/// An endpoint over the file of that name.
+fn file_end<R: Files + Clone + AllocGlobal>(rt: &R, file: &[u8]) -> Result<FileEnd<R>, NoMemory> {
+    Ok(FileEnd::new(rt.clone()?, Text::from_bytes(rt.alloc(), file)?))
 }
 
-fn main(rt: HostRuntime) -> ExitCode {
-    let mut out = StdSink::new(io::writer(&rt));
+/// Hands in the endpoint under that name.
+fn add<R: AllocGlobal>(
+    rt: &R,
+    ends: &mut Ends,
+    name: &[u8],
+    end: Box<dyn Endpoint>,
+) -> Result<(), NoMemory> {
+    // The names differ and are few, so only memory may be lacking.
+    match ends.add(Text::from_bytes(rt.alloc(), name)?, end) {
+        Ok(()) => Ok(()),
+        Err(_) => Err(NoMemory),
+    }
+}
+
+/// The endpoints of the program.
+fn ends_of<R: Files + Clone + Drop + AllocGlobal>(rt: &R) -> Result<Ends, NoMemory> {
     let mut ends = Ends::new(rt.alloc());
     for (name, file) in [
         (b"out0", b"out0.bin"),
@@ -104,15 +112,19 @@ fn main(rt: HostRuntime) -> ExitCode {
         (b"out2", b"out2.bin"),
         (b"out3", b"out3.bin"),
     ] {
-        let Ok((name, end)) = file_end(&rt, name, file) else {
-            return ExitCode::from(stop(&mut out, End::NoMemory));
-        };
-        let end: Box<dyn Endpoint> = end;
-        // The names differ and are few, so only memory may be lacking.
-        if let Err(_) = ends.add(name, end) {
-            return ExitCode::from(stop(&mut out, End::NoMemory));
-        }
+        let end = Box::new(rt.alloc(), file_end(rt, file)?)?;
+        add(rt, &mut ends, name, end)?;
     }
+    let echo = EchoEnd::new(rt.alloc(), file_end(rt, b"echo.bin")?)?;
+    add(rt, &mut ends, b"echo", Box::new(rt.alloc(), echo)?)?;
+    Ok(ends)
+}
+
+fn main(rt: HostRuntime) -> ExitCode {
+    let mut out = StdSink::new(io::writer(&rt));
+    let Ok(mut ends) = ends_of(&rt) else {
+        return ExitCode::from(stop(&mut out, End::NoMemory));
+    };
     match run(&rt, &mut out, &mut ends) {
         Ok(status) => ExitCode::from(status),
         Err(NoMemory) => ExitCode::from(stop(&mut out, End::NoMemory)),

@@ -1,4 +1,4 @@
-mod Captures
+pub mod Captures
 mod Covers
 mod Frames
 mod Gathering

@@ -5,13 +5,14 @@ use Rattle.spin_top.specs.declared.end.End.{End}
 use Rattle.spin_top.specs.declared.end.End.TheVariants.{Whole, Usage, Refused, Capture, Unread, WriteFault, Absent, NoMemory, Endpoint, Trace, Unsuited}
 use Rattle.spin_top.specs.declared.end.Input.{Input}
 use Rattle.spin_top.specs.declared.words.Asked.{Asked}
-use Rattle.spin_top.specs.declared.words.Asked.TheVariants.{Run, Vm}
+use Rattle.spin_top.specs.declared.words.Asked.TheVariants.{Run, Join, Vm}
 use Rattle.spin_top.specs.Words.{IsAsked}
 use Rattle.spin_top.specs.Ends.{number}
 use Rattle.spin_top.specs.Outside.{OnlyStops, Outside}
 use Rattle.spin_top.specs.Shelves.{ShelfStood}
 use Rattle.spin_top.specs.Statuses.{AsksNothing, ByCommand, Call, CommandHasCause, CommandKnows, HasCause, IsCommandStatus, IsStatus, KeepsTable, KnowsCommand, KnowsUsage, Row}
 use Rattle.spin_top.proofs.Forms.{one_spelling}
+use Rattle.spin_top.proofs.JoinKnown.{join_known}
 use Rattle.spin_top.proofs.RunKnown.{run_known}
 use Rattle.spin_top.proofs.VmKnown.{vm_known}
 
@@ -20,16 +21,19 @@ use Rattle.spin_top.proofs.VmKnown.{vm_known}
 -- nothing was done for want of memory, which is a cause of every command
 only_memory : (natives : NativeData) (before after : Outside) (asked : Asked) → ShelfStood before.shelf after.shelf → OnlyStops before after NoMemory → CommandHasCause natives before after asked NoMemory
 only_memory natives before after (Run name packets) stood only = (stood, inl only)
+only_memory natives before after (Join name packets) stood only = (stood, inl only)
 only_memory natives before after (Vm name trace) stood only = (stood, inl only)
 
 -- words that ask for a command aren't usage
 not_usage : (natives : NativeData) (before after : Outside) (asked : Asked) → CommandHasCause natives before after asked Usage → ⊥
 not_usage natives before after (Run name packets) cause = cause
+not_usage natives before after (Join name packets) cause = cause
 not_usage natives before after (Vm name trace) cause = cause
 
 -- which status a command always comes to
 command_known : (natives : NativeData) (before after : Outside) (asked : Asked) (status : ℕ) → IsCommandStatus natives before after asked status → CommandKnows natives before after asked status
 command_known natives before after (Run name packets) status is = run_known natives before after name packets status is.0 is.1 is.2
+command_known natives before after (Join name packets) status is = join_known natives before after name packets status is.0 is.1 is.2
 command_known natives before after (Vm name trace) status is = vm_known natives before after name trace status is.0 is.1 is.2
 
 -- ---- one end for a status

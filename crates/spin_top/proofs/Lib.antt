@@ -1,5 +1,7 @@
 pub mod Exactly
 pub mod Forms
+pub mod JoinCauses
+pub mod JoinKnown
 pub mod OneReading
 pub mod Opening
 pub mod Outcomes

@@ -1,6 +1,8 @@
 pub mod Captures
 pub mod Ends
+pub mod Held
 pub mod Inner
+pub mod Join
 pub mod Loading
 pub mod Outside
 pub mod Run

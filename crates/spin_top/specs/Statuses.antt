@@ -5,9 +5,10 @@ use Rattle.spin_top.specs.declared.end.End.{End}
 use Rattle.spin_top.specs.declared.end.End.TheVariants.{Usage, Refused, Capture, Unread, WriteFault, Absent, NoMemory, Endpoint, Trace, Unsuited}
 use Rattle.spin_top.specs.declared.end.Input.{Input}
 use Rattle.spin_top.specs.declared.words.Asked.{Asked}
-use Rattle.spin_top.specs.declared.words.Asked.TheVariants.{Run, Vm}
+use Rattle.spin_top.specs.declared.words.Asked.TheVariants.{Run, Join, Vm}
 use Rattle.spin_top.specs.Ends.{number}
 use Rattle.spin_top.specs.Outside.{Outside, OnlyStops}
+use Rattle.spin_top.specs.Join.{JoinHasCause, JoinKnows}
 use Rattle.spin_top.specs.Run.{RunHasCause, RunKnows}
 use Rattle.spin_top.specs.Shelves.{ShelfStood}
 use Rattle.spin_top.specs.Vm.{VmHasCause, VmKnows}
@@ -27,6 +28,8 @@ pub record Call : Type 0 where
 abbrev pub CommandHasCause : NativeData → Outside → Outside → Asked → End → Type 0
 CommandHasCause natives before after (Run name packets) end =
     RunHasCause natives before after name packets end
+CommandHasCause natives before after (Join name packets) end =
+    JoinHasCause natives before after name packets end
 CommandHasCause natives before after (Vm name trace) end =
     VmHasCause natives before after name trace end
 
@@ -34,6 +37,8 @@ CommandHasCause natives before after (Vm name trace) end =
 abbrev pub CommandKnows : NativeData → Outside → Outside → Asked → ℕ → Type 0
 CommandKnows natives before after (Run name packets) status =
     RunKnows natives before after name packets status
+CommandKnows natives before after (Join name packets) status =
+    JoinKnows natives before after name packets status
 CommandKnows natives before after (Vm name trace) status =
     VmKnows natives before after name trace status
 

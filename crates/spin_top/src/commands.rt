@@ -1,4 +1,5 @@
 //! The commands, each with its own words.
 
+pub mod join;
 pub mod run;
 pub mod vm;

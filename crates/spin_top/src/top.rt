@@ -5,6 +5,7 @@ ghost use Rattle.spin_top.specs.declared.end.End.TheVariants as end;
 ghost use Rattle.spin_top.specs.Outside.{outside};
 ghost use Rattle.spin_top.specs.Statuses.{Call, IsCommandStatus, IsStatus, Row, KeepsTable};
 
+use crate::commands::join::join_command;
 use crate::commands::run::run_command;
 use crate::commands::vm::vm_command;
 use crate::end::{End, stop};
@@ -37,6 +38,9 @@ fn do_command<R: Threads + Sync, F: Shelf, K: Sink, G: Gate>(
     match asked {
         Asked::Run { script, packets } => {
             run_command(rt, alloc, script, packets, shelf, out, natives, ends, gate)
+        }
+        Asked::Join { script, packets } => {
+            join_command(rt, alloc, script, packets, shelf, out, natives, ends, gate)
         }
         Asked::Vm { script, trace } => vm_command(alloc, script, trace, shelf, out, natives),
     }
@@ -72,16 +76,17 @@ fn choose<R: Threads + Sync, F: Shelf, K: Sink, G: Gate>(
 
 /// The top call: does what the words ask for over the shelf, the sink and the endpoints, and answers the exit status.
 ///
-/// The words are those of one command, `run SCRIPT` or `run SCRIPT PACKETS`; each is UTF-8, isn't empty, and doesn't
-/// begin with `-`. The script is found, read and checked, and may name the natives that are handed in. Then the
-/// capture, if one is named, is found and its header read. Then the script is run over it by
+/// The words are those of one command, `run SCRIPT`, `run SCRIPT PACKETS` or `join SCRIPT PACKETS`; each is UTF-8,
+/// isn't empty, and doesn't begin with `-`. The script is found, read and checked, and may name the natives that are
+/// handed in. Then the capture, if one is named, is found and its header read; under `join` it is read whole, and its
+/// joined capture takes its place, in memory. Then the script is run over it by
 /// [`run_script`](spin_run::run_script), its lanes on threads, which writes the report and delivers what is sent to
 /// the endpoints. A stop ends the call at once, so the status is that of the first that is met.
 ///
 /// | status | comes | line |
 /// |---|---|---|
 /// | 0 | the whole report was written, script and capture read to their ends | none |
-/// | 1 | exactly where the words have none of the forms | `usage: spin run SCRIPT [PACKETS]` |
+/// | 1 | exactly where the words have none of the forms | `usage: ..`, the words of every command |
 /// | 2 | exactly where the script is read and is refused at line N for cause C | `stop 2 line N cause C` |
 /// | 3 | exactly where record N of the capture is refused by fault F; record 0 is its header | `stop 3 record N fault F` |
 /// | 4 | only where the shelf's count of faults rose | `stop 4 read script`, `stop 4 read packets` |
@@ -91,9 +96,9 @@ fn choose<R: Threads + Sync, F: Shelf, K: Sink, G: Gate>(
 /// | 8 | only where the count of endpoint P rose | `stop 8 endpoint P` |
 ///
 /// A stop line follows what was written before. A stop line that can't be written leaves the status. A stop before the
-/// report began leaves the endpoints as they were. The capture is read as the segments need it: after a stop in a
-/// segment, where the capture has all records that the segments up to this one want, at most 65,536 bytes past its
-/// header and these records were read.
+/// report began leaves the endpoints as they were. Under `run` the capture is read as the segments need it: after a
+/// stop in a segment, where the capture has all records that the segments up to this one want, at most 65,536 bytes
+/// past its header and these records were read.
 pub fn spin<R: Threads + Sync, F: Shelf, K: Sink, G: Gate>(
     rt: &R,
     alloc: Global,

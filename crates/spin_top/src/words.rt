@@ -21,6 +21,13 @@ pub enum Asked {
         /// The name of the capture, if one is named.
         packets: Option<Text>,
     },
+    /// `join SCRIPT PACKETS`.
+    Join {
+        /// The name of the script.
+        script: Text,
+        /// The name of the capture.
+        packets: Text,
+    },
     /// `vm SCRIPT TRACE`.
     Vm {
         /// The name of the script.
@@ -120,6 +127,29 @@ fn run_form(alloc: Global, names: &[&str]) -> Result<Option<Asked>, NoMemory>
     }
 }
 
+fn is_join(word: &str) -> bool
+    ensures yes { IsTrue result → word.now ≡ codes "join" }
+    ensures no { word.now ≡ codes "join" → IsTrue result }
+{
+    word == "join"
+}
+
+/// The words after `join`.
+fn join_form(alloc: Global, names: &[&str]) -> Result<Option<Asked>, NoMemory>
+    ensures found { IfOk result (λ form. IfSome form
+        (λ asked. codes "join" ∷ map (λ text. text.now) names.now ≡ spelling asked)) }
+    ensures none { IfOk result (λ form. IfNone form
+        ((asked : Asked) → codes "join" ∷ map (λ text. text.now) names.now ≡ spelling asked → ⊥)) }
+{
+    match names.len() {
+        2 => Ok(Some(Asked::Join {
+            script: Text::from_bytes(alloc, names[0].as_bytes())?,
+            packets: Text::from_bytes(alloc, names[1].as_bytes())?,
+        })),
+        _ => Ok(None),
+    }
+}
+
 fn is_vm(word: &str) -> bool
     ensures yes { IsTrue result → word.now ≡ codes "vm" }
     ensures no { word.now ≡ codes "vm" → IsTrue result }
@@ -155,6 +185,9 @@ fn form_of(alloc: Global, words: &[&str]) -> Result<Option<Asked>, NoMemory>
     }
     if is_run(words[0]) {
         return run_form(alloc, &words[1..]);
+    }
+    if is_join(words[0]) {
+        return join_form(alloc, &words[1..]);
     }
     if is_vm(words[0]) {
         return vm_form(alloc, &words[1..]);

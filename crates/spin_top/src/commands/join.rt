@@ -1,0 +1,137 @@
+//! The command `join`: a script, over a capture in which fragmented datagrams are made whole.
+
+ghost use Rattle.std.specs.Prelude.{◌≡◌, ◌≤◌, ℕ, IfOk, IfErr, drop};
+ghost use Rattle.spin_word.specs.declared.command.TheConstants.{MAX_PLACE};
+ghost use Rattle.spin_pcap.specs.Passing.{IsFresh};
+ghost use Rattle.spin_script.specs.States.{natives_seen};
+ghost use Rattle.spin_script.specs.Scripts.{script_seen};
+ghost use Rattle.spin_script.specs.Segments.{IsOrderly};
+ghost use Rattle.spin_script.specs.Soundness.{AreValid, command_lines};
+ghost use Rattle.spin_top.specs.Inner.Joining.{HeaderRefuses, IsBehind, RunsJoined};
+ghost use Rattle.spin_top.specs.Join.{IsJoinedBy, IsJoinStatus, NotJoinedBy};
+ghost use Rattle.spin_top.specs.Outside.{outside};
+
+use crate::commands::run::end_of;
+use crate::end::{End, Input, stop};
+use crate::held::HeldSource;
+use crate::load::script_of;
+use spin_code::Sincere;
+use spin_endpoint::{Ends, EndsSeen};
+use spin_objects::{Catalogue, Natives};
+use spin_outside::{FindFault, Gate, Shelf, ShelfSource, Sink};
+use spin_pcap::{PcapFault, Reader};
+use spin_reass::{JoinFault, join_capture};
+use spin_run::{RunEnd, run_script};
+use spin_script::Script;
+use spin_values::{Octets, Text};
+use std::alloc::Global;
+use std::thread::Threads;
+
+/// The joined capture of the file of that name, which is read to its end.
+fn joined_of<F: Shelf>(alloc: Global, shelf: &mut F, name: &Text) -> Result<Octets, End>
+    ensures joined { IfOk result (IsJoinedBy (F.seen shelf.old) (F.seen shelf.new) name.now) }
+    ensures refused { IfErr result (NotJoinedBy (F.seen shelf.old) (F.seen shelf.new) name.now) }
+{
+    let file = match shelf.find(name) {
+        Ok(file) => file,
+        Err(FindFault::Absent) => return Err(End::Absent(Input::Packets)),
+        Err(FindFault::Failed) => return Err(End::Unread(Input::Packets)),
+        Err(FindFault::NoMemory) => return Err(End::NoMemory),
+    };
+    let mut source = ShelfSource { shelf, file };
+    match join_capture(alloc, &mut source) {
+        Ok(bytes) => Ok(bytes),
+        Err(JoinFault::Capture { number, fault }) => Err(End::Capture { number, fault }),
+        Err(JoinFault::ReadFault) => Err(End::Unread(Input::Packets)),
+        Err(JoinFault::NoMemory) => Err(End::NoMemory),
+    }
+}
+
+/// A joined capture whose header was read.
+#[derive(Drop)]
+struct Joined {
+    source: HeldSource,
+    reader: Reader,
+}
+
+/// Reads the header of a joined capture.
+fn behind_header(alloc: Global, bytes: Octets) -> Result<Joined, End>
+    ensures behind { IfOk result (λ joined. IsBehind bytes joined.source joined.reader) }
+    ensures refused { IfErr result (HeaderRefuses bytes) }
+{
+    let mut source = HeldSource::new(bytes);
+    match Reader::start(alloc, &mut source) {
+        Ok(reader) => Ok(Joined { source, reader }),
+        Err(PcapFault::NoMemory) => Err(End::NoMemory),
+        Err(fault) => Err(End::Capture {
+            number: 0,
+            fault: fault.number(),
+        }),
+    }
+}
+
+/// Runs the script over the records of a joined capture.
+fn run_over<R: Threads + Sync, K: Sink, G: Gate>(
+    rt: &R,
+    alloc: Global,
+    script: Script,
+    joined: Joined,
+    out: &mut K,
+    ends: &mut Ends,
+    gate: &G,
+) -> RunEnd
+    requires sincere { ⟦<Catalogue as Sincere>⟧.sincere script.setup.catalogue }
+    requires valid { AreValid script.segments }
+    requires few { command_lines script.segments ≤ MAX_PLACE }
+    requires orderly { IsOrderly (script_seen script) }
+    requires fresh { IsFresh joined.reader }
+    ensures { RunsJoined (script_seen script) joined.source joined.reader
+        (K.seen out.old) (⟦<Ends as EndsSeen>⟧.all ends.old)
+        (K.seen out.new) (⟦<Ends as EndsSeen>⟧.all ends.new) result }
+{
+    let Joined { mut source, reader } = joined;
+    run_script(
+        rt,
+        alloc,
+        script,
+        Some(reader),
+        &mut source,
+        out,
+        ends,
+        gate,
+    )
+}
+
+/// Does `join SCRIPT PACKETS`, and answers the status, which has its cause. The joined capture is held in memory.
+pub fn join_command<R: Threads + Sync, F: Shelf, K: Sink, G: Gate>(
+    rt: &R,
+    alloc: Global,
+    name: Text,
+    packets: Text,
+    shelf: &mut F,
+    out: &mut K,
+    natives: Natives,
+    ends: &mut Ends,
+    gate: &G,
+) -> u8
+    requires sincere { ⟦<Natives as Sincere>⟧.sincere natives }
+    ensures { IsJoinStatus (natives_seen natives)
+        (outside (F.seen shelf.old) (K.seen out.old) (⟦<Ends as EndsSeen>⟧.all ends.old))
+        (outside (F.seen shelf.new) (K.seen out.new) (⟦<Ends as EndsSeen>⟧.all ends.new))
+        name packets result }
+{
+    let script = match script_of(alloc, shelf, &name, natives) {
+        Ok(script) => script,
+        Err(end) => return stop(out, end),
+    };
+    let bytes = match joined_of(alloc, shelf, &packets) {
+        Ok(bytes) => bytes,
+        Err(end) => return stop(out, end),
+    };
+    let joined = match behind_header(alloc, bytes) {
+        Ok(joined) => joined,
+        Err(end) => return stop(out, end),
+    };
+    let ended = run_over(rt, alloc, script, joined, out, ends, gate);
+    stop(out, end_of(ended))
+}
