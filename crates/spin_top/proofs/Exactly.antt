@@ -11,6 +11,7 @@ use Rattle.spin_top.specs.Ends.{number}
 use Rattle.spin_top.specs.Outside.{OnlyStops, Outside}
 use Rattle.spin_top.specs.Shelves.{ShelfStood}
 use Rattle.spin_top.specs.Statuses.{AsksNothing, ByCommand, Call, CommandHasCause, CommandKnows, HasCause, IsCommandStatus, IsStatus, KeepsTable, KnowsCommand, KnowsUsage, Row}
+use Rattle.spin_top.specs.Vm.{IsVmStatus}
 use Rattle.spin_top.proofs.Forms.{one_spelling}
 use Rattle.spin_top.proofs.JoinKnown.{join_known}
 use Rattle.spin_top.proofs.RunKnown.{run_known}
@@ -130,6 +131,10 @@ usage_status call none stood only is = (Usage, is, (none, stood, only))
 
 pub memory_status : (call : Call) → ShelfStood call.before.shelf call.after.shelf → OnlyStops call.before call.after NoMemory → call.status ≡ 7 → IsStatus call
 memory_status call stood only is = (NoMemory, is, inl (stood, only))
+
+-- a trace is what was asked for
+pub vm_status : (natives : NativeData) (before after : Outside) (name trace : List ℕ) (asked : Asked) (status : ℕ) → asked ≡ Vm name trace → IsVmStatus natives before after name trace status → IsCommandStatus natives before after asked status
+vm_status natives before after name trace asked status is by = subst (λ a. IsCommandStatus natives before after a status) (sym is) by
 
 -- the same of natives that are these
 pub with_natives : (natives : NativeData) (call : Call) → call.natives ≡ natives → IsStatus call → IsStatus (record call { natives = natives })

@@ -1,6 +1,7 @@
 -- What the end of a trace rests on: what was done before it.
-use Rattle.std.proofs.Common.{◌≡◌, ◌<◌, ℕ, Bool, true, false, Option, Some, None, List, [], length, refl, sym, ap, subst, ◌∙◌, inl, inr}
+use Rattle.std.proofs.Common.{◌≡◌, ◌<◌, ℕ, Bool, true, false, Option, Some, None, List, [], length, refl, sym, ap, subst, ◌∙◌, arith, inl, inr}
 use Rattle.std.specs.Prelude.{nat_lt, Err}
+use Rattle.std.proofs.lemmas.Bool.Decides.{nat_tests}
 use Rattle.spin_outside.specs.Counts.{Rose}
 use Rattle.spin_outside.specs.Files.{File, IsLacking}
 use Rattle.spin_outside.specs.Seen.{ShelfSeen, SinkSeen}
@@ -38,7 +39,7 @@ not_suited natives before after name trace script stood loaded unsuited only = (
 -- a text that is too large is no trace
 pub large_trace : (files : Option (List File)) (name : List ℕ) → IsOver 1048576 files name → IsBadTrace files name 0 1
 large_trace files name over =
-    let large : nat_lt 1048576 (length over.0) ≡ true = grind arith in
+    let large : nat_lt 1048576 (length over.0) ≡ true = grind (arith, nat_tests, over.2) in
     let is : outcome over.0 ≡ Err (0, why.TooLarge) = rw large refl in
     (over.0, over.1, why.TooLarge, is, refl)
 

@@ -26,7 +26,7 @@ use Rattle.spin_top.proofs.OneReading.{content_at, lacking_at, loaded_nothing, l
 -- ---- one script, and one trace
 
 true_not_false : (b : Bool) → b ≡ true → b ≡ false → ⊥
-true_not_false b yes no = cc
+true_not_false b is not = cc
 
 -- whether a script is suited doesn't rest on where its boxes lie
 bare_events : (events : List EventDef) → has_fault_events (map bare_event events) ≡ has_fault_events events
@@ -43,13 +43,14 @@ one_kind : (natives : NativeData) (text : List ℕ) (a b : ScriptData) → IsScr
 one_kind natives text a b is_a is_b =
     sym (bare_suited a) ∙ ap is_suited (one_outcome natives text (Ok a) (Ok b) is_a is_b) ∙ bare_suited b
 
-both_kinds : (natives : NativeData) (shelf : ShelfSeen) (held : List File) (name text : List ℕ) (a b : Bool) → HoldsText shelf held name text → IsSuitedText natives text a → LoadsSuited natives shelf.files name b → b ≡ a
-both_kinds natives shelf held name text a b holds is loads =
-    let loaded = loaded_text natives shelf held name text loads.0 holds loads.1 in
-    sym loads.2 ∙ one_kind natives text loads.0 is.0 loaded.1 is.1 ∙ is.2
-
 some_is : {X : Type 0} (x y : X) → Some x ≡ Some y → x ≡ y
 some_is x y same = cc
+
+both_kinds : (natives : NativeData) (shelf : ShelfSeen) (held : List File) (name text : List ℕ) (a b : Bool) → HoldsText shelf held name text → IsSuitedText natives text a → LoadsSuited natives shelf.files name b → b ≡ a
+both_kinds natives shelf held name text a b holds is loads =
+    let same : loads.1.text ≡ text = some_is loads.1.text text (sym (content_at shelf.files held name loads.1.text holds.told loads.1.read) ∙ holds.found) in
+    let reads : IsScript natives text (Ok loads.0) = subst (λ t. IsScript natives t (Ok loads.0)) same loads.1.reads in
+    sym loads.2 ∙ one_kind natives text loads.0 is.0 reads is.1 ∙ is.2
 
 some_not_none : {X : Type 0} (x : X) → Some x ≡ None → ⊥
 some_not_none x same = cc
@@ -208,6 +209,6 @@ vm_known natives before after name trace status end is cause = record {
   script_absent = absent_at natives before after name trace status end is cause;
   unsuited = unsuited_at natives before after name trace status end is cause;
   trace_absent = lost_at natives before after name trace status end is cause;
-  trace = trace_at natives before after name trace status end is cause;
+  bad_trace = trace_at natives before after name trace status end is cause;
   complete = complete_at natives before after name trace status end is cause;
 }

@@ -159,5 +159,5 @@ pub record VmKnows (natives : NativeData) (before after : Outside) (name trace :
   pub script_absent : KnowsNoScript before after name status
   pub unsuited : KnowsUnsuited natives before after name status
   pub trace_absent : KnowsNoTrace natives before after name trace status
-  pub trace : KnowsTrace natives before after name trace status
+  pub bad_trace : KnowsTrace natives before after name trace status
   pub complete : IsTraceComplete natives before after name trace status
