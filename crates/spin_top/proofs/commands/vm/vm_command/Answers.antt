@@ -14,7 +14,7 @@ returns-in-Err g c =
 pub returns-then-not-is_suited : goal.returns-then-not-is_suited
 returns-then-not-is_suited g c =
     let unsuited : is_suited (script_seen c.in-Ok.script) ≡ false = search rules in
-    λ ends. (Unsuited, c.stop-then-not-is_suited.ensures.status, not_suited _ _ _ _ _ (script_seen c.in-Ok.script) c.in-Ok.ensures.stood c.in-Ok.ensures.loaded unsuited (record { ends = refl; tells = c.stop-then-not-is_suited.ensures.line }))
+    λ ends. (Unsuited, c.stop-then-not-is_suited.ensures.status, not_suited _ _ _ _ c.args.trace (script_seen c.in-Ok.script) c.in-Ok.ensures.stood c.in-Ok.ensures.loaded unsuited (record { ends = refl; tells = c.stop-then-not-is_suited.ensures.line }))
 
 pub returns-in-Err-trace_of : goal.returns-in-Err-trace_of
 returns-in-Err-trace_of g c =
@@ -24,5 +24,6 @@ returns-in-Err-trace_of g c =
 pub returns : goal.returns
 returns g c =
     let suited : is_suited (script_seen c.in-Ok.script) ≡ true = search rules in
+    let by = rw c.as_slice.ensures at c.run_trace-ended.ensures.end in
     let line = rw c.end_of.ensures at c.stop-2.ensures.line in
-    λ ends. (vm_end c.run_trace-ended.result, c.stop-2.ensures.status ∙ ap number c.end_of.ensures, was_traced _ _ _ _ _ _ _ _ (script_seen c.in-Ok.script) c.run_trace-ended.result c.in-Ok.ensures.stood c.in-Ok.ensures.loaded suited c.in-Ok-trace_of.ensures.stood c.in-Ok-trace_of.ensures.read c.run_trace-ended.ensures.end c.run_trace-ended.ensures.counts line refl)
+    λ ends. (vm_end c.run_trace-ended.result, c.stop-2.ensures.status ∙ ap number c.end_of.ensures, was_traced _ _ _ _ _ _ _ _ (script_seen c.in-Ok.script) c.run_trace-ended.result c.in-Ok.ensures.stood c.in-Ok.ensures.loaded suited c.in-Ok-trace_of.ensures.stood c.in-Ok-trace_of.ensures.read by c.run_trace-ended.ensures.counts line refl)
