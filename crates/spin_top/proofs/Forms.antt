@@ -15,6 +15,7 @@ run_of other = None
 abbrev join_of : List (List ℕ) → Option Asked
 join_of (script ∷ packets ∷ []) = Some (Join script packets)
 join_of other = None
+
 -- what the words behind `vm` ask for
 abbrev vm_of : List (List ℕ) → Option Asked
 vm_of (script ∷ trace ∷ []) = Some (Vm script trace)

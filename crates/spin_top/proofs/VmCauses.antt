@@ -1,11 +1,10 @@
 -- What the end of a trace rests on: what was done before it.
-use Rattle.std.proofs.Common.{◌≡◌, ◌<◌, ℕ, Bool, true, false, Option, Some, None, List, [], length, refl, sym, ap, subst, ◌∙◌, arith, inl, inr}
+use Rattle.std.proofs.Common.{◌≡◌, ℕ, true, false, Option, List, length, refl, sym, subst, ◌∙◌, arith, inl, inr}
 use Rattle.std.specs.Prelude.{nat_lt, Err}
 use Rattle.std.proofs.lemmas.Bool.Decides.{nat_tests}
 use Rattle.spin_outside.specs.Counts.{Rose}
 use Rattle.spin_outside.specs.Files.{File, IsLacking}
 use Rattle.spin_outside.specs.Seen.{ShelfSeen, SinkSeen}
-use Rattle.spin_endpoint.specs.Named.{NamedEnd}
 use Rattle.spin_script.specs.States.{NativeData, ScriptData}
 use Rattle.spin_vm.specs.declared.cause.TraceCause.TheVariants as why
 use Rattle.spin_vm.specs.declared.end.VmEnd.{VmEnd}
@@ -18,7 +17,7 @@ use Rattle.spin_top.specs.declared.end.End.TheVariants.{Refused, Unread, Absent,
 use Rattle.spin_top.specs.declared.end.Input.TheVariants as input
 use Rattle.spin_top.specs.Ends.{Tells, stop_line}
 use Rattle.spin_top.specs.Loading.{IsContent, IsLoaded, IsOver, NoScriptBy}
-use Rattle.spin_top.specs.Outside.{OnlyStops, Outside, outside}
+use Rattle.spin_top.specs.Outside.{OnlyStops, Outside}
 use Rattle.spin_top.specs.Shelves.{ShelfStood}
 use Rattle.spin_top.specs.Vm.{IsBadTrace, NoTraceBy, RanTrace, VmHasCause, vm_end}
 use Rattle.spin_top.proofs.RunCauses.{tells_nothing}

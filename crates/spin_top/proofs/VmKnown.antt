@@ -1,5 +1,5 @@
 -- Which status a trace always comes to, from the causes of all its ends.
-use Rattle.std.proofs.Common.{◌≡◌, ◌⊎◌, ℕ, Bool, true, false, Option, Some, None, List, ◌&&◌, [], ◌∷◌, map, refl, sym, ap, subst, ◌∙◌, inl, inr}
+use Rattle.std.proofs.Common.{◌≡◌, ℕ, Bool, true, false, Option, Some, None, List, ◌&&◌, [], ◌∷◌, map, refl, sym, ap, subst, ◌∙◌, inl, inr}
 use Rattle.std.specs.Prelude.{Result, Ok, Err}
 use Rattle.spin_outside.specs.Files.{File, content}
 use Rattle.spin_outside.specs.Seen.{ShelfSeen}
@@ -13,13 +13,13 @@ use Rattle.spin_vm.specs.declared.end.VmEnd.{VmEnd}
 use Rattle.spin_vm.specs.declared.end.VmEnd.TheVariants as vm
 use Rattle.spin_vm.specs.declared.line.TraceLine.{TraceLine}
 use Rattle.spin_vm.specs.Scripts.{asks_commands, has_fault_events, is_single, is_suited}
-use Rattle.spin_vm.specs.Traces.{Outcome, outcome}
+use Rattle.spin_vm.specs.Traces.{outcome}
 use Rattle.spin_top.specs.declared.end.End.{End}
 use Rattle.spin_top.specs.declared.end.End.TheVariants.{Whole, Refused, Unread, WriteFault, Absent, NoMemory, Trace, Unsuited}
 use Rattle.spin_top.specs.declared.end.Input.TheVariants as input
 use Rattle.spin_top.specs.Ends.{number}
-use Rattle.spin_top.specs.Loading.{HoldsText, IsContent, IsLoaded, IsScriptText, KnowsNoScript, KnowsRefused}
-use Rattle.spin_top.specs.Outside.{NoReadFailed, NoneRose, Outside}
+use Rattle.spin_top.specs.Loading.{HoldsText, IsContent, IsScriptText, KnowsNoScript, KnowsRefused}
+use Rattle.spin_top.specs.Outside.{Outside}
 use Rattle.spin_top.specs.Vm.{IsBadTrace, IsSuitedText, IsTraceComplete, KnowsNoTrace, KnowsTrace, KnowsUnsuited, LoadsSuited, RanTrace, VmHasCause, VmKnows}
 use Rattle.spin_top.proofs.OneReading.{content_at, lacking_at, loaded_nothing, loaded_text, refused_nothing, script_good, script_there}
 
