@@ -90,22 +90,39 @@ fn file_end<R: Files + Clone + AllocGlobal>(rt: &R, file: &[u8]) -> Result<FileE
     Ok(FileEnd::new(rt.clone()?, Text::from_bytes(rt.alloc(), file)?))
 }
 
-/// Hands in the endpoint under that name.
-fn add<R: AllocGlobal>(
+/// A boxed endpoint over the file of that name.
+fn boxed_file_end<R: Files + Clone + Drop + AllocGlobal>(
     rt: &R,
+    file: &[u8],
+) -> Result<Box<FileEnd<R>>, NoMemory> {
+    Ok(Box::new(rt.alloc(), file_end(rt, file)?)?)
+}
+
+/// A boxed endpoint that writes replies to the file of that name.
+fn boxed_echo_end<R: Files + Clone + Drop + AllocGlobal>(
+    rt: &R,
+    file: &[u8],
+) -> Result<Box<EchoEnd<FileEnd<R>>>, NoMemory> {
+    let echo = EchoEnd::new(rt.alloc(), file_end(rt, file)?)?;
+    Ok(Box::new(rt.alloc(), echo)?)
+}
+
+/// Hands in the endpoint under that name.
+fn add(
+    alloc: Global,
     ends: &mut Ends,
     name: &[u8],
     end: Box<dyn Endpoint>,
 ) -> Result<(), NoMemory> {
     // The names differ and are few, so only memory may be lacking.
-    match ends.add(Text::from_bytes(rt.alloc(), name)?, end) {
+    match ends.add(Text::from_bytes(alloc, name)?, end) {
         Ok(()) => Ok(()),
         Err(_) => Err(NoMemory),
     }
 }
 
-/// The endpoints of the program.
-fn ends_of<R: Files + Clone + Drop + AllocGlobal>(rt: &R) -> Result<Ends, NoMemory> {
+fn main(rt: HostRuntime) -> ExitCode {
+    let mut out = StdSink::new(io::writer(&rt));
     let mut ends = Ends::new(rt.alloc());
     for (name, file) in [
         (b"out0", b"out0.bin"),
@@ -113,19 +130,19 @@ fn ends_of<R: Files + Clone + Drop + AllocGlobal>(rt: &R) -> Result<Ends, NoMemo
         (b"out2", b"out2.bin"),
         (b"out3", b"out3.bin"),
     ] {
-        let end = Box::new(rt.alloc(), file_end(rt, file)?)?;
-        add(rt, &mut ends, name, end)?;
+        let Ok(end) = boxed_file_end(&rt, file) else {
+            return ExitCode::from(stop(&mut out, End::NoMemory));
+        };
+        if let Err(NoMemory) = add(rt.alloc(), &mut ends, name, end) {
+            return ExitCode::from(stop(&mut out, End::NoMemory));
+        }
     }
-    let echo = EchoEnd::new(rt.alloc(), file_end(rt, b"echo.bin")?)?;
-    add(rt, &mut ends, b"echo", Box::new(rt.alloc(), echo)?)?;
-    Ok(ends)
-}
-
-fn main(rt: HostRuntime) -> ExitCode {
-    let mut out = StdSink::new(io::writer(&rt));
-    let Ok(mut ends) = ends_of(&rt) else {
+    let Ok(end) = boxed_echo_end(&rt, b"echo.bin") else {
         return ExitCode::from(stop(&mut out, End::NoMemory));
     };
+    if let Err(NoMemory) = add(rt.alloc(), &mut ends, b"echo", end) {
+        return ExitCode::from(stop(&mut out, End::NoMemory));
+    }
     match run(&rt, &mut out, &mut ends) {
         Ok(status) => ExitCode::from(status),
         Err(NoMemory) => ExitCode::from(stop(&mut out, End::NoMemory)),
