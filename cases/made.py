@@ -202,7 +202,7 @@ def headers():
 
 # ---- the smallest example of each status, cause, fault and refusal, which docs/FORMATS.md shows
 
-USAGE = "usage: spin run SCRIPT [PACKETS] | spin join SCRIPT PACKETS\n"
+USAGE = "usage: spin run SCRIPT [PACKETS] | spin join SCRIPT PACKETS | spin vm SCRIPT TRACE\n"
 TWO_EVENTS = ["event 0 0 b last", "event 1 0 bwww last", "handler 1 b layer ipv4 1", INSTALL.strip()]
 TWO_LAYERS = ["event 0 0 bwww last", "event 1 0 bwwww last", "handler 1 bwww layer udp 1", INSTALL.strip()]
 
@@ -366,6 +366,14 @@ def captures():
     yield "fragments_turned.pcap", capture_header() + b"".join(records(reversed(FRAGMENTS)))
     yield "fragment_twice.pcap", capture_header() + b"".join(records(FRAGMENTS[:1] * 2))
     yield "next.pcapng", bytes.fromhex("0a0d0d0a1c0000004d3c2b1a01000000ffffffffffffffff1c000000")
+
+
+def traces():
+    """The traces that are too long to lie beside their cases, each with its name."""
+    regions = "".join(f"region 0 {2 * at} 1 r\n" for at in range(257))
+    yield "regions.trace", f"vm 1\nspace 0\n{regions}".encode()
+    yield "large.trace", b"vm 1\n" + b"#" * 1_048_572
+    yield "largest.trace", b"vm 1\n" + b"#" * 1_048_571
 
 
 if __name__ == "__main__":

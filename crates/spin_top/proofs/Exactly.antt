@@ -1,19 +1,21 @@
 -- Which status comes, from the causes of all commands.
-use Rattle.std.proofs.Common.{◌≡◌, ◌⊎◌, ℕ, zero, suc, List, sym, subst, ◌∙◌, inl, inr}
+use Rattle.std.proofs.Common.{◌≡◌, ℕ, zero, suc, List, sym, subst, ◌∙◌, inl, inr}
 use Rattle.spin_script.specs.States.{NativeData}
 use Rattle.spin_top.specs.declared.end.End.{End}
-use Rattle.spin_top.specs.declared.end.End.TheVariants.{Whole, Usage, Refused, Capture, Unread, WriteFault, Absent, NoMemory, Endpoint}
+use Rattle.spin_top.specs.declared.end.End.TheVariants.{Whole, Usage, Refused, Capture, Unread, WriteFault, Absent, NoMemory, Endpoint, Trace, Unsuited}
 use Rattle.spin_top.specs.declared.end.Input.{Input}
 use Rattle.spin_top.specs.declared.words.Asked.{Asked}
-use Rattle.spin_top.specs.declared.words.Asked.TheVariants.{Run, Join}
+use Rattle.spin_top.specs.declared.words.Asked.TheVariants.{Run, Join, Vm}
 use Rattle.spin_top.specs.Words.{IsAsked}
 use Rattle.spin_top.specs.Ends.{number}
 use Rattle.spin_top.specs.Outside.{OnlyStops, Outside}
 use Rattle.spin_top.specs.Shelves.{ShelfStood}
 use Rattle.spin_top.specs.Statuses.{AsksNothing, ByCommand, Call, CommandHasCause, CommandKnows, HasCause, IsCommandStatus, IsStatus, KeepsTable, KnowsCommand, KnowsUsage, Row}
+use Rattle.spin_top.specs.Vm.{IsVmStatus}
 use Rattle.spin_top.proofs.Forms.{one_spelling}
 use Rattle.spin_top.proofs.JoinKnown.{join_known}
 use Rattle.spin_top.proofs.RunKnown.{run_known}
+use Rattle.spin_top.proofs.VmKnown.{vm_known}
 
 -- ---- each command
 
@@ -21,16 +23,19 @@ use Rattle.spin_top.proofs.RunKnown.{run_known}
 only_memory : (natives : NativeData) (before after : Outside) (asked : Asked) → ShelfStood before.shelf after.shelf → OnlyStops before after NoMemory → CommandHasCause natives before after asked NoMemory
 only_memory natives before after (Run name packets) stood only = (stood, inl only)
 only_memory natives before after (Join name packets) stood only = (stood, inl only)
+only_memory natives before after (Vm name trace) stood only = (stood, inl only)
 
 -- words that ask for a command aren't usage
 not_usage : (natives : NativeData) (before after : Outside) (asked : Asked) → CommandHasCause natives before after asked Usage → ⊥
 not_usage natives before after (Run name packets) cause = cause
 not_usage natives before after (Join name packets) cause = cause
+not_usage natives before after (Vm name trace) cause = cause
 
 -- which status a command always comes to
 command_known : (natives : NativeData) (before after : Outside) (asked : Asked) (status : ℕ) → IsCommandStatus natives before after asked status → CommandKnows natives before after asked status
 command_known natives before after (Run name packets) status is = run_known natives before after name packets status is.0 is.1 is.2
 command_known natives before after (Join name packets) status is = join_known natives before after name packets status is.0 is.1 is.2
+command_known natives before after (Vm name trace) status is = vm_known natives before after name trace status is.0 is.1 is.2
 
 -- ---- one end for a status
 
@@ -45,6 +50,8 @@ ByStatus call (suc (suc (suc (suc (suc zero))))) = HasCause call WriteFault
 ByStatus call (suc (suc (suc (suc (suc (suc zero)))))) = (input : Input) × HasCause call (Absent input)
 ByStatus call (suc (suc (suc (suc (suc (suc (suc zero))))))) = HasCause call NoMemory
 ByStatus call (suc (suc (suc (suc (suc (suc (suc (suc zero)))))))) = (at : ℕ) × HasCause call (Endpoint at)
+ByStatus call (suc (suc (suc (suc (suc (suc (suc (suc (suc (suc (suc zero))))))))))) = (line : ℕ) × (cause : ℕ) × HasCause call (Trace line cause)
+ByStatus call (suc (suc (suc (suc (suc (suc (suc (suc (suc (suc (suc (suc zero)))))))))))) = HasCause call Unsuited
 ByStatus call other = ⊥
 
 by_end : (call : Call) (end : End) → HasCause call end → ByStatus call (number end)
@@ -57,6 +64,8 @@ by_end call WriteFault cause = cause
 by_end call (Absent input) cause = (input, cause)
 by_end call NoMemory cause = cause
 by_end call (Endpoint number) cause = (number, cause)
+by_end call (Trace line number) cause = (line, number, cause)
+by_end call Unsuited cause = cause
 
 by_status : (call : Call) (status : ℕ) → IsStatus call → call.status ≡ status → ByStatus call status
 by_status call status is same = subst (λ n. ByStatus call n) (sym is.1 ∙ same) (by_end call is.0 is.2)
@@ -101,6 +110,8 @@ table_known call is = record {
   absent = λ same. by_status call 6 is same;
   memory = λ same. by_status call 7 is same;
   endpoint = λ same. by_status call 8 is same;
+  trace = λ same. by_status call 11 is same;
+  unsuited = λ same. by_status call 12 is same;
   commands = commands_known call is;
 }
 
@@ -120,6 +131,10 @@ usage_status call none stood only is = (Usage, is, (none, stood, only))
 
 pub memory_status : (call : Call) → ShelfStood call.before.shelf call.after.shelf → OnlyStops call.before call.after NoMemory → call.status ≡ 7 → IsStatus call
 memory_status call stood only is = (NoMemory, is, inl (stood, only))
+
+-- a trace is what was asked for
+pub vm_status : (natives : NativeData) (before after : Outside) (name trace : List ℕ) (asked : Asked) (status : ℕ) → asked ≡ Vm name trace → IsVmStatus natives before after name trace status → IsCommandStatus natives before after asked status
+vm_status natives before after name trace asked status is by = subst (λ a. IsCommandStatus natives before after a status) (sym is) by
 
 -- the same of natives that are these
 pub with_natives : (natives : NativeData) (call : Call) → call.natives ≡ natives → IsStatus call → IsStatus (record call { natives = natives })

@@ -9,3 +9,5 @@ pub mod Parsing
 pub mod RunCauses
 pub mod RunKnown
 pub mod Shelf
+pub mod VmCauses
+pub mod VmKnown

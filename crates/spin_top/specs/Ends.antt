@@ -5,9 +5,9 @@ use Rattle.spin_outside.specs.Counts.{Rose}
 use Rattle.spin_outside.specs.Seen.{SinkSeen}
 use Rattle.spin_text.specs.Words.{ended}
 use Rattle.spin_top.specs.declared.end.End.{End}
-use Rattle.spin_top.specs.declared.end.End.TheVariants.{Whole, Usage, Refused, Capture, Unread, WriteFault, Absent, NoMemory, Endpoint}
+use Rattle.spin_top.specs.declared.end.End.TheVariants.{Whole, Usage, Refused, Capture, Unread, WriteFault, Absent, NoMemory, Endpoint, Trace, Unsuited}
 use Rattle.spin_top.specs.declared.end.Input.{Input}
-use Rattle.spin_top.specs.declared.end.Input.TheVariants.{Script, Packets}
+use Rattle.spin_top.specs.declared.end.Input.TheVariants as input
 
 -- the exit status of an end
 abbrev pub number : End → ℕ
@@ -15,22 +15,26 @@ number Whole = 0
 number Usage = 1
 number (Refused line cause) = 2
 number (Capture at fault) = 3
-number (Unread input) = 4
+number (Unread file) = 4
 number WriteFault = 5
-number (Absent input) = 6
+number (Absent file) = 6
 number NoMemory = 7
 number (Endpoint at) = 8
+number (Trace line cause) = 11
+number Unsuited = 12
 
 -- the words of every command
 abbrev pub usage : List ℕ
 usage =
     codes "usage: spin run SCRIPT [PACKETS]"
     ++ codes " | spin join SCRIPT PACKETS"
+    ++ codes " | spin vm SCRIPT TRACE"
 
 -- the word for a file in a stop line
 abbrev pub input_word : Input → List ℕ
-input_word Script = codes "script"
-input_word Packets = codes "packets"
+input_word input.Script = codes "script"
+input_word input.Packets = codes "packets"
+input_word input.Trace = codes "trace"
 
 -- the line that is written at an end
 abbrev pub stop_line : End → List ℕ
@@ -40,11 +44,14 @@ stop_line (Refused line cause) =
     ended (codes "stop 2 line " ++ decimal line ++ codes " cause " ++ decimal cause)
 stop_line (Capture at fault) =
     ended (codes "stop 3 record " ++ decimal at ++ codes " fault " ++ decimal fault)
-stop_line (Unread input) = ended (codes "stop 4 read " ++ input_word input)
+stop_line (Unread file) = ended (codes "stop 4 read " ++ input_word file)
 stop_line WriteFault = []
-stop_line (Absent input) = ended (codes "stop 6 " ++ input_word input)
+stop_line (Absent file) = ended (codes "stop 6 " ++ input_word file)
 stop_line NoMemory = ended (codes "stop 7 memory")
 stop_line (Endpoint at) = ended (codes "stop 8 endpoint " ++ decimal at)
+stop_line (Trace line cause) =
+    ended (codes "stop 11 line " ++ decimal line ++ codes " cause " ++ decimal cause)
+stop_line Unsuited = ended (codes "stop 12 script")
 
 -- The bytes were appended, or the sink failed, and a front of them was.
 abbrev pub Tells : SinkSeen → SinkSeen → List ℕ → Type 0

@@ -8,4 +8,5 @@ pub mod Outside
 pub mod Run
 pub mod Shelves
 pub mod Statuses
+pub mod Vm
 pub mod Words

@@ -2,15 +2,16 @@
 use Rattle.std.specs.Prelude.{◌≡◌, ◌⊎◌, ℕ, List}
 use Rattle.spin_script.specs.States.{NativeData}
 use Rattle.spin_top.specs.declared.end.End.{End}
-use Rattle.spin_top.specs.declared.end.End.TheVariants.{Usage, Refused, Capture, Unread, WriteFault, Absent, NoMemory, Endpoint}
+use Rattle.spin_top.specs.declared.end.End.TheVariants.{Usage, Refused, Capture, Unread, WriteFault, Absent, NoMemory, Endpoint, Trace, Unsuited}
 use Rattle.spin_top.specs.declared.end.Input.{Input}
 use Rattle.spin_top.specs.declared.words.Asked.{Asked}
-use Rattle.spin_top.specs.declared.words.Asked.TheVariants.{Run, Join}
+use Rattle.spin_top.specs.declared.words.Asked.TheVariants.{Run, Join, Vm}
 use Rattle.spin_top.specs.Ends.{number}
 use Rattle.spin_top.specs.Outside.{Outside, OnlyStops}
 use Rattle.spin_top.specs.Join.{JoinHasCause, JoinKnows}
 use Rattle.spin_top.specs.Run.{RunHasCause, RunKnows}
 use Rattle.spin_top.specs.Shelves.{ShelfStood}
+use Rattle.spin_top.specs.Vm.{VmHasCause, VmKnows}
 use Rattle.spin_top.specs.Words.{IsAsked}
 
 -- a call: the natives and the words that are handed in, what is seen before and after it, and the status
@@ -29,6 +30,8 @@ CommandHasCause natives before after (Run name packets) end =
     RunHasCause natives before after name packets end
 CommandHasCause natives before after (Join name packets) end =
     JoinHasCause natives before after name packets end
+CommandHasCause natives before after (Vm name trace) end =
+    VmHasCause natives before after name trace end
 
 -- Which status a command always comes to.
 abbrev pub CommandKnows : NativeData → Outside → Outside → Asked → ℕ → Type 0
@@ -36,6 +39,8 @@ CommandKnows natives before after (Run name packets) status =
     RunKnows natives before after name packets status
 CommandKnows natives before after (Join name packets) status =
     JoinKnows natives before after name packets status
+CommandKnows natives before after (Vm name trace) status =
+    VmKnows natives before after name trace status
 
 -- ---- causes
 
@@ -96,4 +101,6 @@ pub record KeepsTable (call : Call) : Type 0 where
   pub absent : call.status ≡ 6 → (input : Input) × HasCause call (Absent input)
   pub memory : Row call NoMemory
   pub endpoint : call.status ≡ 8 → (at : ℕ) × HasCause call (Endpoint at)
+  pub trace : call.status ≡ 11 → (line : ℕ) × (cause : ℕ) × HasCause call (Trace line cause)
+  pub unsuited : Row call Unsuited
   pub commands : KnowsCommand call

@@ -16,6 +16,8 @@ pub enum Input {
     Script,
     /// The capture.
     Packets,
+    /// The trace.
+    Trace,
 }
 
 /// How the top call ends. Each end has a status, a line that is written at it, and a cause.
@@ -49,6 +51,15 @@ pub enum End {
     NoMemory,
     /// The endpoint of that number failed.
     Endpoint(u8),
+    /// The trace is refused.
+    Trace {
+        /// The first bad line, counted from 1; 0 where it is the trace as a whole.
+        line: u32,
+        /// The number of the cause.
+        cause: u8,
+    },
+    /// The script isn't one for traces.
+    Unsuited,
 }
 
 /// A stop line. It takes no memory.
@@ -68,6 +79,8 @@ pub fn status_of(end: End) -> u8
         End::Absent(_) => 6,
         End::NoMemory => 7,
         End::Endpoint(_) => 8,
+        End::Trace { .. } => 11,
+        End::Unsuited => 12,
     }
 }
 
@@ -97,6 +110,7 @@ fn usage_line() -> StopLine
     let mut line = StopLine::new();
     put(&mut line, b"usage: spin run SCRIPT [PACKETS]");
     put(&mut line, b" | spin join SCRIPT PACKETS");
+    put(&mut line, b" | spin vm SCRIPT TRACE");
     put(&mut line, b"\n");
     line
 }
@@ -109,6 +123,7 @@ fn word_of(input: Input) -> &'static [u8]
     match input {
         Input::Script => b"script",
         Input::Packets => b"packets",
+        Input::Trace => b"trace",
     }
 }
 
@@ -176,6 +191,27 @@ fn endpoint_line(number: u8) -> StopLine
     line
 }
 
+fn trace_line(number: u32, cause: u8) -> StopLine
+    ensures { result.items
+        ≡ ended (codes "stop 11 line " ++ decimal number ++ codes " cause " ++ decimal cause) }
+{
+    let mut line = StopLine::new();
+    put(&mut line, b"stop 11 line ");
+    put_number(&mut line, u64::from(number));
+    put(&mut line, b" cause ");
+    put_number(&mut line, u64::from(cause));
+    put(&mut line, b"\n");
+    line
+}
+
+fn unsuited_line() -> StopLine
+    ensures { result.items ≡ ended (codes "stop 12 script") }
+{
+    let mut line = StopLine::new();
+    put(&mut line, b"stop 12 script\n");
+    line
+}
+
 /// The line of an end, with its line feed; some have none.
 fn line_of(end: End) -> StopLine
     ensures { result.items ≡ stop_line end }
@@ -190,6 +226,8 @@ fn line_of(end: End) -> StopLine
         End::Absent(input) => absence_line(input),
         End::NoMemory => memory_line(),
         End::Endpoint(number) => endpoint_line(number),
+        End::Trace { line, cause } => trace_line(line, cause),
+        End::Unsuited => unsuited_line(),
     }
 }
 

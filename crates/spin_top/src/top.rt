@@ -7,6 +7,7 @@ ghost use Rattle.spin_top.specs.Statuses.{Call, IsCommandStatus, IsStatus, Row, 
 
 use crate::commands::join::join_command;
 use crate::commands::run::run_command;
+use crate::commands::vm::vm_command;
 use crate::end::{End, stop};
 use crate::words::{Asked, read_words};
 use spin_code::Sincere;
@@ -41,6 +42,7 @@ fn do_command<R: Threads + Sync, F: Shelf, K: Sink, G: Gate>(
         Asked::Join { script, packets } => {
             join_command(rt, alloc, script, packets, shelf, out, natives, ends, gate)
         }
+        Asked::Vm { script, trace } => vm_command(alloc, script, trace, shelf, out, natives),
     }
 }
 
@@ -74,24 +76,28 @@ fn choose<R: Threads + Sync, F: Shelf, K: Sink, G: Gate>(
 
 /// The top call: does what the words ask for over the shelf, the sink and the endpoints, and answers the exit status.
 ///
-/// The words are those of one command, `run SCRIPT`, `run SCRIPT PACKETS` or `join SCRIPT PACKETS`; each is UTF-8,
-/// isn't empty, and doesn't begin with `-`. The script is found, read and checked, and may name the natives that are
+/// The words are those of one command, `run SCRIPT`, `run SCRIPT PACKETS`, `join SCRIPT PACKETS` or `vm SCRIPT TRACE`;
+/// each is UTF-8, isn't empty, and doesn't begin with `-`. The script is found, read and checked, and may name the natives that are
 /// handed in. Then the capture, if one is named, is found and its header read; under `join` it is read whole, and its
 /// joined capture takes its place, in memory. Then the script is run over it by
 /// [`run_script`](spin_run::run_script), its lanes on threads, which writes the report and delivers what is sent to
-/// the endpoints. A stop ends the call at once, so the status is that of the first that is met.
+/// the endpoints. Under `vm`, when the script is checked, it is looked at whether it is suited to traces; then the trace
+/// is found and read, and [`run_trace`](spin_vm::run_trace) writes its output. The endpoints are then as they were. A
+/// stop ends the call at once, so the status is that of the first that is met.
 ///
 /// | status | comes | line |
 /// |---|---|---|
-/// | 0 | the whole report was written, script and capture read to their ends | none |
+/// | 0 | the whole report, or output of a trace, was written, and what was named was read to its end | none |
 /// | 1 | exactly where the words have none of the forms | `usage: ..`, the words of every command |
 /// | 2 | exactly where the script is read and is refused at line N for cause C | `stop 2 line N cause C` |
 /// | 3 | exactly where record N of the capture is refused by fault F; record 0 is its header | `stop 3 record N fault F` |
-/// | 4 | only where the shelf's count of faults rose | `stop 4 read script`, `stop 4 read packets` |
+/// | 4 | only where the shelf's count of faults rose | `stop 4 read script`, `stop 4 read packets`, `stop 4 read trace` |
 /// | 5 | only where the sink's count of faults rose | none |
-/// | 6 | only where the shelf's count of absences rose | `stop 6 script`, `stop 6 packets` |
+/// | 6 | only where the shelf's count of absences rose | `stop 6 script`, `stop 6 packets`, `stop 6 trace` |
 /// | 7 | want of memory | `stop 7 memory` |
 /// | 8 | only where the count of endpoint P rose | `stop 8 endpoint P` |
+/// | 11 | under `vm`, exactly where the script is suited and the trace is read and is refused at line N for cause C | `stop 11 line N cause C` |
+/// | 12 | under `vm`, exactly where the script is read and isn't suited | `stop 12 script` |
 ///
 /// A stop line follows what was written before. A stop line that can't be written leaves the status. A stop before the
 /// report began leaves the endpoints as they were. Under `run` the capture is read as the segments need it: after a
@@ -110,7 +116,7 @@ pub fn spin<R: Threads + Sync, F: Shelf, K: Sink, G: Gate>(
     // Each native does what it was handed in with.
     requires sincere { ⟦<Natives as Sincere>⟧.sincere natives }
     // 0: the report of a legal history that answers what the script asks, each once and in order, was written, and
-    // each endpoint has received its sends of that history.
+    // each endpoint has received its sends of that history; under `vm` the output of the whole trace was written.
     ensures whole { let call : Call = record {
       natives = natives_seen natives;
       words = words.now;

@@ -28,6 +28,13 @@ pub enum Asked {
         /// The name of the capture.
         packets: Text,
     },
+    /// `vm SCRIPT TRACE`.
+    Vm {
+        /// The name of the script.
+        script: Text,
+        /// The name of the trace.
+        trace: Text,
+    },
 }
 
 /// The word as text, where it is UTF-8, isn't empty and doesn't begin with `-`.
@@ -143,6 +150,29 @@ fn join_form(alloc: Global, names: &[&str]) -> Result<Option<Asked>, NoMemory>
     }
 }
 
+fn is_vm(word: &str) -> bool
+    ensures yes { IsTrue result → word.now ≡ codes "vm" }
+    ensures no { word.now ≡ codes "vm" → IsTrue result }
+{
+    word == "vm"
+}
+
+/// The words after `vm`.
+fn vm_form(alloc: Global, names: &[&str]) -> Result<Option<Asked>, NoMemory>
+    ensures found { IfOk result (λ form. IfSome form
+        (λ asked. codes "vm" ∷ map (λ text. text.now) names.now ≡ spelling asked)) }
+    ensures none { IfOk result (λ form. IfNone form
+        ((asked : Asked) → codes "vm" ∷ map (λ text. text.now) names.now ≡ spelling asked → ⊥)) }
+{
+    match names.len() {
+        2 => Ok(Some(Asked::Vm {
+            script: Text::from_bytes(alloc, names[0].as_bytes())?,
+            trace: Text::from_bytes(alloc, names[1].as_bytes())?,
+        })),
+        _ => Ok(None),
+    }
+}
+
 /// The form that the words have.
 fn form_of(alloc: Global, words: &[&str]) -> Result<Option<Asked>, NoMemory>
     ensures found { IfOk result (λ form. IfSome form
@@ -158,6 +188,9 @@ fn form_of(alloc: Global, words: &[&str]) -> Result<Option<Asked>, NoMemory>
     }
     if is_join(words[0]) {
         return join_form(alloc, &words[1..]);
+    }
+    if is_vm(words[0]) {
+        return vm_form(alloc, &words[1..]);
     }
     Ok(None)
 }

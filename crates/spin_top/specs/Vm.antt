@@ -1,0 +1,163 @@
+-- The command `vm`: why it ends so, and what its status tells.
+use Rattle.std.specs.Prelude.{◌≡◌, ◌⊎◌, ℕ, Bool, true, false, Option, Some, None, List, Ok, Err}
+use Rattle.spin_outside.specs.Counts.{Rose}
+use Rattle.spin_outside.specs.Files.{File, content, IsLacking}
+use Rattle.spin_outside.specs.Seen.{ShelfSeen, SinkSeen}
+use Rattle.spin_script.specs.Language.{IsScript}
+use Rattle.spin_script.specs.States.{NativeData, ScriptData}
+use Rattle.spin_vm.specs.declared.cause.TraceCause.{TraceCause}
+use Rattle.spin_vm.specs.declared.end.VmEnd.{VmEnd}
+use Rattle.spin_vm.specs.declared.end.VmEnd.TheVariants as vm
+use Rattle.spin_vm.specs.declared.line.TraceLine.{TraceLine}
+use Rattle.spin_vm.specs.Ends.{EndsBy, CountsBy}
+use Rattle.spin_vm.specs.Scripts.{is_suited}
+use Rattle.spin_vm.specs.Traces.{outcome, cause_number}
+use Rattle.spin_top.specs.declared.end.End.{End}
+use Rattle.spin_top.specs.declared.end.End.TheVariants.{Whole, Refused, Unread, WriteFault, Absent, NoMemory, Trace, Unsuited}
+use Rattle.spin_top.specs.declared.end.Input.TheVariants as input
+use Rattle.spin_top.specs.Ends.{number, stop_line, Tells}
+use Rattle.spin_top.specs.Loading.{IsContent, IsLoaded, IsRefused, HoldsText, KnowsRefused, KnowsNoScript}
+use Rattle.spin_top.specs.Outside.{Outside, OnlyStops, NoReadFailed, NoneRose}
+use Rattle.spin_top.specs.Shelves.{ShelfStood, ShelfFailed, ShelfLacked}
+
+-- ---- the trace
+
+-- The text under the name is no trace: its first bad line, 0 where it is too large, and the cause there.
+abbrev pub IsBadTrace : Option (List File) → List ℕ → ℕ → ℕ → Type 0
+IsBadTrace files name line cause =
+    (text : List ℕ) × IsContent files name text
+    × (why : TraceCause) × (outcome text ≡ Err (line, why)) × (cause ≡ cause_number why)
+
+-- Why the text of a trace wasn't read.
+abbrev pub NoTraceBy : ShelfSeen → ShelfSeen → List ℕ → End → Type 0
+NoTraceBy before after name (Trace line cause) =
+    ShelfStood before after × IsBadTrace before.files name line cause
+NoTraceBy before after name (Unread input.Trace) = ShelfFailed before after
+NoTraceBy before after name (Absent input.Trace) =
+    ShelfLacked before after × IsLacking before.files name
+NoTraceBy before after name NoMemory = ShelfStood before after
+NoTraceBy before after name other = ⊥
+
+-- ---- why
+
+-- A script was read under the name, and it is suited; or it isn't.
+abbrev pub LoadsSuited : NativeData → Option (List File) → List ℕ → Bool → Type 0
+LoadsSuited natives files name suited =
+    (script : ScriptData) × IsLoaded natives files name script × (is_suited script ≡ suited)
+
+-- the end of a call whose trace ended so
+abbrev pub vm_end : VmEnd → End
+vm_end vm.Whole = Whole
+vm_end (vm.Trace line cause) = Trace line cause
+vm_end vm.WriteFault = WriteFault
+vm_end vm.NoMemory = NoMemory
+
+-- The script was read and is suited, and the text of the trace was read; the trace over the script ended so; and then
+-- the line of that end was written. The endpoints are as before.
+pub record RanTrace (natives : NativeData) (before after : Outside) (name trace : List ℕ)
+    (ended : VmEnd) : Type 0 where
+  pub script : ScriptData
+  pub loaded : IsLoaded natives before.shelf.files name script
+  pub suited : is_suited script ≡ true
+  pub text : List ℕ
+  pub read : IsContent before.shelf.files trace text
+  -- the sink when the trace ended
+  pub sink : SinkSeen
+  pub ended_so : EndsBy script text before.sink sink ended
+  pub counts : CountsBy before.sink sink ended
+  pub line : Tells sink after.sink (stop_line (vm_end ended))
+  pub ends : after.ends ≡ before.ends
+
+-- Why a call of this script and trace ended so, and what was written. The script comes first, then whether it is
+-- suited, then the trace.
+abbrev pub VmHasCause : NativeData → Outside → Outside → List ℕ → List ℕ → End → Type 0
+VmHasCause natives before after name trace Whole =
+    ShelfStood before.shelf after.shelf × (after.sink.faults ≡ before.sink.faults)
+    × RanTrace natives before after name trace vm.Whole
+VmHasCause natives before after name trace (Refused line cause) =
+    ShelfStood before.shelf after.shelf
+    × IsRefused natives before.shelf.files name line cause
+    × OnlyStops before after (Refused line cause)
+VmHasCause natives before after name trace (Unread input.Script) =
+    ShelfFailed before.shelf after.shelf × OnlyStops before after (Unread input.Script)
+VmHasCause natives before after name trace (Unread input.Trace) =
+    ShelfFailed before.shelf after.shelf
+    × LoadsSuited natives before.shelf.files name true
+    × OnlyStops before after (Unread input.Trace)
+VmHasCause natives before after name trace WriteFault =
+    ShelfStood before.shelf after.shelf × Rose before.sink.faults after.sink.faults
+    × RanTrace natives before after name trace vm.WriteFault
+VmHasCause natives before after name trace (Absent input.Script) =
+    ShelfLacked before.shelf after.shelf
+    × IsLacking before.shelf.files name
+    × OnlyStops before after (Absent input.Script)
+VmHasCause natives before after name trace (Absent input.Trace) =
+    ShelfLacked before.shelf after.shelf
+    × LoadsSuited natives before.shelf.files name true
+    × IsLacking before.shelf.files trace
+    × OnlyStops before after (Absent input.Trace)
+VmHasCause natives before after name trace NoMemory =
+    ShelfStood before.shelf after.shelf
+    × (OnlyStops before after NoMemory ⊎ RanTrace natives before after name trace vm.NoMemory)
+VmHasCause natives before after name trace (Trace line cause) =
+    ShelfStood before.shelf after.shelf
+    × LoadsSuited natives before.shelf.files name true
+    × IsBadTrace before.shelf.files trace line cause
+    × OnlyStops before after (Trace line cause)
+VmHasCause natives before after name trace Unsuited =
+    ShelfStood before.shelf after.shelf
+    × LoadsSuited natives before.shelf.files name false
+    × OnlyStops before after Unsuited
+VmHasCause natives before after name trace other = ⊥
+
+-- The status is the number of an end that has its cause.
+abbrev pub IsVmStatus : NativeData → Outside → Outside → List ℕ → List ℕ → ℕ → Type 0
+IsVmStatus natives before after name trace status =
+    (end : End) × (status ≡ number end) × VmHasCause natives before after name trace end
+
+-- ---- what the status tells where the shelf tells its files
+
+-- The text is a script that is suited, or one that isn't.
+abbrev pub IsSuitedText : NativeData → List ℕ → Bool → Type 0
+IsSuitedText natives text suited =
+    (script : ScriptData) × IsScript natives text (Ok script) × (is_suited script ≡ suited)
+
+-- A script that isn't suited is told to be so, unless a read failed or memory ran out.
+abbrev pub KnowsUnsuited : NativeData → Outside → Outside → List ℕ → ℕ → Type 0
+KnowsUnsuited natives before after name status =
+    (held : List File) (text : List ℕ) → HoldsText before.shelf held name text
+    → IsSuitedText natives text false → NoReadFailed before after
+    → (status ≡ 12) ⊎ (status ≡ 7)
+
+-- A trace that isn't there beside a suited script is told to be absent, unless a read failed or memory ran out.
+abbrev pub KnowsNoTrace : NativeData → Outside → Outside → List ℕ → List ℕ → ℕ → Type 0
+KnowsNoTrace natives before after name trace status =
+    (held : List File) (text : List ℕ) → HoldsText before.shelf held name text
+    → IsSuitedText natives text true → content held trace ≡ None → NoReadFailed before after
+    → (status ≡ 6) ⊎ (status ≡ 7)
+
+-- A text that is no trace beside a suited script is refused, unless a read failed or memory ran out.
+abbrev pub KnowsTrace : NativeData → Outside → Outside → List ℕ → List ℕ → ℕ → Type 0
+KnowsTrace natives before after name trace status =
+    (held : List File) (text traced : List ℕ) (line : ℕ) (why : TraceCause)
+    → HoldsText before.shelf held name text → IsSuitedText natives text true
+    → content held trace ≡ Some traced → outcome traced ≡ Err (line, why)
+    → NoReadFailed before after → (status ≡ 11) ⊎ (status ≡ 7)
+
+-- A trace is run whole over a suited script where no count rose, unless memory ran out.
+abbrev pub IsTraceComplete : NativeData → Outside → Outside → List ℕ → List ℕ → ℕ → Type 0
+IsTraceComplete natives before after name trace status =
+    (held : List File) (text traced : List ℕ) (lines : List TraceLine)
+    → HoldsText before.shelf held name text → IsSuitedText natives text true
+    → content held trace ≡ Some traced → outcome traced ≡ Ok lines
+    → NoneRose before after → (status ≡ 0) ⊎ (status ≡ 7)
+
+-- Which status this command always comes to.
+pub record VmKnows (natives : NativeData) (before after : Outside) (name trace : List ℕ)
+    (status : ℕ) : Type 0 where
+  pub refused : KnowsRefused natives before after name status
+  pub script_absent : KnowsNoScript before after name status
+  pub unsuited : KnowsUnsuited natives before after name status
+  pub trace_absent : KnowsNoTrace natives before after name trace status
+  pub bad_trace : KnowsTrace natives before after name trace status
+  pub complete : IsTraceComplete natives before after name trace status
