@@ -4,6 +4,8 @@ use Rattle.std.specs.Prelude.{is_none, slice_get}
 use Rattle.std.specs.Option.{option_map, option_map_or}
 use Rattle.std.specs.Io.KnownBytes.{Appends}
 use Rattle.std.proofs.lemmas.List.{append-nil, take_all}
+use Rattle.std.specs.List.{flat_map}
+use Rattle.spin_outside.specs.Seen.{SinkSeen}
 use Rattle.spin_outside.specs.Sources.{SourceSeen}
 use Rattle.spin_pcap.specs.declared.fault.PcapFault.{PcapFault}
 use Rattle.spin_pcap.specs.declared.next.Next.{Next}
@@ -15,7 +17,7 @@ use Rattle.spin_text.specs.Words.{ended}
 use Rattle.spin_script.specs.declared.script.Segment.{Segment}
 use Rattle.spin_script.specs.States.{ScriptData}
 use Rattle.spin_report.specs.declared.text.CaptureCounts.{CaptureCounts}
-use Rattle.spin_report.specs.Histories.{HistorySeen, end_line, front_lines, front_text, report_text}
+use Rattle.spin_report.specs.Histories.{SegmentSeen, HistorySeen, end_line, front_lines, front_text, report_text}
 use Rattle.spin_report.specs.Runs.{Captured, AreRun, start_with, frames_of, counts_of}
 use Rattle.spin_run.specs.declared.end.RunEnd.{RunEnd}
 use Rattle.spin_run.specs.declared.end.RunEnd.TheVariants as end
@@ -23,7 +25,11 @@ use Rattle.spin_run.specs.Records.{AreRecords, room_of}
 use Rattle.spin_run.specs.Ends.{RunSeen, HasRun, retired_before, IsReadWhole, IsWhole, end_text, Writes, WritesInto, EndsBy}
 use Rattle.spin_run.specs.Inner.Reading.{given_by, IsCutRest}
 use Rattle.spin_run.specs.Inner.Ending.{AreCounts, Finishes}
-use Rattle.spin_run.specs.Inner.Steps.{Moment, standing, Stands}
+use Rattle.spin_run.specs.Inner.Steps.{Moment, standing, Stands, HasToldAll, WalksBy}
+use Rattle.spin_run.specs.Summaries.{Counts, counts_in}
+use Rattle.spin_run.specs.Inner.Tallies.{TalliesOn, Tells}
+use Rattle.spin_run.proofs.Counted.{tallies_same}
+use Rattle.spin_run.proofs.JoinedTexts.{Appends-none}
 use Rattle.spin_run.proofs.Steps.{text_append, writes_more, writes_nothing, writes_into}
 
 -- ---- the counts
@@ -72,7 +78,7 @@ told_is frames left (Some (Ok (next.Cut n))) used told all h =
 told_is frames left (Some (Ok next.Packet)) used told all h = absurd h
 told_is frames left (Some (Err wrong)) used told all h = absurd h
 
-no_frames : (capture : Option ReaderState) (s : SourceSeen) (frames : List (List ℕ)) → AreRecords capture s frames None → frames ≡ []
+pub no_frames : (capture : Option ReaderState) (s : SourceSeen) (frames : List (List ℕ)) → AreRecords capture s frames None → frames ≡ []
 no_frames None s frames r = r.0
 no_frames (Some reader) s frames r = absurd (cc (r.1))
 
@@ -163,3 +169,33 @@ ends_stopped script capture frames rest before now log_length after end.NoMemory
 )
 ends_stopped script capture frames rest before now log_length after end.Whole ends place r s h = absurd h.0
 ends_stopped script capture frames rest before now log_length after (end.Endpoint p) ends place r s h = absurd h.0
+
+-- ---- how the walk ends
+
+pub walks_whole : (script : ScriptData) (capture : Option ReaderState) (frames : List (List ℕ)) (rest : Option (Result Next PcapFault)) (before : RunSeen) (now : Moment) (log_length : ℕ) (after : RunSeen) (tally tally' tally'' : Option Counts) → after.ends ≡ now.outside.ends → log_length ≡ now.state.place → AreRecords capture before.source frames rest → (s : HasToldAll script capture frames rest before (length script.segments) now tally tally') → Finishes log_length now.capture now.outside.sink after.sink (Ok tt) s.stands.left rest → tally'' ≡ tally' → WalksBy script (room_of capture) frames rest before tally after tally'' end.Whole
+unfolding ends_whole
+walks_whole script capture frames rest before now log_length after tally tally' tally'' ends place r s h same =
+    let e = ends_whole script capture frames rest before now log_length after ends place r s.stands h in
+    (e.0, e.1, e.2, tallies_same tally tally' tally'' (counts_in (flat_map (λ (p : SegmentSeen). p.entries) s.stands.parts)) s.counted same)
+
+pub walks_stopped : (script : ScriptData) (capture : Option ReaderState) (frames : List (List ℕ)) (rest : Option (Result Next PcapFault)) (before : RunSeen) (now : Moment) (log_length : ℕ) (after : RunSeen) (tally tally' : Option Counts) (stop : RunEnd) → after.ends ≡ now.outside.ends → log_length ≡ now.state.place → AreRecords capture before.source frames rest → (s : Stands script capture frames rest before (length script.segments) now) → Finishes log_length now.capture now.outside.sink after.sink (Err stop) s.left rest → WalksBy script (room_of capture) frames rest before tally after tally' stop
+walks_stopped script capture frames rest before now log_length after tally tally' end.Whole ends place r s h = absurd h.0
+walks_stopped script capture frames rest before now log_length after tally tally' end.ReadFault ends place r s h =
+    ends_stopped script capture frames rest before now log_length after end.ReadFault ends place r s h
+walks_stopped script capture frames rest before now log_length after tally tally' end.WriteFault ends place r s h =
+    ends_stopped script capture frames rest before now log_length after end.WriteFault ends place r s h
+walks_stopped script capture frames rest before now log_length after tally tally' end.NoMemory ends place r s h =
+    ends_stopped script capture frames rest before now log_length after end.NoMemory ends place r s h
+walks_stopped script capture frames rest before now log_length after tally tally' (end.Endpoint p) ends place r s h = absurd h.0
+walks_stopped script capture frames rest before now log_length after tally tally' (end.Capture n reason) ends place r s h =
+    ends_stopped script capture frames rest before now log_length after (end.Capture n reason) ends place r s h
+
+-- telling the end stopped
+pub finishes_telling : (log_length : ℕ) (before : Option ReaderState) (sink sink' : SinkSeen) (told : Option CaptureCounts) (left : List (List ℕ)) (rest : Option (Result Next PcapFault)) (stop : RunEnd) → AreCounts (given_by before) (length left) rest told → Tells sink sink' (ended (end_line log_length told)) (Err stop) → Finishes log_length before sink sink' (Err stop) left rest
+finishes_telling log_length before sink sink' told left rest end.WriteFault counts t = (told, counts, t.0, t.1, t.2)
+finishes_telling log_length before sink sink' told left rest end.NoMemory counts t =
+    (tt, subst (λ (x : SinkSeen). Appends sink.told x.told []) (sym t) (Appends-none sink.told))
+finishes_telling log_length before sink sink' told left rest end.Whole counts t = absurd t
+finishes_telling log_length before sink sink' told left rest end.ReadFault counts t = absurd t
+finishes_telling log_length before sink sink' told left rest (end.Endpoint p) counts t = absurd t
+finishes_telling log_length before sink sink' told left rest (end.Capture n reason) counts t = absurd t

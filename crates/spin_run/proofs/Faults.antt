@@ -12,6 +12,7 @@ use Rattle.spin_run.specs.declared.end.RunEnd.TheVariants as end
 use Rattle.spin_run.specs.Ends.{RunSeen, faults_of, faults_at, EndRose, CountsBy}
 use Rattle.spin_run.specs.Inner.Reading.{EndByCount}
 use Rattle.spin_run.specs.Inner.Sending.{SendsAll, SendsByCount}
+use Rattle.spin_run.specs.Inner.Tallies.{Tells, TellsByCount}
 
 -- ---- what is received, and what is retired, changes no count
 
@@ -131,6 +132,15 @@ counts_sending names sends end.Whole before after ends source sink same h = absu
 counts_sending names sends end.ReadFault before after ends source sink same h = absurd h
 counts_sending names sends end.WriteFault before after ends source sink same h = absurd h
 counts_sending names sends (end.Capture n reason) before after ends source sink same h = absurd h
+
+-- telling did
+pub counts_telling : (names : List (List ℕ)) (text : List ℕ) (stop : RunEnd) (before after : RunSeen) → after.source.faults ≡ before.source.faults → faults_of after.ends ≡ faults_of before.ends → Tells before.sink after.sink text (Err stop) → TellsByCount before.sink.faults after.sink.faults (Err stop) → CountsBy names before after stop
+counts_telling names text end.WriteFault before after source ends t h = (source, h, ends)
+counts_telling names text end.NoMemory before after source ends t h = (source, h, ends)
+counts_telling names text end.Whole before after source ends t h = absurd t
+counts_telling names text end.ReadFault before after source ends t h = absurd t
+counts_telling names text (end.Endpoint p) before after source ends t h = absurd t
+counts_telling names text (end.Capture n reason) before after source ends t h = absurd t
 
 -- from a moment on, before which no count rose
 pub counts_later : (names : List (List ℕ)) (stop : RunEnd) (a b c : RunSeen) → b.source.faults ≡ a.source.faults → b.sink.faults ≡ a.sink.faults → faults_of b.ends ≡ faults_of a.ends → CountsBy names b c stop → CountsBy names a c stop

@@ -3,6 +3,7 @@ pub mod Joining
 pub mod Moments
 pub mod JobOrder
 pub mod Asking
+pub mod Counted
 pub mod Counting
 pub mod Legal
 pub mod Replying
@@ -16,6 +17,7 @@ pub mod Answering
 pub mod Lining
 pub mod Rounds
 pub mod Starting
+pub mod SummedUp
 pub mod Places
 pub mod Crossing
 pub mod Endings

@@ -35,7 +35,9 @@ use Rattle.spin_run.specs.Ends.{segment_text, Writes}
 use Rattle.spin_run.specs.Inner.Reading.{given_by, GivesFrames}
 use Rattle.spin_run.specs.Inner.Lining.{counts_to}
 use Rattle.spin_run.specs.Inner.Sending.{sends_made, SendsAll}
-use Rattle.spin_run.specs.Inner.Steps.{Moment, standing, Setting, RunsFrom, retired_for, HasRunOne, StopsOne}
+use Rattle.spin_run.specs.Inner.Steps.{Moment, standing, Setting, RunsFrom, retired_for, HasRunOne, StopsOne, HasTold}
+use Rattle.spin_run.specs.Summaries.{Counts, counts_in}
+use Rattle.spin_run.specs.Inner.Tallies.{TalliesOn, Tells}
 use Rattle.spin_run.specs.Inner.Writing.{joined}
 use Rattle.spin_run.proofs.JoinedTexts.{Appends-none}
 
@@ -211,7 +213,7 @@ sent_run s segment before after left frames entries jobs replies lost h k =
     runs_one s segment before after left frames entries (jobs_seen jobs replies) h.read h.woven
     (k.sent.0 ∙ ap (λ (x : List SentSeen). all_received s.endpoints x (retired_for s segment before)) (sends_are entries jobs replies h.replies_are))
 
-pub stops_lining : (s : Setting) (number : ℕ) (segment : Segment) (before after : Moment) (left frames : List (List ℕ)) (rest : Option (Result Next PcapFault)) (entries : List Entry) (jobs : List Job) (replies : List Reply) (lost : List ℕ) → SameSink before after → HasAnswered s segment before left after.state entries jobs replies frames → HasSent s segment before after entries replies lost → StopsOne s number segment before after left rest end.NoMemory
+stops_lining : (s : Setting) (number : ℕ) (segment : Segment) (before after : Moment) (left frames : List (List ℕ)) (rest : Option (Result Next PcapFault)) (entries : List Entry) (jobs : List Job) (replies : List Reply) (lost : List ℕ) → SameSink before after → HasAnswered s segment before left after.state entries jobs replies frames → HasSent s segment before after entries replies lost → StopsOne s number segment before after left rest end.NoMemory
 stops_lining s number segment before after left frames rest entries jobs replies lost same h k =
     (inr (inr (_, _, sent_run s segment before after left frames entries jobs replies lost h k, refl)), nothing before after same)
 
@@ -232,7 +234,7 @@ made_text s number segment before after entries jobs replies lost retired lines 
     text_is number (part_of s segment before entries seen) retired lines m.retired_are
     (m.lines_are ∙ (λ i. retired ++ map ended (segment_line number (m.start_is i) ∷ map entry_line entries ++ map job_line seen ++ lost_lines (counts i))))
 
-pub stops_writing : (s : Setting) (number : ℕ) (segment : Segment) (before after : Moment) (left frames : List (List ℕ)) (rest : Option (Result Next PcapFault)) (entries : List Entry) (jobs : List Job) (replies : List Reply) (lost : List ℕ) (retired lines : List (List ℕ)) (n : ℕ) → HasAnswered s segment before left after.state entries jobs replies frames → HasSent s segment before after entries replies lost → HasLines s number segment before entries jobs replies lost retired lines → n < length (joined lines) → Appends before.outside.sink.told after.outside.sink.told (take n (joined lines)) → StopsOne s number segment before after left rest end.WriteFault
+stops_writing : (s : Setting) (number : ℕ) (segment : Segment) (before after : Moment) (left frames : List (List ℕ)) (rest : Option (Result Next PcapFault)) (entries : List Entry) (jobs : List Job) (replies : List Reply) (lost : List ℕ) (retired lines : List (List ℕ)) (n : ℕ) → HasAnswered s segment before left after.state entries jobs replies frames → HasSent s segment before after entries replies lost → HasLines s number segment before entries jobs replies lost retired lines → n < length (joined lines) → Appends before.outside.sink.told after.outside.sink.told (take n (joined lines)) → StopsOne s number segment before after left rest end.WriteFault
 stops_writing s number segment before after left frames rest entries jobs replies lost retired lines n h k m short now =
     let text = made_text s number segment before after entries jobs replies lost retired lines h.replies_are k m in (
       _,
@@ -242,7 +244,7 @@ stops_writing s number segment before after left frames rest entries jobs replie
       (n, subst (λ (x : List ℕ). n < length x) text short, subst (λ (x : List ℕ). Appends before.outside.sink.told after.outside.sink.told (take n x)) text now),
     )
 
-pub has_run_one : (s : Setting) (number : ℕ) (segment : Segment) (before after : Moment) (left frames : List (List ℕ)) (rest : Option (Result Next PcapFault)) (entries : List Entry) (jobs : List Job) (replies : List Reply) (lost : List ℕ) (retired lines : List (List ℕ)) (wanted : ℕ) → HasAnswered s segment before left after.state entries jobs replies frames → HasSent s segment before after entries replies lost → HasLines s number segment before entries jobs replies lost retired lines → Appends before.outside.sink.told after.outside.sink.told (joined lines) → wanted ≡ wanted_by segment.lines → GivesFrames wanted before.capture after.capture after.outside.source (Ok frames) left rest → HasRunOne s number segment before after left rest
+has_run_one : (s : Setting) (number : ℕ) (segment : Segment) (before after : Moment) (left frames : List (List ℕ)) (rest : Option (Result Next PcapFault)) (entries : List Entry) (jobs : List Job) (replies : List Reply) (lost : List ℕ) (retired lines : List (List ℕ)) (wanted : ℕ) → HasAnswered s segment before left after.state entries jobs replies frames → HasSent s segment before after entries replies lost → HasLines s number segment before entries jobs replies lost retired lines → Appends before.outside.sink.told after.outside.sink.told (joined lines) → wanted ≡ wanted_by segment.lines → GivesFrames wanted before.capture after.capture after.outside.source (Ok frames) left rest → HasRunOne s number segment before after left rest
 has_run_one s number segment before after left frames rest entries jobs replies lost retired lines wanted h k m now sum given = record {
   part = part_of s segment before entries (jobs_seen jobs replies);
   next = drop (wanted_by segment.lines) left;
@@ -252,6 +254,25 @@ has_run_one s number segment before after left frames rest entries jobs replies 
   total = total_is (given_by before.capture) (given_by after.capture) frames left (wanted_by segment.lines) h.read given.2;
   going = λ g. let one = given.3 g in (one.0, given.2 ∙ ap (λ n. given_by before.capture + n) (one.1 ∙ sum));
 }
+
+-- it was told, and its entries counted
+pub has_told : (s : Setting) (number : ℕ) (segment : Segment) (before after : Moment) (left frames : List (List ℕ)) (rest : Option (Result Next PcapFault)) (entries : List Entry) (jobs : List Job) (replies : List Reply) (lost : List ℕ) (retired lines : List (List ℕ)) (wanted : ℕ) → HasAnswered s segment before left after.state entries jobs replies frames → HasSent s segment before after entries replies lost → HasLines s number segment before entries jobs replies lost retired lines → Appends before.outside.sink.told after.outside.sink.told (joined lines) → wanted ≡ wanted_by segment.lines → GivesFrames wanted before.capture after.capture after.outside.source (Ok frames) left rest → (tally tally' : Option Counts) → TalliesOn tally tally' (counts_in entries) → HasTold s number segment before after tally tally' left rest
+unfolding has_run_one
+has_told s number segment before after left frames rest entries jobs replies lost retired lines wanted h k m now sum given tally tally' counted = record {
+  one = has_run_one s number segment before after left frames rest entries jobs replies lost retired lines wanted h k m now sum given;
+  counted = counted;
+}
+
+-- telling it stopped
+pub stops_telling : (s : Setting) (number : ℕ) (segment : Segment) (before after : Moment) (left frames : List (List ℕ)) (rest : Option (Result Next PcapFault)) (entries : List Entry) (jobs : List Job) (replies : List Reply) (lost : List ℕ) (retired lines : List (List ℕ)) (stop : RunEnd) → HasAnswered s segment before left after.state entries jobs replies frames → HasSent s segment before after entries replies lost → HasLines s number segment before entries jobs replies lost retired lines → Tells before.outside.sink after.outside.sink (joined lines) (Err stop) → StopsOne s number segment before after left rest stop
+stops_telling s number segment before after left frames rest entries jobs replies lost retired lines end.WriteFault h k m t =
+    stops_writing s number segment before after left frames rest entries jobs replies lost retired lines t.0 h k m t.1 t.2
+stops_telling s number segment before after left frames rest entries jobs replies lost retired lines end.NoMemory h k m t =
+    stops_lining s number segment before after left frames rest entries jobs replies lost t h k
+stops_telling s number segment before after left frames rest entries jobs replies lost retired lines end.Whole h k m t = absurd t
+stops_telling s number segment before after left frames rest entries jobs replies lost retired lines end.ReadFault h k m t = absurd t
+stops_telling s number segment before after left frames rest entries jobs replies lost retired lines (end.Endpoint p) h k m t = absurd t
+stops_telling s number segment before after left frames rest entries jobs replies lost retired lines (end.Capture n reason) h k m t = absurd t
 
 -- the same sends, as slices have them
 pub sends_as : (names : List (List ℕ)) (es es' : List Entry) (rs rs' : List Reply) (ends ends' after : List NamedEnd) (result : Result (List ℕ) RunEnd) → es ≡ es' → rs ≡ rs' → ends ≡ ends' → SendsAll names (sends_made es rs) result ends after → SendsAll names (sends_made es' rs') result ends' after

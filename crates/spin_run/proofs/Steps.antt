@@ -7,6 +7,7 @@ use Rattle.std.specs.Io.KnownBytes.{Appends}
 use Rattle.std.proofs.lemmas.List.{append-nil, drop-drop, length-drop, length-take-le, take_more}
 use Rattle.std.proofs.lemmas.Option.{slice_get_within, get_or_from_slice_get}
 use Rattle.std.proofs.lemmas.List.Sums.{sum_by_push}
+use Rattle.spin_outside.specs.Seen.{SinkSeen}
 use Rattle.spin_outside.specs.Sources.{SourceSeen}
 use Rattle.spin_pcap.specs.declared.fault.PcapFault.{PcapFault}
 use Rattle.spin_pcap.specs.declared.next.Next.{Next}
@@ -16,15 +17,19 @@ use Rattle.spin_endpoint.specs.Sends.{StopsAt, all_retired}
 use Rattle.spin_text.specs.Words.{ended, text_of}
 use Rattle.spin_script.specs.declared.script.Segment.{Segment}
 use Rattle.spin_script.specs.States.{ScriptData}
+use Rattle.spin_report.specs.declared.entry.Entry.{Entry}
 use Rattle.spin_report.specs.Histories.{SegmentSeen, first_line, segment_lines, front_text}
 use Rattle.spin_report.specs.Segments.{wanted_by}
 use Rattle.spin_report.specs.Runs.{Standing, IsSegmentRun, AreRun, sends_in, start_with}
 use Rattle.spin_run.specs.declared.end.RunEnd.{RunEnd}
 use Rattle.spin_run.specs.declared.end.RunEnd.TheVariants as end
 use Rattle.spin_run.specs.Records.{AreRecords, room_of, IsTakenPast}
-use Rattle.spin_run.specs.Ends.{RunSeen, HasRun, retired_before, segment_text, wanted_to, Writes, WritesInto, EndsWithin, TakesFor, EndsBy}
+use Rattle.spin_run.specs.Ends.{RunSeen, HasRun, retired_before, segment_text, wanted_to, Writes, WritesInto, EndsWithin, TakesFor, EndsBy, CountsBy, seen}
 use Rattle.spin_run.specs.Inner.Reading.{given_by, HasTaken, TakesFrames}
-use Rattle.spin_run.specs.Inner.Steps.{Moment, standing, setting_of, RunsFrom, retired_for, HasRunOne, StopsOne, Stands}
+use Rattle.spin_run.specs.Inner.Steps.{Moment, standing, setting_of, RunsFrom, retired_for, HasRunOne, HasTold, StopsOne, Stands, HasToldAll, WalksBy, Setting}
+use Rattle.spin_run.specs.Summaries.{Counts, counts_in}
+use Rattle.spin_run.specs.Inner.Tallies.{TalliesOn}
+use Rattle.spin_run.proofs.Counted.{tallies_none, tallies_more, entries_more}
 use Rattle.spin_run.proofs.JoinedTexts.{Appends-append}
 use Rattle.spin_run.proofs.Taking.{took_none, took_segments, past_none, past_segments}
 
@@ -129,6 +134,23 @@ stands_next script reader frames rest before count segment now next there s one 
           one_going.1 ∙ ap (λ n. n + wanted_by segment.lines) (s.going one_going.0) ∙ sym sum;
     }
 
+-- nothing was run, and nothing counted
+pub told_start : (script : ScriptData) (reader : Option ReaderState) (frames : List (List ℕ)) (rest : Option (Result Next PcapFault)) (before : RunSeen) (now : Moment) (tally tally' : Option Counts) → now.capture ≡ reader → now.outside.source ≡ before.source → now.state ≡ (start_with script frames before.ends).state → now.outside.ends ≡ before.ends → given_by now.capture ≡ 0 → AreRecords now.capture now.outside.source frames rest → Writes before now.outside (ended first_line) → tally' ≡ tally → HasToldAll script reader frames rest before 0 now tally tally'
+unfolding stands_start
+told_start script reader frames rest before now tally tally' same source state ends given records text counted = record {
+  stands = stands_start script reader frames rest before now same source state ends given records text;
+  counted = tallies_none tally tally' counted;
+}
+
+-- one segment more was run, and its entries counted
+pub told_next : (script : ScriptData) (reader : Option ReaderState) (frames : List (List ℕ)) (rest : Option (Result Next PcapFault)) (before : RunSeen) (count : ℕ) (segment : Segment) (now next : Moment) (tally tally' tally'' : Option Counts) → slice_get script.segments count ≡ Some segment → (s : HasToldAll script reader frames rest before count now tally tally') → HasTold (setting_of script) count segment now next tally' tally'' s.stands.left rest → TakesFrames {T = Unit {0}} (wanted_by segment.lines) now.capture next.capture now.outside.source next.outside.source (Ok tt) s.stands.left → HasToldAll script reader frames rest before (count + 1) next tally tally''
+unfolding stands_next
+told_next script reader frames rest before count segment now next tally tally' tally'' there s told took = record {
+  stands = stands_next script reader frames rest before count segment now next there s.stands told.one took;
+  counted = subst (λ (es : List Entry). TalliesOn tally tally'' (counts_in es)) (entries_more s.stands.parts told.one.part)
+      (tallies_more tally tally' tally'' (flat_map (λ (p : SegmentSeen). p.entries) s.stands.parts) told.one.part.entries s.counted told.counted);
+}
+
 retired_is : (script : ScriptData) (count : ℕ) (segment : Segment) (ends : List NamedEnd) → slice_get script.segments count ≡ Some segment → all_retired script.endpoints segment.retires ends ≡ retired_before script count ends
 retired_is script count segment ends there = ap (λ (o : Option Segment). option_map_or (λ (t : Segment). all_retired script.endpoints t.retires ends) o ends) (sym there)
 
@@ -232,3 +254,30 @@ ends_empty script reader frames rest before after same source h = (
 pub fresh_given : (capture : Option ReaderState) → IfSome capture IsFresh → given_by capture ≡ 0
 fresh_given None h = refl
 fresh_given (Some reader) h = h.0
+
+-- which is the end of the walk, as no segment stops whole
+pub one_walks : (script : ScriptData) (past : ℕ) (frames : List (List ℕ)) (rest : Option (Result Next PcapFault)) (before after : RunSeen) (tally tally' : Option Counts) (s : Setting) (number : ℕ) (segment : Segment) (now next : Moment) (left : List (List ℕ)) (stop : RunEnd) → StopsOne s number segment now next left rest stop → EndsBy script past frames rest before after stop → WalksBy script past frames rest before tally after tally' stop
+one_walks script past frames rest before after tally tally' s number segment now next left end.Whole h e = absurd h
+one_walks script past frames rest before after tally tally' s number segment now next left end.ReadFault h e = e
+one_walks script past frames rest before after tally tally' s number segment now next left end.WriteFault h e = e
+one_walks script past frames rest before after tally tally' s number segment now next left end.NoMemory h e = e
+one_walks script past frames rest before after tally tally' s number segment now next left (end.Endpoint p) h e = e
+one_walks script past frames rest before after tally tally' s number segment now next left (end.Capture n reason) h e = e
+
+-- a walk without counts ends as a run that writes a report
+pub walk_ends : (script : ScriptData) (past : ℕ) (frames : List (List ℕ)) (rest : Option (Result Next PcapFault)) (before after : RunSeen) (tally tally' : Option Counts) (stop : RunEnd) → WalksBy script past frames rest before tally after tally' stop → EndsBy script past frames rest before after stop
+walk_ends script past frames rest before after tally tally' end.Whole h = (h.0, h.1, h.2)
+walk_ends script past frames rest before after tally tally' end.ReadFault h = h
+walk_ends script past frames rest before after tally tally' end.WriteFault h = h
+walk_ends script past frames rest before after tally tally' end.NoMemory h = h
+walk_ends script past frames rest before after tally tally' (end.Endpoint p) h = h
+walk_ends script past frames rest before after tally tally' (end.Capture n reason) h = h
+
+-- the same of a sink that is seen so in another way
+pub ends_seen : (script : ScriptData) (past : ℕ) (frames : List (List ℕ)) (rest : Option (Result Next PcapFault)) (before : RunSeen) (source : SourceSeen) (sink sink' : SinkSeen) (ends : List NamedEnd) (stop : RunEnd) → EndsBy script past frames rest before (seen source sink ends) stop → sink ≡ sink' → EndsBy script past frames rest before (seen source sink' ends) stop
+ends_seen script past frames rest before source sink sink' ends stop h same =
+    subst (λ (s : SinkSeen). EndsBy script past frames rest before (seen source s ends) stop) same h
+
+pub counts_seen : (names : List (List ℕ)) (before : RunSeen) (source : SourceSeen) (sink sink' : SinkSeen) (ends : List NamedEnd) (stop : RunEnd) → CountsBy names before (seen source sink ends) stop → sink ≡ sink' → CountsBy names before (seen source sink' ends) stop
+counts_seen names before source sink sink' ends stop h same =
+    subst (λ (s : SinkSeen). CountsBy names before (seen source s ends) stop) same h

@@ -7,4 +7,5 @@ pub mod Lining
 pub mod Reading
 pub mod Sending
 pub mod Steps
+pub mod Tallies
 pub mod Writing

@@ -5,3 +5,4 @@ pub mod Laws
 pub mod Records
 pub mod Ends
 pub mod Inner
+pub mod Summaries

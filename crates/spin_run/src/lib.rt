@@ -7,7 +7,8 @@
 //! - `jobs_left` notes the jobs that an answer leaves, and `copies` copies what a lane keeps;
 //! - `records` reads what a segment's packet lines take of a capture, `retiring` retires endpoints, `sends` delivers;
 //! - `lines` makes a segment's lines, `writing` writes them, `one` runs a segment with all this, `ending` ends a run;
-//! - `script` runs a whole script, `end` has how a run ends;
+//! - `telling` has what becomes of a segment: it is written, or counted by `tally`;
+//! - `script` runs a whole script, `summary` with a summary in place of the report, `end` has how a run ends;
 //! - `law` says that the place of ready lanes is the number of rows that they know, `place` tells that number.
 #![tactic(auto)]
 
@@ -27,6 +28,9 @@ mod retiring;
 mod script;
 mod segment;
 mod sends;
+mod summary;
+mod tally;
+mod telling;
 mod weave;
 mod writing;
 
@@ -37,3 +41,4 @@ pub use law::place_is_front;
 pub use script::run_script;
 pub use segment::{Woven, run_segment};
 pub use spin_script::Frames;
+pub use summary::run_summary;

@@ -19,20 +19,19 @@ ghost use Rattle.spin_run.specs.Inner.Steps.{moment, setting, OneBy, ResultCount
 
 use crate::end::RunEnd;
 use crate::lanes::Lanes;
-use crate::lines::{add_entries, add_jobs, add_lost, add_segment};
 use crate::records::read_records;
 use crate::retiring::retire;
-use crate::segment::{Woven, run_segment};
+use crate::segment::run_segment;
 use crate::sends::send_all;
-use crate::writing::{TextLines, write_lines};
+use crate::telling::Telling;
 use spin_code::Sincere;
-use spin_endpoint::{Ends, EndsSeen, Lost};
+use spin_endpoint::{Ends, EndsSeen};
 use spin_objects::Catalogue;
-use spin_outside::{Gate, Sink, Source};
+use spin_outside::{Gate, Source};
 use spin_pcap::Reader;
 use spin_script::{Line, Segment};
 use spin_seat::Hub;
-use spin_values::{NoMemory, Text};
+use spin_values::Text;
 use spin_word::Work;
 use std::alloc::Global;
 use std::thread::Threads;
@@ -51,33 +50,9 @@ fn wanted_by(lines: &[Line]) -> u32
     wanted
 }
 
-/// The lines of a segment's part of the report, behind those of its retired endpoints.
-fn part_lines(
-    retired: TextLines,
-    number: usize,
-    start: u16,
-    woven: &Woven,
-    lost: &Lost,
-    endpoints: u8,
-) -> Result<TextLines, NoMemory>
-    requires replies { length woven.now.replies ≡ length woven.now.jobs }
-    requires few { endpoints ≤ MAX_ENDPOINTS }
-    ensures { IfOk result (λ lines. lines ≡ retired ++ map ended (
-        segment_line number start ∷ map entry_line woven.now.entries
-        ++ map job_line (jobs_seen woven.now.jobs woven.now.replies)
-        ++ lost_lines (counts_to lost.now endpoints))) }
-{
-    let mut lines = retired;
-    add_segment(&mut lines, number, start)?;
-    add_entries(&mut lines, woven.entries.as_slice())?;
-    add_jobs(&mut lines, woven.jobs.as_slice(), woven.replies.as_slice())?;
-    add_lost(&mut lines, lost, endpoints)?;
-    Ok(lines)
-}
-
 /// Runs a segment: its endpoints are retired, the records that it wants are read, its lanes are run, its sends are
-/// made, and its text is made in memory and then written, each line by one call.
-pub(crate) fn run_one<R: Threads + Sync, S: Source, K: Sink, G: Gate>(
+/// made, and it is told.
+pub(crate) fn run_one<R: Threads + Sync, S: Source, T: Telling, G: Gate>(
     rt: &R,
     alloc: Global,
     hub: &Hub,
@@ -87,7 +62,7 @@ pub(crate) fn run_one<R: Threads + Sync, S: Source, K: Sink, G: Gate>(
     segment: &Segment,
     capture: &mut Option<Reader>,
     source: &mut S,
-    out: &mut K,
+    out: &mut T,
     ends: &mut Ends,
     gate: &G,
 ) -> Result<(), RunEnd>
@@ -101,12 +76,13 @@ pub(crate) fn run_one<R: Threads + Sync, S: Source, K: Sink, G: Gate>(
     requires sent { let d = data_of hub.now.setup in
         All (SendsBelow (length names.now)) d.handlers }
     ensures one { let d = data_of hub.now.setup in
-        let before = moment (state_of d lanes.old) capture.old (S.seen source.old) (K.seen out.old)
+        let before = moment (state_of d lanes.old) capture.old (S.seen source.old) (T.seen out.old)
         (⟦<Ends as EndsSeen>⟧.all ends.old) in
-        let after = moment (state_of d lanes.new) capture.new (S.seen source.new) (K.seen out.new)
+        let after = moment (state_of d lanes.new) capture.new (S.seen source.new) (T.seen out.new)
         (⟦<Ends as EndsSeen>⟧.all ends.new) in
         ForRecords capture.old (S.seen source.old)
-        (OneBy (setting d (length lanes.old) names.now) number segment.now before after result) }
+        (OneBy (setting d (length lanes.old) names.now) number segment.now before after
+        (T.counts out.old) (T.counts out.new) result) }
     ensures ready { let d = data_of hub.now.setup in
         OnOk result (AreReady d hub.now.log.id hub.now.log.lanes lanes.new) }
     ensures taken { let most = length (front_of lanes.old) + commands_in segment.now.lines in
@@ -115,9 +91,10 @@ pub(crate) fn run_one<R: Threads + Sync, S: Source, K: Sink, G: Gate>(
         TakesFrames (specs.wanted_by segment.now.lines)
         capture.old capture.new (S.seen source.old) (S.seen source.new) result left) }
     ensures keep { (S.seen source.new).keep ≡ (S.seen source.old).keep }
-    ensures counts { let before = seen (S.seen source.old) (K.seen out.old)
+    ensures same { T.reference out.new ≡ T.reference out.old }
+    ensures counts { let before = seen (S.seen source.old) (T.seen out.old)
         (⟦<Ends as EndsSeen>⟧.all ends.old) in
-        let after = seen (S.seen source.new) (K.seen out.new)
+        let after = seen (S.seen source.new) (T.seen out.new)
         (⟦<Ends as EndsSeen>⟧.all ends.new) in
         ResultCounts names.now before after result }
 {
@@ -138,11 +115,8 @@ pub(crate) fn run_one<R: Threads + Sync, S: Source, K: Sink, G: Gate>(
         Ok(lost) => lost,
         Err(end) => return Err(end),
     };
-    let Ok(lines) = part_lines(retired, number, start, &woven, &lost, names.len() as u8) else {
-        return Err(RunEnd::NoMemory);
-    };
-    match write_lines(out, lines.as_slice()) {
+    match out.tell(retired, number, start, &woven, &lost, names.len() as u8) {
         Ok(()) => Ok(()),
-        Err(_) => Err(RunEnd::WriteFault),
+        Err(end) => Err(end),
     }
 }

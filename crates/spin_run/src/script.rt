@@ -9,30 +9,31 @@ ghost use Rattle.spin_script.specs.Soundness.{AreValid, command_lines};
 ghost use Rattle.spin_run.specs.Ends.{seen, EndsBy, CountsBy};
 ghost use Rattle.spin_run.specs.Records.{room_of};
 ghost use Rattle.spin_run.specs.Inner.Reading.{ForRecords};
-ghost use Rattle.spin_run.specs.Inner.Steps.{AllBy, ResultCounts};
+ghost use Rattle.spin_run.specs.Inner.Steps.{AllBy, WalksBy, ResultCounts};
 
 use crate::end::RunEnd;
 use crate::ending::finish;
 use crate::lanes::Lanes;
 use crate::one::run_one;
+use crate::telling::{Report, Telling};
 use spin_code::Sincere;
 use spin_endpoint::{Ends, EndsSeen};
 use spin_objects::Catalogue;
-use spin_outside::{Gate, Sink, Source, write_all};
+use spin_outside::{Gate, Sink, Source};
 use spin_pcap::Reader;
 use spin_script::Script;
 use spin_seat::Hub;
 use std::alloc::Global;
 use std::thread::Threads;
 
-/// Writes the report's first line, and runs the segments one after another. It answers how many commands were accepted.
-fn run_segments<R: Threads + Sync, S: Source, K: Sink, G: Gate>(
+/// Runs the segments one after another, and tells each. It answers how many commands were accepted.
+fn run_segments<R: Threads + Sync, S: Source, T: Telling, G: Gate>(
     rt: &R,
     alloc: Global,
     script: Script,
     capture: &mut Option<Reader>,
     source: &mut S,
-    out: &mut K,
+    out: &mut T,
     ends: &mut Ends,
     gate: &G,
 ) -> Result<u16, RunEnd>
@@ -41,20 +42,22 @@ fn run_segments<R: Threads + Sync, S: Source, K: Sink, G: Gate>(
     requires commands { command_lines script.segments ≤ MAX_PLACE }
     requires orderly { IsOrderly (script_seen script) }
     requires fresh { IfSome capture.old IsFresh }
-    ensures end { let before = seen (S.seen source.old) (K.seen out.old)
+    ensures end { let before = seen (S.seen source.old) (T.seen out.old)
         (⟦<Ends as EndsSeen>⟧.all ends.old) in
-        let after = seen (S.seen source.new) (K.seen out.new)
+        let after = seen (S.seen source.new) (T.seen out.new)
         (⟦<Ends as EndsSeen>⟧.all ends.new) in
         ForRecords capture.old (S.seen source.old)
-        (AllBy (script_seen script) capture.old before capture.new after result) }
+        (AllBy (script_seen script) capture.old before (T.counts out.old)
+        capture.new after (T.counts out.new) result) }
     ensures keep { (S.seen source.new).keep ≡ (S.seen source.old).keep }
-    ensures counts { let before = seen (S.seen source.old) (K.seen out.old)
+    ensures same { T.reference out.new ≡ T.reference out.old }
+    ensures counts { let before = seen (S.seen source.old) (T.seen out.old)
         (⟦<Ends as EndsSeen>⟧.all ends.old) in
-        let after = seen (S.seen source.new) (K.seen out.new)
+        let after = seen (S.seen source.new) (T.seen out.new)
         (⟦<Ends as EndsSeen>⟧.all ends.new) in
         ResultCounts (script_seen script).endpoints before after result }
 {
-    if let Err(_) = write_all(out, b"report 1\n") {
+    if let Err(_) = out.begin() {
         return Err(RunEnd::WriteFault);
     }
     let Script {
@@ -80,6 +83,47 @@ fn run_segments<R: Threads + Sync, S: Source, K: Sink, G: Gate>(
         }
     }
     Ok(lanes.place(&hub))
+}
+
+/// Runs a script whole, and tells what it comes to.
+pub(crate) fn walk<R: Threads + Sync, S: Source, T: Telling, G: Gate>(
+    rt: &R,
+    alloc: Global,
+    script: Script,
+    capture: Option<Reader>,
+    source: &mut S,
+    out: &mut T,
+    ends: &mut Ends,
+    gate: &G,
+) -> RunEnd
+    requires sincere { ⟦<Catalogue as Sincere>⟧.sincere script.setup.catalogue }
+    requires valid { AreValid script.segments }
+    requires commands { command_lines script.segments ≤ MAX_PLACE }
+    requires orderly { IsOrderly (script_seen script) }
+    requires fresh { IfSome capture IsFresh }
+    ensures end { let before = seen (S.seen source.old) (T.seen out.old)
+        (⟦<Ends as EndsSeen>⟧.all ends.old) in
+        let after = seen (S.seen source.new) (T.seen out.new)
+        (⟦<Ends as EndsSeen>⟧.all ends.new) in
+        ForRecords capture (S.seen source.old)
+        (λ frames rest. WalksBy (script_seen script) (room_of capture) frames rest
+        before (T.counts out.old) after (T.counts out.new) result) }
+    ensures keep { (S.seen source.new).keep ≡ (S.seen source.old).keep }
+    ensures same { T.reference out.new ≡ T.reference out.old }
+    ensures counts { let before = seen (S.seen source.old) (T.seen out.old)
+        (⟦<Ends as EndsSeen>⟧.all ends.old) in
+        let after = seen (S.seen source.new) (T.seen out.new)
+        (⟦<Ends as EndsSeen>⟧.all ends.new) in
+        CountsBy (script_seen script).endpoints before after result }
+{
+    let mut capture = capture;
+    match run_segments(rt, alloc, script, &mut capture, source, out, ends, gate) {
+        Ok(length) => match finish(alloc, length, &mut capture, source, out) {
+            Ok(()) => RunEnd::Whole,
+            Err(end) => end,
+        },
+        Err(end) => end,
+    }
 }
 
 /// Runs a script whole: writes the report's first line; then segment by segment retires its endpoints, reads the records
@@ -126,12 +170,6 @@ pub fn run_script<R: Threads + Sync, S: Source, K: Sink, G: Gate>(
         (⟦<Ends as EndsSeen>⟧.all ends.new) in
         CountsBy (script_seen script).endpoints before after result }
 {
-    let mut capture = capture;
-    match run_segments(rt, alloc, script, &mut capture, source, out, ends, gate) {
-        Ok(length) => match finish(alloc, length, &mut capture, source, out) {
-            Ok(()) => RunEnd::Whole,
-            Err(end) => end,
-        },
-        Err(end) => end,
-    }
+    let mut report = Report { out };
+    walk(rt, alloc, script, capture, source, &mut report, ends, gate)
 }

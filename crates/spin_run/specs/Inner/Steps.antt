@@ -1,5 +1,6 @@
 -- What one segment does, from one moment between segments to the next.
 use Rattle.std.specs.Prelude.{◌≡◌, ◌<◌, ◌≤◌, ◌⊎◌, ◌+◌, ℕ, List, [], length, take, drop, Option, Result, Ok, Err}
+use Rattle.std.specs.List.{flat_map}
 use Rattle.spin_outside.specs.Seen.{SinkSeen}
 use Rattle.spin_outside.specs.Sources.{SourceSeen}
 use Rattle.spin_pcap.specs.declared.fault.PcapFault.{PcapFault}
@@ -11,13 +12,15 @@ use Rattle.spin_table.specs.Setups.{SetupData}
 use Rattle.spin_table.specs.States.{State}
 use Rattle.spin_script.specs.declared.script.Segment.{Segment}
 use Rattle.spin_script.specs.States.{ScriptData}
-use Rattle.spin_report.specs.Histories.{SegmentSeen, front_text}
+use Rattle.spin_report.specs.Histories.{SegmentSeen, HistorySeen, front_text, report_text, entries_of}
 use Rattle.spin_report.specs.Segments.{wanted_by}
 use Rattle.spin_report.specs.Runs.{Standing, IsSegmentRun, sends_in}
 use Rattle.spin_run.specs.declared.end.RunEnd.{RunEnd}
 use Rattle.spin_run.specs.declared.end.RunEnd.TheVariants as end
 use Rattle.spin_run.specs.Records.{AreRecords, room_of}
-use Rattle.spin_run.specs.Ends.{RunSeen, HasRun, segment_text, wanted_to, Writes, WritesInto, EndsBy, CountsBy}
+use Rattle.spin_run.specs.Ends.{RunSeen, HasRun, segment_text, wanted_to, Writes, WritesInto, IsWhole, EndsBy, CountsBy}
+use Rattle.spin_run.specs.Summaries.{Counts, counts_in}
+use Rattle.spin_run.specs.Inner.Tallies.{TalliesOn}
 use Rattle.spin_run.specs.Inner.Reading.{given_by, IsGoing, IsRefused, HasTaken}
 
 -- ---- moments between segments
@@ -102,11 +105,18 @@ StopsOne s number segment before after left rest (end.Endpoint endpoint) =
     × Writes before.outside after.outside []
 StopsOne s number segment before after left rest end.Whole = ⊥
 
-abbrev pub OneBy : Setting → ℕ → Segment → Moment → Moment → Result (Unit {0}) RunEnd
-    → List (List ℕ) → Option (Result Next PcapFault) → Type 0
-OneBy s number segment before after (Ok done) left rest =
-    HasRunOne s number segment before after left rest
-OneBy s number segment before after (Err stop) left rest =
+-- It was run and told, and its entries were counted, where they are.
+pub record HasTold (s : Setting) (number : ℕ) (segment : Segment) (before after : Moment)
+    (tally tally' : Option Counts) (left : List (List ℕ)) (rest : Option (Result Next PcapFault))
+    : Type 0 where
+  pub one : HasRunOne s number segment before after left rest
+  pub counted : TalliesOn tally tally' (counts_in one.part.entries)
+
+abbrev pub OneBy : Setting → ℕ → Segment → Moment → Moment → Option Counts → Option Counts
+    → Result (Unit {0}) RunEnd → List (List ℕ) → Option (Result Next PcapFault) → Type 0
+OneBy s number segment before after tally tally' (Ok done) left rest =
+    HasTold s number segment before after tally tally' left rest
+OneBy s number segment before after tally tally' (Err stop) left rest =
     StopsOne s number segment before after left rest stop
 
 -- which counts rose
@@ -130,12 +140,30 @@ pub record Stands (script : ScriptData) (reader : Option ReaderState) (frames : 
   pub total : given_by now.capture + length left ≡ length frames
   pub going : IsGoing now.capture → given_by now.capture ≡ wanted_to script count
 
+-- So many were run and told, and their entries were counted, where they are.
+pub record HasToldAll (script : ScriptData) (reader : Option ReaderState) (frames : List (List ℕ))
+    (rest : Option (Result Next PcapFault)) (start : RunSeen) (count : ℕ) (now : Moment)
+    (tally tally' : Option Counts) : Type 0 where
+  pub stands : Stands script reader frames rest start count now
+  pub counted : TalliesOn tally tally' (counts_in (flat_map (λ part. part.entries) stands.parts))
+
+-- The whole run ends so; and where it was whole, all entries were counted, where they are.
+abbrev pub WalksBy : ScriptData → ℕ → List (List ℕ) → Option (Result Next PcapFault)
+    → RunSeen → Option Counts → RunSeen → Option Counts → RunEnd → Type 0
+WalksBy script past frames rest before tally after tally' end.Whole =
+    (history : HistorySeen) × IsWhole script frames rest before.ends after.ends history
+    × Writes before after (report_text history)
+    × TalliesOn tally tally' (counts_in (entries_of history))
+WalksBy script past frames rest before tally after tally' stop =
+    EndsBy script past frames rest before after stop
+
 -- All were run, and the log has that length; or it stopped so.
-abbrev pub AllBy : ScriptData → Option ReaderState → RunSeen → Option ReaderState → RunSeen
-    → Result ℕ RunEnd → List (List ℕ) → Option (Result Next PcapFault) → Type 0
-AllBy script reader start capture after (Ok end_length) frames rest =
+abbrev pub AllBy : ScriptData → Option ReaderState → RunSeen → Option Counts → Option ReaderState
+    → RunSeen → Option Counts → Result ℕ RunEnd → List (List ℕ) → Option (Result Next PcapFault)
+    → Type 0
+AllBy script reader start tally capture after tally' (Ok end_length) frames rest =
     (state : State) × (end_length ≡ state.place)
-    × Stands script reader frames rest start (length script.segments)
-    (record { state = state; capture = capture; outside = after })
-AllBy script reader start capture after (Err stop) frames rest =
-    EndsBy script (room_of reader) frames rest start after stop
+    × HasToldAll script reader frames rest start (length script.segments)
+    (record { state = state; capture = capture; outside = after }) tally tally'
+AllBy script reader start tally capture after tally' (Err stop) frames rest =
+    WalksBy script (room_of reader) frames rest start tally after tally' stop

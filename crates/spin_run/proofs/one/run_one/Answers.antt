@@ -1,19 +1,19 @@
-use Rattle.std.proofs.Common.{◌≡◌, ◌<◌, List, ℕ, length, map, take, Ok, Err, refl, sym, ap, subst, ◌∙◌}
+use Rattle.std.proofs.Common.{◌≡◌, ◌<◌, List, ◌∷◌, ◌++◌, ℕ, length, map, take, Ok, Err, refl, sym, ap, subst, ◌∙◌}
 use Rattle.std.specs.Prelude.{All}
-use Rattle.std.specs.Io.KnownBytes.{Appends}
 use Rattle.spin_endpoint.specs.Inner.View.{view_of}
 use Rattle.spin_endpoint.specs.Sends.{SentSeen, all_retired}
 use Rattle.spin_text.specs.Words.{ended}
 use Rattle.spin_table.specs.SetupOf.{data_of}
-use Rattle.spin_report.specs.Histories.{retire_line}
+use Rattle.spin_report.specs.Lines.{entry_line, job_line}
+use Rattle.spin_report.specs.Histories.{retire_line, segment_line, lost_lines}
 use Rattle.spin_report.specs.Segments.{wanted_by}
 use Rattle.spin_report.specs.Runs.{retirements}
 use Rattle.spin_run.specs.Segments.{state_of, jobs_seen}
 use Rattle.spin_run.specs.Inner.Sending.{sends_made}
-use Rattle.spin_run.specs.Inner.Writing.{joined}
+use Rattle.spin_run.specs.Inner.Lining.{counts_to}
 use Rattle.spin_run.specs.Inner.Steps.{moment, setting}
 use Rattle.spin_run.proofs.Sent.{all_sent}
-use Rattle.spin_run.proofs.OneSegment.{HasAnswered, HasLines, sends_are, sends_as, stops_sending, stops_lining, stops_writing, has_run_one}
+use Rattle.spin_run.proofs.OneSegment.{HasAnswered, HasLines, sends_are, sends_as, stops_sending, stops_telling, has_told}
 use Rattle.spin_run.proofs.one.run_one.Goals as goal
 
 pub send_all-requires-clause-named : goal.send_all-requires-clause-named
@@ -29,8 +29,8 @@ returns-in-Err-send_all-clause-one g c =
     let d = data_of c.args.hub.now.setup in
     let all = λ (ends : _). map (view_of (λ e. (goal.Endpoint-dyn g (e.object.vtable, e.object.value)).seen e.object.value)) ends in
     let s = setting d (length c.args.lanes.now) c.args.names.now in
-    let before = moment (state_of d c.args.lanes.now) c.args.capture.now (g.S.Source.seen c.args.source.now) (g.K.Sink.seen c.args.out.now) (all c.args.ends.now.ends.items) in
-    let after = moment (state_of d c.run_segment.new.lanes) c.read_records.new.capture (g.S.Source.seen c.read_records.new.source) (g.K.Sink.seen c.args.out.now) (all c.send_all.new.ends.ends.items) in
+    let before = moment (state_of d c.args.lanes.now) c.args.capture.now (g.S.Source.seen c.args.source.now) (g.T.Telling.seen c.args.out.now) (all c.args.ends.now.ends.items) in
+    let after = moment (state_of d c.run_segment.new.lanes) c.read_records.new.capture (g.S.Source.seen c.read_records.new.source) (g.T.Telling.seen c.args.out.now) (all c.send_all.new.ends.ends.items) in
     let w = c.in-Ok-run_segment.woven in
     let lines : c.as_slice-2.result.now ≡ c.args.segment.now.lines = c.as_slice-2.ensures in
     let wanted : c.wanted_by-wanted.result ≡ wanted_by c.args.segment.now.lines = c.wanted_by-wanted.ensures ∙ ap wanted_by lines in
@@ -45,13 +45,13 @@ returns-in-Err-send_all-clause-one g c =
     let sent = sends_as c.args.names.now _ w.entries _ w.replies _ _ (all c.send_all.new.ends.ends.items) (Err c.in-Err-send_all.end) c.as_slice-entries.ensures c.as_slice-3.ensures retired c.in-Err-send_all.ensures.sends in
     stops_sending s c.args.number c.args.segment.now before after left c.in-Ok-read_records.frames rest (state_of d c.run_segment.new.lanes) w.entries w.jobs w.replies c.in-Err-send_all.end refl answered sent
 
-pub returns-in_default-part_lines-clause-one : goal.returns-in_default-part_lines-clause-one
-returns-in_default-part_lines-clause-one g c =
+pub returns-in-Ok-tell-clause-one : goal.returns-in-Ok-tell-clause-one
+returns-in-Ok-tell-clause-one g c =
     let d = data_of c.args.hub.now.setup in
     let all = λ (ends : _). map (view_of (λ e. (goal.Endpoint-dyn g (e.object.vtable, e.object.value)).seen e.object.value)) ends in
     let s = setting d (length c.args.lanes.now) c.args.names.now in
-    let before = moment (state_of d c.args.lanes.now) c.args.capture.now (g.S.Source.seen c.args.source.now) (g.K.Sink.seen c.args.out.now) (all c.args.ends.now.ends.items) in
-    let after = moment (state_of d c.run_segment.new.lanes) c.read_records.new.capture (g.S.Source.seen c.read_records.new.source) (g.K.Sink.seen c.args.out.now) (all c.send_all.new.ends.ends.items) in
+    let before = moment (state_of d c.args.lanes.now) c.args.capture.now (g.S.Source.seen c.args.source.now) (g.T.Telling.seen c.args.out.now) (all c.args.ends.now.ends.items) in
+    let after = moment (state_of d c.run_segment.new.lanes) c.read_records.new.capture (g.S.Source.seen c.read_records.new.source) (g.T.Telling.seen c.tell.new.self) (all c.send_all.new.ends.ends.items) in
     let w = c.in-Ok-run_segment.woven in
     let lines : c.as_slice-2.result.now ≡ c.args.segment.now.lines = c.as_slice-2.ensures in
     let wanted : c.wanted_by-wanted.result ≡ wanted_by c.args.segment.now.lines = c.wanted_by-wanted.ensures ∙ ap wanted_by lines in
@@ -64,44 +64,23 @@ returns-in_default-part_lines-clause-one g c =
       replies_are = c.in-Ok-run_segment.ensures.replies;
     } in
     let sent = sends_as c.args.names.now _ w.entries _ w.replies _ _ (all c.send_all.new.ends.ends.items) (Ok c.in-Ok-send_all.lost) c.as_slice-entries.ensures c.as_slice-3.ensures retired c.in-Ok-send_all.ensures.sends in
-    stops_lining s c.args.number c.args.segment.now before after left c.in-Ok-read_records.frames rest w.entries w.jobs w.replies c.in-Ok-send_all.lost refl answered (record { sent = sent })
-
-pub returns-in-Ok-write_lines-clause-one : goal.returns-in-Ok-write_lines-clause-one
-returns-in-Ok-write_lines-clause-one g c =
-    let d = data_of c.args.hub.now.setup in
-    let all = λ (ends : _). map (view_of (λ e. (goal.Endpoint-dyn g (e.object.vtable, e.object.value)).seen e.object.value)) ends in
-    let s = setting d (length c.args.lanes.now) c.args.names.now in
-    let before = moment (state_of d c.args.lanes.now) c.args.capture.now (g.S.Source.seen c.args.source.now) (g.K.Sink.seen c.args.out.now) (all c.args.ends.now.ends.items) in
-    let after = moment (state_of d c.run_segment.new.lanes) c.read_records.new.capture (g.S.Source.seen c.read_records.new.source) (g.K.Sink.seen c.write_lines.new.out) (all c.send_all.new.ends.ends.items) in
-    let w = c.in-Ok-run_segment.woven in
-    let lines : c.as_slice-2.result.now ≡ c.args.segment.now.lines = c.as_slice-2.ensures in
-    let wanted : c.wanted_by-wanted.result ≡ wanted_by c.args.segment.now.lines = c.wanted_by-wanted.ensures ∙ ap wanted_by lines in
-    let retired : all c.retire.new.ends.ends.items ≡ all_retired c.args.names.now c.args.segment.now.retires (all c.args.ends.now.ends.items) = c.in-Ok.ensures.ends ∙ ap (λ x. all_retired c.args.names.now x (all c.args.ends.now.ends.items)) c.as_slice.ensures in
-    λ left rest r.
-    let given = c.in-Ok-read_records.ensures.answer left rest r in
-    let answered : HasAnswered s c.args.segment.now before left (state_of d c.run_segment.new.lanes) w.entries w.jobs w.replies c.in-Ok-read_records.frames = record {
-      read = given.0 ∙ ap (λ n. take n left) wanted;
-      woven = c.in-Ok-run_segment.ensures.woven;
-      replies_are = c.in-Ok-run_segment.ensures.replies;
-    } in
-    let sent = sends_as c.args.names.now _ w.entries _ w.replies _ _ (all c.send_all.new.ends.ends.items) (Ok c.in-Ok-send_all.lost) c.as_slice-entries.ensures c.as_slice-3.ensures retired c.in-Ok-send_all.ensures.sends in
-    let made : HasLines s c.args.number c.args.segment.now before w.entries w.jobs w.replies c.in-Ok-send_all.lost c.in-Ok.retired c.in-Ok-part_lines.lines = record {
+    let lines_told = c.in-Ok.retired ++ map ended (segment_line c.args.number c.place-start.result ∷ map entry_line w.entries ++ map job_line (jobs_seen w.jobs w.replies) ++ lost_lines (counts_to c.in-Ok-send_all.lost (length c.args.names.now))) in
+    let made : HasLines s c.args.number c.args.segment.now before w.entries w.jobs w.replies c.in-Ok-send_all.lost c.in-Ok.retired lines_told = record {
       few = c.requires.few;
       retired_are = c.in-Ok.ensures.lines ∙ ap (λ x. map ended (map retire_line (retirements c.args.names.now x (all c.args.ends.now.ends.items)))) c.as_slice.ensures;
       start = c.place-start.result;
       start_is = c.place-start.ensures;
-      lines_are = c.in-Ok-part_lines.ensures;
+      lines_are = refl;
     } in
-    let text = subst (λ (x : List (List ℕ)). Appends before.outside.sink.told after.outside.sink.told (joined x)) c.as_slice-4.ensures c.in-Ok-write_lines.ensures.taken in
-    has_run_one s c.args.number c.args.segment.now before after left c.in-Ok-read_records.frames rest w.entries w.jobs w.replies c.in-Ok-send_all.lost c.in-Ok.retired c.in-Ok-part_lines.lines c.wanted_by-wanted.result answered (record { sent = sent }) made text wanted given
+    has_told s c.args.number c.args.segment.now before after left c.in-Ok-read_records.frames rest w.entries w.jobs w.replies c.in-Ok-send_all.lost c.in-Ok.retired lines_told c.wanted_by-wanted.result answered (record { sent = sent }) made c.in-Ok-tell.ensures.told wanted given _ _ c.in-Ok-tell.ensures.counts
 
 pub returns-clause-one : goal.returns-clause-one
 returns-clause-one g c =
     let d = data_of c.args.hub.now.setup in
     let all = λ (ends : _). map (view_of (λ e. (goal.Endpoint-dyn g (e.object.vtable, e.object.value)).seen e.object.value)) ends in
     let s = setting d (length c.args.lanes.now) c.args.names.now in
-    let before = moment (state_of d c.args.lanes.now) c.args.capture.now (g.S.Source.seen c.args.source.now) (g.K.Sink.seen c.args.out.now) (all c.args.ends.now.ends.items) in
-    let after = moment (state_of d c.run_segment.new.lanes) c.read_records.new.capture (g.S.Source.seen c.read_records.new.source) (g.K.Sink.seen c.write_lines.new.out) (all c.send_all.new.ends.ends.items) in
+    let before = moment (state_of d c.args.lanes.now) c.args.capture.now (g.S.Source.seen c.args.source.now) (g.T.Telling.seen c.args.out.now) (all c.args.ends.now.ends.items) in
+    let after = moment (state_of d c.run_segment.new.lanes) c.read_records.new.capture (g.S.Source.seen c.read_records.new.source) (g.T.Telling.seen c.tell.new.self) (all c.send_all.new.ends.ends.items) in
     let w = c.in-Ok-run_segment.woven in
     let lines : c.as_slice-2.result.now ≡ c.args.segment.now.lines = c.as_slice-2.ensures in
     let wanted : c.wanted_by-wanted.result ≡ wanted_by c.args.segment.now.lines = c.wanted_by-wanted.ensures ∙ ap wanted_by lines in
@@ -114,15 +93,12 @@ returns-clause-one g c =
       replies_are = c.in-Ok-run_segment.ensures.replies;
     } in
     let sent = sends_as c.args.names.now _ w.entries _ w.replies _ _ (all c.send_all.new.ends.ends.items) (Ok c.in-Ok-send_all.lost) c.as_slice-entries.ensures c.as_slice-3.ensures retired c.in-Ok-send_all.ensures.sends in
-    let made : HasLines s c.args.number c.args.segment.now before w.entries w.jobs w.replies c.in-Ok-send_all.lost c.in-Ok.retired c.in-Ok-part_lines.lines = record {
+    let lines_told = c.in-Ok.retired ++ map ended (segment_line c.args.number c.place-start.result ∷ map entry_line w.entries ++ map job_line (jobs_seen w.jobs w.replies) ++ lost_lines (counts_to c.in-Ok-send_all.lost (length c.args.names.now))) in
+    let made : HasLines s c.args.number c.args.segment.now before w.entries w.jobs w.replies c.in-Ok-send_all.lost c.in-Ok.retired lines_told = record {
       few = c.requires.few;
       retired_are = c.in-Ok.ensures.lines ∙ ap (λ x. map ended (map retire_line (retirements c.args.names.now x (all c.args.ends.now.ends.items)))) c.as_slice.ensures;
       start = c.place-start.result;
       start_is = c.place-start.ensures;
-      lines_are = c.in-Ok-part_lines.ensures;
+      lines_are = refl;
     } in
-    let cut = c.in-Err-write_lines.ensures.taken in
-    let same = c.as_slice-4.ensures in
-    stops_writing s c.args.number c.args.segment.now before after left c.in-Ok-read_records.frames rest w.entries w.jobs w.replies c.in-Ok-send_all.lost c.in-Ok.retired c.in-Ok-part_lines.lines cut.0 answered (record { sent = sent }) made
-    (subst (λ (x : List (List ℕ)). cut.0 < length (joined x)) same cut.1)
-    (subst (λ (x : List (List ℕ)). Appends before.outside.sink.told after.outside.sink.told (take cut.0 (joined x))) same cut.2)
+    stops_telling s c.args.number c.args.segment.now before after left c.in-Ok-read_records.frames rest w.entries w.jobs w.replies c.in-Ok-send_all.lost c.in-Ok.retired lines_told c.in-Err-tell.end answered (record { sent = sent }) made c.in-Err-tell.ensures.told

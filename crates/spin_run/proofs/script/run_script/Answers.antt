@@ -1,31 +1,24 @@
-use Rattle.std.proofs.Common.{map, refl}
+use Rattle.std.proofs.Common.{map, None, sym, ap}
 use Rattle.spin_endpoint.specs.Inner.View.{view_of}
 use Rattle.spin_script.specs.Scripts.{script_seen}
 use Rattle.spin_run.specs.Ends.{seen}
-use Rattle.spin_run.specs.Inner.Steps.{moment}
-use Rattle.spin_run.proofs.Endings.{ends_whole, ends_stopped}
+use Rattle.spin_run.specs.Records.{room_of}
+use Rattle.spin_run.proofs.Steps.{walk_ends, ends_seen, counts_seen}
 use Rattle.spin_run.proofs.script.run_script.Goals as goal
 
-pub returns-in-Ok-finish-clause-end : goal.returns-in-Ok-finish-clause-end
-returns-in-Ok-finish-clause-end g c =
+pub returns-clause-end : goal.returns-clause-end
+returns-clause-end g c =
     let all = λ (ends : _). map (view_of (λ e. (goal.Endpoint-dyn g (e.object.vtable, e.object.value)).seen e.object.value)) ends in
-    let source = g.S.Source.seen in
-    let sink = g.K.Sink.seen in
-    let before = seen (source c.args.source.now) (sink c.args.out.now) (all c.args.ends.now.ends.items) in
-    let after = seen (source c.finish.new.source) (sink c.finish.new.out) (all c.run_segments.new.ends.ends.items) in
+    let script = script_seen c.args.script in
+    let before = seen (g.S.Source.seen c.args.source.now) (g.K.Sink.seen c.args.out.now) (all c.args.ends.now.ends.items) in
+    let source = g.S.Source.seen c.walk.new.source in
+    let sink = g.K.Sink.seen c.walk.new.out.out.now in
+    let ends = all c.walk.new.ends.ends.items in
     λ frames rest r.
-    let a = c.in-Ok.ensures.end frames rest r in
-    let now = moment a.0 c.run_segments.new.capture (source c.run_segments.new.source) (sink c.run_segments.new.out) (all c.run_segments.new.ends.ends.items) in
-    ends_whole (script_seen c.args.script) c.args.capture frames rest before now c.in-Ok.length after refl a.1 r a.2 (c.in-Ok-finish.ensures.answer a.2.left rest a.2.records)
+    ends_seen script (room_of c.args.capture) frames rest before source sink (g.K.Sink.seen c.out-1.given.0) ends c.walk.result (walk_ends script (room_of c.args.capture) frames rest before (seen source sink ends) None None c.walk.result (c.walk.ensures.end frames rest r)) (ap g.K.Sink.seen (sym (c.out-1.given.1 (sym c.walk.ensures.same))))
 
-pub returns-in-Ok-clause-end : goal.returns-in-Ok-clause-end
-returns-in-Ok-clause-end g c =
+pub returns-clause-counts : goal.returns-clause-counts
+returns-clause-counts g c =
     let all = λ (ends : _). map (view_of (λ e. (goal.Endpoint-dyn g (e.object.vtable, e.object.value)).seen e.object.value)) ends in
-    let source = g.S.Source.seen in
-    let sink = g.K.Sink.seen in
-    let before = seen (source c.args.source.now) (sink c.args.out.now) (all c.args.ends.now.ends.items) in
-    let after = seen (source c.finish.new.source) (sink c.finish.new.out) (all c.run_segments.new.ends.ends.items) in
-    λ frames rest r.
-    let a = c.in-Ok.ensures.end frames rest r in
-    let now = moment a.0 c.run_segments.new.capture (source c.run_segments.new.source) (sink c.run_segments.new.out) (all c.run_segments.new.ends.ends.items) in
-    ends_stopped (script_seen c.args.script) c.args.capture frames rest before now c.in-Ok.length after c.in-Err-finish.end refl a.1 r a.2 (c.in-Err-finish.ensures.answer a.2.left rest a.2.records)
+    let before = seen (g.S.Source.seen c.args.source.now) (g.K.Sink.seen c.args.out.now) (all c.args.ends.now.ends.items) in
+    counts_seen c.args.script.endpoints before (g.S.Source.seen c.walk.new.source) (g.K.Sink.seen c.walk.new.out.out.now) (g.K.Sink.seen c.out-1.given.0) (all c.walk.new.ends.ends.items) c.walk.result c.walk.ensures.counts (ap g.K.Sink.seen (sym (c.out-1.given.1 (sym c.walk.ensures.same))))

@@ -1,0 +1,201 @@
+//! What becomes of the segments of a run: a report of them, or a count.
+
+ghost use Rattle.std.specs.Prelude.{◌≡◌, ◌<◌, ◌≤◌, ◌++◌, ◌∷◌, ℕ, map, length, take, OnOk, IfOk, MatchResult, Option, None, Some};
+ghost use Rattle.std.specs.Io.KnownBytes.{Appends};
+ghost use Rattle.spin_endpoint.specs.declared.ends.TheConstants.{MAX_ENDPOINTS};
+ghost use Rattle.spin_outside.specs.Counts.{FailsByCount};
+ghost use Rattle.spin_outside.specs.Seen.{SinkSeen};
+ghost use Rattle.spin_text.specs.Words.{ended};
+ghost use Rattle.spin_report.specs.Lines.{entry_line, job_line};
+ghost use Rattle.spin_report.specs.Histories.{first_line, segment_line, lost_lines, end_line};
+ghost use Rattle.spin_run.specs.Segments.{jobs_seen};
+ghost use Rattle.spin_run.specs.Summaries.{Counts, counts_in};
+ghost use Rattle.spin_run.specs.Inner.Lining.{counts_to};
+ghost use Rattle.spin_run.specs.Inner.Writing.{joined};
+ghost use Rattle.spin_run.specs.Inner.Tallies.{TalliesOn, Tells, TellsByCount};
+
+use crate::end::RunEnd;
+use crate::lines::{add_entries, add_jobs, add_lost, add_segment};
+use crate::segment::Woven;
+use crate::tally::Tally;
+use crate::writing::{TextLines, write_lines};
+use spin_endpoint::Lost;
+use spin_outside::{Failed, Sink, write_all};
+use spin_report::{CaptureCounts, end_text};
+use spin_values::{NoMemory, Octets};
+use std::alloc::Global;
+
+/// What is told the segments of a run, one after another.
+pub(crate) trait Telling {
+    /// What contracts see of the sink of the report. What writes no report tells nothing of one.
+    ghost seen: { Self → SinkSeen };
+
+    /// What was counted so far, where it is counted.
+    ghost counts: { Self → Option Counts };
+
+    /// The name by which proofs know the reference that it holds, which no call changes.
+    ghost reference: { Self → ℕ };
+
+    /// Begins.
+    fn begin(&mut self) -> Result<(), Failed>
+        ensures told { MatchResult result
+            (λ _. Appends (seen self.old).told (seen self.new).told (ended first_line))
+            (λ _. (n : ℕ) × (n < length (ended first_line))
+            × Appends (seen self.old).told (seen self.new).told (take n (ended first_line))) }
+        ensures counts { counts self.new ≡ counts self.old }
+        ensures same { reference self.new ≡ reference self.old }
+        ensures cause { FailsByCount (seen self.old).faults (seen self.new).faults result };
+
+    /// Tells the segment of that number, which began when so many commands were accepted. The lines are those of its
+    /// retired endpoints, and so many endpoints are declared.
+    fn tell(
+        &mut self,
+        retired: TextLines,
+        number: usize,
+        start: u16,
+        woven: &Woven,
+        lost: &Lost,
+        endpoints: u8,
+    ) -> Result<(), RunEnd>
+        requires replies { length woven.now.replies ≡ length woven.now.jobs }
+        requires few { endpoints ≤ MAX_ENDPOINTS }
+        ensures told { Tells (seen self.old) (seen self.new)
+            (joined (retired ++ map ended (
+            segment_line number start ∷ map entry_line woven.now.entries
+            ++ map job_line (jobs_seen woven.now.jobs woven.now.replies)
+            ++ lost_lines (counts_to lost.now endpoints)))) result }
+        ensures counts { OnOk result
+            (TalliesOn (counts self.old) (counts self.new) (counts_in woven.now.entries)) }
+        ensures same { reference self.new ≡ reference self.old }
+        ensures cause { TellsByCount (seen self.old).faults (seen self.new).faults result };
+
+    /// Ends, where so many commands were accepted in all, and that became of the capture.
+    fn end(
+        &mut self,
+        alloc: Global,
+        length: u16,
+        capture: Option<CaptureCounts>,
+    ) -> Result<(), RunEnd>
+        ensures told { Tells (seen self.old) (seen self.new) (ended (end_line length capture)) result }
+        ensures counts { OnOk result (counts self.new ≡ counts self.old) }
+        ensures same { reference self.new ≡ reference self.old }
+        ensures cause { TellsByCount (seen self.old).faults (seen self.new).faults result };
+}
+
+/// Writes the segments to a sink, as a report.
+#[derive(Drop)]
+pub(crate) struct Report<'a, K: Sink> {
+    /// The sink.
+    pub(crate) out: &'a mut K,
+}
+
+/// The lines of a segment's part of the report, behind those of its retired endpoints.
+fn part_lines(
+    retired: TextLines,
+    number: usize,
+    start: u16,
+    woven: &Woven,
+    lost: &Lost,
+    endpoints: u8,
+) -> Result<TextLines, NoMemory>
+    requires replies { length woven.now.replies ≡ length woven.now.jobs }
+    requires few { endpoints ≤ MAX_ENDPOINTS }
+    ensures { IfOk result (λ lines. lines ≡ retired ++ map ended (
+        segment_line number start ∷ map entry_line woven.now.entries
+        ++ map job_line (jobs_seen woven.now.jobs woven.now.replies)
+        ++ lost_lines (counts_to lost.now endpoints))) }
+{
+    let mut lines = retired;
+    add_segment(&mut lines, number, start)?;
+    add_entries(&mut lines, woven.entries.as_slice())?;
+    add_jobs(&mut lines, woven.jobs.as_slice(), woven.replies.as_slice())?;
+    add_lost(&mut lines, lost, endpoints)?;
+    Ok(lines)
+}
+
+/// The last line of a report.
+fn last_line(alloc: Global, length: u16, capture: Option<CaptureCounts>) -> Result<Octets, NoMemory>
+    ensures { IfOk result (λ line. line ≡ ended (end_line length capture)) }
+{
+    let mut line = Octets::new(alloc);
+    end_text(length, capture, &mut line)?;
+    Ok(line)
+}
+
+impl<K: Sink> Telling for Report<'_, K> {
+    ghost seen = { λ r. K.seen r.out.now };
+
+    ghost counts = { λ _. None };
+
+    ghost reference = { λ r. r.out.ghost_name };
+
+    fn begin(&mut self) -> Result<(), Failed> {
+        write_all(self.out, b"report 1\n")
+    }
+
+    /// Makes the segment's text in memory, and then writes it, each line by one call.
+    fn tell(
+        &mut self,
+        retired: TextLines,
+        number: usize,
+        start: u16,
+        woven: &Woven,
+        lost: &Lost,
+        endpoints: u8,
+    ) -> Result<(), RunEnd> {
+        let lines = part_lines(retired, number, start, woven, lost, endpoints)?;
+        match write_lines(self.out, lines.as_slice()) {
+            Ok(()) => Ok(()),
+            Err(_) => Err(RunEnd::WriteFault),
+        }
+    }
+
+    /// Writes the last line, by one call.
+    fn end(
+        &mut self,
+        alloc: Global,
+        length: u16,
+        capture: Option<CaptureCounts>,
+    ) -> Result<(), RunEnd> {
+        let line = last_line(alloc, length, capture)?;
+        match write_all(self.out, line.as_slice()) {
+            Ok(()) => Ok(()),
+            Err(_) => Err(RunEnd::WriteFault),
+        }
+    }
+}
+
+impl Telling for Tally {
+    ghost seen = { λ _. record { told = None; faults = 0 } };
+
+    ghost counts = { λ t. Some t };
+
+    ghost reference = { λ _. 0 };
+
+    fn begin(&mut self) -> Result<(), Failed> {
+        Ok(())
+    }
+
+    /// Counts the segment's entries.
+    fn tell(
+        &mut self,
+        _retired: TextLines,
+        _number: usize,
+        _start: u16,
+        woven: &Woven,
+        _lost: &Lost,
+        _endpoints: u8,
+    ) -> Result<(), RunEnd> {
+        self.add_entries(woven.entries.as_slice())?;
+        Ok(())
+    }
+
+    fn end(
+        &mut self,
+        _alloc: Global,
+        _length: u16,
+        _capture: Option<CaptureCounts>,
+    ) -> Result<(), RunEnd> {
+        Ok(())
+    }
+}
