@@ -25,6 +25,7 @@ number (Endpoint at) = 8
 abbrev pub usage : List ℕ
 usage =
     codes "usage: spin run SCRIPT [PACKETS]"
+    ++ codes " | spin gen NUMBER"
 
 -- the word for a file in a stop line
 abbrev pub input_word : Input → List ℕ

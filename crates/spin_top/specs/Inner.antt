@@ -1,3 +1,4 @@
 -- What the contracts of private functions cite alone.
+pub mod Making
 pub mod Parsing
 pub mod Running

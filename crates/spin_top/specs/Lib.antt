@@ -1,5 +1,7 @@
 pub mod Captures
 pub mod Ends
+pub mod Gen
+pub mod Held
 pub mod Inner
 pub mod Loading
 pub mod Outside

@@ -5,11 +5,11 @@ use Rattle.spin_top.specs.declared.end.End.{End}
 use Rattle.spin_top.specs.declared.end.End.TheVariants.{Usage, Refused, Capture, Unread, WriteFault, Absent, NoMemory, Endpoint}
 use Rattle.spin_top.specs.declared.end.Input.{Input}
 use Rattle.spin_top.specs.declared.words.Asked.{Asked}
-use Rattle.spin_top.specs.declared.words.Asked.TheVariants.{Run}
+use Rattle.spin_top.specs.declared.words.Asked.TheVariants.{Run, Gen}
 use Rattle.spin_top.specs.Ends.{number}
+use Rattle.spin_top.specs.Gen.{GenHasCause, GenKnows}
 use Rattle.spin_top.specs.Outside.{Outside, OnlyStops}
 use Rattle.spin_top.specs.Run.{RunHasCause, RunKnows}
-use Rattle.spin_top.specs.Shelves.{ShelfStood}
 use Rattle.spin_top.specs.Words.{IsAsked}
 
 -- a call: the natives and the words that are handed in, what is seen before and after it, and the status
@@ -26,11 +26,14 @@ pub record Call : Type 0 where
 abbrev pub CommandHasCause : NativeData → Outside → Outside → Asked → End → Type 0
 CommandHasCause natives before after (Run name packets) end =
     RunHasCause natives before after name packets end
+CommandHasCause natives before after (Gen number) end =
+    GenHasCause natives before after number end
 
 -- Which status a command always comes to.
 abbrev pub CommandKnows : NativeData → Outside → Outside → Asked → ℕ → Type 0
 CommandKnows natives before after (Run name packets) status =
     RunKnows natives before after name packets status
+CommandKnows natives before after (Gen number) status = GenKnows before after status
 
 -- ---- causes
 
@@ -52,10 +55,10 @@ AsksNothing call = (asked : Asked) → IsAsked call.words asked → ⊥
 -- Why the call ended so. Memory may be lacking before the words are known.
 abbrev pub HasCause : Call → End → Type 0
 HasCause call Usage =
-    AsksNothing call × ShelfStood call.before.shelf call.after.shelf
+    AsksNothing call × (call.after.shelf ≡ call.before.shelf)
     × OnlyStops call.before call.after Usage
 HasCause call NoMemory =
-    (ShelfStood call.before.shelf call.after.shelf × OnlyStops call.before call.after NoMemory)
+    ((call.after.shelf ≡ call.before.shelf) × OnlyStops call.before call.after NoMemory)
     ⊎ ByCommand call NoMemory
 HasCause call other = ByCommand call other
 

@@ -1,3 +1,4 @@
 //! The commands, each with its own words.
 
+pub mod generate;
 pub mod run;

@@ -5,12 +5,14 @@
 //! - [`words`] says what the words ask for;
 //! - [`commands`] has a module for each command;
 //! - [`load`] reads a file and the script whole, [`capture`] opens a capture;
+//! - [`held`] is a source over bytes in memory;
 //! - [`end`] has the ends of a call, their statuses and lines.
 #![tactic(auto)]
 
 mod capture;
 mod commands;
 mod end;
+mod held;
 mod load;
 mod top;
 mod words;

@@ -27,7 +27,7 @@ use std::alloc::Global;
 use std::thread::Threads;
 
 /// The end of a call whose run ended so.
-fn end_of(ended: RunEnd) -> End
+pub fn end_of(ended: RunEnd) -> End
     ensures { result ≡ end_of ended }
 {
     match ended {
