@@ -5,35 +5,39 @@ use Rattle.spin_top.specs.declared.end.End.{End}
 use Rattle.spin_top.specs.declared.end.End.TheVariants.{Whole, Usage, Refused, Capture, Unread, WriteFault, Absent, NoMemory, Endpoint, Trace, Unsuited}
 use Rattle.spin_top.specs.declared.end.Input.{Input}
 use Rattle.spin_top.specs.declared.words.Asked.{Asked}
-use Rattle.spin_top.specs.declared.words.Asked.TheVariants.{Run, Join, Vm}
+use Rattle.spin_top.specs.declared.words.Asked.TheVariants.{Run, Gen, Join, Vm}
 use Rattle.spin_top.specs.Words.{IsAsked}
 use Rattle.spin_top.specs.Ends.{number}
 use Rattle.spin_top.specs.Outside.{OnlyStops, Outside}
-use Rattle.spin_top.specs.Shelves.{ShelfStood}
 use Rattle.spin_top.specs.Statuses.{AsksNothing, ByCommand, Call, CommandHasCause, CommandKnows, HasCause, IsCommandStatus, IsStatus, KeepsTable, KnowsCommand, KnowsUsage, Row}
 use Rattle.spin_top.specs.Vm.{IsVmStatus}
-use Rattle.spin_top.proofs.Forms.{one_spelling}
+use Rattle.spin_top.proofs.Forms.{one_asked}
+use Rattle.spin_top.proofs.GenCauses.{gen_known}
 use Rattle.spin_top.proofs.JoinKnown.{join_known}
 use Rattle.spin_top.proofs.RunKnown.{run_known}
+use Rattle.spin_top.proofs.Shelf.{same_stood}
 use Rattle.spin_top.proofs.VmKnown.{vm_known}
 
 -- ---- each command
 
 -- nothing was done for want of memory, which is a cause of every command
-only_memory : (natives : NativeData) (before after : Outside) (asked : Asked) → ShelfStood before.shelf after.shelf → OnlyStops before after NoMemory → CommandHasCause natives before after asked NoMemory
-only_memory natives before after (Run name packets) stood only = (stood, inl only)
-only_memory natives before after (Join name packets) stood only = (stood, inl only)
-only_memory natives before after (Vm name trace) stood only = (stood, inl only)
+only_memory : (natives : NativeData) (before after : Outside) (asked : Asked) → after.shelf ≡ before.shelf → OnlyStops before after NoMemory → CommandHasCause natives before after asked NoMemory
+only_memory natives before after (Run name packets) same only = (same_stood before.shelf after.shelf same, inl only)
+only_memory natives before after (Gen number) same only = (same, inl only)
+only_memory natives before after (Join name packets) same only = (same_stood before.shelf after.shelf same, inl only)
+only_memory natives before after (Vm name trace) same only = (same_stood before.shelf after.shelf same, inl only)
 
 -- words that ask for a command aren't usage
 not_usage : (natives : NativeData) (before after : Outside) (asked : Asked) → CommandHasCause natives before after asked Usage → ⊥
 not_usage natives before after (Run name packets) cause = cause
+not_usage natives before after (Gen number) cause = cause
 not_usage natives before after (Join name packets) cause = cause
 not_usage natives before after (Vm name trace) cause = cause
 
 -- which status a command always comes to
 command_known : (natives : NativeData) (before after : Outside) (asked : Asked) (status : ℕ) → IsCommandStatus natives before after asked status → CommandKnows natives before after asked status
 command_known natives before after (Run name packets) status is = run_known natives before after name packets status is.0 is.1 is.2
+command_known natives before after (Gen number) status is = gen_known natives before after number status is.0 is.1 is.2
 command_known natives before after (Join name packets) status is = join_known natives before after name packets status is.0 is.1 is.2
 command_known natives before after (Vm name trace) status is = vm_known natives before after name trace status is.0 is.1 is.2
 
@@ -74,7 +78,7 @@ by_status call status is same = subst (λ n. ByStatus call n) (sym is.1 ∙ same
 
 by_asked : (call : Call) (asked : Asked) (end : End) → IsAsked call.words asked → ByCommand call end → CommandHasCause call.natives call.before call.after asked end
 by_asked call asked end is by =
-    subst (λ a. CommandHasCause call.natives call.before call.after a end) (one_spelling by.0 asked (sym by.1.words_are ∙ is.words_are)) by.2
+    subst (λ a. CommandHasCause call.natives call.before call.after a end) (one_asked call.words by.0 asked by.1.words_are is.words_are) by.2
 
 as_command : (call : Call) (asked : Asked) (end : End) → IsAsked call.words asked → HasCause call end → CommandHasCause call.natives call.before call.after asked end
 as_command call asked Usage is cause = absurd (cause.0 asked is)
@@ -126,11 +130,11 @@ pub command_status : (call : Call) (asked : Asked) → IsAsked call.words asked 
 command_status call asked is status = (status.0, status.1, by_command call asked status.0 is status.2)
 
 -- nothing was done
-pub usage_status : (call : Call) → AsksNothing call → ShelfStood call.before.shelf call.after.shelf → OnlyStops call.before call.after Usage → call.status ≡ 1 → IsStatus call
-usage_status call none stood only is = (Usage, is, (none, stood, only))
+pub usage_status : (call : Call) → AsksNothing call → call.after.shelf ≡ call.before.shelf → OnlyStops call.before call.after Usage → call.status ≡ 1 → IsStatus call
+usage_status call none same only is = (Usage, is, (none, same, only))
 
-pub memory_status : (call : Call) → ShelfStood call.before.shelf call.after.shelf → OnlyStops call.before call.after NoMemory → call.status ≡ 7 → IsStatus call
-memory_status call stood only is = (NoMemory, is, inl (stood, only))
+pub memory_status : (call : Call) → call.after.shelf ≡ call.before.shelf → OnlyStops call.before call.after NoMemory → call.status ≡ 7 → IsStatus call
+memory_status call same only is = (NoMemory, is, inl (same, only))
 
 -- a trace is what was asked for
 pub vm_status : (natives : NativeData) (before after : Outside) (name trace : List ℕ) (asked : Asked) (status : ℕ) → asked ≡ Vm name trace → IsVmStatus natives before after name trace status → IsCommandStatus natives before after asked status

@@ -1,5 +1,6 @@
 pub mod Exactly
 pub mod Forms
+pub mod GenCauses
 pub mod JoinCauses
 pub mod JoinKnown
 pub mod OneReading

@@ -1,5 +1,5 @@
 -- What calls do to the shelf, one after the other, and a file that is too large.
-use Rattle.std.proofs.Common.{◌≡◌, ◌<◌, ◌+◌, ℕ, Option, Some, None, List, length, refl, subst, ◌∙◌, arith, IfSome}
+use Rattle.std.proofs.Common.{◌≡◌, ◌<◌, ◌+◌, ℕ, Option, Some, None, List, length, refl, ap, subst, ◌∙◌, arith, IfSome}
 use Rattle.std.proofs.Math.ListN.{replicate}
 use Rattle.std.proofs.lemmas.List.{length-replicate}
 use Rattle.spin_outside.specs.Counts.{Rose}
@@ -7,6 +7,9 @@ use Rattle.spin_outside.specs.Files.{File, IsWholeFile}
 use Rattle.spin_outside.specs.Seen.{ShelfSeen}
 use Rattle.spin_top.specs.Loading.{IsOver}
 use Rattle.spin_top.specs.Shelves.{ShelfFailed, ShelfLacked, ShelfStood}
+
+pub same_stood : (a b : ShelfSeen) → b ≡ a → ShelfStood a b
+same_stood a b same = record { files = ap (λ s. s.files) same; faults = ap (λ s. s.faults) same; absences = ap (λ s. s.absences) same }
 
 pub stood_stood : (a b c : ShelfSeen) → ShelfStood a b → ShelfStood b c → ShelfStood a c
 stood_stood a b c s t = record { files = t.files ∙ s.files; faults = t.faults ∙ s.faults; absences = t.absences ∙ s.absences }

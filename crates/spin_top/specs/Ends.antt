@@ -27,6 +27,7 @@ number Unsuited = 12
 abbrev pub usage : List ℕ
 usage =
     codes "usage: spin run SCRIPT [PACKETS]"
+    ++ codes " | spin gen NUMBER"
     ++ codes " | spin join SCRIPT PACKETS"
     ++ codes " | spin vm SCRIPT TRACE"
 

@@ -1,4 +1,5 @@
 -- What the contracts of private functions cite alone.
 pub mod Joining
+pub mod Making
 pub mod Parsing
 pub mod Running

@@ -1,5 +1,6 @@
 pub mod Captures
 pub mod Ends
+pub mod Gen
 pub mod Held
 pub mod Inner
 pub mod Join

@@ -5,8 +5,9 @@ use Rattle.spin_top.specs.declared.end.End.{End}
 use Rattle.spin_top.specs.declared.end.End.TheVariants.{Usage, Refused, Capture, Unread, WriteFault, Absent, NoMemory, Endpoint, Trace, Unsuited}
 use Rattle.spin_top.specs.declared.end.Input.{Input}
 use Rattle.spin_top.specs.declared.words.Asked.{Asked}
-use Rattle.spin_top.specs.declared.words.Asked.TheVariants.{Run, Join, Vm}
+use Rattle.spin_top.specs.declared.words.Asked.TheVariants.{Run, Gen, Join, Vm}
 use Rattle.spin_top.specs.Ends.{number}
+use Rattle.spin_top.specs.Gen.{GenHasCause, GenKnows}
 use Rattle.spin_top.specs.Outside.{Outside, OnlyStops}
 use Rattle.spin_top.specs.Join.{JoinHasCause, JoinKnows}
 use Rattle.spin_top.specs.Run.{RunHasCause, RunKnows}
@@ -28,6 +29,8 @@ pub record Call : Type 0 where
 abbrev pub CommandHasCause : NativeData → Outside → Outside → Asked → End → Type 0
 CommandHasCause natives before after (Run name packets) end =
     RunHasCause natives before after name packets end
+CommandHasCause natives before after (Gen number) end =
+    GenHasCause natives before after number end
 CommandHasCause natives before after (Join name packets) end =
     JoinHasCause natives before after name packets end
 CommandHasCause natives before after (Vm name trace) end =
@@ -37,6 +40,7 @@ CommandHasCause natives before after (Vm name trace) end =
 abbrev pub CommandKnows : NativeData → Outside → Outside → Asked → ℕ → Type 0
 CommandKnows natives before after (Run name packets) status =
     RunKnows natives before after name packets status
+CommandKnows natives before after (Gen number) status = GenKnows before after status
 CommandKnows natives before after (Join name packets) status =
     JoinKnows natives before after name packets status
 CommandKnows natives before after (Vm name trace) status =
@@ -62,10 +66,10 @@ AsksNothing call = (asked : Asked) → IsAsked call.words asked → ⊥
 -- Why the call ended so. Memory may be lacking before the words are known.
 abbrev pub HasCause : Call → End → Type 0
 HasCause call Usage =
-    AsksNothing call × ShelfStood call.before.shelf call.after.shelf
+    AsksNothing call × (call.after.shelf ≡ call.before.shelf)
     × OnlyStops call.before call.after Usage
 HasCause call NoMemory =
-    (ShelfStood call.before.shelf call.after.shelf × OnlyStops call.before call.after NoMemory)
+    ((call.after.shelf ≡ call.before.shelf) × OnlyStops call.before call.after NoMemory)
     ⊎ ByCommand call NoMemory
 HasCause call other = ByCommand call other
 

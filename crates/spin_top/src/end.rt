@@ -109,6 +109,7 @@ fn usage_line() -> StopLine
 {
     let mut line = StopLine::new();
     put(&mut line, b"usage: spin run SCRIPT [PACKETS]");
+    put(&mut line, b" | spin gen NUMBER");
     put(&mut line, b" | spin join SCRIPT PACKETS");
     put(&mut line, b" | spin vm SCRIPT TRACE");
     put(&mut line, b"\n");

@@ -5,6 +5,7 @@ ghost use Rattle.spin_top.specs.declared.end.End.TheVariants as end;
 ghost use Rattle.spin_top.specs.Outside.{outside};
 ghost use Rattle.spin_top.specs.Statuses.{Call, IsCommandStatus, IsStatus, Row, KeepsTable};
 
+use crate::commands::generate::gen_command;
 use crate::commands::join::join_command;
 use crate::commands::run::run_command;
 use crate::commands::vm::vm_command;
@@ -39,6 +40,7 @@ fn do_command<R: Threads + Sync, F: Shelf, K: Sink, G: Gate>(
         Asked::Run { script, packets } => {
             run_command(rt, alloc, script, packets, shelf, out, natives, ends, gate)
         }
+        Asked::Gen { number } => gen_command(rt, alloc, number, out, natives, ends, gate),
         Asked::Join { script, packets } => {
             join_command(rt, alloc, script, packets, shelf, out, natives, ends, gate)
         }

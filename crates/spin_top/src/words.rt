@@ -4,10 +4,11 @@ ghost use Rattle.std.specs.Prelude.{◌≡◌, ◌<◌, ◌≤◌, List, ℕ, So
 ghost use Rattle.std.specs.List.{All};
 ghost use Rattle.clap.specs.Words.{app_of, raw_values, matched_of, found_of};
 ghost use Rattle.spin_top.specs.Inner.Parsing.{app};
-ghost use Rattle.spin_top.specs.Words.{IsPlain, IsAsked, spelling};
+ghost use Rattle.spin_top.specs.Words.{IsPlain, IsAsked, IsSpelled};
 
 use clap::error::ErrorKind;
 use clap::{Arg, ArgMatches, Command};
+use spin_grammar::number_of;
 use spin_values::{NoMemory, Text};
 use std::alloc::Global;
 
@@ -20,6 +21,11 @@ pub enum Asked {
         script: Text,
         /// The name of the capture, if one is named.
         packets: Option<Text>,
+    },
+    /// `gen NUMBER`.
+    Gen {
+        /// The number.
+        number: u64,
     },
     /// `join SCRIPT PACKETS`.
     Join {
@@ -110,9 +116,9 @@ fn is_run(word: &str) -> bool
 /// The words after `run`.
 fn run_form(alloc: Global, names: &[&str]) -> Result<Option<Asked>, NoMemory>
     ensures found { IfOk result (λ form. IfSome form
-        (λ asked. codes "run" ∷ map (λ text. text.now) names.now ≡ spelling asked)) }
+        (λ asked. IsSpelled (codes "run" ∷ map (λ text. text.now) names.now) asked)) }
     ensures none { IfOk result (λ form. IfNone form
-        ((asked : Asked) → codes "run" ∷ map (λ text. text.now) names.now ≡ spelling asked → ⊥)) }
+        ((asked : Asked) → IsSpelled (codes "run" ∷ map (λ text. text.now) names.now) asked → ⊥)) }
 {
     match names.len() {
         1 => Ok(Some(Asked::Run {
@@ -127,6 +133,29 @@ fn run_form(alloc: Global, names: &[&str]) -> Result<Option<Asked>, NoMemory>
     }
 }
 
+fn is_gen(word: &str) -> bool
+    ensures yes { IsTrue result → word.now ≡ codes "gen" }
+    ensures no { word.now ≡ codes "gen" → IsTrue result }
+{
+    word == "gen"
+}
+
+/// The words after `gen`: one, which is a number as scripts have them.
+fn gen_form(names: &[&str]) -> Option<Asked>
+    ensures found { IfSome result
+        (λ asked. IsSpelled (codes "gen" ∷ map (λ text. text.now) names.now) asked) }
+    ensures none { IfNone result
+        ((asked : Asked) → IsSpelled (codes "gen" ∷ map (λ text. text.now) names.now) asked → ⊥) }
+{
+    if names.len() != 1 {
+        return None;
+    }
+    match number_of(names[0].as_bytes()) {
+        Some(number) => Some(Asked::Gen { number }),
+        None => None,
+    }
+}
+
 fn is_join(word: &str) -> bool
     ensures yes { IsTrue result → word.now ≡ codes "join" }
     ensures no { word.now ≡ codes "join" → IsTrue result }
@@ -137,9 +166,9 @@ fn is_join(word: &str) -> bool
 /// The words after `join`.
 fn join_form(alloc: Global, names: &[&str]) -> Result<Option<Asked>, NoMemory>
     ensures found { IfOk result (λ form. IfSome form
-        (λ asked. codes "join" ∷ map (λ text. text.now) names.now ≡ spelling asked)) }
+        (λ asked. IsSpelled (codes "join" ∷ map (λ text. text.now) names.now) asked)) }
     ensures none { IfOk result (λ form. IfNone form
-        ((asked : Asked) → codes "join" ∷ map (λ text. text.now) names.now ≡ spelling asked → ⊥)) }
+        ((asked : Asked) → IsSpelled (codes "join" ∷ map (λ text. text.now) names.now) asked → ⊥)) }
 {
     match names.len() {
         2 => Ok(Some(Asked::Join {
@@ -160,9 +189,9 @@ fn is_vm(word: &str) -> bool
 /// The words after `vm`.
 fn vm_form(alloc: Global, names: &[&str]) -> Result<Option<Asked>, NoMemory>
     ensures found { IfOk result (λ form. IfSome form
-        (λ asked. codes "vm" ∷ map (λ text. text.now) names.now ≡ spelling asked)) }
+        (λ asked. IsSpelled (codes "vm" ∷ map (λ text. text.now) names.now) asked)) }
     ensures none { IfOk result (λ form. IfNone form
-        ((asked : Asked) → codes "vm" ∷ map (λ text. text.now) names.now ≡ spelling asked → ⊥)) }
+        ((asked : Asked) → IsSpelled (codes "vm" ∷ map (λ text. text.now) names.now) asked → ⊥)) }
 {
     match names.len() {
         2 => Ok(Some(Asked::Vm {
@@ -176,15 +205,18 @@ fn vm_form(alloc: Global, names: &[&str]) -> Result<Option<Asked>, NoMemory>
 /// The form that the words have.
 fn form_of(alloc: Global, words: &[&str]) -> Result<Option<Asked>, NoMemory>
     ensures found { IfOk result (λ form. IfSome form
-        (λ asked. map (λ text. text.now) words.now ≡ spelling asked)) }
+        (λ asked. IsSpelled (map (λ text. text.now) words.now) asked)) }
     ensures none { IfOk result (λ form. IfNone form
-        ((asked : Asked) → map (λ text. text.now) words.now ≡ spelling asked → ⊥)) }
+        ((asked : Asked) → IsSpelled (map (λ text. text.now) words.now) asked → ⊥)) }
 {
     if words.is_empty() {
         return Ok(None);
     }
     if is_run(words[0]) {
         return run_form(alloc, &words[1..]);
+    }
+    if is_gen(words[0]) {
+        return Ok(gen_form(&words[1..]));
     }
     if is_join(words[0]) {
         return join_form(alloc, &words[1..]);

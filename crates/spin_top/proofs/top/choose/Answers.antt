@@ -8,8 +8,8 @@ returns-in-Ok-Some g c =
 
 pub returns-in-Ok-None : goal.returns-in-Ok-None
 returns-in-Ok-None g c =
-    usage_status _ (rw c.in-Ok-None.field-0-is at c.in-Ok-None.ensures.none) (record { files = refl; faults = refl; absences = refl }) (record { ends = refl; tells = c.stop.ensures.line }) c.stop.ensures.status
+    usage_status _ (rw c.in-Ok-None.field-0-is at c.in-Ok-None.ensures.none) refl (record { ends = refl; tells = c.stop.ensures.line }) c.stop.ensures.status
 
 pub returns-in-Err : goal.returns-in-Err
 returns-in-Err g c =
-    memory_status _ (record { files = refl; faults = refl; absences = refl }) (record { ends = refl; tells = c.stop-in-Err.ensures.line }) c.stop-in-Err.ensures.status
+    memory_status _ refl (record { ends = refl; tells = c.stop-in-Err.ensures.line }) c.stop-in-Err.ensures.status
