@@ -21,6 +21,7 @@ gen_by (Some number) = Some (Gen number)
 abbrev pub gen_of : List (List ℕ) → Option Asked
 gen_of (word ∷ []) = gen_by (within 0 greatest (grammar.number word))
 gen_of other = None
+
 -- what the words behind `join` ask for
 abbrev join_of : List (List ℕ) → Option Asked
 join_of (script ∷ packets ∷ []) = Some (Join script packets)
