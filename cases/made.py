@@ -202,7 +202,7 @@ def headers():
 
 # ---- the smallest example of each status, cause, fault and refusal, which docs/FORMATS.md shows
 
-USAGE = "usage: spin run SCRIPT [PACKETS]\n"
+USAGE = "usage: spin run SCRIPT [PACKETS] | spin gen NUMBER\n"
 TWO_EVENTS = ["event 0 0 b last", "event 1 0 bwww last", "handler 1 b layer ipv4 1", INSTALL.strip()]
 TWO_LAYERS = ["event 0 0 bwww last", "event 1 0 bwwww last", "handler 1 bwww layer udp 1", INSTALL.strip()]
 
@@ -280,7 +280,7 @@ def table():
     rows = ["| what is written | script, and further words |", "|---|---|"]
     for _, lines_, words, stdout in smallest():
         told = [line for line in stdout.splitlines() if SHOWN.match(line)]
-        shown = [line for line in told if not line.startswith("end")] or told
+        shown = [line.replace("|", "\\|") for line in told if not line.startswith("end")] or told
         code = " ".join(f"`{line}`" for line in lines_).replace("|", "\\|").replace("\x01", "\\x01")
         if len(code) > 400:
             code = f"{code[:150]} .. `"

@@ -1,7 +1,8 @@
 //! The program: a script in, the report of its history out.
 //!
 //! `spin run SCRIPT [PACKETS]` reads the script, and the capture if one is named, from the folder where it is called,
-//! and writes the report to standard output. What is sent to the endpoints `out0` to `out3` goes to the files
+//! and writes the report to standard output. `spin gen NUMBER` runs a large script over a capture, both made from the
+//! number, and writes a summary in place of the report. What is sent to the endpoints `out0` to `out3` goes to the files
 //! `out0.bin` to `out3.bin` of that folder.
 //!
 //! The one call, [`spin`](spin_top::spin), works over any shelf, sink, endpoints, natives and gate; [`natives`] are those

@@ -1,12 +1,12 @@
 -- What a parse makes of one to four words of which the first is no option: they are the values of its one argument.
-use Rattle.std.proofs.Common.{◌≡◌, ◌≢◌, ◌<◌, ◌≤◌, ◌==◌, ◌&&◌, ◌+◌, ◌-◌, ℕ, Bool, true, false, List, [], ◌∷◌, ◌++◌, Some, None, length, refl, sym, ap, ap₂, ◌∙◌, arith, codes, is_some, map, subst, take, drop, get_or}
+use Rattle.std.proofs.Common.{◌≡◌, ◌≢◌, ◌<◌, ◌≤◌, ◌==◌, ◌&&◌, ◌+◌, ◌-◌, ℕ, Bool, true, false, List, [], ◌∷◌, ◌++◌, Some, None, length, refl, sym, ap, ap₂, ◌∙◌, arith, codes, is_some, map, subst, take, get_or}
 use Rattle.std.specs.Prelude.{fold}
 use Rattle.std.specs.List.{list_all}
 use Rattle.std.specs.Str.{bytes_eq}
-use Rattle.std.proofs.lemmas.List.{append-nil, append_assoc, map_push, take_all, take_more}
+use Rattle.std.proofs.lemmas.List.{append-nil, append_assoc, map_push, take_more}
 use Rattle.std.proofs.lemmas.List.Elements.{All-push}
 use Rattle.std.specs.Borrow.{Bor}
-use Rattle.std.specs.List.{All, slice_index_or}
+use Rattle.std.specs.List.{All}
 use Rattle.spin_top.specs.Words.{IsPlain}
 use Rattle.spin_top.specs.Inner.Parsing.{app}
 use Rattle.clap.specs.Lexer.{long_of, short_of}
@@ -118,9 +118,3 @@ more_words items items' text words i d lt same plain pushed is word =
       ap (map (λ t. t.now)) pushed ∙ map_push (λ t. t.now) items text ∙ ap₂ (λ xs y. xs ++ y ∷ []) same is ∙ sym more,
       subst (All IsPlain) (sym more) (All-push IsPlain (take i words) (get_or words i d) plain (subst IsPlain is word)),
     )
-
--- the words, of which the first is this
-pub headed : (words : List (Bor (List ℕ))) (d : Bor (List ℕ)) (word : List ℕ) → 0 < length words → (slice_index_or words 0 d).now ≡ word → word ∷ map (λ t. t.now) (take (length words - 1) (drop 1 words)) ≡ map (λ t. t.now) words
-headed [] d word some is = absurd (omega (arith, some))
-headed (first ∷ words) d word some is =
-    ap₂ (λ (t : List ℕ) (ts : List (Bor (List ℕ))). t ∷ map (λ t. t.now) ts) (sym is) (take_all (length (first ∷ words) - 1) words (omega arith))

@@ -72,16 +72,21 @@ fn choose<R: Threads + Sync, F: Shelf, K: Sink, G: Gate>(
 
 /// The top call: does what the words ask for over the shelf, the sink and the endpoints, and answers the exit status.
 ///
-/// The words are those of one command, `run SCRIPT` or `run SCRIPT PACKETS`; each is UTF-8, isn't empty, and doesn't
-/// begin with `-`. The script is found, read and checked, and may name the natives that are handed in. Then the
+/// The words are those of one command, `run SCRIPT`, `run SCRIPT PACKETS` or `gen NUMBER`; each is UTF-8, isn't empty,
+/// and doesn't begin with `-`. Under `run` the script is found, read and checked, and may name the natives that are handed in. Then the
 /// capture, if one is named, is found and its header read. Then the script is run over it by
 /// [`run_script`](spin_run::run_script), its lanes on threads, which writes the report and delivers what is sent to
 /// the endpoints. A stop ends the call at once, so the status is that of the first that is met.
 ///
+/// Under `gen` a script and a capture are made from the number by [`generate`](spin_gen::generate), in memory, and run by
+/// [`run_summary`](spin_run::run_summary), which delivers as a run does and writes six lines in place of the report: the
+/// number in decimal, however it was written, and the counts of the history. The shelf isn't looked at. The status is 0,
+/// 5, 7 or 8, and after 7 and 8 nothing but the stop line was written.
+///
 /// | status | comes | line |
 /// |---|---|---|
-/// | 0 | the whole report was written, script and capture read to their ends | none |
-/// | 1 | exactly where the words have none of the forms | `usage: spin run SCRIPT [PACKETS]` |
+/// | 0 | the whole report was written, script and capture read to their ends, or the whole summary | none |
+/// | 1 | exactly where the words have none of the forms | `usage: ..`, the words of every command |
 /// | 2 | exactly where the script is read and is refused at line N for cause C | `stop 2 line N cause C` |
 /// | 3 | exactly where record N of the capture is refused by fault F; record 0 is its header | `stop 3 record N fault F` |
 /// | 4 | only where the shelf's count of faults rose | `stop 4 read script`, `stop 4 read packets` |
@@ -106,8 +111,8 @@ pub fn spin<R: Threads + Sync, F: Shelf, K: Sink, G: Gate>(
 ) -> u8
     // Each native does what it was handed in with.
     requires sincere { ⟦<Natives as Sincere>⟧.sincere natives }
-    // 0: the report of a legal history that answers what the script asks, each once and in order, was written, and
-    // each endpoint has received its sends of that history.
+    // 0: the report of a legal history that answers what the script asks, each once and in order, was written, or under
+    // `gen` its summary, and each endpoint has received its sends of that history.
     ensures whole { let call : Call = record {
       natives = natives_seen natives;
       words = words.now;
