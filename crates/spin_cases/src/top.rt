@@ -30,7 +30,7 @@ segment 0 at 0
 end 1
 ";
 
-const USAGE: &[u8] = b"usage: spin run SCRIPT [PACKETS] | spin join SCRIPT PACKETS | spin vm SCRIPT TRACE\n";
+const USAGE: &[u8] = b"usage: spin run SCRIPT [PACKETS] | spin gen NUMBER | spin join SCRIPT PACKETS | spin vm SCRIPT TRACE\n";
 
 fn text(alloc: Global, bytes: &[u8]) -> Result<Text, NoMemory> {
     Text::from_bytes(alloc, bytes)
@@ -194,6 +194,11 @@ fn words_of_no_command(rt: HostRuntime) -> Result<(), NoMemory> {
         &[b"join".as_slice(), b"script"],
         &[b"join".as_slice(), b"script", b"packets", b"more"],
         &[b"run".as_slice(), b"script", b"packets", b"more", b"more"],
+        &[b"gen".as_slice()],
+        &[b"gen".as_slice(), b"1x"],
+        &[b"gen".as_slice(), b"0x"],
+        &[b"gen".as_slice(), b"18446744073709551616"],
+        &[b"gen".as_slice(), b"1", b"1"],
     ] {
         let (status, out) = misspelled(&rt, rt.alloc(), texts)?;
         assert_eq!(rt; status, 1);

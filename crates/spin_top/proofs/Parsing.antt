@@ -1,12 +1,12 @@
 -- What a parse makes of one to four words of which the first is no option: they are the values of its one argument.
-use Rattle.std.proofs.Common.{◌≡◌, ◌≢◌, ◌<◌, ◌≤◌, ◌==◌, ◌&&◌, ◌+◌, ◌-◌, ℕ, Bool, true, false, List, [], ◌∷◌, ◌++◌, Some, None, length, refl, sym, ap, ap₂, ◌∙◌, arith, codes, is_some, map, subst, take, drop, get_or}
+use Rattle.std.proofs.Common.{◌≡◌, ◌≢◌, ◌<◌, ◌≤◌, ◌==◌, ◌&&◌, ◌+◌, ◌-◌, ℕ, Bool, true, false, List, [], ◌∷◌, ◌++◌, Some, None, length, refl, sym, ap, ap₂, ◌∙◌, arith, codes, is_some, map, subst, take, get_or}
 use Rattle.std.specs.Prelude.{fold}
 use Rattle.std.specs.List.{list_all}
 use Rattle.std.specs.Str.{bytes_eq}
-use Rattle.std.proofs.lemmas.List.{append-nil, append_assoc, map_push, take_all, take_more}
+use Rattle.std.proofs.lemmas.List.{append-nil, append_assoc, map_push, take_more}
 use Rattle.std.proofs.lemmas.List.Elements.{All-push}
 use Rattle.std.specs.Borrow.{Bor}
-use Rattle.std.specs.List.{All, slice_index_or}
+use Rattle.std.specs.List.{All}
 use Rattle.spin_top.specs.Words.{IsPlain}
 use Rattle.spin_top.specs.Inner.Parsing.{app}
 use Rattle.clap.specs.Lexer.{long_of, short_of}

@@ -78,18 +78,23 @@ fn choose<R: Threads + Sync, F: Shelf, K: Sink, G: Gate>(
 
 /// The top call: does what the words ask for over the shelf, the sink and the endpoints, and answers the exit status.
 ///
-/// The words are those of one command, `run SCRIPT`, `run SCRIPT PACKETS`, `join SCRIPT PACKETS` or `vm SCRIPT TRACE`;
-/// each is UTF-8, isn't empty, and doesn't begin with `-`. The script is found, read and checked, and may name the natives that are
-/// handed in. Then the capture, if one is named, is found and its header read; under `join` it is read whole, and its
-/// joined capture takes its place, in memory. Then the script is run over it by
+/// The words are those of one command, `run SCRIPT`, `run SCRIPT PACKETS`, `gen NUMBER`, `join SCRIPT PACKETS` or
+/// `vm SCRIPT TRACE`; each is UTF-8, isn't empty, and doesn't begin with `-`. But under `gen` the script is found, read and
+/// checked, and may name the natives that are handed in. Then the capture, if one is named, is found and its header read;
+/// under `join` it is read whole, and its joined capture takes its place, in memory. Then the script is run over it by
 /// [`run_script`](spin_run::run_script), its lanes on threads, which writes the report and delivers what is sent to
 /// the endpoints. Under `vm`, when the script is checked, it is looked at whether it is suited to traces; then the trace
 /// is found and read, and [`run_trace`](spin_vm::run_trace) writes its output. The endpoints are then as they were. A
 /// stop ends the call at once, so the status is that of the first that is met.
 ///
+/// Under `gen` a script and a capture are made from the number by [`generate`](spin_gen::generate), in memory, and run by
+/// [`run_summary`](spin_run::run_summary), which delivers as a run does and writes six lines in place of the report: the
+/// number in decimal, however it was written, and the counts of the history. The shelf isn't looked at. The status is 0,
+/// 5, 7 or 8, and after 7 and 8 nothing but the stop line was written.
+///
 /// | status | comes | line |
 /// |---|---|---|
-/// | 0 | the whole report, or output of a trace, was written, and what was named was read to its end | none |
+/// | 0 | the whole report, summary or output of a trace was written, and what was named was read to its end | none |
 /// | 1 | exactly where the words have none of the forms | `usage: ..`, the words of every command |
 /// | 2 | exactly where the script is read and is refused at line N for cause C | `stop 2 line N cause C` |
 /// | 3 | exactly where record N of the capture is refused by fault F; record 0 is its header | `stop 3 record N fault F` |
@@ -117,8 +122,9 @@ pub fn spin<R: Threads + Sync, F: Shelf, K: Sink, G: Gate>(
 ) -> u8
     // Each native does what it was handed in with.
     requires sincere { ⟦<Natives as Sincere>⟧.sincere natives }
-    // 0: the report of a legal history that answers what the script asks, each once and in order, was written, and
-    // each endpoint has received its sends of that history; under `vm` the output of the whole trace was written.
+    // 0: the report of a legal history that answers what the script asks, each once and in order, was written, or under
+    // `gen` its summary, and each endpoint has received its sends of that history; under `vm` the output of the whole
+    // trace was written.
     ensures whole { let call : Call = record {
       natives = natives_seen natives;
       words = words.now;
