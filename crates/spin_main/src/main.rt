@@ -87,39 +87,32 @@ fn run<R: Env + Files + Threads + Sync + AllocGlobal, K: Sink>(
 }
 
 /// An endpoint over the file of that name.
-fn file_end<R: Files + Clone + AllocGlobal>(rt: &R, file: &[u8]) -> Result<FileEnd<R>, NoMemory> {
+fn over_file<R: Files + Clone + AllocGlobal>(rt: &R, file: &[u8]) -> Result<FileEnd<R>, NoMemory> {
     Ok(FileEnd::new(rt.clone()?, Text::from_bytes(rt.alloc(), file)?))
 }
 
-/// A boxed endpoint over the file of that name.
-fn boxed_file_end<R: Files + Clone + Drop + AllocGlobal>(
+/// An endpoint of that name over that file.
+fn file_end<R: Files + Clone + Drop + AllocGlobal>(
     rt: &R,
-    file: &[u8],
-) -> Result<Box<FileEnd<R>>, NoMemory> {
-    Ok(Box::new(rt.alloc(), file_end(rt, file)?)?)
-}
-
-/// A boxed endpoint that writes replies to the file of that name.
-fn boxed_echo_end<R: Files + Clone + Drop + AllocGlobal>(
-    rt: &R,
-    file: &[u8],
-) -> Result<Box<EchoEnd<FileEnd<R>>>, NoMemory> {
-    let echo = EchoEnd::new(rt.alloc(), file_end(rt, file)?)?;
-    Ok(Box::new(rt.alloc(), echo)?)
-}
-
-/// Hands in the endpoint under that name.
-fn add(
-    alloc: Global,
-    ends: &mut Ends,
     name: &[u8],
-    end: Box<dyn Endpoint>,
-) -> Result<(), NoMemory> {
-    // The names differ and are few, so only memory may be lacking.
-    match ends.add(Text::from_bytes(alloc, name)?, end) {
-        Ok(()) => Ok(()),
-        Err(_) => Err(NoMemory),
-    }
+    file: &[u8],
+) -> Result<(Text, Box<FileEnd<R>>), NoMemory> {
+    let end = over_file(rt, file)?;
+    Ok((
+        Text::from_bytes(rt.alloc(), name)?,
+        Box::new(rt.alloc(), end)?,
+    ))
+}
+
+/// The endpoint `echo`, which writes its replies to a file.
+fn echo_end<R: Files + Clone + Drop + AllocGlobal>(
+    rt: &R,
+) -> Result<(Text, Box<EchoEnd<FileEnd<R>>>), NoMemory> {
+    let end = EchoEnd::new(rt.alloc(), over_file(rt, b"echo.bin")?)?;
+    Ok((
+        Text::from_bytes(rt.alloc(), b"echo")?,
+        Box::new(rt.alloc(), end)?,
+    ))
 }
 
 fn main(rt: HostRuntime) -> ExitCode {
@@ -131,17 +124,20 @@ fn main(rt: HostRuntime) -> ExitCode {
         (b"out2", b"out2.bin"),
         (b"out3", b"out3.bin"),
     ] {
-        let Ok(end) = boxed_file_end(&rt, file) else {
+        let Ok((name, end)) = file_end(&rt, name, file) else {
             return ExitCode::from(stop(&mut out, End::NoMemory));
         };
-        if let Err(NoMemory) = add(rt.alloc(), &mut ends, name, end) {
+        let end: Box<dyn Endpoint> = end;
+        // The names differ and are few, so only memory may be lacking.
+        if let Err(_) = ends.add(name, end) {
             return ExitCode::from(stop(&mut out, End::NoMemory));
         }
     }
-    let Ok(end) = boxed_echo_end(&rt, b"echo.bin") else {
+    let Ok((name, end)) = echo_end(&rt) else {
         return ExitCode::from(stop(&mut out, End::NoMemory));
     };
-    if let Err(NoMemory) = add(rt.alloc(), &mut ends, b"echo", end) {
+    let end: Box<dyn Endpoint> = end;
+    if let Err(_) = ends.add(name, end) {
         return ExitCode::from(stop(&mut out, End::NoMemory));
     }
     match run(&rt, &mut out, &mut ends) {
