@@ -30,7 +30,8 @@ segment 0 at 0
 end 1
 ";
 
-const USAGE: &[u8] = b"usage: spin run SCRIPT [PACKETS] | spin gen NUMBER | spin join SCRIPT PACKETS | spin vm SCRIPT TRACE\n";
+const USAGE: &[u8] =
+    b"usage: spin run SCRIPT [PACKETS] | spin gen NUMBER | spin join SCRIPT PACKETS | spin vm SCRIPT TRACE\n";
 
 fn text(alloc: Global, bytes: &[u8]) -> Result<Text, NoMemory> {
     Text::from_bytes(alloc, bytes)
