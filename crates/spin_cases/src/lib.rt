@@ -13,11 +13,7 @@ mod captures;
 #[cfg(test)]
 mod endpoints;
 #[cfg(test)]
-mod executor;
-#[cfg(test)]
 mod expressions;
-#[cfg(test)]
-mod faults;
 #[cfg(test)]
 mod filter;
 #[cfg(test)]
