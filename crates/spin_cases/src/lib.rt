@@ -13,6 +13,8 @@ mod captures;
 #[cfg(test)]
 mod endpoints;
 #[cfg(test)]
+mod executor;
+#[cfg(test)]
 mod expressions;
 #[cfg(test)]
 mod filter;
