@@ -13,6 +13,9 @@ use spin_text::{put_decimal, put_line, put_number, put_word};
 use spin_values::{NoMemory, Octets};
 use spin_word::Deed;
 
+/// So many bytes most lines have at most: with room for them a line is allocated once.
+const USUAL_LENGTH: usize = 40;
+
 /// What became of a capture.
 #[derive(Clone, Copy, PartialEq, Eq, Debug)]
 pub struct CaptureCounts {
@@ -188,6 +191,7 @@ pub fn entry_text(entry: &Entry, out: &mut Octets) -> Result<(), NoMemory>
     ensures err { OnErr result (out.new ≡ out.old) }
 {
     let mut line = Octets::new(out.allocator());
+    line.reserve(USUAL_LENGTH)?;
     put_entry(&mut line, entry)?;
     put_line(out, line)
 }
@@ -200,6 +204,7 @@ pub fn job_text(job: &Job, reply: &Reply, out: &mut Octets) -> Result<(), NoMemo
     ensures err { OnErr result (out.new ≡ out.old) }
 {
     let mut line = Octets::new(out.allocator());
+    line.reserve(USUAL_LENGTH)?;
     put_job(&mut line, job, reply)?;
     put_line(out, line)
 }

@@ -162,6 +162,14 @@ impl<T: Drop> IntoIterator for Sequence<T> {
 }
 
 impl<T: Drop> Sequence<T> {
+    /// Makes room for so many more items, which then take no memory. The items are unchanged.
+    pub fn reserve(&mut self, more: usize) -> Result<(), NoMemory>
+        ensures { self.new ≡ self.old }
+    {
+        self.items.reserve(more)?;
+        Ok(())
+    }
+
     /// Puts the item in the place of the one that is there, counted from 0.
     pub fn replace(&mut self, at: usize, item: T)
         requires { at < length self.old }
