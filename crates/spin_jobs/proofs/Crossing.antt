@@ -1,6 +1,7 @@
 -- A setup may be lent to other threads, where the boxed objects in it may.
 --     setup_sync        as a field of another struct, at any three kinds of boxed handlers, guards and authorisers
 --     setup_crosses     at the kinds that the boxes of a function's parameters hide
+--     version_send, version_sync    a version may be sent and lent to other threads
 --     borrows_cross     the same of what the function borrows that does one job
 use mathlib.Core.List.{[], ◌∷◌}
 use mir.Syntax.{Dict, Slots, named}
@@ -13,9 +14,10 @@ use denote.Struct.Tuple.{TupleAt, type_at}
 use denote.Param.Table.{Table, Lawful}
 use denote.Param.Object.{Ghosts, table_of, Vt, ghosts_of}
 use denote.Param.Sent.{Sends, Syncs}
-use denote.Param.Send.{IsSync, sendable, recorded_sync, struct_sync, shr_sync, shr_slice_sync}
+use denote.Param.Send.{IsSend, IsSync, sendable, recorded_sync, struct_sync, shr_sync, shr_slice_sync}
 use Rattle.std.specs.contracts.alloc.Global as Global
 use Rattle.std.proofs.Crossing.{crosses, dyn_box_sync}
+use Rattle.std_collections.proofs.Crosses.{BTreeMap-send, BTreeMap-sync}
 use Rattle.spin_values.proofs.list.Sequence.TheSendSync as list
 use Rattle.spin_values.proofs.text.Text.TheSendSync as text
 use Rattle.spin_values.proofs.types.EventType.TheSendSync as event_type
@@ -33,6 +35,7 @@ use Rattle.spin_objects.specs.contracts.unit.Check as Check
 use Rattle.spin_objects.specs.contracts.catalogue.Catalogue as Catalogue
 use Rattle.spin_table.specs.contracts.event.EventDef as EventDef
 use Rattle.spin_table.specs.contracts.setup.Setup as Setup
+use Rattle.spin_table.specs.contracts.version.Version as Version
 use Rattle.spin_proto.specs.contracts.deed.Job as Job
 
 act_sync : IsSync (Act.the_field).row
@@ -99,8 +102,14 @@ setup_crosses s t u x y z =
     recorded_sync (Setup.the_field A B C a b c).row _ _ (Setup.the_type A B C a b c).to_one
     (setup_sync A B C a b c x.3 y.3 z.3 (search sendable) (search sendable) (search sendable))
 
+pub version_send : IsSend Version.the_row
+version_send = search (expr.crosses, test.crosses, BTreeMap-send, BTreeMap-sync, crosses, sendable) depth 60 fits 20000
+
+pub version_sync : IsSync Version.the_row
+version_sync = search (expr.crosses, test.crosses, BTreeMap-send, BTreeMap-sync, crosses, sendable) depth 60 fits 20000
+
 job_sync : IsSync Job.the_row
-job_sync = search (expr.crosses, test.crosses, crosses, sendable) depth 60 fits 20000
+job_sync = search (version_send, version_sync, crosses, sendable) depth 60 fits 20000
 
 global_sync : IsSync Global.the_row
 global_sync = search (crosses, sendable) depth 20

@@ -25,11 +25,15 @@ pub struct Party {
 }
 
 impl Model for Party {
+    ghost use Rattle.std.specs.Coded.{codes};
     ghost use Rattle.crossbeam_queue.specs.Passes.{view as view_of};
+    ghost use Rattle.spin_code.specs.contracts.test.Test as test;
     ghost use Rattle.spin_later.specs.Parties.{PartyValue, party_value};
     ghost use Rattle.spin_later.specs.Inner.Passes.{only_hand, IsPartyPass};
 
     ghost Value = { PartyValue };
+
+    ghost coded = { Prim.hlevel (codes, test.the_row.coded) };
 
     ghost view = { λ p. party_value p.pass.table_id (view_of p.pass).parties (only_hand (view_of p.pass).hands) };
 

@@ -10,7 +10,7 @@ use Rattle.spin_code.specs.Uses.{same_kind}
 use Rattle.spin_place.specs.declared.binding.Binding.{Binding}
 use Rattle.spin_place.specs.Precedence.{IsTheOrder}
 use Rattle.spin_table.specs.declared.event.EventDef.{EventDef}
-use Rattle.spin_table.specs.Setups.{SetupData}
+use Rattle.spin_table.specs.Setups.{SetupData, tests_in}
 use Rattle.spin_table.specs.States.{State, EventState, binding_of, is_live}
 use Rattle.spin_table.specs.Steps.{bindings_at}
 use Rattle.spin_table.specs.Orders.{arranged}
@@ -61,7 +61,7 @@ job_reply u bounds (call.Binding event number args) =
 
 -- the acts and tests of a setup
 abbrev pub units_in : SetupData → Units
-units_in d = record { acts = map (λ h. h.act) d.handlers; tests = map (λ g. g.test) d.guards }
+units_in d = record { acts = map (λ h. h.act) d.handlers; tests = tests_in d }
 
 -- the types of a setup's events
 abbrev pub types_in : SetupData → List EventType

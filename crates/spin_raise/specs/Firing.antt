@@ -45,7 +45,7 @@ bound_of bindings m default = record { bindings = bindings; merge = m; default =
 
 -- the event that a raise is handed, so
 abbrev pub as_found : given.Bound → Bound
-as_found b = bound_of b.plan.now b.merge.now b.default
+as_found b = bound_of b.plan.now.bindings b.merge.now b.default
 
 -- who does a raise: a job where it runs apart from its raiser
 abbrev pub runner_of : Bool → Runner

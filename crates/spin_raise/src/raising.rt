@@ -2,6 +2,8 @@
 
 ghost use Rattle.std.specs.Prelude.{◌≡◌, ◌++◌, OnOk, IfOk};
 ghost use Rattle.std.specs.List.{flat_map};
+ghost use Rattle.spin_plan.specs.Planned.{IsOver};
+ghost use Rattle.spin_objects.specs.Units.{tests_of};
 ghost use Rattle.spin_raise.specs.Firing.{units_of, bound_of, runner_of, IsThere, fired};
 ghost use Rattle.spin_raise.specs.Firing.{items_by, answer_of, args_left};
 
@@ -27,9 +29,10 @@ use std::mem;
 /// [`Answer::Done`] where bindings ran and none gave a result that is merged; [`Answer::Default`] with the default's
 /// result where it ran; and [`Answer::NoHandler`] where nothing ran.
 ///
-/// The handlers and guards that plan and default name are there, and the catalogue's objects do what they were handed
-/// in with. After want of memory nothing is known of the arguments and the outcome. It is linear in the bindings,
-/// their guards, and what the acts do and give; the arguments are copied for jobs alone.
+/// The handlers and guards that plan and default name are there, the plan was compiled over these guards, and the
+/// catalogue's objects do what they were handed in with. After want of memory nothing is known of the arguments and
+/// the outcome. It is linear in the bindings that may fire, their guards, and what the acts do and give; the arguments
+/// are copied for jobs alone.
 pub fn raise(
     alloc: Global,
     plan: &Plan,
@@ -40,15 +43,16 @@ pub fn raise(
     args: &mut Args,
     out: &mut Outcome,
 ) -> Result<Answer, NoMemory>
-    requires there { IsThere (units_of cat.now) (bound_of plan.now merge.now default) }
+    requires there { IsThere (units_of cat.now) (bound_of plan.now.bindings merge.now default) }
+    requires over { IsOver (tests_of cat.now) plan.now }
     requires sincere { ⟦<Catalogue as Sincere>⟧.sincere cat.now }
-    ensures answer { let event = bound_of plan.now merge.now default in
+    ensures answer { let event = bound_of plan.now.bindings merge.now default in
         let all = fired (runner_of apart) (units_of cat.now) event args.old in
         IfOk result (λ a. a ≡ answer_of merge.now all) }
-    ensures out { let event = bound_of plan.now merge.now default in
+    ensures out { let event = bound_of plan.now.bindings merge.now default in
         let all = fired (runner_of apart) (units_of cat.now) event args.old in
         OnOk result (out.new ≡ out.old ++ flat_map items_by all) }
-    ensures args { let event = bound_of plan.now merge.now default in
+    ensures args { let event = bound_of plan.now.bindings merge.now default in
         let all = fired (runner_of apart) (units_of cat.now) event args.old in
         OnOk result (args.new ≡ args_left args.old all) }
 {

@@ -4,6 +4,7 @@ ghost use Rattle.std.specs.Prelude.{◌≡◌, ◌+◌, ◌-◌, ◌<◌, ◌≤
 ghost use Rattle.std.specs.Prelude.{slice_get, OnOk, IfOk, IfSome, Some};
 ghost use Rattle.std.specs.List.{All};
 ghost use Rattle.spin_plan.specs.Next.{IsNext, IsGuard, guards_hold};
+ghost use Rattle.spin_plan.specs.Planned.{IsOver};
 ghost use Rattle.spin_objects.specs.Doing.{items_of, args_after, last_result};
 ghost use Rattle.spin_objects.specs.Units.{acts_of, tests_of};
 ghost use Rattle.spin_raise.specs.Firing.{units_of, steps_at, firing_of, IsThere, as_found};
@@ -94,14 +95,15 @@ fn next_counted<L: Ledger>(
     args: &Args,
     blank: Blank,
 ) -> Option<u32>
-    requires own { All (λ b. IsGuard (length (tests_of cat.now)) b.own_guard) plan.now }
-    requires imposed { All (λ b. All (IsGuard (length (tests_of cat.now))) b.imposed) plan.now }
+    requires own { All (λ b. IsGuard (length (tests_of cat.now)) b.own_guard) plan.now.bindings }
+    requires imposed { All (λ b. All (IsGuard (length (tests_of cat.now))) b.imposed) plan.now.bindings }
+    requires over { IsOver (tests_of cat.now) plan.now }
     requires sincere { ⟦<Catalogue as Sincere>⟧.sincere cat.now }
     requires name { blank.name ≡ L.name }
     requires parts { blank.parts ≡ L.parts }
     requires some { 0 < L.parts }
-    ensures next { IsNext (guards_hold (tests_of cat.now) args.now) plan.now from result }
-    ensures within { IfSome result (λ at. at < length plan.now) }
+    ensures next { IsNext (guards_hold (tests_of cat.now) args.now) plan.now.bindings from result }
+    ensures within { IfSome result (λ at. at < length plan.now.bindings) }
     ensures small { IfSome result (λ at. at + 1 < 2 ^ 32) }
 {
     let mut steps = Steps::<L>::new(blank);
@@ -110,11 +112,12 @@ fn next_counted<L: Ledger>(
 
 /// The next position, from this one on, whose binding fires on these arguments.
 fn next_firing(cat: &Catalogue, plan: &Plan, from: u32, args: &Args) -> Option<u32>
-    requires own { All (λ b. IsGuard (length (tests_of cat.now)) b.own_guard) plan.now }
-    requires imposed { All (λ b. All (IsGuard (length (tests_of cat.now))) b.imposed) plan.now }
+    requires own { All (λ b. IsGuard (length (tests_of cat.now)) b.own_guard) plan.now.bindings }
+    requires imposed { All (λ b. All (IsGuard (length (tests_of cat.now))) b.imposed) plan.now.bindings }
+    requires over { IsOver (tests_of cat.now) plan.now }
     requires sincere { ⟦<Catalogue as Sincere>⟧.sincere cat.now }
-    ensures next { IsNext (guards_hold (tests_of cat.now) args.now) plan.now from result }
-    ensures within { IfSome result (λ at. at < length plan.now) }
+    ensures next { IsNext (guards_hold (tests_of cat.now) args.now) plan.now.bindings from result }
+    ensures within { IfSome result (λ at. at < length plan.now.bindings) }
     ensures small { IfSome result (λ at. at + 1 < 2 ^ 32) }
 {
     next_counted::<Brand>(cat, plan, from, args, Blank::new(1))
@@ -175,6 +178,7 @@ pub fn step(
     out: &mut Outcome,
 ) -> Result<Stepped, NoMemory>
     requires there { IsThere (units_of cat.now) (as_found bound.now) }
+    requires over { IsOver (tests_of cat.now) bound.now.plan.now }
     requires sincere { ⟦<Catalogue as Sincere>⟧.sincere cat.now }
     ensures { let before = to_come runner (units_of cat.now) (as_found bound.now) progress.old in
         let after = to_come runner (units_of cat.now) (as_found bound.now) progress.new in

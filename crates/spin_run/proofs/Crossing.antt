@@ -8,15 +8,20 @@ use denote.Ref.{ShrRef}
 use denote.Struct.Declared.{shape, field}
 use denote.Struct.Tuple.{TupleAt, type_at}
 use denote.Param.Object.{Vt, ghosts_of}
-use denote.Param.Send.{IsSync, sendable, recorded_sync, struct_sync, shr_sync}
+use denote.Param.Send.{IsSend, IsSync, sendable, recorded_send, recorded_sync, struct_send, struct_sync, shr_sync}
 use Rattle.std.specs.contracts.alloc.Global as Global
 use Rattle.std.proofs.Crossing.{crosses}
 use Rattle.spin_values.specs.contracts.list.Sequence as Sequence
 use Rattle.spin_values.proofs.list.Sequence.TheSendSync as list
 use Rattle.spin_log.proofs.log.Log.TheSendSync as log
+use Rattle.spin_log.proofs.pen.Pen.TheSendSync as pen
 use Rattle.spin_seat.specs.contracts.hub.Hub as Hub
+use Rattle.spin_seat.specs.contracts.seat.Seat as Seat
 use Rattle.spin_script.specs.contracts.script.Segment as Segment
-use Rattle.spin_jobs.proofs.Crossing.{Shared, setup_sync}
+use Rattle.spin_proto.specs.contracts.deed.Job as Job
+use Rattle.spin_report.specs.contracts.entry.Entry as Entry
+use Rattle.spin_jobs.proofs.Crossing.{Shared, setup_sync, version_send, version_sync}
+use Rattle.spin_run.specs.contracts.lane.Lane as Lane
 
 -- the hub
 pub hub_crosses : {G H K : Type 0 → Type 1} (s t u : Dict → Slots) (x : Shared G) (y : Shared H) (z : Shared K)
@@ -49,3 +54,18 @@ pub borrows_cross : {G H K : Type 0 → Type 1} (s t u : Dict → Slots) (x : Sh
     ∷ ShrRef (named 0) l (Hub.the_row (Vt s x.0) (Vt t y.0) (Vt u z.0) (ghosts_of s x.0 x.1) (ghosts_of t y.0 y.1) (ghosts_of u z.0 z.1))
     ∷ ShrRef (named 0) m Segment.the_row ∷ ShrRef (named 0) n (Sequence.the_row (Sequence.the_row u8)) ∷ ShrRef (named 0) o E ∷ []))
 borrows_cross s t u x y z E k l m n o e = borrows Global.the_row _ Segment.the_row _ E k l m n o global_sync (hub_crosses s t u x y z) segment_sync frames_sync e
+
+-- a seat, and a lane, which their threads take
+pub seat_send : IsSend Seat.the_row
+seat_send = search (pen.the_send, version_send, version_sync, crosses, sendable) depth 60 fits 20000
+
+job_send : IsSend Job.the_row
+job_send = search (version_send, version_sync, crosses, sendable) depth 60 fits 20000
+
+entry_send : IsSend Entry.the_row
+entry_send = search (crosses, sendable) depth 60 fits 20000
+
+pub lane_send : IsSend Lane.the_row
+lane_send =
+    recorded_send (Lane.the_field).row _ _ (Lane.the_type).to_one
+    (struct_send (shape Lane.the_type) (search (seat_send, sendable), (list.the_send Entry.the_row entry_send, (list.the_send Job.the_row job_send, (search (crosses, sendable) depth 30 fits 20000, tt)))))

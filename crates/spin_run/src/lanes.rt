@@ -33,9 +33,13 @@ pub struct Lanes {
 
 impl Model for Lanes {
     ghost use Rattle.std.specs.Prelude.{List};
+    ghost use Rattle.std.specs.Coded.{codes};
+    ghost use Rattle.spin_code.specs.contracts.test.Test as test;
     ghost use Rattle.spin_run.specs.declared.lane.Lane.{Lane};
 
     ghost Value = { List Lane };
+
+    ghost coded = { Prim.hlevel (codes, test.the_row.coded) };
 
     ghost view = { λ l. l.items.items };
 }

@@ -49,9 +49,13 @@ pub struct Seat {
 
 impl Model for Seat {
     ghost use Rattle.std.specs.Arc.{arc_value};
+    ghost use Rattle.std.specs.Coded.{codes};
+    ghost use Rattle.spin_code.specs.contracts.test.Test as test;
     ghost use Rattle.spin_seat.specs.Seats.{SeatValue};
 
     ghost Value = { SeatValue };
+
+    ghost coded = { Prim.hlevel (codes, test.the_row.coded) };
 
     ghost view = { λ s. record { pen = s.pen; state = arc_value s.version; kept = s.kept } };
 }

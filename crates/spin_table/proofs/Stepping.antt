@@ -111,6 +111,7 @@ later_event d place event e t s = record {
   orderly = s.orderly;
   bindings = s.bindings;
   default = s.default;
+  tests = s.tests;
 }
 
 -- a number stands at an event that is there
@@ -260,15 +261,15 @@ change_fault d e t c new (fault.Refused (refusal.ForcedMode rule)) orderly h = a
 
 -- a default and a no-default change the default alone
 pub after_default : (policies : List (List Rule)) (e : EventDef) (place : ℕ) (c : Command) (t : EventState) → c.op ≡ op.Default
-    → event_after policies e place c t ≡ record { bindings = t.bindings; default = c.handler }
+    → event_after policies e place c t ≡ record { bindings = t.bindings; tests = t.tests; default = c.handler }
 after_default policies e place c t is =
-    let state : Op → EventState = λ o. record { bindings = bindings_after (rules_of policies e.authority) (answer_to policies e t.bindings c) place c o t.bindings; default = default_after c o t.default } in
+    let state : Op → EventState = λ o. record { bindings = bindings_after (rules_of policies e.authority) (answer_to policies e t.bindings c) place c o t.bindings; tests = t.tests; default = default_after c o t.default } in
     ap state is
 
 pub after_no_default : (policies : List (List Rule)) (e : EventDef) (place : ℕ) (c : Command) (t : EventState) → c.op ≡ op.NoDefault
-    → event_after policies e place c t ≡ record { bindings = t.bindings; default = 0 }
+    → event_after policies e place c t ≡ record { bindings = t.bindings; tests = t.tests; default = 0 }
 after_no_default policies e place c t is =
-    let state : Op → EventState = λ o. record { bindings = bindings_after (rules_of policies e.authority) (answer_to policies e t.bindings c) place c o t.bindings; default = default_after c o t.default } in
+    let state : Op → EventState = λ o. record { bindings = bindings_after (rules_of policies e.authority) (answer_to policies e t.bindings c) place c o t.bindings; tests = t.tests; default = default_after c o t.default } in
     ap state is
 
 -- an order is all that an install asks beside

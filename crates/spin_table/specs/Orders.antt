@@ -2,6 +2,7 @@
 use Rattle.std.specs.Prelude.{ℕ, List}
 use Rattle.std.specs.List.{filter_map}
 use Rattle.spin_word.specs.declared.command.Command.{Command}
+use Rattle.spin_code.specs.declared.test.Test.{Test}
 use Rattle.spin_policy.specs.declared.rule.Rule.{Rule}
 use Rattle.spin_place.specs.declared.binding.Binding.{Binding}
 use Rattle.spin_place.specs.Precedence.{IsCycle, HasLawfulOrder}
@@ -11,6 +12,11 @@ use Rattle.spin_table.specs.declared.refusal.StepFault.{StepFault}
 use Rattle.spin_table.specs.declared.refusal.StepFault.TheVariants as fault
 use Rattle.spin_table.specs.States.{EventState, binding_of}
 use Rattle.spin_table.specs.Steps.{event_after, IsConflict}
+
+-- an event's bindings, and the tests of the guards over which their plan was compiled
+pub record Listed : Type 0 where
+  pub bindings : List Binding
+  pub tests : List Test
 
 -- the bindings of these numbers, in the order of the numbers
 abbrev pub arranged : List Binding → List ℕ → List Binding

@@ -1,6 +1,7 @@
 -- What a setup says, as plain data.
-use Rattle.std.specs.Prelude.{ℕ, Bool, true, nat_lt, List, [], length, Option, None, Some}
+use Rattle.std.specs.Prelude.{ℕ, Bool, true, nat_lt, List, [], length, map, Option, None, Some}
 use Rattle.std.specs.Prelude.{slice_get}
+use Rattle.spin_code.specs.declared.test.Test.{Test}
 use Rattle.spin_objects.specs.Units.{HandlerUnit, GuardUnit}
 use Rattle.spin_policy.specs.declared.rule.Rule.{Rule}
 use Rattle.spin_table.specs.declared.event.EventDef.{EventDef}
@@ -16,6 +17,10 @@ pub record SetupData : Type 0 where
   pub handlers : List HandlerUnit
   pub guards : List GuardUnit
   pub policies : List (List Rule)
+
+-- the guards' tests
+abbrev pub tests_in : SetupData → List Test
+tests_in d = map (λ g. g.test) d.guards
 
 abbrev pub rules_if : Option (List Rule) → List Rule
 rules_if None = []

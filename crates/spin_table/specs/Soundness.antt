@@ -6,7 +6,7 @@ use Rattle.std.specs.List.Sorted.{IsStrictlyIncreasing}
 use Rattle.spin_place.specs.declared.binding.Binding.{Binding}
 use Rattle.spin_place.specs.Precedence.{numbers_of, HasLawfulOrder}
 use Rattle.spin_table.specs.declared.event.EventDef.{EventDef}
-use Rattle.spin_table.specs.Setups.{SetupData}
+use Rattle.spin_table.specs.Setups.{SetupData, tests_in}
 use Rattle.spin_table.specs.States.{State, EventState}
 use Rattle.spin_table.specs.Units.{is_fit_handler, is_fit_guard, is_fit_own_guard, is_fit_default}
 
@@ -18,7 +18,7 @@ is_fit_binding d event e b =
     && list_all (is_fit_guard d.guards e) b.imposed
 
 -- the state of an event is sound at that place: its bindings rise by number from 1 to the place, are no more than the
--- limit, have a lawful order, and like its default serve the event
+-- limit, have a lawful order, and like its default serve the event, and its guards are those of the setup
 pub record IsSoundEvent (d : SetupData) (place event : ℕ) (e : EventDef) (s : EventState)
     : Type 0 where
   pub rising : IsStrictlyIncreasing (numbers_of s.bindings)
@@ -27,6 +27,7 @@ pub record IsSoundEvent (d : SetupData) (place event : ℕ) (e : EventDef) (s : 
   pub orderly : HasLawfulOrder s.bindings
   pub bindings : All (λ b. IsTrue (is_fit_binding d event e b)) s.bindings
   pub default : IsTrue (is_fit_default d.handlers event e s.default)
+  pub tests : s.tests ≡ tests_in d
 
 -- the event of that number has a binding of this number
 abbrev pub IsNumberAt : State → ℕ → ℕ → Type 0

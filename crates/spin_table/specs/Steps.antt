@@ -89,6 +89,7 @@ abbrev pub event_after : List (List Rule) → EventDef → ℕ → Command → E
 event_after policies e place c s = record {
   bindings = bindings_after (rules_of policies e.authority)
       (answer_to policies e s.bindings c) place c c.op s.bindings;
+  tests = s.tests;
   default = default_after c c.op s.default;
 }
 

@@ -4,7 +4,7 @@
 //!   why there is no such setup, and `build` finds it out;
 //! - a [`Refusal`] says why a command is refused, and `judging` finds out which refusal is the first, over `units`
 //!   (which handlers and guards an event can have) and `live` (its live bindings);
-//! - `changes` makes the bindings of an event after a command, and `lists` their plan;
+//! - `changes` makes the bindings of an event after a command, and `lists` their plan over the guards of `guarding`;
 //! - a [`Version`] is a state that never changes, of which a command makes the next; [`steps_are_one`] says that it
 //!   makes but one.
 #![tactic(auto)]
@@ -13,6 +13,7 @@ mod build;
 mod changes;
 mod event;
 mod fault;
+mod guarding;
 mod judging;
 mod law;
 mod limits;

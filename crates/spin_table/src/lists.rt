@@ -2,16 +2,19 @@
 
 ghost use Rattle.std.specs.Prelude.{◌≡◌, ◌≤◌, ◌+◌, ◌++◌, ℕ, List, All, IfOk, OnOk};
 ghost use Rattle.std.specs.Prelude.{MatchResult, length};
+ghost use Rattle.std.specs.Arc.{arc_value};
 ghost use Rattle.std.specs.Option.{option_copied, option_to_list};
 ghost use Rattle.spin_place.specs.Orders.{AreDistinct};
 ghost use Rattle.spin_place.specs.Precedence.{numbers_of, IsTheOrder, HasLawfulOrder};
 ghost use Rattle.spin_plan.specs.Next.{IsGuard};
-ghost use Rattle.spin_objects.specs.Units.{guards_of};
+ghost use Rattle.spin_plan.specs.Planned.{IsOver};
+ghost use Rattle.spin_objects.specs.Units.{guards_of, tests_of};
 ghost use Rattle.spin_table.specs.Orders.{arranged, IsOrderFault};
 ghost use Rattle.spin_table.specs.Steps.{OnRefused};
 ghost use Rattle.spin_table.specs.declared.setup.TheConstants.{MAX_LIVE};
 
 use crate::changes::Bindings;
+use crate::guarding::{Tests, share_tests};
 use crate::live::find_binding;
 use crate::refusal::{Refusal, StepFault};
 use crate::setup::Setup;
@@ -20,26 +23,34 @@ use spin_plan::Plan;
 use spin_values::{NoMemory, Numbers, Sequence, Steps};
 use std::alloc::Global;
 use std::marker::Model;
+use std::sync::Arc;
 use std::sync::ledger::Ledger;
 
-/// The live bindings of one event in rising order of number, and their plan. Contracts see the bindings.
+/// The live bindings of one event in rising order of number, and their plan. Contracts see the bindings, and the tests
+/// over which the plan was compiled.
 #[derive(Drop)]
 pub(crate) struct EventLists {
     bindings: Bindings,
     plan: Plan,
+    tests: Arc<Tests>,
 }
 
 impl Model for EventLists {
     ghost use Rattle.std.specs.Prelude.{List, ℕ, ◌≡◌};
-    ghost use Rattle.spin_place.specs.declared.binding.Binding.{Binding};
+    ghost use Rattle.std.specs.Arc.{arc_value};
+    ghost use Rattle.std.specs.Coded.{codes};
+    ghost use Rattle.spin_code.specs.contracts.test.Test as test;
     ghost use Rattle.spin_place.specs.Precedence.{IsTheOrder};
-    ghost use Rattle.spin_table.specs.Orders.{arranged};
+    ghost use Rattle.spin_plan.specs.Planned.{IsOver};
+    ghost use Rattle.spin_table.specs.Orders.{Listed, arranged};
 
-    ghost Value = { List Binding };
+    ghost Value = { Listed };
 
-    ghost view = { λ l. l.bindings };
+    ghost coded = { Prim.hlevel (codes, test.the_row.coded) };
 
-    ghost invariant = { λ l. (ns : List ℕ) → IsTheOrder l.bindings ns → l.plan ≡ arranged l.bindings ns };
+    ghost view = { λ l. record { bindings = l.bindings; tests = arc_value l.tests } };
+
+    ghost invariant = { λ l. ((ns : List ℕ) → IsTheOrder l.bindings ns → l.plan.bindings ≡ arranged l.bindings ns) × IsOver (arc_value l.tests) l.plan };
 }
 
 // Adds the binding, if there is one.
@@ -81,36 +92,54 @@ impl EventLists {
     pub(crate) fn make<L: Ledger>(
         alloc: Global,
         setup: &Setup,
+        tests: &Arc<Tests>,
         bindings: Bindings,
         steps: &mut Steps<L>,
     ) -> Result<EventLists, StepFault>
+        requires tests { arc_value tests.now ≡ tests_of setup.now.catalogue }
         requires distinct { AreDistinct (numbers_of bindings) }
         requires few { length bindings ≤ MAX_LIVE }
         requires own { All (λ b. IsGuard (length (guards_of setup.now.catalogue)) b.own_guard) bindings }
         requires imposed { All (λ b. All (IsGuard (length (guards_of setup.now.catalogue))) b.imposed)
             bindings }
-        ensures made { MatchResult result (λ made. (made ≡ bindings) × HasLawfulOrder bindings)
+        ensures made { MatchResult result
+            (λ made.
+            (made ≡ record { bindings = bindings; tests = tests_of setup.now.catalogue })
+            × HasLawfulOrder bindings)
             (IsOrderFault bindings) }
         ensures ticks { steps.new ≤ steps.old + length bindings }
         ensures refused { OnRefused result (steps.new ≡ steps.old) }
     {
+        let tests = share_tests(tests)?;
         let numbers = match order_of(alloc, bindings.as_slice()) {
             Ok(numbers) => numbers,
             Err(fault) => return Err(fault),
         };
         let list = arrange(alloc, bindings.as_slice(), numbers.as_slice())?;
         let plan = Plan::compile(alloc, list.as_slice(), setup.catalogue(), steps)?;
-        Ok(EventLists { bindings, plan })
+        Ok(EventLists {
+            bindings,
+            plan,
+            tests,
+        })
     }
 
     pub(crate) fn bindings(&self) -> &[Binding]
-        ensures { result.now ≡ self.now }
+        ensures { result.now ≡ self.now.bindings }
     {
         self.bindings.as_slice()
     }
 
+    pub(crate) fn tests(&self) -> &Arc<Tests>
+        ensures { arc_value result.now ≡ self.now.tests }
+    {
+        &self.tests
+    }
+
     pub(crate) fn plan(&self) -> &Plan
-        ensures { (ns : List ℕ) → IsTheOrder self.now ns → result.now ≡ arranged self.now ns }
+        ensures order { (ns : List ℕ) → IsTheOrder self.now.bindings ns
+            → result.now.bindings ≡ arranged self.now.bindings ns }
+        ensures over { IsOver self.now.tests result.now }
     {
         &self.plan
     }

@@ -11,6 +11,8 @@ ghost use Rattle.spin_table.specs.Refusals.{refusals_at};
 ghost use Rattle.spin_table.specs.Steps as specs;
 ghost use Rattle.spin_table.specs.Steps.{event_after, OnRefused, MayConflict};
 ghost use Rattle.spin_table.specs.Orders.{arranged, IsChangeFault};
+ghost use Rattle.spin_plan.specs.Planned.{IsOver};
+ghost use Rattle.spin_objects.specs.Units.{tests_of};
 ghost use Rattle.spin_table.specs.Soundness.{IsSound, IsSoundEvent};
 ghost use Rattle.spin_table.specs.SetupOf.{data_of};
 ghost use Rattle.spin_table.specs.declared.setup.TheConstants.{MAX_LIVE};
@@ -20,6 +22,7 @@ ghost use Rattle.std.specs.Arc.{arc_value};
 
 use crate::changes::{Bindings, bindings_after};
 use crate::event::EventDef;
+use crate::guarding::Tests;
 use crate::judging::{answer, is_install, refusal, rules};
 use crate::lists::EventLists;
 use crate::refusal::{Refusal, StepFault};
@@ -44,11 +47,15 @@ pub(crate) struct EventSlot {
 
 impl Model for EventSlot {
     ghost use Rattle.std.specs.Arc.{arc_value};
+    ghost use Rattle.std.specs.Coded.{codes};
+    ghost use Rattle.spin_code.specs.contracts.test.Test as test;
     ghost use Rattle.spin_table.specs.States.{EventState};
 
     ghost Value = { EventState };
 
-    ghost view = { λ s. record { bindings = arc_value s.lists; default = s.default } };
+    ghost coded = { Prim.hlevel (codes, test.the_row.coded) };
+
+    ghost view = { λ s. record { bindings = (arc_value s.lists).bindings; tests = (arc_value s.lists).tests; default = s.default } };
 }
 
 /// The place, and the bindings and the default of each event. Contracts see the state.
@@ -59,9 +66,13 @@ pub struct Version {
 }
 
 impl Model for Version {
+    ghost use Rattle.std.specs.Coded.{codes};
+    ghost use Rattle.spin_code.specs.contracts.test.Test as test;
     ghost use Rattle.spin_table.specs.States.{State};
 
     ghost Value = { State };
+
+    ghost coded = { Prim.hlevel (codes, test.the_row.coded) };
 
     ghost view = { λ v. record { place = v.place; events = v.events } };
 }
@@ -126,7 +137,7 @@ impl EventSlot {
         ensures refused { OnRefused result (steps.new ≡ steps.old) }
     {
         let bindings = self.bindings_after(alloc, setup, def, place, c)?;
-        let lists = match EventLists::make(alloc, setup, bindings, steps) {
+        let lists = match EventLists::make(alloc, setup, self.lists.tests(), bindings, steps) {
             Ok(lists) => lists,
             Err(fault) => return Err(fault),
         };
@@ -172,7 +183,10 @@ impl EventSlot {
     /// One more owner of the lists, with this default.
     fn with_default(&self, default: u16) -> Result<EventSlot, NoMemory>
         ensures { IfOk result
-            (λ slot. slot ≡ record { bindings = self.now.bindings; default = default }) }
+            (λ slot.
+            slot
+            ≡ record
+            { bindings = self.now.bindings; tests = self.now.tests; default = default }) }
     {
         Ok(EventSlot {
             default,
@@ -196,15 +210,18 @@ fn share(alloc: Global, slots: &[EventSlot]) -> Result<Sequence<EventSlot>, NoMe
 fn empty_lists<L: Ledger>(
     alloc: Global,
     setup: &Setup,
+    tests: &Arc<Tests>,
     blank: Blank,
 ) -> Result<EventLists, NoMemory>
+    requires tests { arc_value tests.now ≡ tests_of setup.now.catalogue }
     requires name { blank.name ≡ L.name }
     requires parts { blank.parts ≡ L.parts }
     requires some { 0 < L.parts }
-    ensures { IfOk result (λ lists. lists ≡ []) }
+    ensures { IfOk result
+        (λ lists. lists ≡ record { bindings = []; tests = tests_of setup.now.catalogue }) }
 {
     let mut steps = Steps::<L>::new(blank);
-    match EventLists::make(alloc, setup, Sequence::new(alloc), &mut steps) {
+    match EventLists::make(alloc, setup, tests, Sequence::new(alloc), &mut steps) {
         Ok(lists) => Ok(lists),
         Err(_) => Err(NoMemory),
     }
@@ -216,8 +233,9 @@ fn first_slots(
     events: &[EventDef],
     empty: &Arc<EventLists>,
 ) -> Result<Sequence<EventSlot>, NoMemory>
-    requires { arc_value empty.now ≡ [] }
-    ensures { IfOk result (λ slots. slots ≡ map first_state events.now) }
+    requires { (arc_value empty.now).bindings ≡ [] }
+    ensures { IfOk result
+        (λ slots. slots ≡ map (first_state (arc_value empty.now).tests) events.now) }
 {
     let mut slots = Sequence::new(alloc);
     for event in events {
@@ -235,7 +253,8 @@ impl Version {
         ensures start { IfOk result (λ v. v ≡ start_of (data_of setup.now)) }
         ensures sound { IfOk result (λ v. IsSound (data_of setup.now) v) }
     {
-        let lists = empty_lists::<Brand>(alloc, setup, Blank::new(1))?;
+        let tests = Arc::new(alloc, Tests::of(alloc, setup.catalogue())?)?;
+        let lists = empty_lists::<Brand>(alloc, setup, &tests, Blank::new(1))?;
         let empty = Arc::new(alloc, lists)?;
         let events = first_slots(alloc, setup.event_defs(), &empty)?;
         Ok(Version { place: 0, events })
@@ -264,12 +283,14 @@ impl Version {
         self.events.get(event as usize).default
     }
 
-    /// The plan of an event that is there: that of its bindings in the order in which they run.
+    /// The plan of an event that is there: that of its bindings in the order in which they run, over the guards of the
+    /// setup.
     pub fn plan(&self, event: u8) -> &Plan
         requires { event < length self.now.events }
-        ensures { IsSomeAnd (slice_get self.now.events event) (λ e.
+        ensures order { IsSomeAnd (slice_get self.now.events event) (λ e.
             (ns : List ℕ) → IsTheOrder e.bindings ns
-            → result.now ≡ arranged e.bindings ns) }
+            → result.now.bindings ≡ arranged e.bindings ns) }
+        ensures over { IsSomeAnd (slice_get self.now.events event) (λ e. IsOver e.tests result.now) }
     {
         self.events.get(event as usize).lists.plan()
     }

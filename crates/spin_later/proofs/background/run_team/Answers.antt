@@ -1,8 +1,9 @@
+use denote.Param.Send.{param_send}
 use Rattle.spin_later.specs.contracts.background.run_team.dyn-1 as one
 use Rattle.spin_later.specs.contracts.background.run_team.dyn-2 as two
 use Rattle.spin_later.specs.contracts.background.run_team.dyn-3 as three
 use Rattle.std.proofs.Common.{rules}
-use Rattle.spin_later.proofs.Crossing.{borrows_cross}
+use Rattle.spin_later.proofs.Crossing.{borrows_cross, worker_send}
 use Rattle.spin_later.proofs.Team.{same_numbers}
 use Rattle.spin_later.proofs.background.run_team.Goals as goal
 
@@ -14,3 +15,8 @@ for_each_mut-requires-sync-F g c κs within =
 
 pub returns-clause-numbers : goal.returns-clause-numbers
 returns-clause-numbers g c = same_numbers c.args.team.now.items c.for_each_mut.new.s c.args.team.now.len c.args.team.now.ok.0 (search rules) (λ k d lt. search rules)
+
+pub for_each_mut-requires-send-T : goal.for_each_mut-requires-send-T
+for_each_mut-requires-send-T g c κs within =
+    let given = param_send 1 _ worker_send in
+    record { owned = given.owned; leaving = given.leaving }

@@ -1,8 +1,11 @@
 use Rattle.std.proofs.Common.{length, Some, None, true, [], sym, subst, ◌∙◌}
+use Rattle.spin_objects.specs.Units.{tests_of}
+use Rattle.spin_plan.specs.Planned.{IsOver}
 use Rattle.spin_raise.specs.Firing.{units_of, bound_of, IsThere}
 use Rattle.spin_table.specs.SetupOf.{data_of}
 use Rattle.spin_proto.specs.Replies.{units_in}
 use Rattle.spin_proto.specs.Whole.{raised_after, marks_of}
+use Rattle.spin_proto.proofs.Bounds.{over_here}
 use Rattle.spin_proto.proofs.Owes.{owes_all}
 use Rattle.spin_proto.proofs.Turning.{follow_on, follow_spent, rest_rises, begins_owing, turn_unnoted, turn_short, turn_over, turn_answer, turn_rises, turn_waits, nothing_waits, turn_full, turn_end, turn_shorter, from_empty, begins, comes_at}
 use Rattle.spin_proto.proofs.Served.{served, bound_here}
@@ -14,8 +17,8 @@ turns-init g t c =
     let d = data_of a.setup.now in
     let s = a.version.now in
     let e = c.event-def.result.now in
-    let b = bound_of c.plan-plan.result.now e.merge c.default_of-default.result in
-    let serving = served d s a.event e c.plan-plan.result.now c.default_of-default.result c.requires.sound c.event-def.ensures c.default_of-default.ensures c.plan-plan.ensures a.setup.now.sound in
+    let b = bound_of c.plan-plan.result.now.bindings e.merge c.default_of-default.result in
+    let serving = served d s a.event e c.plan-plan.result.now.bindings c.default_of-default.result c.requires.sound c.event-def.ensures c.default_of-default.ensures c.plan-plan.ensures.order a.setup.now.sound in
     let from = begins (length s.events) a.event a.runner (units_in d) b c.start-progress.result a.args serving c.start-progress.ensures.from c.start-progress.ensures.answer c.start-progress.ensures.args in
     ((λ bounds are. begins_owing (marks_of a.event (raised_after a.runner (units_in d) bounds a.event)) a.runner (units_in d) b c.start-progress.result a.args a.walk.now c.start-progress.ensures.from c.start-progress.ensures.answer c.start-progress.ensures.args), from.0, from.1)
 
@@ -24,17 +27,23 @@ step-requires-clause-there g t c =
     let a = c.args in
     let d = data_of a.setup.now in
     let e = c.event-def.result.now in
-    let b = bound_of c.plan-plan.result.now e.merge c.default_of-default.result in
-    let serving = served d a.version.now a.event e c.plan-plan.result.now c.default_of-default.result c.requires.sound c.event-def.ensures c.default_of-default.ensures c.plan-plan.ensures a.setup.now.sound in
+    let b = bound_of c.plan-plan.result.now.bindings e.merge c.default_of-default.result in
+    let serving = served d a.version.now a.event e c.plan-plan.result.now.bindings c.default_of-default.result c.requires.sound c.event-def.ensures c.default_of-default.ensures c.plan-plan.ensures.order a.setup.now.sound in
     subst (λ cat. IsThere (units_of cat) b) (sym c.catalogue-cat.ensures) serving.there
+
+pub step-requires-clause-over : goal.step-requires-clause-over
+step-requires-clause-over g t c =
+    let a = c.args in
+    let over = over_here (data_of a.setup.now) a.version.now a.event c.event-def.result.now c.plan-plan.result.now c.requires.sound c.event-def.ensures c.plan-plan.ensures.over in
+    subst (λ cat. IsOver (tests_of cat) c.plan-plan.result.now) (sym c.catalogue-cat.ensures) over
 
 pub returns-in-End : goal.returns-in-End
 returns-in-End g t c = λ bounds are.
     let a = c.args in
     let d = data_of a.setup.now in
     let e = c.event-def.result.now in
-    let b = bound_of c.plan-plan.result.now e.merge c.default_of-default.result in
-    let here = bound_here d a.version.now a.event e c.plan-plan.result.now c.default_of-default.result c.requires.sound c.event-def.ensures c.default_of-default.ensures c.plan-plan.ensures bounds are in
+    let b = bound_of c.plan-plan.result.now.bindings e.merge c.default_of-default.result in
+    let here = bound_here d a.version.now a.event e c.plan-plan.result.now.bindings c.default_of-default.result c.requires.sound c.event-def.ensures c.default_of-default.ensures c.plan-plan.ensures.order bounds are in
     let stepped = rw c.catalogue-cat.ensures at c.in_ok-step.ensures in
     comes_at a.runner (units_in d) bounds b a.event a.args (Some c.step.new.progress.answer) a.walk.now c.turns.walk here
     (turn_end e.merge true _ _ (marks_of a.event (raised_after a.runner (units_in d) bounds a.event)) _ [] _ _ _ _ a.walk.now c.turns.walk (rw c.in-End.is at stepped) (c.turns.invariant.0 bounds are) c.turns.invariant.1)
@@ -44,8 +53,8 @@ returns-in-Full g t c = λ bounds are.
     let a = c.args in
     let d = data_of a.setup.now in
     let e = c.event-def.result.now in
-    let b = bound_of c.plan-plan.result.now e.merge c.default_of-default.result in
-    let here = bound_here d a.version.now a.event e c.plan-plan.result.now c.default_of-default.result c.requires.sound c.event-def.ensures c.default_of-default.ensures c.plan-plan.ensures bounds are in
+    let b = bound_of c.plan-plan.result.now.bindings e.merge c.default_of-default.result in
+    let here = bound_here d a.version.now a.event e c.plan-plan.result.now.bindings c.default_of-default.result c.requires.sound c.event-def.ensures c.default_of-default.ensures c.plan-plan.ensures.order bounds are in
     let stepped = rw c.catalogue-cat.ensures at c.in_ok-step.ensures in
     comes_at a.runner (units_in d) bounds b a.event a.args None a.walk.now c.turns.walk here
     (turn_full a.event (raised_after a.runner (units_in d) bounds a.event) e.merge _ _ _ _ _ _ _ a.walk.now c.turns.walk (rw c.in-Full.is at stepped) (c.turns.invariant.0 bounds are))
@@ -55,8 +64,8 @@ returns-in_default g t c = λ bounds are.
     let a = c.args in
     let d = data_of a.setup.now in
     let e = c.event-def.result.now in
-    let b = bound_of c.plan-plan.result.now e.merge c.default_of-default.result in
-    let here = bound_here d a.version.now a.event e c.plan-plan.result.now c.default_of-default.result c.requires.sound c.event-def.ensures c.default_of-default.ensures c.plan-plan.ensures bounds are in
+    let b = bound_of c.plan-plan.result.now.bindings e.merge c.default_of-default.result in
+    let here = bound_here d a.version.now a.event e c.plan-plan.result.now.bindings c.default_of-default.result c.requires.sound c.event-def.ensures c.default_of-default.ensures c.plan-plan.ensures.order bounds are in
     let empty = from_empty _ _ _ _ _ _ _ _ _ c.new-given.ensures (rw c.catalogue-cat.ensures at c.in_ok-step.ensures) in
     let stepped = rw c.in-Ran.is at empty in
     let short = rw c.in_default.is at c.in_ok-ups-in-Ran.ensures in
@@ -78,8 +87,8 @@ returns-in-None g t c = λ bounds are.
     let a = c.args in
     let d = data_of a.setup.now in
     let e = c.event-def.result.now in
-    let b = bound_of c.plan-plan.result.now e.merge c.default_of-default.result in
-    let here = bound_here d a.version.now a.event e c.plan-plan.result.now c.default_of-default.result c.requires.sound c.event-def.ensures c.default_of-default.ensures c.plan-plan.ensures bounds are in
+    let b = bound_of c.plan-plan.result.now.bindings e.merge c.default_of-default.result in
+    let here = bound_here d a.version.now a.event e c.plan-plan.result.now.bindings c.default_of-default.result c.requires.sound c.event-def.ensures c.default_of-default.ensures c.plan-plan.ensures.order bounds are in
     let empty = from_empty _ _ _ _ _ _ _ _ _ c.new-given.ensures (rw c.catalogue-cat.ensures at c.in_ok-step.ensures) in
     let stepped = rw c.in-Ran.is at empty in
     let notes = rw c.in-Some.is at c.in_ok-ups-in-Ran.ensures in

@@ -18,10 +18,10 @@ returns-then-not-room g c =
     is_full a.bound.now.merge.now a.room _ _ _ _ _ _ _ _ comes c.if-not-room.true comes (refl, refl)
 
 pub fire-requires-clause-first : goal.fire-requires-clause-first
-fire-requires-clause-first g c = (all_here (IsHandler (length (acts_of c.args.cat.now))) c.args.bound.now.plan.now c.in-Some.at c.binding-binding.result.now c.requires.there.handlers c.binding-binding.ensures).0
+fire-requires-clause-first g c = (all_here (IsHandler (length (acts_of c.args.cat.now))) c.args.bound.now.plan.now.bindings c.in-Some.at c.binding-binding.result.now c.requires.there.handlers c.binding-binding.ensures).0
 
 pub fire-requires-clause-last : goal.fire-requires-clause-last
-fire-requires-clause-last g c = (all_here (IsHandler (length (acts_of c.args.cat.now))) c.args.bound.now.plan.now c.in-Some.at c.binding-binding.result.now c.requires.there.handlers c.binding-binding.ensures).1
+fire-requires-clause-last g c = (all_here (IsHandler (length (acts_of c.args.cat.now))) c.args.bound.now.plan.now.bindings c.in-Some.at c.binding-binding.result.now c.requires.there.handlers c.binding-binding.ensures).1
 
 pub returns-in_ok-progress-in-Some : goal.returns-in_ok-progress-in-Some
 returns-in_ok-progress-in-Some g c =

@@ -1,5 +1,13 @@
+use Rattle.std.proofs.Common.{◌+◌, ◌-◌, ◌≤◌, length}
 use Rattle.spin_plan.specs.Next.{NonePass, guards_hold}
+use Rattle.spin_plan.proofs.Walking.{asked}
 use Rattle.spin_plan.proofs.plan.Plan.next.Given as goal
 
-abbrev pub invariant-loop-at : goal.invariant-loop-at
-invariant-loop-at g l = NonePass (guards_hold (g.C.Guards.tests l.guards) l.args) l.self l.fn.from l.at
+abbrev pub invariant-candidates : goal.invariant-candidates
+invariant-candidates g l =
+    let tests = g.C.Guards.tests l.guards in
+    (l.fn.from ≤ l.at) × NonePass (guards_hold tests l.args) l.self.bindings l.fn.from l.at
+    × (l.steps ≤ l.fn.steps + asked tests l.self.key l.args l.self.bindings l.fn.from l.at)
+
+abbrev pub decreases-candidates : goal.decreases-candidates
+decreases-candidates g l = length l.self.bindings - l.at

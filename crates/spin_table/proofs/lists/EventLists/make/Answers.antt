@@ -1,7 +1,10 @@
 use Rattle.std.proofs.Common.{◌≡◌, ◌≤◌, ◌∙◌, List, All, length, refl, sym, ap, subst, arith}
+use Rattle.std.specs.Arc.{arc_value}
 use Rattle.std.proofs.lemmas.List.{length-map}
+use Rattle.spin_code.specs.declared.test.Test.{Test}
 use Rattle.spin_place.specs.declared.binding.Binding.{Binding}
 use Rattle.spin_place.specs.Precedence.{IsTheOrder}
+use Rattle.spin_plan.specs.Planned.{IsOver}
 use Rattle.spin_objects.specs.Units.{GuardUnit, guards_of, tests_of}
 use Rattle.spin_table.specs.Orders.{arranged}
 use Rattle.spin_table.proofs.Arranged.{All-arranged, length-order, same_order}
@@ -57,15 +60,20 @@ returns-clause-ticks g c =
     omega (arith, ap length made, length-order bs c.in-Ok.numbers order)
 
 pub invariant_of-result : goal.invariant_of-result
-invariant_of-result g c = λ ns is.
-    let bs = c.args.bindings in
-    let order : IsTheOrder bs c.in-Ok.numbers = subst (λ (l : List Binding). IsTheOrder l c.in-Ok.numbers) c.as_slice.ensures c.in-Ok.ensures in
-    let made : c.as_slice-4.result.now ≡ arranged bs c.in-Ok.numbers =
-    c.as_slice-4.ensures ∙ c.in_ok-list.ensures ∙ ap (λ (l : List Binding). arranged l c.as_slice-3.result.now) c.as_slice-2.ensures ∙ ap (arranged bs) c.as_slice-3.ensures in
-    c.in_ok-plan.ensures.plan ∙ made ∙ ap (arranged bs) (same_order bs c.in-Ok.numbers ns order is)
+invariant_of-result g c = (
+  λ ns is.
+      let bs = c.args.bindings in
+      let order : IsTheOrder bs c.in-Ok.numbers = subst (λ (l : List Binding). IsTheOrder l c.in-Ok.numbers) c.as_slice.ensures c.in-Ok.ensures in
+      let made : c.as_slice-4.result.now ≡ arranged bs c.in-Ok.numbers =
+      c.as_slice-4.ensures ∙ c.in_ok-list.ensures ∙ ap (λ (l : List Binding). arranged l c.as_slice-3.result.now) c.as_slice-2.ensures ∙ ap (arranged bs) c.as_slice-3.ensures in
+      c.in_ok-plan.ensures.plan ∙ made ∙ ap (arranged bs) (same_order bs c.in-Ok.numbers ns order is),
+  let tests : arc_value c.in_ok-tests.tests ≡ tests_of c.catalogue.result.now = c.in_ok-tests.ensures ∙ c.requires.tests ∙ ap tests_of (sym c.catalogue.ensures) in
+      subst (λ ts. IsOver ts c.in_ok-plan.plan) (sym tests) c.in_ok-plan.ensures.over,
+)
 
 pub returns-clause-made : goal.returns-clause-made
 returns-clause-made g c =
     let bs = c.args.bindings in
     let order : IsTheOrder bs c.in-Ok.numbers = subst (λ (l : List Binding). IsTheOrder l c.in-Ok.numbers) c.as_slice.ensures c.in-Ok.ensures in
-    (refl, (c.in-Ok.numbers, order.0))
+    let tests : arc_value c.in_ok-tests.tests ≡ tests_of c.args.setup.now.catalogue = c.in_ok-tests.ensures ∙ c.requires.tests in
+    (ap (λ (ts : List Test). record { bindings = bs; tests = ts }) tests, (c.in-Ok.numbers, order.0))

@@ -2,8 +2,9 @@ use Rattle.std.proofs.Common.{◌≡◌, ◌≤◌, ◌+◌, ◌∙◌, ℕ, Lis
 use Rattle.spin_place.specs.declared.binding.Binding.{Binding}
 use Rattle.spin_place.specs.Orders.{AreDistinct}
 use Rattle.spin_place.specs.Precedence.{numbers_of, HasLawfulOrder}
+use Rattle.spin_table.specs.Setups.{tests_in}
 use Rattle.spin_table.specs.States.{EventState}
-use Rattle.spin_table.specs.Orders.{IsOrderFault}
+use Rattle.spin_table.specs.Orders.{Listed, IsOrderFault}
 use Rattle.spin_table.proofs.Stepping.{change_fault}
 use Rattle.spin_objects.specs.Units.{guards_of, policies_of}
 use Rattle.spin_table.specs.SetupOf.{data_of}
@@ -16,6 +17,10 @@ use Rattle.spin_table.proofs.version.EventSlot.rebuilt.Goals as goal
 pub bindings_after-requires-clause-there : goal.bindings_after-requires-clause-there
 bindings_after-requires-clause-there g c =
     authority_of_setup (data_of c.args.setup.now) c.args.c.now.event c.args.def.now c.args.setup.now.sound c.requires.event
+
+pub make-requires-clause-tests : goal.make-requires-clause-tests
+make-requires-clause-tests g c =
+    c.tests.ensures ∙ ap (λ (l : Listed). l.tests) c.deref.ensures ∙ ap (λ (x : EventState). x.tests) c.self.view_is ∙ c.requires.sound.tests
 
 pub make-requires-clause-distinct : goal.make-requires-clause-distinct
 make-requires-clause-distinct g c =
@@ -53,11 +58,12 @@ returns-in-Err-clause-change g c =
 pub returns-clause-change : goal.returns-clause-change
 returns-clause-change g c =
     let s = c.args.self.now in
-    let made : c.in_ok-new.field-0.value ≡ c.in_ok-bindings.bindings = c.in_ok-new.ensures.ok ∙ c.in-Ok.ensures.made.0 in
-    let bindings : c.in_ok-new.field-0.value ≡ (event_after (policies_of c.args.setup.now.catalogue.natives) c.args.def.now (c.args.place + 1) c.args.c.now s).bindings = made ∙ c.in_ok-bindings.ensures in
+    let made : c.in_ok-new.field-0.value ≡ record { bindings = c.in_ok-bindings.bindings; tests = tests_in (data_of c.args.setup.now) } = c.in_ok-new.ensures.ok ∙ c.in-Ok.ensures.made.0 in
+    let bindings : c.in_ok-new.field-0.value.bindings ≡ (event_after (policies_of c.args.setup.now.catalogue.natives) c.args.def.now (c.args.place + 1) c.args.c.now s).bindings =
+    ap (λ (l : Listed). l.bindings) made ∙ c.in_ok-bindings.ensures in
+    let tests : c.in_ok-new.field-0.value.tests ≡ s.tests = ap (λ (l : Listed). l.tests) made ∙ sym c.requires.sound.tests in
     let default : c.default_after.result ≡ default_after c.args.c.now c.args.c.now.op s.default =
     c.default_after.ensures ∙ ap (default_after c.args.c.now c.args.c.now.op) (ap (λ (x : EventState). x.default) c.self.view_is) in (
-      ap (λ (l : List Binding). record s { bindings = l; default = c.default_after.result }) bindings
-          ∙ ap (λ (n : ℕ). record s { bindings = (event_after (policies_of c.args.setup.now.catalogue.natives) c.args.def.now (c.args.place + 1) c.args.c.now s).bindings; default = n }) default,
-      subst HasLawfulOrder (sym made) c.in-Ok.ensures.made.1,
+      λ i. record { bindings = bindings i; tests = tests i; default = default i },
+      subst HasLawfulOrder (sym (ap (λ (l : Listed). l.bindings) made)) c.in-Ok.ensures.made.1,
     )

@@ -7,7 +7,7 @@ use Rattle.spin_table.specs.SetupOf.{data_of}
 use Rattle.spin_table.specs.States.{State, EventState}
 use Rattle.spin_table.specs.Refusals.{refusals_at}
 use Rattle.spin_table.specs.Steps.{event_after, bindings_at, bindings_if, IsStep}
-use Rattle.spin_table.specs.Orders.{IsChangeFault}
+use Rattle.spin_table.specs.Orders.{Listed, IsChangeFault}
 use Rattle.spin_table.specs.Soundness.{IsSound, IsSoundEvent}
 use Rattle.spin_table.specs.declared.refusal.Verdicted.TheVariants as verdicted
 use Rattle.spin_table.proofs.ImposedFit.{authority_of_setup}
@@ -22,7 +22,7 @@ refusal-requires g c =
     let read_t : slice_get c.args.self.now.events event ≡ Some t = subst (λ (s : State). slice_get s.events event ≡ Some t) c.self.view_is c.get-slot.ensures in
     let each = c.requires.sound.each event c.event-def.result.now t c.event-def.ensures read_t in
     let few : length t.bindings ≤ c.args.setup.now.live = each.few in
-    let same : c.bindings.result.now ≡ t.bindings = c.bindings.ensures ∙ c.deref.ensures ∙ ap (λ (x : EventState). x.bindings) c.slot.view_is in
+    let same : c.bindings.result.now ≡ t.bindings = c.bindings.ensures ∙ ap (λ (l : Listed). l.bindings) c.deref.ensures ∙ ap (λ (x : EventState). x.bindings) c.slot.view_is in
     record {
       few = omega (arith, few, c.args.setup.now.few_live, ap length same);
       there = authority_of_setup (data_of c.args.setup.now) event c.event-def.result.now c.args.setup.now.sound c.event-def.ensures;
@@ -45,7 +45,7 @@ returns-in-Err-clause-answer g c =
     let e = c.event-def.result.now in
     let t = c.get-slot.result.now in
     let read : slice_get s.events event ≡ Some t = subst (λ (s : State). slice_get s.events event ≡ Some t) c.self.view_is c.get-slot.ensures in
-    let same : c.bindings.result.now ≡ t.bindings = c.bindings.ensures ∙ c.deref.ensures ∙ ap (λ (x : EventState). x.bindings) c.slot.view_is in
+    let same : c.bindings.result.now ≡ t.bindings = c.bindings.ensures ∙ ap (λ (l : Listed). l.bindings) c.deref.ensures ∙ ap (λ (x : EventState). x.bindings) c.slot.view_is in
     let none : first_of (refusals_at d e t.bindings c.args.c.now) ≡ None = subst (λ bs. first_of (refusals_at d e bs c.args.c.now) ≡ None) same (sym c.in-None.ensures) in
     let place : c.self.inside.place ≡ s.place = ap (λ (s : State). s.place) c.self.view_is in
     answer_of_fault d s c.args.c.now e t c.event-def.ensures read none c.in-Err.fault (subst (λ n. IsChangeFault (policies_of c.args.setup.now.catalogue.natives) e (n + 1) c.args.c.now t c.in-Err.fault) place c.in-Err.ensures.change)
@@ -58,7 +58,7 @@ returns-in-Err-clause-no_more g c =
     let e = c.event-def.result.now in
     let t = c.get-slot.result.now in
     let read : slice_get s.events event ≡ Some t = subst (λ (s : State). slice_get s.events event ≡ Some t) c.self.view_is c.get-slot.ensures in
-    let same : c.bindings.result.now ≡ t.bindings = c.bindings.ensures ∙ c.deref.ensures ∙ ap (λ (x : EventState). x.bindings) c.slot.view_is in
+    let same : c.bindings.result.now ≡ t.bindings = c.bindings.ensures ∙ ap (λ (l : Listed). l.bindings) c.deref.ensures ∙ ap (λ (x : EventState). x.bindings) c.slot.view_is in
     let none : first_of (refusals_at d e t.bindings c.args.c.now) ≡ None = subst (λ bs. first_of (refusals_at d e bs c.args.c.now) ≡ None) same (sym c.in-None.ensures) in
     let place : c.self.inside.place ≡ s.place = ap (λ (s : State). s.place) c.self.view_is in
     let each = subst (λ n. IsSoundEvent d n event e t) (sym place) (c.requires.sound.each event e t c.event-def.ensures read) in
@@ -74,7 +74,7 @@ returns-in_err-with_event-in-None-clause-answer g c =
     let e = c.event-def.result.now in
     let t = c.get-slot.result.now in
     let read : slice_get s.events event ≡ Some t = subst (λ (s : State). slice_get s.events event ≡ Some t) c.self.view_is c.get-slot.ensures in
-    let same : c.bindings.result.now ≡ t.bindings = c.bindings.ensures ∙ c.deref.ensures ∙ ap (λ (x : EventState). x.bindings) c.slot.view_is in
+    let same : c.bindings.result.now ≡ t.bindings = c.bindings.ensures ∙ ap (λ (l : Listed). l.bindings) c.deref.ensures ∙ ap (λ (x : EventState). x.bindings) c.slot.view_is in
     let none : first_of (refusals_at d e t.bindings c.args.c.now) ≡ None = subst (λ bs. first_of (refusals_at d e bs c.args.c.now) ≡ None) same (sym c.in-None.ensures) in
     short_of_memory d s c.args.c.now c.from_residual.result c.from_residual.ensures.1 (unrefused d s c.args.c.now e t c.event-def.ensures read none)
 
@@ -86,7 +86,7 @@ returns-in_err-with_event-in-None-clause-no_more g c =
     let e = c.event-def.result.now in
     let t = c.get-slot.result.now in
     let read : slice_get s.events event ≡ Some t = subst (λ (s : State). slice_get s.events event ≡ Some t) c.self.view_is c.get-slot.ensures in
-    let same : c.bindings.result.now ≡ t.bindings = c.bindings.ensures ∙ c.deref.ensures ∙ ap (λ (x : EventState). x.bindings) c.slot.view_is in
+    let same : c.bindings.result.now ≡ t.bindings = c.bindings.ensures ∙ ap (λ (l : Listed). l.bindings) c.deref.ensures ∙ ap (λ (x : EventState). x.bindings) c.slot.view_is in
     let none : first_of (refusals_at d e t.bindings c.args.c.now) ≡ None = subst (λ bs. first_of (refusals_at d e bs c.args.c.now) ≡ None) same (sym c.in-None.ensures) in
     let place : c.self.inside.place ≡ s.place = ap (λ (s : State). s.place) c.self.view_is in
     let each = subst (λ n. IsSoundEvent d n event e t) (sym place) (c.requires.sound.each event e t c.event-def.ensures read) in
@@ -102,7 +102,7 @@ returns-in_ok-with_event-in-None-clause-answer g c =
     let e = c.event-def.result.now in
     let t = c.get-slot.result.now in
     let read : slice_get s.events event ≡ Some t = subst (λ (s : State). slice_get s.events event ≡ Some t) c.self.view_is c.get-slot.ensures in
-    let same : c.bindings.result.now ≡ t.bindings = c.bindings.ensures ∙ c.deref.ensures ∙ ap (λ (x : EventState). x.bindings) c.slot.view_is in
+    let same : c.bindings.result.now ≡ t.bindings = c.bindings.ensures ∙ ap (λ (l : Listed). l.bindings) c.deref.ensures ∙ ap (λ (x : EventState). x.bindings) c.slot.view_is in
     let none : first_of (refusals_at d e t.bindings c.args.c.now) ≡ None = subst (λ bs. first_of (refusals_at d e bs c.args.c.now) ≡ None) same (sym c.in-None.ensures) in
     let place : c.self.inside.place ≡ s.place = ap (λ (s : State). s.place) c.self.view_is in
     let is : c.in-Ok.changed ≡ event_after (policies_of c.args.setup.now.catalogue.natives) e (s.place + 1) c.args.c.now t = c.in-Ok.ensures.change.0 ∙ ap (λ n. event_after (policies_of c.args.setup.now.catalogue.natives) e (n + 1) c.args.c.now t) place in
@@ -117,7 +117,7 @@ returns-in_ok-with_event-in-None-clause-sound g c =
     let e = c.event-def.result.now in
     let t = c.get-slot.result.now in
     let read : slice_get s.events event ≡ Some t = subst (λ (s : State). slice_get s.events event ≡ Some t) c.self.view_is c.get-slot.ensures in
-    let same : c.bindings.result.now ≡ t.bindings = c.bindings.ensures ∙ c.deref.ensures ∙ ap (λ (x : EventState). x.bindings) c.slot.view_is in
+    let same : c.bindings.result.now ≡ t.bindings = c.bindings.ensures ∙ ap (λ (l : Listed). l.bindings) c.deref.ensures ∙ ap (λ (x : EventState). x.bindings) c.slot.view_is in
     let none : first_of (refusals_at d e t.bindings c.args.c.now) ≡ None = subst (λ bs. first_of (refusals_at d e bs c.args.c.now) ≡ None) same (sym c.in-None.ensures) in
     let place : c.self.inside.place ≡ s.place = ap (λ (s : State). s.place) c.self.view_is in
     let is : c.in-Ok.changed ≡ event_after (policies_of c.args.setup.now.catalogue.natives) e (s.place + 1) c.args.c.now t = c.in-Ok.ensures.change.0 ∙ ap (λ n. event_after (policies_of c.args.setup.now.catalogue.natives) e (n + 1) c.args.c.now t) place in
@@ -132,7 +132,7 @@ returns-in_ok-with_event-in-None-clause-ok g c =
     let e = c.event-def.result.now in
     let t = c.get-slot.result.now in
     let read : slice_get s.events event ≡ Some t = subst (λ (s : State). slice_get s.events event ≡ Some t) c.self.view_is c.get-slot.ensures in
-    let same : c.bindings.result.now ≡ t.bindings = c.bindings.ensures ∙ c.deref.ensures ∙ ap (λ (x : EventState). x.bindings) c.slot.view_is in
+    let same : c.bindings.result.now ≡ t.bindings = c.bindings.ensures ∙ ap (λ (l : Listed). l.bindings) c.deref.ensures ∙ ap (λ (x : EventState). x.bindings) c.slot.view_is in
     let none : first_of (refusals_at d e t.bindings c.args.c.now) ≡ None = subst (λ bs. first_of (refusals_at d e bs c.args.c.now) ≡ None) same (sym c.in-None.ensures) in
     let place : c.self.inside.place ≡ s.place = ap (λ (s : State). s.place) c.self.view_is in
     let there : bindings_at c.in_ok-with_event-in-None.field-0 event ≡ c.in-Ok.changed.bindings =
@@ -148,7 +148,7 @@ returns-in_ok-with_event-in-None-clause-no_more g c =
     let e = c.event-def.result.now in
     let t = c.get-slot.result.now in
     let read : slice_get s.events event ≡ Some t = subst (λ (s : State). slice_get s.events event ≡ Some t) c.self.view_is c.get-slot.ensures in
-    let same : c.bindings.result.now ≡ t.bindings = c.bindings.ensures ∙ c.deref.ensures ∙ ap (λ (x : EventState). x.bindings) c.slot.view_is in
+    let same : c.bindings.result.now ≡ t.bindings = c.bindings.ensures ∙ ap (λ (l : Listed). l.bindings) c.deref.ensures ∙ ap (λ (x : EventState). x.bindings) c.slot.view_is in
     let none : first_of (refusals_at d e t.bindings c.args.c.now) ≡ None = subst (λ bs. first_of (refusals_at d e bs c.args.c.now) ≡ None) same (sym c.in-None.ensures) in
     let place : c.self.inside.place ≡ s.place = ap (λ (s : State). s.place) c.self.view_is in
     let each = subst (λ n. IsSoundEvent d n event e t) (sym place) (c.requires.sound.each event e t c.event-def.ensures read) in
