@@ -141,6 +141,7 @@ impl Shelf for MemShelf {
         ensures cause { FindsByCount
             self.old.faults self.new.faults self.old.absences self.new.absences result }
         ensures exactly { FindsByList (next_fails self.old.finds) result }
+        ensures piece { self.new.piece ≡ self.old.piece }
         ensures finds { self.new.finds ≡ counted self.old.finds }
         ensures reads { self.new.reads ≡ self.old.reads }
     {

@@ -30,7 +30,7 @@ use Rattle.spin_run.specs.Summaries.{Counts, counts_in}
 use Rattle.spin_run.specs.Inner.Tallies.{TalliesOn, Tells}
 use Rattle.spin_run.proofs.Counted.{tallies_same}
 use Rattle.spin_run.proofs.JoinedTexts.{Appends-none}
-use Rattle.spin_run.proofs.Steps.{text_append, writes_more, writes_nothing, writes_into}
+use Rattle.spin_run.proofs.Steps.{text_append, writes_more, writes_nothing, writes_into, reading}
 
 -- ---- the counts
 
@@ -154,6 +154,7 @@ ends_stopped script capture frames rest before now log_length after end.ReadFaul
   s.parts,
   standing now s.left,
   s.run,
+  reading script capture frames rest before (length script.segments) now s h.0 (inr refl),
   writes_nothing before now.outside after (front_text s.parts) s.text h.1,
   ends ∙ sym (none_retired script now.outside.ends),
   λ there. absurd (omega (arith, there)),

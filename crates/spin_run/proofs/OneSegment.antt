@@ -175,7 +175,7 @@ stops_retiring s number segment before after left rest same (inr all) = (inr (in
 
 pub stops_reading_in : (s : Setting) (number : ℕ) (segment : Segment) (before after : Moment) (left : List (List ℕ)) (rest : Option (Result Next PcapFault)) (wanted : ℕ) (capture : Option ReaderState) (source : SourceSeen) (stop : RunEnd) → SameSink before after → after.outside.ends ≡ retired_for s segment before → wanted ≡ wanted_by segment.lines → GivesFrames wanted before.capture capture source (Err stop) left rest → StopsOne s number segment before after left rest stop
 stops_reading_in s number segment before after left rest wanted capture source (end.Capture n reason) same ends sum h = (h.1, subst (λ (k : ℕ). length left < k) sum h.0, ends, nothing before after same)
-stops_reading_in s number segment before after left rest wanted capture source end.ReadFault same ends sum h = (ends, nothing before after same)
+stops_reading_in s number segment before after left rest wanted capture source end.ReadFault same ends sum h = (h.0, subst (λ (k : ℕ). 0 < k) sum h.1, ends, nothing before after same)
 stops_reading_in s number segment before after left rest wanted capture source end.NoMemory same ends sum h = (inr (inl ends), nothing before after same)
 stops_reading_in s number segment before after left rest wanted capture source end.Whole same ends sum h = absurd h
 stops_reading_in s number segment before after left rest wanted capture source end.WriteFault same ends sum h = absurd h

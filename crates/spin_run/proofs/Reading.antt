@@ -98,7 +98,7 @@ refused_given order held given reader' wrong s frames rest is h r =
     (e.0, (wrong, e.1, refl, omega (arith, ap length e.0, ap (λ (x : ReaderState). x.given) is), refl))
 
 stop_given : (order : Order) (held : List ℕ) (given : ℕ) (st : State) (source : SourceSeen) (after : Option ReaderState) (reader' : ReaderState) (s' : SourceSeen) (frame : List ℕ) (wrong : PcapFault) (left' : Option (List ℕ)) (A B : Type 0) → Repeats st (Err wrong) → IfReading st (IfSome (left_for held source.left) (λ bytes. IsAnswer order given bytes (Err wrong) frame left')) A → IfReading st (reader' ≡ after_of order given reader' (Err wrong)) B → (frames : List (List ℕ)) (rest : Option (Result Next PcapFault)) → AreRecords (Some (reader_of order held given st)) source frames rest → GivesNext (Some (reader_of order held given st)) after s' frame (Err (stop_of (reader'.given + 1) wrong)) frames rest
-stop_given order held given state.Reading s after reader' s' frame fault.ReadFault left' A B again h is frames rest r = tt
+stop_given order held given state.Reading s after reader' s' frame fault.ReadFault left' A B again h is frames rest r = refl
 stop_given order held given state.Reading s after reader' s' frame fault.NoMemory left' A B again h is frames rest r = tt
 stop_given order held given state.Reading s after reader' s' frame fault.BadMagic left' A B again h is frames rest r = refused_given order held given reader' fault.BadMagic s frames rest is h r
 stop_given order held given state.Reading s after reader' s' frame fault.BadVersion left' A B again h is frames rest r = refused_given order held given reader' fault.BadVersion s frames rest is h r
@@ -181,7 +181,7 @@ pub stops_reading : (before at after : Option ReaderState) (source source' : Sou
 stops_reading before at after source source' taken frames rest frame wanted (end.Capture n reason) few h r =
     let l = refused_later before at source taken frames rest n reason h r.0 r.1 in
     (omega (arith, few, l.0), l.1)
-stops_reading before at after source source' taken frames rest frame wanted end.ReadFault few h r = tt
+stops_reading before at after source source' taken frames rest frame wanted end.ReadFault few h r = (h.going r, omega (arith, few))
 stops_reading before at after source source' taken frames rest frame wanted end.NoMemory few h r = tt
 stops_reading before at after source source' taken frames rest frame wanted end.Whole few h r = r
 stops_reading before at after source source' taken frames rest frame wanted end.WriteFault few h r = r
@@ -207,7 +207,7 @@ rest_cut before at after source source' taken frames rest count h o =
 pub stops_rest : (before at after : Option ReaderState) (source source' : SourceSeen) (taken frames : List (List ℕ)) (rest : Option (Result Next PcapFault)) (frame : List ℕ) (stop : RunEnd) → (h : HasRead before at source taken frames rest) → GivesNext at after source' frame (Err stop) h.left rest → GivesRest before after (Err stop) frames rest
 stops_rest before at after source source' taken frames rest frame (end.Capture n reason) h r =
     (refused_later before at source taken frames rest n reason h r.0 r.1).1
-stops_rest before at after source source' taken frames rest frame end.ReadFault h r = tt
+stops_rest before at after source source' taken frames rest frame end.ReadFault h r = h.going r
 stops_rest before at after source source' taken frames rest frame end.NoMemory h r = tt
 stops_rest before at after source source' taken frames rest frame end.Whole h r = r
 stops_rest before at after source source' taken frames rest frame end.WriteFault h r = r

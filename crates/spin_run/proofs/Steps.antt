@@ -1,5 +1,5 @@
 -- Segments that are run one after another, and the ends of a run.
-use Rattle.std.proofs.Common.{◌≡◌, ◌<◌, ◌≤◌, ◌+◌, ◌-◌, ℕ, List, [], ◌∷◌, ◌++◌, length, take, drop, Option, Some, None, Result, Ok, Err, refl, sym, ap, subst, ◌∙◌, inl, inr, ◌⊎◌, arith, append_assoc, get_or, IfSome}
+use Rattle.std.proofs.Common.{◌≡◌, ◌≢◌, ◌<◌, ◌≤◌, ◌+◌, ◌-◌, ℕ, List, [], ◌∷◌, ◌++◌, length, take, drop, Option, Some, None, Result, Ok, Err, refl, sym, ap, subst, ◌∙◌, inl, inr, ◌⊎◌, arith, append_assoc, get_or, IfSome}
 use Rattle.std.specs.Prelude.{slice_get, sum_by}
 use Rattle.std.specs.List.{flat_map, enumerate_from}
 use Rattle.std.specs.Option.{option_map_or}
@@ -24,8 +24,8 @@ use Rattle.spin_report.specs.Runs.{Standing, IsSegmentRun, AreRun, sends_in, sta
 use Rattle.spin_run.specs.declared.end.RunEnd.{RunEnd}
 use Rattle.spin_run.specs.declared.end.RunEnd.TheVariants as end
 use Rattle.spin_run.specs.Records.{AreRecords, room_of, IsTakenPast}
-use Rattle.spin_run.specs.Ends.{RunSeen, HasRun, retired_before, segment_text, wanted_to, Writes, WritesInto, EndsWithin, TakesFor, EndsBy, CountsBy, seen}
-use Rattle.spin_run.specs.Inner.Reading.{given_by, HasTaken, TakesFrames}
+use Rattle.spin_run.specs.Ends.{RunSeen, HasRun, IsReading, retired_before, segment_text, wanted_to, Writes, WritesInto, EndsWithin, TakesFor, EndsBy, CountsBy, seen}
+use Rattle.spin_run.specs.Inner.Reading.{given_by, IsGoing, HasTaken, TakesFrames}
 use Rattle.spin_run.specs.Inner.Steps.{Moment, standing, setting_of, RunsFrom, retired_for, HasRunOne, HasTold, StopsOne, Stands, HasToldAll, WalksBy, Setting}
 use Rattle.spin_run.specs.Summaries.{Counts, counts_in}
 use Rattle.spin_run.specs.Inner.Tallies.{TalliesOn}
@@ -168,6 +168,20 @@ takes_for script reader frames rest before count segment now next stop there s t
     (past_segments reader now.capture before.source now.outside.source next.outside.source frames s.left (wanted_to script count) (wanted_by segment.lines) s.left_is few
     (s.taken (omega (arith, few))) (took (omega (arith, few, left_long script reader frames rest before count now s))))
 
+-- a reader that goes on is one of a capture
+has_rest : (capture : Option ReaderState) (source : SourceSeen) (left : List (List ℕ)) (rest : Option (Result Next PcapFault)) → IsGoing capture → AreRecords capture source left rest → rest ≢ None
+has_rest None source left rest going r = absurd going
+has_rest (Some reader) source left rest going r = λ none. absurd (let e : Some r.0 ≡ None = sym r.1 ∙ none in cc (e))
+
+-- where the next record is read
+pub reading : (script : ScriptData) (reader : Option ReaderState) (frames : List (List ℕ)) (rest : Option (Result Next PcapFault)) (before : RunSeen) (count : ℕ) (now : Moment) (s : Stands script reader frames rest before count now) → IsGoing now.capture → ((wanted_to script count + 1 ≤ wanted_to script (count + 1)) ⊎ (count ≡ length script.segments)) → IsReading script frames rest count
+reading script reader frames rest before count now s going at = record {
+  capture = has_rest now.capture now.outside.source s.left rest going s.records;
+  number = wanted_to script count + 1;
+  there = omega (arith, s.going going, s.total);
+  read_at = record { behind = omega arith; before = at };
+}
+
 -- the end of a run that stopped in a segment
 pub one_ends : (script : ScriptData) (reader : Option ReaderState) (frames : List (List ℕ)) (rest : Option (Result Next PcapFault)) (before : RunSeen) (count : ℕ) (segment : Segment) (now next : Moment) (stop : RunEnd) → slice_get script.segments count ≡ Some segment → (s : Stands script reader frames rest before count now) → StopsOne (setting_of script) count segment now next s.left rest stop → TakesFrames {T = Unit {0}} (wanted_by segment.lines) now.capture next.capture now.outside.source next.outside.source (Err stop) s.left → EndsBy script (room_of reader) frames rest before next.outside stop
 one_ends script reader frames rest before count segment now next (end.Capture n reason) there s h took =
@@ -187,15 +201,17 @@ one_ends script reader frames rest before count segment now next (end.Capture n 
       writes_nothing before now.outside next.outside (front_text s.parts) s.text h.3,
       h.2 ∙ retired_is script count segment now.outside.ends there,
     )
-one_ends script reader frames rest before count segment now next end.ReadFault there s h took = (
-  count,
-  s.parts,
-  standing now s.left,
-  s.run,
-  writes_nothing before now.outside next.outside (front_text s.parts) s.text h.1,
-  h.0 ∙ retired_is script count segment now.outside.ends there,
-  takes_for script reader frames rest before count segment now next end.ReadFault there s took,
-)
+one_ends script reader frames rest before count segment now next end.ReadFault there s h took =
+    let sum = wanted_next script count segment there in (
+      count,
+      s.parts,
+      standing now s.left,
+      s.run,
+      reading script reader frames rest before count now s h.0 (inl (omega (arith, sum, h.1))),
+      writes_nothing before now.outside next.outside (front_text s.parts) s.text h.3,
+      h.2 ∙ retired_is script count segment now.outside.ends there,
+      takes_for script reader frames rest before count segment now next end.ReadFault there s took,
+    )
 one_ends script reader frames rest before count segment now next end.WriteFault there s h took = inr (inl (
   count,
   s.parts,

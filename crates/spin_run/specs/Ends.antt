@@ -1,5 +1,5 @@
 -- How a run ends, and what it has done by then.
-use Rattle.std.specs.Prelude.{◌≡◌, ◌<◌, ◌≤◌, ◌⊎◌, ◌+◌, ℕ, true, List, [], ◌++◌, length, map, take, sum_by, slice_get, slice_index_or, Option, Some, None, Result, Ok, Err}
+use Rattle.std.specs.Prelude.{◌≡◌, ◌≢◌, ◌<◌, ◌≤◌, ◌⊎◌, ◌+◌, ℕ, true, List, [], ◌++◌, length, map, take, sum_by, slice_get, slice_index_or, Option, Some, None, Result, Ok, Err}
 use Rattle.std.specs.List.{HoldsAt}
 use Rattle.std.specs.Option.{option_map_or}
 use Rattle.std.specs.Io.KnownBytes.{Appends}
@@ -61,6 +61,15 @@ wanted_to script count = sum_by (λ segment. wanted_by segment.lines) (take coun
 pub record IsReadAt (script : ScriptData) (number count : ℕ) : Type 0 where
   pub behind : wanted_to script count < number
   pub before : (number ≤ wanted_to script (count + 1)) ⊎ (count ≡ length script.segments)
+
+-- A capture is there, and some record that it has, or what stands behind its last one, is read in segment `count`, or
+-- behind all segments.
+pub record IsReading (script : ScriptData) (frames : List (List ℕ)) (rest : Option (Result Next PcapFault)) (count : ℕ)
+    : Type 0 where
+  pub capture : rest ≢ None
+  pub number : ℕ
+  pub there : number ≤ length frames + 1
+  pub read_at : IsReadAt script number count
 
 -- ---- the text
 
@@ -152,6 +161,7 @@ EndsBy script past frames rest before after (end.Capture at_record fault) =
 EndsBy script past frames rest before after end.ReadFault =
     (count : ℕ) × (parts : List SegmentSeen) × (at : Standing)
     × HasRun script frames before.ends count parts at
+    × IsReading script frames rest count
     × Writes before after (front_text parts)
     × (after.ends ≡ retired_before script count at.ends)
     × TakesFor script past frames count before after

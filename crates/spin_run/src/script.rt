@@ -133,7 +133,8 @@ pub(crate) fn walk<R: Threads + Sync, S: Source, T: Telling, G: Gate>(
 ///
 /// A run stops at the first thing that fails, and [`RunEnd`] says which. What has been done by then stays: whole lines
 /// are written, but where the sink failed. A failed read comes only where the source's count of faults rose, a failed
-/// write only where the sink's did, and a failed endpoint only where its own count did.
+/// write only where the sink's did, and a failed endpoint only where its own count did. Without a capture no read
+/// fails: one fails only in a segment that wants a record more, or behind all segments.
 ///
 /// The capture is read as the segments need it: where it stops in a segment, and the capture has all records that the
 /// segments up to this one want, no more than 65,536 bytes past these were taken, those among them that the reader held

@@ -54,12 +54,12 @@ IsRefused before frames rest record_number reason =
     × (record_number ≡ given_by before + length frames + 1)
     × IsGoing before
 
--- Reading stopped: the capture is refused so, or the source failed, or there was no memory.
-abbrev pub StopsBy : (ℕ → ℕ → Type 0) → RunEnd → Type 0
-StopsBy refused (end.Capture record_number reason) = refused record_number reason
-StopsBy refused end.ReadFault = ⊤
-StopsBy refused end.NoMemory = ⊤
-StopsBy refused other = ⊥
+-- Reading stopped: the capture is refused so, or the source failed where that fact holds, or there was no memory.
+abbrev pub StopsBy : (ℕ → ℕ → Type 0) → Type 0 → RunEnd → Type 0
+StopsBy refused failed (end.Capture record_number reason) = refused record_number reason
+StopsBy refused failed end.ReadFault = failed
+StopsBy refused failed end.NoMemory = ⊤
+StopsBy refused failed other = ⊥
 
 -- No record is left, and the rest is this one. It is answered again, and nothing more is given.
 pub record IsOver (before after : Option ReaderState) (source : SourceSeen) (frames : List (List ℕ))
@@ -82,7 +82,7 @@ GivesNext before after source frame (Ok (next.Cut count)) frames rest =
     IsOver before after source frames rest (Some (Ok (next.Cut count)))
 GivesNext before after source frame (Err stop) frames rest =
     StopsBy (λ record_number reason. (frames ≡ [])
-    × IsRefused before frames rest record_number reason) stop
+    × IsRefused before frames rest record_number reason) (IsGoing before) stop
 
 -- so many records wanted: these frames are the first of those left, and the others are left
 abbrev pub GivesFrames : ℕ → Option ReaderState → Option ReaderState → SourceSeen
@@ -93,7 +93,7 @@ GivesFrames wanted before after source (Ok taken) frames rest =
     × (IsGoing after → IsGoing before × (length taken ≡ wanted))
 GivesFrames wanted before after source (Err stop) frames rest =
     StopsBy (λ record_number reason. (length frames < wanted)
-    × IsRefused before frames rest record_number reason) stop
+    × IsRefused before frames rest record_number reason) (IsGoing before × (0 < wanted)) stop
 
 -- how many bytes behind the last record the rest has
 abbrev pub IsCutRest : Option (Result Next PcapFault) → ℕ → Type 0
@@ -109,7 +109,7 @@ abbrev pub GivesRest : Option ReaderState → Option ReaderState → Result ℕ 
 GivesRest before after (Ok cut) frames rest =
     IsCutRest rest cut × (given_by after ≡ given_by before + length frames)
 GivesRest before after (Err stop) frames rest =
-    StopsBy (IsRefused before frames rest) stop
+    StopsBy (IsRefused before frames rest) (IsGoing before) stop
 
 -- ---- how many bytes were taken
 

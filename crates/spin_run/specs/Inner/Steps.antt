@@ -86,7 +86,8 @@ StopsOne s number segment before after left rest (end.Capture record_number reas
     × (after.outside.ends ≡ retired_for s segment before)
     × Writes before.outside after.outside []
 StopsOne s number segment before after left rest end.ReadFault =
-    (after.outside.ends ≡ retired_for s segment before)
+    IsGoing before.capture × (0 < wanted_by segment.lines)
+    × (after.outside.ends ≡ retired_for s segment before)
     × Writes before.outside after.outside []
 StopsOne s number segment before after left rest end.WriteFault =
     (part : SegmentSeen) × (next : Standing) × RunsFrom s segment before left part next
