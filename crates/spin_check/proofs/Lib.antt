@@ -1,0 +1,12 @@
+pub mod Telling
+pub mod Fronting
+pub mod Stepping
+pub mod Queues
+pub mod Along
+pub mod Flagging
+pub mod Judging
+pub mod Jobbing
+pub mod Few
+pub mod Parting
+pub mod Whole
+pub mod Reporting

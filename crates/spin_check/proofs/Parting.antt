@@ -1,0 +1,202 @@
+-- A segment's part of a report.
+use Rattle.std.proofs.Common.{◌≡◌, ◌≢◌, ℕ, ◌<◌, List, [], ◌∷◌, ◌++◌, map, drop, refl, sym, ap, subst, ◌∙◌, append_assoc}
+use Rattle.std.specs.Prelude.{All, None}
+use Rattle.std.specs.List.{flat_map}
+use Rattle.std.proofs.lemmas.List.{append-nil, map-append, append_cancel_left}
+use Rattle.spin_endpoint.specs.Named.{NamedEnd}
+use Rattle.spin_endpoint.specs.Sends.{SentSeen, all_retired, all_received}
+use Rattle.spin_table.specs.Setups.{SetupData}
+use Rattle.spin_table.specs.States.{State}
+use Rattle.spin_text.specs.Words.{ended, text_of}
+use Rattle.spin_script.specs.declared.script.Segment.{Segment}
+use Rattle.spin_report.specs.declared.entry.Entry.{Entry}
+use Rattle.spin_report.specs.Asked.{Numbered}
+use Rattle.spin_report.specs.Legal.{IsLegal}
+use Rattle.spin_report.specs.Jobs.{AreJobs}
+use Rattle.spin_report.specs.Lines.{JobSeen, entry_line, job_line}
+use Rattle.spin_report.specs.Histories.{Retired, SegmentSeen, retire_line, segment_line, segment_lines, lost_lines}
+use Rattle.spin_report.specs.Segments.{asked_in, wanted_by}
+use Rattle.spin_report.specs.Runs.{Standing, retirements, lost_counts, sends_in, sends_of, sends_of_reply}
+use Rattle.spin_report.proofs.Shows.{one_list_of_jobs}
+use Rattle.spin_check.specs.Inner.Asks.{AreAsked}
+use Rattle.spin_check.specs.Inner.Standings.{AreFlags, numbers_of}
+use Rattle.spin_check.specs.Inner.Replays.{At, AreEntries, HasReplayed}
+use Rattle.spin_check.specs.Inner.Segments.{Mark, standing, IsPart, Passes, Goes}
+use Rattle.spin_check.proofs.Along.{text_of-append}
+use Rattle.spin_check.proofs.Judging.{same_last}
+use Rattle.spin_check.proofs.Flagging.{flags_received}
+
+-- the text of what stands before the entries, of the entries, and of what stands behind them
+abbrev pub head_text : ℕ → ℕ → List Retired → List ℕ
+head_text number start retired = text_of (map retire_line retired) ++ ended (segment_line number start)
+
+abbrev pub tail_text : List JobSeen → List ℕ → List ℕ
+tail_text jobs lost = text_of (map job_line jobs) ++ text_of (lost_lines lost)
+
+part_text : (number : ℕ) (s : SegmentSeen) (more : List ℕ)
+    → text_of (segment_lines number s) ++ more ≡ head_text number s.start s.retired ++ (text_of (map entry_line s.entries) ++ (tail_text s.jobs s.lost ++ more))
+part_text number s more =
+    let r = map retire_line s.retired in
+    let h = segment_line number s.start ∷ [] in
+    let e = map entry_line s.entries in
+    let j = map job_line s.jobs in
+    let l = lost_lines s.lost in
+    ap (λ t. t ++ more) (
+    text_of-append (r ++ h ++ e ++ j) l
+    ∙ ap (λ t. t ++ text_of l) (text_of-append (r ++ h ++ e) j ∙ ap (λ t. t ++ text_of j) (text_of-append (r ++ h) e ∙ ap (λ t. t ++ text_of e) (text_of-append r h ∙ ap (λ t. text_of r ++ t) (append-nil (ended (segment_line number s.start)))))))
+    ∙ ap (λ t. t ++ more) (append_assoc (head_text number s.start s.retired ++ text_of e) (text_of j) (text_of l))
+    ∙ append_assoc (head_text number s.start s.retired ++ text_of e) (tail_text s.jobs s.lost) more
+    ∙ append_assoc (head_text number s.start s.retired) (text_of e) (tail_text s.jobs s.lost ++ more)
+
+-- the head, written line by line
+pub head_is : (names : List (List ℕ)) (ends : List NamedEnd) (number place start : ℕ) (numbers retires empty first second head : List ℕ) → numbers ≡ retires → empty ≡ []
+    → first ≡ empty ++ text_of (map retire_line (retirements names numbers ends)) → second ≡ first ++ ended (segment_line number place) → place ≡ start → head ≡ second
+    → head ≡ head_text number start (retirements names retires ends)
+head_is names ends number place start numbers retires empty first second head same none one two at is =
+    is ∙ two ∙ (λ i. (one ∙ (λ j. none j ++ text_of (map retire_line (retirements names (same j) ends)))) i ++ ended (segment_line number (at i)))
+
+module _ (d : SetupData) (lanes : ℕ) (names : List (List ℕ)) (number : ℕ) (segment : Segment) (mark : Mark) (ends : List NamedEnd) where
+  abbrev retired_now : List Retired
+  retired_now = retirements names segment.retires ends
+
+  abbrev ends_now : List NamedEnd
+  ends_now = all_retired names segment.retires ends
+
+  abbrev asked_now : List Numbered
+  asked_now = asked_in segment.lines mark.left
+
+  -- the replay begins behind the head of the segment's part, with all that is asked
+  pub record IsBegun (rest : List ℕ) (at : At) : Type 0 where
+    pub state : at.state ≡ mark.state
+    pub asked : AreAsked lanes asked_now at.queues
+    pub rest_is : at.rest ≡ rest
+
+  -- what a part of the report tells of the replay that begins there
+  part_read : (at : At) (rest : List ℕ) → IsBegun rest at → (s : SegmentSeen) (after : Standing) (more : List ℕ) → IsPart d lanes names number segment (standing mark ends) mark.rest s after more
+      → rest ≡ text_of (map entry_line s.entries) ++ (tail_text s.jobs s.lost ++ more)
+      → AreEntries d at s.entries after.state (tail_text s.jobs s.lost ++ more)
+  part_read at rest begun s after more part text = (
+    record {
+      legal = subst (λ t. IsLegal d t s.entries after.state) (sym begun.state) part.run.woven.legal;
+      once = λ k lt.
+          part.run.woven.once k (subst (λ n. k < n) begun.asked.lanes lt) ∙ sym (begun.asked.each k (subst (λ n. k < n) begun.asked.lanes lt));
+      lanes_are = subst (λ n. All (λ (x : Entry). x.lane < n) s.entries) (sym begun.asked.lanes) part.run.woven.lanes_are;
+      text = begun.rest_is ∙ text;
+    },
+    part.run.woven.order,
+  )
+
+  -- its text, where its retirements and its start are known
+  part_head : (s : SegmentSeen) (after : Standing) (more : List ℕ) → IsPart d lanes names number segment (standing mark ends) mark.rest s after more
+      → mark.rest ≡ head_text number mark.state.place retired_now ++ (text_of (map entry_line s.entries) ++ (tail_text s.jobs s.lost ++ more))
+  part_head s after more part =
+      part.text ∙ part_text number s more
+      ∙ (λ i. head_text number (part.run.start i) (part.run.retired i) ++ (text_of (map entry_line s.entries) ++ (tail_text s.jobs s.lost ++ more)))
+
+  -- the report goes on with no head of the segment
+  pub no_head : (head : List ℕ) → head ≡ head_text number mark.state.place retired_now → ((rest : List ℕ) → mark.rest ≢ head ++ rest) → Goes d lanes names number segment mark ends None
+  no_head head is none s after more part = none _ (part_head s after more part ∙ ap (λ h. h ++ (text_of (map entry_line s.entries) ++ (tail_text s.jobs s.lost ++ more))) (sym is))
+
+  part_rest : (head rest : List ℕ) → head ≡ head_text number mark.state.place retired_now → mark.rest ≡ head ++ rest → (s : SegmentSeen) (after : Standing) (more : List ℕ)
+      → IsPart d lanes names number segment (standing mark ends) mark.rest s after more → rest ≡ text_of (map entry_line s.entries) ++ (tail_text s.jobs s.lost ++ more)
+  part_rest head rest is cut s after more part =
+      append_cancel_left (head_text number mark.state.place retired_now) rest (text_of (map entry_line s.entries) ++ (tail_text s.jobs s.lost ++ more))
+      (ap (λ h. h ++ rest) (sym is) ∙ sym cut ∙ part_head s after more part)
+
+  -- with no entries of the segment
+  pub no_entries : (head rest : List ℕ) (at : At) → head ≡ head_text number mark.state.place retired_now → mark.rest ≡ head ++ rest → IsBegun rest at
+      → ((es : List Entry) (last : State) (more : List ℕ) → AreEntries d at es last more → ⊥) → Goes d lanes names number segment mark ends None
+  no_entries head rest at is cut begun none s after more part =
+      none s.entries after.state (tail_text s.jobs s.lost ++ more) (part_read at rest begun s after more part (part_rest head rest is cut s after more part))
+
+  -- ---- the entries are read
+
+  module _ (head rest : List ℕ) (start at : At) (entries : List Entry) (jobs : List JobSeen)
+      (is : head ≡ head_text number mark.state.place retired_now) (cut : mark.rest ≡ head ++ rest) (begun : IsBegun rest start) (done : HasReplayed d start entries jobs at) where
+    abbrev pub sent_now : List SentSeen
+    sent_now = flat_map (λ entry. sends_of entry.what) entries ++ flat_map (λ job. sends_of_reply job.reply) jobs
+
+    pub sent_numbers : numbers_of sent_now ≡ at.sends ++ at.job_sends
+    sent_numbers =
+        map-append (λ s. s.endpoint) (flat_map (λ (entry : Entry). sends_of entry.what) entries) (flat_map (λ (job : JobSeen). sends_of_reply job.reply) jobs)
+        ∙ (λ i. sym done.sends i ++ sym done.job_sends i)
+
+    abbrev lost_now : List ℕ
+    lost_now = lost_counts names ends_now sent_now
+
+    abbrev seen_now : SegmentSeen
+    seen_now = record { retired = retired_now; start = mark.state.place; entries = entries; jobs = jobs; lost = lost_now }
+
+    -- each part has these entries, and so all the rest
+    same_entries : (s : SegmentSeen) (after : Standing) (more : List ℕ) → IsPart d lanes names number segment (standing mark ends) mark.rest s after more → s.entries ≡ entries
+    same_entries s after more part = done.only s.entries after.state (tail_text s.jobs s.lost ++ more) (part_read start rest begun s after more part (part_rest head rest is cut s after more part))
+
+    jobs_of_part : (s : SegmentSeen) (after : Standing) (more : List ℕ) → IsPart d lanes names number segment (standing mark ends) mark.rest s after more → s.jobs ≡ jobs
+    jobs_of_part s after more part =
+        one_list_of_jobs d mark.state entries s.jobs jobs (subst (λ es. AreJobs d mark.state es s.jobs) (same_entries s after more part) part.run.woven.jobs_are)
+        (subst (λ t. AreJobs d t entries jobs) begun.state done.jobs_are)
+
+    seen_is : (s : SegmentSeen) (after : Standing) (more : List ℕ) → IsPart d lanes names number segment (standing mark ends) mark.rest s after more → s ≡ seen_now
+    seen_is s after more part =
+        let es = same_entries s after more part in
+        let js = jobs_of_part s after more part in
+        let sent : sends_in s ≡ sent_now = λ i. flat_map (λ (entry : Entry). sends_of entry.what) (es i) ++ flat_map (λ (job : JobSeen). sends_of_reply job.reply) (js i) in
+        let lost : s.lost ≡ lost_now = part.run.lost ∙ ap (lost_counts names ends_now) sent in
+        λ i. record { retired = part.run.retired i; start = part.run.start i; entries = es i; jobs = js i; lost = lost i }
+
+    -- what is left of the report behind the entries
+    rest_behind : (s : SegmentSeen) (after : Standing) (more : List ℕ) → IsPart d lanes names number segment (standing mark ends) mark.rest s after more → at.rest ≡ tail_text jobs lost_now ++ more
+    rest_behind s after more part =
+        let same = seen_is s after more part in
+        let own : rest ≡ text_of (map entry_line entries) ++ at.rest = sym begun.rest_is ∙ done.read.0.text in
+        let other : rest ≡ text_of (map entry_line entries) ++ (tail_text jobs lost_now ++ more) =
+        part_rest head rest is cut s after more part ∙ ap (λ (x : SegmentSeen). text_of (map entry_line x.entries) ++ (tail_text x.jobs x.lost ++ more)) same in
+        append_cancel_left (text_of (map entry_line entries)) at.rest (tail_text jobs lost_now ++ more) (sym own ∙ other)
+
+    -- with other lines behind the entries
+    pub no_tail : (owed : List ℕ) → owed ≡ at.owed ++ text_of (lost_lines lost_now) → ((more : List ℕ) → at.rest ≢ owed ++ more) → Goes d lanes names number segment mark ends None
+    no_tail owed owes none s after more part =
+        none more (rest_behind s after more part ∙ ap (λ t. t ++ text_of (lost_lines lost_now) ++ more) (sym done.owed) ∙ ap (λ t. t ++ more) (sym owes))
+
+    -- or it goes on with the segment
+    pub passes : (owed last : List ℕ) (next : Mark) → owed ≡ at.owed ++ text_of (lost_lines lost_now) → at.rest ≡ owed ++ last
+        → next.state ≡ at.state → next.left ≡ drop (wanted_by segment.lines) mark.left → next.rest ≡ last → AreFlags names ends_now next.flags
+        → Passes d lanes names number segment mark ends next
+    passes owed last next owes left_is state left rest_is flags =
+        let tail : at.rest ≡ tail_text jobs lost_now ++ last = left_is ∙ ap (λ t. t ++ last) (owes ∙ ap (λ t. t ++ text_of (lost_lines lost_now)) done.owed) in
+        let ends_after = all_received names sent_now ends_now in
+        let text : mark.rest ≡ text_of (segment_lines number seen_now) ++ next.rest =
+        cut ∙ (λ i. is i ++ (sym begun.rest_is ∙ done.read.0.text ∙ ap (λ t. text_of (map entry_line entries) ++ t) tail) i)
+        ∙ sym (part_text number seen_now last) ∙ ap (λ t. text_of (segment_lines number seen_now) ++ t) (sym rest_is) in
+        record {
+          seen = seen_now;
+          ends_after = ends_after;
+          part = record {
+            run = record {
+              retired = refl;
+              start = refl;
+              woven = record {
+                legal = subst (λ t. IsLegal d t entries next.state) begun.state (subst (λ t. IsLegal d start.state entries t) (sym state) done.read.0.legal);
+                once = λ k lt.
+                    done.read.0.once k (subst (λ n. k < n) (sym begun.asked.lanes) lt) ∙ begun.asked.each k lt;
+                lanes_are = subst (λ n. All (λ (x : Entry). x.lane < n) entries) begun.asked.lanes done.read.0.lanes_are;
+                order = done.read.1;
+                jobs_are = subst (λ t. AreJobs d t entries jobs) begun.state done.jobs_are;
+              };
+              left = left;
+              lost = refl;
+              ends = refl;
+            };
+            text = text;
+          };
+          flags = flags_received names sent_now ends_now next.flags flags;
+          only = λ s after more part.
+              let same = seen_is s after more part in
+              let sent : sends_in s ≡ sent_now = ap sends_in same in
+              let legal_own : IsLegal d mark.state entries next.state = subst (λ t. IsLegal d t entries next.state) begun.state (subst (λ t. IsLegal d start.state entries t) (sym state) done.read.0.legal) in
+              let state_is : after.state ≡ next.state = same_last d mark.state entries after.state next.state (subst (λ (es : List Entry). IsLegal d mark.state es after.state) (same_entries s after more part) part.run.woven.legal) legal_own in
+              let left_same : after.left ≡ next.left = part.run.left ∙ sym left in
+              let ends_same : after.ends ≡ ends_after = part.run.ends ∙ ap (λ x. all_received names x ends_now) sent in
+              let more_is : last ≡ more = append_cancel_left (tail_text jobs lost_now) last more (sym tail ∙ rest_behind s after more part) in
+              (λ i. record { state = state_is i; left = left_same i; ends = ends_same i }, same, sym more_is ∙ sym rest_is);
+        }

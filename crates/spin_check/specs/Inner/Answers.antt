@@ -1,0 +1,48 @@
+-- What a command or a deed comes to, where the report tells the line of its entry.
+use Rattle.std.specs.Prelude.{◌≡◌, ℕ, Bool, true, false, List, All, Option, None, Some}
+use Rattle.std.specs.Arc.{arc_value}
+use Rattle.spin_word.specs.declared.command.Command.{Command}
+use Rattle.spin_table.specs.Setups.{SetupData}
+use Rattle.spin_table.specs.States.{State}
+use Rattle.spin_table.specs.Soundness.{IsSound}
+use Rattle.spin_table.specs.Steps.{IsStep}
+use Rattle.spin_table.specs.declared.refusal.Refusal.{Refusal}
+use Rattle.spin_table.specs.declared.refusal.Refusal.TheVariants as refusal
+use Rattle.spin_table.specs.declared.refusal.Verdicted.{Verdicted}
+use Rattle.spin_proto.specs.Replies.{BelongsTo}
+use Rattle.spin_report.specs.declared.entry.Entry.{Entry}
+use Rattle.spin_report.specs.Legal.{IsNextEntry}
+use Rattle.spin_report.specs.Jobs.{calls_of}
+use Rattle.spin_report.specs.Asked.{asked_of}
+use Rattle.spin_check.specs.declared.deeds.Ask.{Ask}
+use Rattle.spin_check.specs.declared.answer.Judged.{Judged}
+use Rattle.spin_check.specs.declared.answer.Answered.{Answered}
+use Rattle.spin_check.specs.Inner.Told.{Begins, TellsVerdict}
+use Rattle.spin_check.specs.Inner.Asks.{numbered}
+
+-- whether the refusal is a conflict, which tells a cycle
+abbrev pub tells_cycle : Refusal → Bool
+tells_cycle (refusal.Conflict cycle) = true
+tells_cycle other = false
+
+-- Of the verdicts that the command may have, the report tells this one alone, or none.
+abbrev pub IsJudged : SetupData → State → Command → List ℕ → Option Judged → Type 0
+IsJudged d state c report None =
+    (v : Verdicted) (next : State) → IsStep d state c v next → TellsVerdict report v → ⊥
+IsJudged d state c report (Some judged) =
+    IsStep d state c judged.verdict (arc_value judged.version)
+    × IsSound d (arc_value judged.version)
+    × ((v : Verdicted) (next : State) → IsStep d state c v next → TellsVerdict report v → v ≡ judged.verdict)
+
+-- Of the entries that may answer this, the report begins with the line of this one alone, or of none.
+abbrev pub IsAnswered : SetupData → State → Ask → List ℕ → Option Answered → Type 0
+IsAnswered d state ask report None =
+    (e : Entry) (next : State) → IsNextEntry d state e next → numbered ask ≡ asked_of e
+    → Begins report e → ⊥
+IsAnswered d state ask report (Some answered) =
+    IsNextEntry d state answered.entry (arc_value answered.version)
+    × (numbered ask ≡ asked_of answered.entry)
+    × IsSound d (arc_value answered.version)
+    × All (BelongsTo (arc_value answered.version)) (calls_of answered.entry.what)
+    × ((e : Entry) (next : State) → IsNextEntry d state e next → numbered ask ≡ asked_of e
+    → Begins report e → (e ≡ answered.entry) × (next ≡ arc_value answered.version))

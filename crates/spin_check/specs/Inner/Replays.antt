@@ -1,0 +1,120 @@
+-- The replay of a segment's entries.
+use Rattle.std.specs.Prelude.{◌≡◌, ◌≤◌, ◌+◌, ℕ, ◌<◌, Bool, false, List, [], ◌∷◌, ◌++◌, map, drop, length, All, Option, None, Some, ⊤, slice_set}
+use Rattle.std.specs.List.{flat_map}
+use Rattle.std.specs.Ordering.{is_lt}
+use Rattle.spin_table.specs.Setups.{SetupData}
+use Rattle.spin_table.specs.States.{State}
+use Rattle.spin_table.specs.Soundness.{IsSound}
+use Rattle.spin_text.specs.Words.{ended, text_of}
+use Rattle.spin_report.specs.declared.entry.Entry.{Entry}
+use Rattle.spin_report.specs.Asked.{asked_of}
+use Rattle.spin_report.specs.Lines.{JobSeen, entry_line, job_line}
+use Rattle.spin_report.specs.Legal.{IsNextEntry, IsLegal}
+use Rattle.spin_report.specs.Jobs.{calls_of, AreJobsFrom, AreJobs}
+use Rattle.spin_report.specs.Segments.{moment, moment_cmp, of_lane, IsInOrder}
+use Rattle.spin_report.specs.Runs.{sends_of, sends_of_reply}
+use Rattle.spin_check.specs.declared.deeds.Ask.{Ask}
+use Rattle.spin_check.specs.Inner.Asks.{numbered, queue_of, left_of, commands_left}
+use Rattle.spin_check.specs.Inner.Standings.{numbers_of}
+
+-- Where a replay stands: the state, what the lanes are still to do, where the last entry stood in the order, what is
+-- left of the report, the lines that are owed behind the entries, and the endpoints that entries and jobs sent to.
+pub record At : Type 0 where
+  pub state : State
+  pub queues : List (List Ask)
+  pub last : Option (ℕ × Bool × ℕ × ℕ × ℕ)
+  pub rest : List ℕ
+  pub owed : List ℕ
+  pub sends : List ℕ
+  pub job_sends : List ℕ
+
+-- The entry doesn't stand before that one.
+abbrev pub Follows : Option (ℕ × Bool × ℕ × ℕ × ℕ) → Entry → Type 0
+Follows None entry = ⊤
+Follows (Some last) entry = is_lt (moment_cmp (moment entry) last) ≡ false
+
+-- the first thing that the lane is still to do is what the entry answers
+abbrev pub IsFirstOf : List (List Ask) → Entry → Type 0
+IsFirstOf queues entry =
+    (ask : Ask) × (others : List Ask) × (queue_of entry.lane queues ≡ ask ∷ others)
+    × (numbered ask ≡ asked_of entry)
+
+-- The entry may come next, leads to that state, and its line is what the report begins with.
+pub record IsNext (d : SetupData) (at : At) (entry : Entry) (next : State) (more : List ℕ)
+    : Type 0 where
+  pub there : entry.lane < length at.queues
+  pub asked : IsFirstOf at.queues entry
+  pub answers : IsNextEntry d at.state entry next
+  pub order : Follows at.last entry
+  pub text : at.rest ≡ ended (entry_line entry) ++ more
+
+-- the sends of jobs
+abbrev pub sent_by_jobs : List JobSeen → List ℕ
+sent_by_jobs jobs = numbers_of (flat_map (λ job. sends_of_reply job.reply) jobs)
+
+-- what the lanes are still to do behind the entry
+abbrev pub queues_after : Entry → List (List Ask) → List (List Ask)
+queues_after entry queues = slice_set queues entry.lane (drop 1 (queue_of entry.lane queues))
+
+-- The replay goes on by this entry with these jobs.
+pub record Replays (d : SetupData) (at : At) (entry : Entry) (own : List JobSeen) (after : At)
+    : Type 0 where
+  pub next : IsNext d at entry after.state after.rest
+  pub queues : after.queues ≡ queues_after entry at.queues
+  pub last : after.last ≡ Some (moment entry)
+  pub jobs : AreJobsFrom d after.state entry 0 (calls_of entry.what) own
+  pub owed : after.owed ≡ at.owed ++ text_of (map job_line own)
+  pub sends : after.sends ≡ at.sends ++ numbers_of (sends_of entry.what)
+  pub job_sends : after.job_sends ≡ at.job_sends ++ sent_by_jobs own
+
+-- Each entry that may come next is this one.
+abbrev pub IsOnlyNext : SetupData → At → Entry → At → Type 0
+IsOnlyNext d at entry after =
+    (e : Entry) (next : State) (more : List ℕ) → IsNext d at e next more
+    → (e ≡ entry) × (next ≡ after.state) × (more ≡ after.rest)
+
+-- The lanes' entries, each lane's once and in its order, lead from there to that state, and their lines are what the
+-- report begins with.
+pub record AreRead (d : SetupData) (at : At) (entries : List Entry) (last : State)
+    (more : List ℕ) : Type 0 where
+  pub legal : IsLegal d at.state entries last
+  pub once : (k : ℕ) → k < length at.queues → map asked_of (of_lane k entries) ≡ left_of k at.queues
+  pub lanes_are : All (λ entry. entry.lane < length at.queues) entries
+  pub text : at.rest ≡ text_of (map entry_line entries) ++ more
+
+-- The entries are read, and stand in order.
+abbrev pub AreEntries : SetupData → At → List Entry → State → List ℕ → Type 0
+AreEntries d at entries last more = AreRead d at entries last more × IsInOrder entries
+
+-- The replay has come from its start over these entries, and these are their jobs.
+pub record HasReplayed (d : SetupData) (start : At) (entries : List Entry) (jobs : List JobSeen)
+    (at : At) : Type 0 where
+  pub read : AreEntries d start entries at.state at.rest
+  pub jobs_are : AreJobs d start.state entries jobs
+  pub owed : at.owed ≡ text_of (map job_line jobs)
+  pub sends : at.sends ≡ numbers_of (flat_map (λ entry. sends_of entry.what) entries)
+  pub job_sends : at.job_sends ≡ sent_by_jobs jobs
+  pub only : (es : List Entry) (last : State) (more : List ℕ) → AreEntries d start es last more
+      → es ≡ entries
+
+-- The replay goes on by the one entry that may come next; none where no entry may.
+abbrev pub GoesOn : SetupData → At → Option At → Type 0
+GoesOn d at None = (e : Entry) (next : State) (more : List ℕ) → IsNext d at e next more → ⊥
+GoesOn d at (Some after) =
+    (entry : Entry) × (own : List JobSeen) × Replays d at entry own after × IsOnlyNext d at entry after
+    × IsSound d after.state
+
+-- No entry was replayed yet.
+pub record IsFresh (at : At) : Type 0 where
+  pub last : at.last ≡ None
+  pub owed : at.owed ≡ []
+  pub sends : at.sends ≡ []
+  pub job_sends : at.job_sends ≡ []
+
+-- The replay has come to the end of the segment's entries; none where the report begins with no such entries.
+abbrev pub EndsAt : SetupData → At → Option At → Type 0
+EndsAt d start None =
+    (entries : List Entry) (last : State) (more : List ℕ) → AreEntries d start entries last more → ⊥
+EndsAt d start (Some at) =
+    (entries : List Entry) × (jobs : List JobSeen) × HasReplayed d start entries jobs at
+    × IsSound d at.state × (at.state.place ≤ start.state.place + commands_left start.queues)

@@ -1,0 +1,59 @@
+-- One segment of a report.
+use Rattle.std.specs.Prelude.{◌≡◌, ◌≤◌, ◌+◌, ℕ, List, ◌++◌, Bool, Option, None, Some, length, ⊤}
+use Rattle.spin_table.specs.Setups.{SetupData}
+use Rattle.spin_table.specs.States.{State}
+use Rattle.spin_table.specs.Soundness.{IsSound}
+use Rattle.spin_endpoint.specs.Named.{NamedEnd}
+use Rattle.spin_script.specs.declared.script.Segment.{Segment}
+use Rattle.spin_text.specs.Words.{text_of}
+use Rattle.spin_report.specs.Histories.{SegmentSeen, segment_lines}
+use Rattle.spin_report.specs.Runs.{Standing, IsSegmentRun}
+use Rattle.spin_check.specs.Inner.Asks.{commands_in}
+use Rattle.spin_check.specs.Inner.Standings.{AreFlags}
+
+-- Where a check stands between two segments: the state, the records of the capture that are left, which endpoints
+-- stand, and what is left of the report.
+pub record Mark : Type 0 where
+  pub state : State
+  pub left : List (List ℕ)
+  pub flags : List Bool
+  pub rest : List ℕ
+
+abbrev pub standing : Mark → List NamedEnd → Standing
+standing mark ends = record { state = mark.state; left = mark.left; ends = ends }
+
+-- The segment's part of the report is what is left of the report begins with.
+pub record IsPart (d : SetupData) (lanes : ℕ) (names : List (List ℕ)) (number : ℕ)
+    (segment : Segment) (before : Standing) (rest : List ℕ) (seen : SegmentSeen) (after : Standing)
+    (more : List ℕ) : Type 0 where
+  pub run : IsSegmentRun d lanes names segment before seen after
+  pub text : rest ≡ text_of (segment_lines number seen) ++ more
+
+-- The check went over the segment, whose part of the report can be no other.
+pub record Passes (d : SetupData) (lanes : ℕ) (names : List (List ℕ)) (number : ℕ)
+    (segment : Segment) (mark : Mark) (ends : List NamedEnd) (next : Mark) : Type 0 where
+  pub seen : SegmentSeen
+  pub ends_after : List NamedEnd
+  pub part : IsPart d lanes names number segment (standing mark ends) mark.rest seen
+      (standing next ends_after) next.rest
+  pub flags : AreFlags names ends_after next.flags
+  pub only : (s : SegmentSeen) (after : Standing) (more : List ℕ)
+      → IsPart d lanes names number segment (standing mark ends) mark.rest s after more
+      → (after ≡ standing next ends_after) × (s ≡ seen) × (more ≡ next.rest)
+
+-- The check goes over the segment; none where the report goes on with no history of it.
+abbrev pub Goes : SetupData → ℕ → List (List ℕ) → ℕ → Segment → Mark → List NamedEnd → Option Mark → Type 0
+Goes d lanes names number segment mark ends None =
+    (s : SegmentSeen) (after : Standing) (more : List ℕ)
+    → IsPart d lanes names number segment (standing mark ends) mark.rest s after more → ⊥
+Goes d lanes names number segment mark ends (Some next) =
+    Passes d lanes names number segment mark ends next
+
+-- What the next segment needs: a sound state, no more commands than this one has, the same endpoints, and no more records
+-- left than before.
+abbrev pub IsGoodMark : SetupData → Segment → Mark → Option Mark → Type 0
+IsGoodMark d segment mark None = ⊤
+IsGoodMark d segment mark (Some next) =
+    IsSound d next.state × (next.state.place ≤ mark.state.place + commands_in segment.lines)
+    × (length next.flags ≡ length mark.flags)
+    × (length next.left ≤ length mark.left)

@@ -1,0 +1,178 @@
+//! What a lane's next command or deed comes to at a version, the cycle of a conflict being the one that is told.
+
+ghost use Rattle.std.specs.Prelude.{◌≡◌, ◌<◌, true, IsTrue, IfOk};
+ghost use Rattle.std.specs.Arc.{arc_value};
+ghost use Rattle.spin_word.specs.Commands.{is_command};
+ghost use Rattle.spin_word.specs.declared.command.TheConstants.{MAX_PLACE};
+ghost use Rattle.spin_table.specs.SetupOf.{data_of};
+ghost use Rattle.spin_table.specs.Soundness.{IsSound};
+ghost use Rattle.spin_table.specs.Steps.{IsAnswer, IsStep};
+ghost use Rattle.spin_table.specs.declared.refusal.Verdicted.TheVariants as verdicted;
+ghost use Rattle.spin_check.specs.Inner.Asks.{IsValid, asks_command};
+ghost use Rattle.spin_check.specs.Inner.Answers.{tells_cycle, IsJudged, IsAnswered};
+
+use crate::deeds::{Ask, Asked};
+use crate::told::cycle_told;
+use spin_code::Sincere;
+use spin_objects::Catalogue;
+use spin_proto::path;
+use spin_report::{Entry, What};
+use spin_table::{Refusal, Setup, StepFault, Verdicted, Version};
+use spin_values::{NoMemory, Steps};
+use spin_word::Command;
+use std::alloc::Global;
+use std::marker::Brand;
+use std::sync::Arc;
+use std::sync::ledger::{Blank, Ledger};
+
+/// An entry, and the version that it leads to.
+#[derive(Drop)]
+pub(crate) struct Answered {
+    pub(crate) entry: Entry,
+    pub(crate) version: Arc<Version>,
+}
+
+/// What became of a command, and the version after it.
+#[derive(Drop)]
+struct Judged {
+    verdict: Verdicted,
+    version: Arc<Version>,
+}
+
+// The version after the command, over a count of steps of its own.
+fn counted_after<L: Ledger>(
+    alloc: Global,
+    setup: &Setup,
+    version: &Version,
+    c: &Command,
+    blank: Blank,
+) -> Result<Version, StepFault>
+    requires name { blank.name ≡ L.name }
+    requires parts { blank.parts ≡ L.parts }
+    requires some { 0 < L.parts }
+    requires sincere { ⟦<Catalogue as Sincere>⟧.sincere setup.now.catalogue }
+    requires valid { IsTrue (is_command c.now) }
+    requires room { version.now.place < MAX_PLACE }
+    requires sound { IsSound (data_of setup.now) version.now }
+    ensures answer { IsAnswer (data_of setup.now) version.now c.now result }
+    ensures sound { IfOk result (λ v. IsSound (data_of setup.now) v) }
+{
+    let mut steps = Steps::<L>::new(blank);
+    version.after(alloc, setup, c, &mut steps)
+}
+
+fn tells_cycle(refusal: &Refusal) -> bool
+    ensures { result ≡ tells_cycle refusal.now }
+{
+    matches!(refusal, Refusal::Conflict(_))
+}
+
+// What became of a command to which a conflict applies, where the report tells a cycle of it.
+fn judge_conflict(
+    alloc: Global,
+    setup: &Setup,
+    version: &Arc<Version>,
+    c: &Command,
+    report: &[u8],
+) -> Result<Option<Judged>, NoMemory>
+    requires sincere { ⟦<Catalogue as Sincere>⟧.sincere setup.now.catalogue }
+    requires room { (arc_value version.now).place < MAX_PLACE }
+    requires sound { IsSound (data_of setup.now) (arc_value version.now) }
+    requires conflict { let d = data_of setup.now in
+        (r : Refusal) × (tells_cycle r ≡ true)
+        × IsStep d (arc_value version.now) c.now (verdicted.Refused r) (arc_value version.now) }
+    ensures { let d = data_of setup.now in
+        IfOk result (IsJudged d (arc_value version.now) c.now report.now) }
+{
+    let Some(cycle) = cycle_told(alloc, report)? else {
+        return Ok(None);
+    };
+    let may = version.may_conflict(alloc, setup, c, cycle.as_slice())?;
+    if !may {
+        return Ok(None);
+    }
+    Ok(Some(Judged {
+        verdict: Verdicted::Refused(Refusal::Conflict(cycle)),
+        version: Arc::try_clone(version)?,
+    }))
+}
+
+// What becomes of a command.
+fn judge(
+    alloc: Global,
+    setup: &Setup,
+    version: &Arc<Version>,
+    c: &Command,
+    report: &[u8],
+) -> Result<Option<Judged>, NoMemory>
+    requires sincere { ⟦<Catalogue as Sincere>⟧.sincere setup.now.catalogue }
+    requires valid { IsTrue (is_command c.now) }
+    requires room { (arc_value version.now).place < MAX_PLACE }
+    requires sound { IsSound (data_of setup.now) (arc_value version.now) }
+    ensures judged { let d = data_of setup.now in
+        IfOk result (IsJudged d (arc_value version.now) c.now report.now) }
+{
+    match counted_after::<Brand>(alloc, setup, version, c, Blank::new(1)) {
+        Ok(next) => Ok(Some(Judged {
+            verdict: Verdicted::Accepted,
+            version: Arc::new(alloc, next)?,
+        })),
+        Err(StepFault::NoMemory) => Err(NoMemory),
+        Err(StepFault::Refused(refusal)) => {
+            if tells_cycle(&refusal) {
+                return judge_conflict(alloc, setup, version, c, report);
+            }
+            Ok(Some(Judged {
+                verdict: Verdicted::Refused(refusal),
+                version: Arc::try_clone(version)?,
+            }))
+        }
+    }
+}
+
+/// The entry that answers this at the version, where the report can begin with its line: each that it can begin with
+/// is this one. The version that it leads to is sound.
+pub(crate) fn answer(
+    alloc: Global,
+    setup: &Setup,
+    version: &Arc<Version>,
+    ask: Ask,
+    report: &[u8],
+) -> Result<Option<Answered>, NoMemory>
+    requires sincere { ⟦<Catalogue as Sincere>⟧.sincere setup.now.catalogue }
+    requires valid { IsValid ask }
+    requires room { asks_command ask ≡ true → (arc_value version.now).place < MAX_PLACE }
+    requires sound { IsSound (data_of setup.now) (arc_value version.now) }
+    ensures { let d = data_of setup.now in
+        IfOk result (IsAnswered d (arc_value version.now) ask report.now) }
+{
+    let Ask {
+        lane,
+        line,
+        part,
+        asked,
+    } = ask;
+    let (what, next) = match asked {
+        Asked::Command(c) => {
+            let Some(Judged { verdict, version }) = judge(alloc, setup, version, &c, report)? else {
+                return Ok(None);
+            };
+            (What::Command(c, verdict), version)
+        }
+        Asked::Deed(deed) => {
+            let reply = path(alloc, version, setup, &deed)?;
+            (What::Deed(deed, reply), Arc::try_clone(version)?)
+        }
+    };
+    let entry = Entry {
+        place: next.place(),
+        lane,
+        line,
+        part,
+        what,
+    };
+    Ok(Some(Answered {
+        entry,
+        version: next,
+    }))
+}

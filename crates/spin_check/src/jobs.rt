@@ -1,0 +1,89 @@
+//! The jobs that an entry leaves.
+
+ghost use Rattle.std.specs.Prelude.{◌≡◌, ◌<◌, ◌^◌, ◌++◌, List, All, IfOk, OnOk, length, map};
+ghost use Rattle.std.specs.Arc.{arc_value};
+ghost use Rattle.spin_table.specs.SetupOf.{data_of};
+ghost use Rattle.spin_table.specs.Soundness.{IsSound};
+ghost use Rattle.spin_proto.specs.Replies.{BelongsTo};
+ghost use Rattle.spin_text.specs.Words.{text_of};
+ghost use Rattle.spin_report.specs.Lines.{JobSeen, job_line};
+ghost use Rattle.spin_report.specs.Jobs.{calls_of, AreJobsFrom};
+ghost use Rattle.spin_check.specs.Inner.Replays.{sent_by_jobs};
+
+use crate::sends::add_of_reply;
+use spin_code::Sincere;
+use spin_objects::Catalogue;
+use spin_proto::{Job, JobCall, Reply, job_path};
+use spin_report::{Entry, What, job_text};
+use spin_table::{Setup, Version};
+use spin_values::{NoMemory, Octets};
+use std::alloc::Global;
+use std::collections::VecDeque;
+use std::sync::Arc;
+
+// The calls that an answer leaves to jobs.
+fn into_calls(alloc: Global, what: What) -> Result<Vec<JobCall>, NoMemory>
+    ensures { IfOk result (λ calls. calls.items ≡ calls_of what) }
+{
+    let mut calls = Vec::new(alloc);
+    let What::Deed(_deed, reply) = what else {
+        return Ok(calls);
+    };
+    match reply {
+        Reply::Ran {
+            answer: _,
+            trace: _trace,
+            jobs,
+        } => return Ok(jobs.into_vec()),
+        Reply::Queued(call) => calls.push(call)?,
+        Reply::UnknownEvent | Reply::WrongArgs | Reply::Spent => {}
+    }
+    Ok(calls)
+}
+
+/// Does the jobs that an entry leaves, on the version of its place. It appends the line of each, and the numbers of the
+/// endpoints that they send to. A call is moved into its job.
+pub(crate) fn do_jobs(
+    alloc: Global,
+    setup: &Setup,
+    version: &Arc<Version>,
+    entry: Entry,
+    out: &mut Octets,
+    sends: &mut Octets,
+) -> Result<(), NoMemory>
+    requires sincere { ⟦<Catalogue as Sincere>⟧.sincere setup.now.catalogue }
+    requires sound { IsSound (data_of setup.now) (arc_value version.now) }
+    requires belong { All (BelongsTo (arc_value version.now)) (calls_of entry.what) }
+    requires few { length (calls_of entry.what) < 2 ^ 32 }
+    ensures { let d = data_of setup.now in
+        OnOk result ((own : List JobSeen)
+        × AreJobsFrom d (arc_value version.now) entry 0 (calls_of entry.what) own
+        × (out.new ≡ out.old ++ text_of (map job_line own))
+        × (sends.new ≡ sends.old ++ sent_by_jobs own)) }
+{
+    let Entry {
+        place,
+        lane,
+        line,
+        part,
+        what,
+    } = entry;
+    let mut index = 0;
+    let mut calls = VecDeque::from(into_calls(alloc, what)?);
+    while let Some(call) = calls.pop_front() {
+        let job = Job {
+            version: Arc::try_clone(version)?,
+            call,
+            place,
+            lane,
+            line,
+            part,
+            index,
+        };
+        let reply = job_path(alloc, version, setup, &job.call)?;
+        job_text(&job, &reply, out)?;
+        add_of_reply(sends, &reply)?;
+        index += 1;
+    }
+    Ok(())
+}

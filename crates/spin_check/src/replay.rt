@@ -1,0 +1,223 @@
+//! The replay of a segment's entries along the report.
+
+ghost use Rattle.std.specs.Prelude.{◌≡◌, ◌≤◌, ◌+◌, ◌++◌, All, IfOk, Decides, length};
+ghost use Rattle.std.specs.Arc.{arc_value};
+ghost use Rattle.spin_word.specs.declared.command.TheConstants.{MAX_PLACE};
+ghost use Rattle.spin_table.specs.SetupOf.{data_of};
+ghost use Rattle.spin_table.specs.Soundness.{IsSound};
+ghost use Rattle.spin_text.specs.Words.{ended};
+ghost use Rattle.spin_report.specs.Lines.{entry_line};
+ghost use Rattle.spin_report.specs.Segments as segments;
+ghost use Rattle.spin_check.specs.Inner.Asks.{IsValid, commands_left};
+ghost use Rattle.spin_check.specs.Inner.Replays.{Follows, IsFresh, GoesOn, EndsAt};
+ghost use Rattle.spin_check.specs.Inner.Fronts.{IsBehind};
+
+use crate::answer::{Answered, answer};
+use crate::deeds::Deeds;
+use crate::front::behind;
+use crate::jobs::do_jobs;
+use crate::sends::add_of_entry;
+use crate::told::lane_told;
+use spin_code::Sincere;
+use spin_objects::Catalogue;
+use spin_report::{Entry, What, entry_text};
+use spin_table::{Setup, Verdicted, Version};
+use spin_values::{NoMemory, Octets};
+use std::alloc::Global;
+use std::marker::Model;
+use std::sync::Arc;
+
+/// Where an entry stands among those of its segment: by place, at one place the accepted command first, and then by
+/// lane, line and part.
+type Moment = (u16, bool, u8, u32, u32);
+
+fn moment(entry: &Entry) -> Moment
+    ensures { result ≡ segments.moment entry.now }
+{
+    let is_accepted = matches!(&entry.what, What::Command(_, Verdicted::Accepted));
+    (
+        entry.place,
+        !is_accepted,
+        entry.lane,
+        entry.line,
+        entry.part,
+    )
+}
+
+/// Where the replay of a segment stands.
+#[derive(Drop)]
+pub(crate) struct Replay<'a> {
+    /// What is left of the report.
+    pub(crate) rest: &'a [u8],
+    pub(crate) version: Arc<Version>,
+    /// What the lanes are still to do.
+    pub(crate) deeds: Deeds,
+    /// Where the last entry stands.
+    pub(crate) last: Option<Moment>,
+    /// The lines of the jobs so far.
+    pub(crate) owed: Octets,
+    /// The numbers of the endpoints that entries send to.
+    pub(crate) sends: Octets,
+    /// And of those that jobs send to.
+    pub(crate) job_sends: Octets,
+}
+
+impl<'a> Model for Replay<'a> {
+    ghost use Rattle.std.specs.Arc.{arc_value};
+    ghost use Rattle.std.specs.Coded.{codes};
+    ghost use Rattle.spin_code.specs.contracts.test.Test as test;
+    ghost use Rattle.spin_check.specs.Inner.Replays.{At};
+
+    ghost Value = { At };
+
+    ghost coded = { Prim.hlevel (codes, test.the_row.coded) };
+
+    ghost view = { λ r. record {
+      state = arc_value r.version;
+      queues = r.deeds;
+      last = r.last;
+      rest = r.rest.now;
+      owed = r.owed;
+      sends = r.sends;
+      job_sends = r.job_sends;
+    } };
+}
+
+/// Whether the entry doesn't stand before the last one.
+fn follows(last: &Option<Moment>, entry: &Entry) -> bool
+    ensures { Decides result (Follows last.now entry.now) }
+{
+    match last {
+        None => true,
+        Some(last) => !(moment(entry) < *last),
+    }
+}
+
+/// The report behind the line of the entry, where it begins with it.
+fn behind_entry<'a>(
+    alloc: Global,
+    entry: &Entry,
+    report: &'a [u8],
+) -> Result<Option<&'a [u8]>, NoMemory>
+    ensures { let line = ended (entry_line entry.now) in
+        IfOk result (IsBehind line report.now) }
+{
+    let mut line = Octets::new(alloc);
+    entry_text(entry, &mut line)?;
+    Ok(behind(report, line.as_slice()))
+}
+
+impl<'a> Replay<'a> {
+    /// A replay that begins at this version and front of the report, with all of the deeds still to do.
+    pub(crate) fn new(
+        alloc: Global,
+        rest: &'a [u8],
+        version: Arc<Version>,
+        deeds: Deeds,
+    ) -> Replay<'a>
+        ensures fresh { IsFresh result }
+        ensures state { result.state ≡ arc_value version }
+        ensures queues { result.queues ≡ deeds }
+        ensures rest { result.rest ≡ rest.now }
+    {
+        Replay {
+            rest,
+            version,
+            deeds,
+            last: None,
+            owed: Octets::new(alloc),
+            sends: Octets::new(alloc),
+            job_sends: Octets::new(alloc),
+        }
+    }
+
+    /// What is left of the report, the version, the lines that are owed, and the numbers of the endpoints that were sent
+    /// to, by entries and then by jobs.
+    pub(crate) fn into_parts(self) -> Result<(&'a [u8], Arc<Version>, Octets, Octets), NoMemory>
+        ensures rest { IfOk result (λ r. r.0.now ≡ self.entry.rest) }
+        ensures state { IfOk result (λ r. arc_value r.1 ≡ self.entry.state) }
+        ensures owed { IfOk result (λ r. r.2 ≡ self.entry.owed) }
+        ensures sends { IfOk result (λ r. r.3 ≡ self.entry.sends ++ self.entry.job_sends) }
+    {
+        let Replay {
+            rest,
+            version,
+            owed,
+            sends,
+            job_sends,
+            ..
+        } = self;
+        let mut all = sends;
+        let mut of_jobs = job_sends;
+        all.append(&mut of_jobs)?;
+        Ok((rest, version, owed, all))
+    }
+
+    /// Goes on by the one entry that may come next, with its jobs.
+    fn step(self, alloc: Global, setup: &Setup) -> Result<Option<Replay<'a>>, NoMemory>
+        requires sincere { ⟦<Catalogue as Sincere>⟧.sincere setup.now.catalogue }
+        requires sound { IsSound (data_of setup.now) self.state }
+        requires valid { All (λ queue. All IsValid queue) self.queues }
+        requires lanes { length self.queues ≤ 10 }
+        requires room { self.state.place + commands_left self.queues ≤ MAX_PLACE }
+        ensures { IfOk result (GoesOn (data_of setup.now) self.entry) }
+    {
+        let Replay {
+            rest: report,
+            version: before,
+            mut deeds,
+            last,
+            mut owed,
+            mut sends,
+            mut job_sends,
+        } = self;
+        let Some(lane) = lane_told(report) else {
+            return Ok(None);
+        };
+        let Some(ask) = deeds.take_next(lane) else {
+            return Ok(None);
+        };
+        let answered = answer(alloc, setup, &before, ask, report)?;
+        let Some(Answered { entry, version }) = answered else {
+            return Ok(None);
+        };
+        let Some(rest) = behind_entry(alloc, &entry, report)? else {
+            return Ok(None);
+        };
+        if !follows(&last, &entry) {
+            return Ok(None);
+        }
+        let last = Some(moment(&entry));
+        add_of_entry(&mut sends, &entry.what)?;
+        do_jobs(alloc, setup, &version, entry, &mut owed, &mut job_sends)?;
+        Ok(Some(Replay {
+            rest,
+            version,
+            deeds,
+            last,
+            owed,
+            sends,
+            job_sends,
+        }))
+    }
+
+    /// Goes on to the last entry of the segment.
+    pub(crate) fn run(self, alloc: Global, setup: &Setup) -> Result<Option<Replay<'a>>, NoMemory>
+        requires sincere { ⟦<Catalogue as Sincere>⟧.sincere setup.now.catalogue }
+        requires sound { IsSound (data_of setup.now) self.state }
+        requires valid { All (λ queue. All IsValid queue) self.queues }
+        requires lanes { length self.queues ≤ 10 }
+        requires room { self.state.place + commands_left self.queues ≤ MAX_PLACE }
+        requires fresh { IsFresh self }
+        ensures { IfOk result (EndsAt (data_of setup.now) self.entry) }
+    {
+        let mut replay = self;
+        while !replay.deeds.are_done() {
+            let Some(next) = replay.step(alloc, setup)? else {
+                return Ok(None);
+            };
+            replay = next;
+        }
+        Ok(Some(replay))
+    }
+}
