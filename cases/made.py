@@ -202,7 +202,7 @@ def headers():
 
 # ---- the smallest example of each status, cause, fault and refusal, which docs/FORMATS.md shows
 
-USAGE = "usage: spin run SCRIPT [PACKETS] | spin gen NUMBER | spin join SCRIPT PACKETS | spin vm SCRIPT TRACE\n"
+USAGE = "usage: spin run SCRIPT [PACKETS] | spin gen NUMBER | spin check SCRIPT REPORT [PACKETS] | spin join SCRIPT PACKETS | spin vm SCRIPT TRACE\n"
 TWO_EVENTS = ["event 0 0 b last", "event 1 0 bwww last", "handler 1 b layer ipv4 1", INSTALL.strip()]
 TWO_LAYERS = ["event 0 0 bwww last", "event 1 0 bwwww last", "handler 1 bwww layer udp 1", INSTALL.strip()]
 

@@ -2,15 +2,16 @@
 use Rattle.std.proofs.Common.{◌≡◌, ℕ, zero, suc, List, sym, subst, ◌∙◌, inl, inr}
 use Rattle.spin_script.specs.States.{NativeData}
 use Rattle.spin_top.specs.declared.end.End.{End}
-use Rattle.spin_top.specs.declared.end.End.TheVariants.{Whole, Usage, Refused, Capture, Unread, WriteFault, Absent, NoMemory, Endpoint, Trace, Unsuited}
+use Rattle.spin_top.specs.declared.end.End.TheVariants.{Whole, Usage, Refused, Capture, Unread, WriteFault, Absent, NoMemory, Endpoint, NoHistory, LongReport, Trace, Unsuited}
 use Rattle.spin_top.specs.declared.end.Input.{Input}
 use Rattle.spin_top.specs.declared.words.Asked.{Asked}
-use Rattle.spin_top.specs.declared.words.Asked.TheVariants.{Run, Gen, Join, Vm}
+use Rattle.spin_top.specs.declared.words.Asked.TheVariants.{Run, Gen, Check, Join, Vm}
 use Rattle.spin_top.specs.Words.{IsAsked}
 use Rattle.spin_top.specs.Ends.{number}
 use Rattle.spin_top.specs.Outside.{OnlyStops, Outside}
 use Rattle.spin_top.specs.Statuses.{AsksNothing, ByCommand, Call, CommandHasCause, CommandKnows, HasCause, IsCommandStatus, IsStatus, KeepsTable, KnowsCommand, KnowsUsage, Row}
 use Rattle.spin_top.specs.Vm.{IsVmStatus}
+use Rattle.spin_top.proofs.CheckKnown.{check_known}
 use Rattle.spin_top.proofs.Forms.{one_asked}
 use Rattle.spin_top.proofs.GenCauses.{gen_known}
 use Rattle.spin_top.proofs.JoinKnown.{join_known}
@@ -24,6 +25,7 @@ use Rattle.spin_top.proofs.VmKnown.{vm_known}
 only_memory : (natives : NativeData) (before after : Outside) (asked : Asked) → after.shelf ≡ before.shelf → OnlyStops before after NoMemory → CommandHasCause natives before after asked NoMemory
 only_memory natives before after (Run name packets) same only = (same_stood before.shelf after.shelf same, inl only)
 only_memory natives before after (Gen number) same only = (same, inl only)
+only_memory natives before after (Check name report packets) same only = (same_stood before.shelf after.shelf same, only)
 only_memory natives before after (Join name packets) same only = (same_stood before.shelf after.shelf same, inl only)
 only_memory natives before after (Vm name trace) same only = (same_stood before.shelf after.shelf same, inl only)
 
@@ -31,6 +33,7 @@ only_memory natives before after (Vm name trace) same only = (same_stood before.
 not_usage : (natives : NativeData) (before after : Outside) (asked : Asked) → CommandHasCause natives before after asked Usage → ⊥
 not_usage natives before after (Run name packets) cause = cause
 not_usage natives before after (Gen number) cause = cause
+not_usage natives before after (Check name report packets) cause = cause
 not_usage natives before after (Join name packets) cause = cause
 not_usage natives before after (Vm name trace) cause = cause
 
@@ -38,6 +41,7 @@ not_usage natives before after (Vm name trace) cause = cause
 command_known : (natives : NativeData) (before after : Outside) (asked : Asked) (status : ℕ) → IsCommandStatus natives before after asked status → CommandKnows natives before after asked status
 command_known natives before after (Run name packets) status is = run_known natives before after name packets status is.0 is.1 is.2
 command_known natives before after (Gen number) status is = gen_known natives before after number status is.0 is.1 is.2
+command_known natives before after (Check name report packets) status is = check_known natives before after name report packets status is.0 is.1 is.2
 command_known natives before after (Join name packets) status is = join_known natives before after name packets status is.0 is.1 is.2
 command_known natives before after (Vm name trace) status is = vm_known natives before after name trace status is.0 is.1 is.2
 
@@ -54,6 +58,8 @@ ByStatus call (suc (suc (suc (suc (suc zero))))) = HasCause call WriteFault
 ByStatus call (suc (suc (suc (suc (suc (suc zero)))))) = (input : Input) × HasCause call (Absent input)
 ByStatus call (suc (suc (suc (suc (suc (suc (suc zero))))))) = HasCause call NoMemory
 ByStatus call (suc (suc (suc (suc (suc (suc (suc (suc zero)))))))) = (at : ℕ) × HasCause call (Endpoint at)
+ByStatus call (suc (suc (suc (suc (suc (suc (suc (suc (suc zero))))))))) = HasCause call NoHistory
+ByStatus call (suc (suc (suc (suc (suc (suc (suc (suc (suc (suc zero)))))))))) = HasCause call LongReport
 ByStatus call (suc (suc (suc (suc (suc (suc (suc (suc (suc (suc (suc zero))))))))))) = (line : ℕ) × (cause : ℕ) × HasCause call (Trace line cause)
 ByStatus call (suc (suc (suc (suc (suc (suc (suc (suc (suc (suc (suc (suc zero)))))))))))) = HasCause call Unsuited
 ByStatus call other = ⊥
@@ -68,6 +74,8 @@ by_end call WriteFault cause = cause
 by_end call (Absent input) cause = (input, cause)
 by_end call NoMemory cause = cause
 by_end call (Endpoint number) cause = (number, cause)
+by_end call NoHistory cause = cause
+by_end call LongReport cause = cause
 by_end call (Trace line number) cause = (line, number, cause)
 by_end call Unsuited cause = cause
 
@@ -114,6 +122,8 @@ table_known call is = record {
   absent = λ same. by_status call 6 is same;
   memory = λ same. by_status call 7 is same;
   endpoint = λ same. by_status call 8 is same;
+  no_history = λ same. by_status call 9 is same;
+  long_report = λ same. by_status call 10 is same;
   trace = λ same. by_status call 11 is same;
   unsuited = λ same. by_status call 12 is same;
   commands = commands_known call is;

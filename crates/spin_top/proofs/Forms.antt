@@ -4,7 +4,7 @@ use Rattle.std.specs.Prelude.{bytes_eq, if◌then◌else◌}
 use Rattle.spin_grammar.specs.Spelling as grammar
 use Rattle.spin_grammar.specs.Spelling.{within, greatest}
 use Rattle.spin_top.specs.declared.words.Asked.{Asked}
-use Rattle.spin_top.specs.declared.words.Asked.TheVariants.{Run, Gen, Join, Vm}
+use Rattle.spin_top.specs.declared.words.Asked.TheVariants.{Run, Gen, Check, Join, Vm}
 use Rattle.spin_top.specs.Words.{IsSpelled}
 
 -- what the words behind `run` ask for
@@ -22,6 +22,12 @@ abbrev pub gen_of : List (List ℕ) → Option Asked
 gen_of (word ∷ []) = gen_by (within 0 greatest (grammar.number word))
 gen_of other = None
 
+-- what the words behind `check` ask for
+abbrev check_of : List (List ℕ) → Option Asked
+check_of (script ∷ report ∷ []) = Some (Check script report None)
+check_of (script ∷ report ∷ packets ∷ []) = Some (Check script report (Some packets))
+check_of other = None
+
 -- what the words behind `join` ask for
 abbrev join_of : List (List ℕ) → Option Asked
 join_of (script ∷ packets ∷ []) = Some (Join script packets)
@@ -38,6 +44,7 @@ asked_of [] = None
 asked_of (word ∷ names) =
     if bytes_eq word (codes "run") then run_of names
     else if bytes_eq word (codes "gen") then gen_of names
+    else if bytes_eq word (codes "check") then check_of names
     else if bytes_eq word (codes "join") then join_of names
     else if bytes_eq word (codes "vm") then vm_of names
     else None
@@ -48,6 +55,8 @@ unfolding asked_of
 read_back words (Run script None) is = ap asked_of is
 read_back words (Run script (Some packets)) is = ap asked_of is
 read_back words (Gen number) is = ap asked_of is.1 ∙ ap gen_by is.2
+read_back words (Check script report None) is = ap asked_of is
+read_back words (Check script report (Some packets)) is = ap asked_of is
 read_back words (Join script packets) is = ap asked_of is
 read_back words (Vm script trace) is = ap asked_of is
 

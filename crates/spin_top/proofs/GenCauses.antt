@@ -1,9 +1,8 @@
 -- What the end of a summary rests on, and which status it always comes to.
-use Rattle.std.proofs.Common.{◌≡◌, ◌⊎◌, ◌+◌, ℕ, Option, Some, None, List, drop, refl, sym, ap, subst, ◌∙◌, arith, inl, inr}
+use Rattle.std.proofs.Common.{◌≡◌, ◌+◌, ℕ, Option, Some, None, List, drop, refl, sym, subst, ◌∙◌, arith, inl, inr}
 use Rattle.std.specs.Prelude.{Result, Ok, Err}
 use Rattle.spin_outside.specs.Counts.{Rose}
-use Rattle.spin_outside.specs.Seen.{ShelfSeen, SinkSeen}
-use Rattle.spin_outside.specs.Sources.{SourceSeen}
+use Rattle.spin_outside.specs.Seen.{SinkSeen}
 use Rattle.spin_endpoint.specs.Named.{NamedEnd}
 use Rattle.spin_pcap.specs.Captures.{IsBody, IsCapture, header_of}
 use Rattle.spin_pcap.specs.Passing.{ReaderState}

@@ -1,5 +1,5 @@
 -- What the end of a run over a joined capture rests on.
-use Rattle.std.proofs.Common.{◌≡◌, ◌+◌, ℕ, Option, Some, None, List, [], arith, refl, sym, ap, subst, ◌∙◌, inl, inr, IfSome}
+use Rattle.std.proofs.Common.{◌≡◌, ◌+◌, ℕ, Option, Some, None, List, [], arith, refl, sym, subst, ◌∙◌, inl, inr, IfSome}
 use Rattle.std.specs.Prelude.{Result, Ok, Err, drop}
 use Rattle.spin_outside.specs.Counts.{Rose}
 use Rattle.spin_outside.specs.Files.{File, IsLacking}
@@ -13,25 +13,25 @@ use Rattle.spin_pcap.specs.declared.next.Next.{Next}
 use Rattle.spin_pcap.specs.declared.order.Order.{Order}
 use Rattle.spin_pcap.specs.declared.order.Order.TheVariants as order
 use Rattle.spin_reass.proofs.Captures.{joined_is_capture}
-use Rattle.spin_reass.specs.JoinedCaptures.{joined_capture}
 use Rattle.spin_reass.specs.Joining.{joined_frames}
 use Rattle.spin_script.specs.States.{NativeData, ScriptData}
 use Rattle.spin_run.specs.declared.end.RunEnd.{RunEnd}
 use Rattle.spin_run.specs.declared.end.RunEnd.TheVariants as run
-use Rattle.spin_run.specs.Ends.{RunSeen, seen, EndsBy, CountsBy}
+use Rattle.spin_run.specs.Ends.{seen, EndsBy, CountsBy}
 use Rattle.spin_run.specs.Records.{AreLeftBy, AreRecords, room_of}
 use Rattle.spin_top.specs.declared.end.End.{End}
 use Rattle.spin_top.specs.declared.end.End.TheVariants.{Refused, Capture, Unread, Absent, NoMemory}
 use Rattle.spin_top.specs.declared.end.Input.TheVariants.{Script, Packets}
+use Rattle.spin_top.specs.Captures.{IsBadAt, NoWholeBy}
 use Rattle.spin_top.specs.Ends.{Tells, stop_line}
 use Rattle.spin_top.specs.Held.{held_seen}
 use Rattle.spin_top.specs.Inner.Joining.{HeaderRefuses, IsBehind, RunsJoined}
-use Rattle.spin_top.specs.Join.{AreRecordsIn, IsBadAt, IsJoinedBy, IsJoinedFile, JoinHasCause, NotJoinedBy, RanJoined}
+use Rattle.spin_top.specs.Join.{AreRecordsIn, IsJoinedBy, IsJoinedFile, JoinHasCause, RanJoined}
 use Rattle.spin_top.specs.Loading.{IsLoaded, NoScriptBy}
-use Rattle.spin_top.specs.Outside.{OnlyStops, Outside, outside}
+use Rattle.spin_top.specs.Outside.{OnlyStops, Outside}
 use Rattle.spin_top.specs.Run.{end_of}
-use Rattle.spin_top.specs.Shelves.{ShelfFailed, ShelfLacked, ShelfStood}
-use Rattle.spin_top.proofs.RunCauses.{counts_moved, ends_moved, none_taken, tells_nothing}
+use Rattle.spin_top.specs.Shelves.{ShelfStood}
+use Rattle.spin_top.proofs.RunCauses.{ends_moved, none_taken, tells_nothing}
 use Rattle.spin_top.proofs.Shelf.{if_some, stood_failed, stood_lacked, stood_stood}
 
 -- ---- stops before the run
@@ -43,11 +43,11 @@ not_loaded natives before after name packets (Absent Script) by only = (by.0, by
 not_loaded natives before after name packets NoMemory by only = (by, inl only)
 not_loaded natives before after name packets other by only = absurd by
 
-pub not_joined : (natives : NativeData) (before after : Outside) (mid : ShelfSeen) (name packets : List ℕ) (script : ScriptData) (end : End) → ShelfStood before.shelf mid → IsLoaded natives before.shelf.files name script → NotJoinedBy mid after.shelf packets end → OnlyStops before after end → JoinHasCause natives before after name packets end
+pub not_joined : (natives : NativeData) (before after : Outside) (mid : ShelfSeen) (name packets : List ℕ) (script : ScriptData) (end : End) → ShelfStood before.shelf mid → IsLoaded natives before.shelf.files name script → NoWholeBy mid after.shelf (Some packets) end → OnlyStops before after end → JoinHasCause natives before after name packets end
 not_joined natives before after mid name packets script (Capture number fault) stood loaded by only =
     (stood_stood before.shelf mid after.shelf stood by.0, inl (script, loaded, subst (λ files. IfSome files (λ held. IsBadAt held packets number fault)) stood.files by.1, only))
 not_joined natives before after mid name packets script (Unread Packets) stood loaded by only =
-    (stood_failed before.shelf mid after.shelf stood by, script, loaded, only)
+    (stood_failed before.shelf mid after.shelf stood by.0, script, loaded, only)
 not_joined natives before after mid name packets script (Absent Packets) stood loaded by only =
     (stood_lacked before.shelf mid after.shelf stood by.0, script, loaded, subst (λ files. IsLacking files packets) stood.files by.1, only)
 not_joined natives before after mid name packets script NoMemory stood loaded by only = (stood_stood before.shelf mid after.shelf stood by, inl only)

@@ -14,10 +14,10 @@ use Rattle.spin_run.specs.declared.end.RunEnd.TheVariants as run
 use Rattle.spin_top.specs.declared.end.End.{End}
 use Rattle.spin_top.specs.declared.end.End.TheVariants.{Whole, Refused, Capture, Unread, WriteFault, Absent, NoMemory, Endpoint}
 use Rattle.spin_top.specs.declared.end.Input.TheVariants.{Script, Packets}
-use Rattle.spin_top.specs.Captures.{IsBadCapture, IsCaptureFile, IsGoodCapture}
+use Rattle.spin_top.specs.Captures.{IsBadAt, IsBadCapture, IsCaptureFile}
 use Rattle.spin_top.specs.Ends.{number}
-use Rattle.spin_top.specs.Join.{IsBadAt, IsJoinedFile, JoinHasCause, JoinKnows, KnowsBadCapture, RanJoined}
-use Rattle.spin_top.specs.Loading.{HoldsText, KnowsNoScript, KnowsRefused}
+use Rattle.spin_top.specs.Join.{IsJoinedFile, JoinHasCause, JoinKnows, KnowsBadCapture, RanJoined}
+use Rattle.spin_top.specs.Loading.{KnowsNoScript, KnowsRefused}
 use Rattle.spin_top.specs.Outside.{Outside}
 use Rattle.spin_top.specs.Run.{IsComplete, KnowsNoCapture}
 use Rattle.spin_top.proofs.OneReading.{good_header, headers_differ, lacking_at, loaded_nothing, loaded_text, neither, refused_nothing, script_good, script_there}
@@ -43,7 +43,7 @@ one_rest bytes order order' frames frames' last wrong good bad =
     ok_not_err last wrong (Ok last) refl (one_reading bytes order order' frames frames' (Ok last) (Err wrong) good bad).2
 
 -- a good capture isn't a bad one
-good_bad : (held : List File) (name : List ℕ) (frames : List (List ℕ)) (last : Next) → IsCaptureFile held name frames (Ok last) → IsBadCapture held name → ⊥
+pub good_bad : (held : List File) (name : List ℕ) (frames : List (List ℕ)) (last : Next) → IsCaptureFile held name frames (Ok last) → IsBadCapture held name → ⊥
 good_bad held name frames last good (inl header) = headers_differ held name header.0 (good_header held name frames (Ok last) good) header.1
 good_bad held name frames last good (inr bad) =
     let same : good.bytes ≡ bad.2.bytes = some_is _ _ (sym good.found ∙ bad.2.found) in
@@ -57,7 +57,7 @@ refused_good bytes order frames last at fault good refused = go refused.2
     go (inl header) = good_not_bad order refused.0 (header_of bytes) good.header header.1
     go (inr body) = one_rest bytes order body.0 frames body.1 last refused.0 good body.3
 
-good_bad_at : (held : List File) (name : List ℕ) (frames : List (List ℕ)) (last : Next) (at fault : ℕ) → IsCaptureFile held name frames (Ok last) → IsBadAt held name at fault → ⊥
+pub good_bad_at : (held : List File) (name : List ℕ) (frames : List (List ℕ)) (last : Next) (at fault : ℕ) → IsCaptureFile held name frames (Ok last) → IsBadAt held name at fault → ⊥
 good_bad_at held name frames last at fault good bad =
     let same : good.bytes ≡ bad.bytes = some_is _ _ (sym good.found ∙ bad.found) in
     refused_good bad.bytes good.order frames last at fault (subst (λ b. IsCapture b good.order frames (Ok last)) same good.capture) bad.refused
@@ -152,7 +152,7 @@ ran_bad natives before after held name packets ended told bad ran =
     let file = file_at natives before after held name packets ended told ran in
     good_bad held packets file.frames file.last file.file bad
 
-bad_lacks : (held : List File) (name : List ℕ) → content held name ≡ None → IsBadCapture held name → ⊥
+pub bad_lacks : (held : List File) (name : List ℕ) → content held name ≡ None → IsBadCapture held name → ⊥
 bad_lacks held name lacking (inl header) = some_not_none _ (sym header.1.found ∙ lacking)
 bad_lacks held name lacking (inr bad) = some_not_none _ (sym bad.2.found ∙ lacking)
 

@@ -1,3 +1,5 @@
+pub mod CheckCauses
+pub mod CheckKnown
 pub mod Exactly
 pub mod Forms
 pub mod GenCauses
@@ -7,8 +9,10 @@ pub mod OneReading
 pub mod Opening
 pub mod Outcomes
 pub mod Parsing
+pub mod Recording
 pub mod RunCauses
 pub mod RunKnown
 pub mod Shelf
+pub mod Standing
 pub mod VmCauses
 pub mod VmKnown

@@ -12,7 +12,7 @@ use Rattle.spin_script.specs.Language.{IsScript}
 use Rattle.spin_script.specs.Scripts.{IsBad}
 use Rattle.spin_script.specs.declared.script.ScriptFault.TheVariants as fault
 use Rattle.spin_script.specs.States.{NativeData, ScriptData}
-use Rattle.spin_top.specs.Captures.{AreRecordsOf, HasBadHeader, HasHeader, IsBadHeader, IsCaptureFile, IsGoodCapture, IsGoodHeader, IsLackingCapture}
+use Rattle.spin_top.specs.Captures.{AreRecordsOf, HasBadHeader, HasHeader, IsBadHeader, IsCaptureFile, IsGoodCapture, IsGoodHeader}
 use Rattle.spin_top.specs.Loading.{HoldsText, IsContent, IsLoaded, IsRefused, IsScriptText, LacksText}
 
 -- neither of the two

@@ -1,5 +1,5 @@
 -- What the end of a run rests on: what was done before it.
-use Rattle.std.proofs.Common.{◌≡◌, ◌<◌, ◌+◌, ℕ, Option, Some, None, List, [], length, drop, refl, sym, ap, subst, ◌∙◌, arith, inl, inr, IfSome}
+use Rattle.std.proofs.Common.{◌≡◌, ◌+◌, ℕ, Option, Some, None, List, [], length, drop, refl, sym, ap, subst, ◌∙◌, arith, inl, inr, IfSome}
 use Rattle.std.specs.Prelude.{Result, Ok, ◌≢◌}
 use Rattle.spin_outside.specs.Counts.{Rose}
 use Rattle.spin_outside.specs.Files.{File, OthersKeep}
@@ -24,7 +24,7 @@ use Rattle.spin_top.specs.Captures.{AreOpened, AreRecordsOf, HasBadHeader, HasHe
 use Rattle.spin_top.specs.Ends.{Tells, stop_line}
 use Rattle.spin_top.specs.Inner.Running.{RunsOver}
 use Rattle.spin_top.specs.Loading.{IsLoaded, NoScriptBy}
-use Rattle.spin_top.specs.Shelves.{ReadsOnly, ShelfFailed, ShelfLacked, ShelfStood}
+use Rattle.spin_top.specs.Shelves.{ReadsOnly, ShelfStood}
 use Rattle.spin_top.specs.Outside.{OnlyStops, Outside, outside}
 use Rattle.spin_top.specs.Run.{Ran, RunHasCause, end_of}
 use Rattle.spin_pcap.proofs.Passed.{more_none, more_twice}
@@ -195,7 +195,7 @@ pub ends_moved : (script : ScriptData) (past past' : ℕ) (frames : List (List �
 ends_moved script past past' frames rest a b from to run.Whole move h = h
 ends_moved script past past' frames rest a b from to (run.Capture n fault) move h = h
 ends_moved script past past' frames rest a b from to run.ReadFault move h =
-    (h.0, h.1, h.2, h.3, h.4, h.5, λ there le. move _ (h.6 there le))
+    (h.0, h.1, h.2, h.3, h.4, h.5, h.6, λ there le. move _ (h.7 there le))
 ends_moved script past past' frames rest a b from to run.WriteFault move (inl h) = inl (h.0, h.1, move [] h.2)
 ends_moved script past past' frames rest a b from to run.WriteFault move (inr (inl h)) =
     inr (inl (h.0, h.1, h.2, h.3, h.4, h.5, h.6, h.7, h.8, λ there le. move _ (h.9 there le)))

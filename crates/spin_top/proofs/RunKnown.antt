@@ -1,24 +1,22 @@
 -- Which status a run always comes to, from the causes of all its ends.
-use Rattle.std.proofs.Common.{◌≡◌, ◌+◌, ◌⊎◌, ℕ, Option, Some, None, List, sym, subst, inl, inr}
-use Rattle.std.specs.Prelude.{Result, Ok, Err}
+use Rattle.std.proofs.Common.{◌≡◌, ℕ, Option, Some, None, List, subst, inl, inr}
+use Rattle.std.specs.Prelude.{Result, Err}
 use Rattle.spin_outside.specs.Files.{File, content}
 use Rattle.spin_pcap.specs.declared.fault.PcapFault.{PcapFault}
-use Rattle.spin_pcap.specs.declared.limits.TheConstants.{MAX_HELD}
 use Rattle.spin_pcap.specs.declared.next.Next.{Next}
 use Rattle.spin_script.specs.States.{NativeData}
 use Rattle.spin_run.specs.declared.end.RunEnd.{RunEnd}
 use Rattle.spin_run.specs.declared.end.RunEnd.TheVariants as run
-use Rattle.spin_run.specs.Ends.{EndsBy, seen}
 use Rattle.spin_outside.specs.Sources.{SourceSeen}
 use Rattle.spin_top.specs.declared.end.End.{End}
-use Rattle.spin_top.specs.declared.end.End.TheVariants.{Whole, Usage, Refused, Capture, Unread, WriteFault, Absent, NoMemory, Endpoint}
+use Rattle.spin_top.specs.declared.end.End.TheVariants.{Whole, Refused, Capture, Unread, WriteFault, Absent, NoMemory, Endpoint}
 use Rattle.spin_top.specs.declared.end.Input.TheVariants.{Script, Packets}
-use Rattle.spin_top.specs.Captures.{HasBadHeader, HasHeader, IsBadCapture, IsGoodCapture}
+use Rattle.spin_top.specs.Captures.{HasBadHeader, HasHeader, IsBadCapture}
 use Rattle.spin_top.specs.Ends.{number}
-use Rattle.spin_top.specs.Loading.{HoldsText, IsScriptText, KnowsNoScript, KnowsRefused}
-use Rattle.spin_top.specs.Outside.{NoReadFailed, NoneRose, Outside}
+use Rattle.spin_top.specs.Loading.{HoldsText, KnowsNoScript, KnowsRefused}
+use Rattle.spin_top.specs.Outside.{NoneRose, Outside}
 use Rattle.spin_top.specs.Run.{IsComplete, KnowsCapture, KnowsNoCapture, Ran, RanOver, RunHasCause, RunKnows}
-use Rattle.spin_top.proofs.OneReading.{bad_header_at, bad_header_lacks, good_header, good_records, header_at, header_lacks, headers_differ, lacking_at, loaded_nothing, loaded_text, neither, not_bad_header, records_at, refused_nothing, script_good, script_there}
+use Rattle.spin_top.proofs.OneReading.{bad_header_at, bad_header_lacks, good_records, header_at, header_lacks, headers_differ, loaded_nothing, loaded_text, neither, not_bad_header, records_at, refused_nothing, script_good, script_there}
 
 -- an endpoint that failed has a count that rose
 pub endpoint_rose : (natives : NativeData) (before after : Outside) (name : List ℕ) (Has : List (List ℕ) → Option (Result Next PcapFault) → Type 0) (from to : SourceSeen) (endpoint : ℕ) → RanOver natives before after name Has from to (run.Endpoint endpoint) → NoneRose before after → ⊥

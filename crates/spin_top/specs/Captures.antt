@@ -6,9 +6,12 @@ use Rattle.spin_outside.specs.Seen.{ShelfSeen}
 use Rattle.spin_outside.specs.Sources.{SourceSeen}
 use Rattle.spin_pcap.specs.declared.fault.PcapFault.{PcapFault}
 use Rattle.spin_pcap.specs.declared.next.Next.{Next}
+use Rattle.spin_pcap.specs.declared.next.Next.TheVariants as next
 use Rattle.spin_pcap.specs.declared.order.Order.{Order}
 use Rattle.spin_pcap.specs.Captures.{header_of, IsCapture}
 use Rattle.spin_pcap.specs.Passing.{ReaderState, IsFresh, left_for, number}
+use Rattle.spin_reass.specs.JoinedCaptures as joined
+use Rattle.spin_report.specs.Runs.{Captured}
 use Rattle.spin_top.specs.declared.capture.OpenFault.{OpenFault}
 use Rattle.spin_top.specs.declared.capture.OpenFault.TheVariants as cause
 use Rattle.spin_top.specs.declared.end.End.{End}
@@ -130,3 +133,44 @@ AreOpened before after None file None = ShelfStood before after
 AreOpened before after None file (Some reader) = ⊥
 AreOpened before after (Some name) file None = ⊥
 AreOpened before after (Some name) file (Some reader) = IsOpened before after name file reader
+
+-- ---- captures that are read whole
+
+-- The file of that name is no good capture: it is refused at the record of that number, counted from 1, or at record 0,
+-- its header, by the fault of that number.
+pub record IsBadAt (held : List File) (name : List ℕ) (at fault : ℕ) : Type 0 where
+  pub bytes : List ℕ
+  pub found : content held name ≡ Some bytes
+  pub refused : joined.IsRefused bytes at fault
+
+-- Where a capture is named, on a shelf that tells its files, it is refused there.
+abbrev pub HasBadRecord : Option (List File) → Option (List ℕ) → ℕ → ℕ → Type 0
+HasBadRecord files None at fault = ⊥
+HasBadRecord files (Some name) at fault = IfSome files (λ held. IsBadAt held name at fault)
+
+-- how many bytes of a rest are no record
+abbrev pub cut_of : Next → ℕ
+cut_of next.Packet = 0
+cut_of next.End = 0
+cut_of (next.Cut count) = count
+
+-- The file of that name is a good capture with these records and that rest.
+abbrev pub IsWhole : List File → List ℕ → Captured → Type 0
+IsWhole held name capture =
+    (last : Next) × IsCaptureFile held name capture.frames (Ok last) × (capture.cut ≡ cut_of last)
+
+-- This is what the capture that is named has, where the shelf tells its files; where none is named there is none.
+abbrev pub IsCaptured : Option (List File) → Option (List ℕ) → Option Captured → Type 0
+IsCaptured files None None = ⊤
+IsCaptured files (Some name) (Some capture) = IfSome files (λ held. IsWhole held name capture)
+IsCaptured files packets other = ⊥
+
+-- Why the capture that is named wasn't read whole.
+abbrev pub NoWholeBy : ShelfSeen → ShelfSeen → Option (List ℕ) → End → Type 0
+NoWholeBy before after packets (Capture at fault) =
+    ShelfStood before after × HasBadRecord before.files packets at fault
+NoWholeBy before after packets (Unread Packets) = ShelfFailed before after × IsNamed packets
+NoWholeBy before after packets (Absent Packets) =
+    ShelfLacked before after × IsLackingCapture before.files packets
+NoWholeBy before after packets NoMemory = ShelfStood before after
+NoWholeBy before after packets other = ⊥

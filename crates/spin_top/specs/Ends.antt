@@ -5,7 +5,7 @@ use Rattle.spin_outside.specs.Counts.{Rose}
 use Rattle.spin_outside.specs.Seen.{SinkSeen}
 use Rattle.spin_text.specs.Words.{ended}
 use Rattle.spin_top.specs.declared.end.End.{End}
-use Rattle.spin_top.specs.declared.end.End.TheVariants.{Whole, Usage, Refused, Capture, Unread, WriteFault, Absent, NoMemory, Endpoint, Trace, Unsuited}
+use Rattle.spin_top.specs.declared.end.End.TheVariants.{Whole, Usage, Refused, Capture, Unread, WriteFault, Absent, NoMemory, Endpoint, NoHistory, LongReport, Trace, Unsuited}
 use Rattle.spin_top.specs.declared.end.Input.{Input}
 use Rattle.spin_top.specs.declared.end.Input.TheVariants as input
 
@@ -20,6 +20,8 @@ number WriteFault = 5
 number (Absent file) = 6
 number NoMemory = 7
 number (Endpoint at) = 8
+number NoHistory = 9
+number LongReport = 10
 number (Trace line cause) = 11
 number Unsuited = 12
 
@@ -28,6 +30,7 @@ abbrev pub usage : List ℕ
 usage =
     codes "usage: spin run SCRIPT [PACKETS]"
     ++ codes " | spin gen NUMBER"
+    ++ codes " | spin check SCRIPT REPORT [PACKETS]"
     ++ codes " | spin join SCRIPT PACKETS"
     ++ codes " | spin vm SCRIPT TRACE"
 
@@ -35,6 +38,7 @@ usage =
 abbrev pub input_word : Input → List ℕ
 input_word input.Script = codes "script"
 input_word input.Packets = codes "packets"
+input_word input.Report = codes "report"
 input_word input.Trace = codes "trace"
 
 -- the line that is written at an end
@@ -50,6 +54,8 @@ stop_line WriteFault = []
 stop_line (Absent file) = ended (codes "stop 6 " ++ input_word file)
 stop_line NoMemory = ended (codes "stop 7 memory")
 stop_line (Endpoint at) = ended (codes "stop 8 endpoint " ++ decimal at)
+stop_line NoHistory = []
+stop_line LongReport = ended (codes "stop 10 report")
 stop_line (Trace line cause) =
     ended (codes "stop 11 line " ++ decimal line ++ codes " cause " ++ decimal cause)
 stop_line Unsuited = ended (codes "stop 12 script")

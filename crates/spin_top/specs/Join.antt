@@ -1,7 +1,7 @@
 -- The command `join`: why it ends so, and what its status tells.
 use Rattle.std.specs.Prelude.{◌≡◌, ◌⊎◌, ℕ, Option, Some, None, List, Result, Ok, IfSome}
 use Rattle.spin_outside.specs.Counts.{Rose}
-use Rattle.spin_outside.specs.Files.{File, content, IsLacking}
+use Rattle.spin_outside.specs.Files.{File, IsLacking}
 use Rattle.spin_outside.specs.Seen.{ShelfSeen}
 use Rattle.spin_outside.specs.Sources.{SourceSeen}
 use Rattle.spin_pcap.specs.declared.fault.PcapFault.{PcapFault}
@@ -15,7 +15,7 @@ use Rattle.spin_run.specs.declared.end.RunEnd.TheVariants as run
 use Rattle.spin_top.specs.declared.end.End.{End}
 use Rattle.spin_top.specs.declared.end.End.TheVariants.{Whole, Refused, Capture, Unread, WriteFault, Absent, NoMemory, Endpoint}
 use Rattle.spin_top.specs.declared.end.Input.TheVariants.{Script, Packets}
-use Rattle.spin_top.specs.Captures.{IsBadCapture, IsCaptureFile, IsGoodCapture}
+use Rattle.spin_top.specs.Captures.{IsBadAt, IsBadCapture, IsCaptureFile}
 use Rattle.spin_top.specs.Ends.{number}
 use Rattle.spin_top.specs.Loading.{IsLoaded, IsRefused, HoldsText, IsScriptText, KnowsRefused, KnowsNoScript}
 use Rattle.spin_top.specs.Outside.{Outside, OnlyStops, NoReadFailed}
@@ -23,13 +23,6 @@ use Rattle.spin_top.specs.Run.{RanOver, KnowsNoCapture, IsComplete}
 use Rattle.spin_top.specs.Shelves.{ShelfStood, ShelfFailed, ShelfLacked}
 
 -- ---- the joined capture
-
--- The file of that name is no good capture: it is refused at the record of that number, counted from 1, or at record 0,
--- its header, by the fault of that number.
-pub record IsBadAt (held : List File) (name : List ℕ) (at fault : ℕ) : Type 0 where
-  pub bytes : List ℕ
-  pub found : content held name ≡ Some bytes
-  pub refused : joined.IsRefused bytes at fault
 
 -- The bytes are the joined capture of the file of that name.
 pub record IsJoinedFile (held : List File) (name bytes : List ℕ) : Type 0 where
@@ -48,16 +41,6 @@ AreRecordsIn bytes frames rest =
 abbrev pub IsJoinedBy : ShelfSeen → ShelfSeen → List ℕ → List ℕ → Type 0
 IsJoinedBy before after name bytes =
     ShelfStood before after × IfSome before.files (λ held. IsJoinedFile held name bytes)
-
--- Why there is no joined capture.
-abbrev pub NotJoinedBy : ShelfSeen → ShelfSeen → List ℕ → End → Type 0
-NotJoinedBy before after name (Capture at fault) =
-    ShelfStood before after × IfSome before.files (λ held. IsBadAt held name at fault)
-NotJoinedBy before after name (Unread Packets) = ShelfFailed before after
-NotJoinedBy before after name (Absent Packets) =
-    ShelfLacked before after × IsLacking before.files name
-NotJoinedBy before after name NoMemory = ShelfStood before after
-NotJoinedBy before after name other = ⊥
 
 -- ---- why
 

@@ -1,4 +1,5 @@
 pub mod Captures
+pub mod Check
 pub mod Ends
 pub mod Gen
 pub mod Held

@@ -2,16 +2,16 @@
 use Rattle.std.specs.Prelude.{◌≡◌, ◌⊎◌, ℕ, List}
 use Rattle.spin_script.specs.States.{NativeData}
 use Rattle.spin_top.specs.declared.end.End.{End}
-use Rattle.spin_top.specs.declared.end.End.TheVariants.{Usage, Refused, Capture, Unread, WriteFault, Absent, NoMemory, Endpoint, Trace, Unsuited}
+use Rattle.spin_top.specs.declared.end.End.TheVariants.{Usage, Refused, Capture, Unread, WriteFault, Absent, NoMemory, Endpoint, NoHistory, LongReport, Trace, Unsuited}
 use Rattle.spin_top.specs.declared.end.Input.{Input}
 use Rattle.spin_top.specs.declared.words.Asked.{Asked}
-use Rattle.spin_top.specs.declared.words.Asked.TheVariants.{Run, Gen, Join, Vm}
+use Rattle.spin_top.specs.declared.words.Asked.TheVariants.{Run, Gen, Check, Join, Vm}
+use Rattle.spin_top.specs.Check.{CheckHasCause, CheckKnows}
 use Rattle.spin_top.specs.Ends.{number}
 use Rattle.spin_top.specs.Gen.{GenHasCause, GenKnows}
 use Rattle.spin_top.specs.Outside.{Outside, OnlyStops}
 use Rattle.spin_top.specs.Join.{JoinHasCause, JoinKnows}
 use Rattle.spin_top.specs.Run.{RunHasCause, RunKnows}
-use Rattle.spin_top.specs.Shelves.{ShelfStood}
 use Rattle.spin_top.specs.Vm.{VmHasCause, VmKnows}
 use Rattle.spin_top.specs.Words.{IsAsked}
 
@@ -31,6 +31,8 @@ CommandHasCause natives before after (Run name packets) end =
     RunHasCause natives before after name packets end
 CommandHasCause natives before after (Gen number) end =
     GenHasCause natives before after number end
+CommandHasCause natives before after (Check name report packets) end =
+    CheckHasCause natives before after name report packets end
 CommandHasCause natives before after (Join name packets) end =
     JoinHasCause natives before after name packets end
 CommandHasCause natives before after (Vm name trace) end =
@@ -41,6 +43,8 @@ abbrev pub CommandKnows : NativeData → Outside → Outside → Asked → ℕ �
 CommandKnows natives before after (Run name packets) status =
     RunKnows natives before after name packets status
 CommandKnows natives before after (Gen number) status = GenKnows before after status
+CommandKnows natives before after (Check name report packets) status =
+    CheckKnows natives before after name report packets status
 CommandKnows natives before after (Join name packets) status =
     JoinKnows natives before after name packets status
 CommandKnows natives before after (Vm name trace) status =
@@ -105,6 +109,8 @@ pub record KeepsTable (call : Call) : Type 0 where
   pub absent : call.status ≡ 6 → (input : Input) × HasCause call (Absent input)
   pub memory : Row call NoMemory
   pub endpoint : call.status ≡ 8 → (at : ℕ) × HasCause call (Endpoint at)
+  pub no_history : Row call NoHistory
+  pub long_report : Row call LongReport
   pub trace : call.status ≡ 11 → (line : ℕ) × (cause : ℕ) × HasCause call (Trace line cause)
   pub unsuited : Row call Unsuited
   pub commands : KnowsCommand call

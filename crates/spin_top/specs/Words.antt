@@ -4,7 +4,7 @@ use Rattle.std.specs.List.{All}
 use Rattle.spin_grammar.specs.Spelling as grammar
 use Rattle.spin_grammar.specs.Spelling.{within, greatest}
 use Rattle.spin_top.specs.declared.words.Asked.{Asked}
-use Rattle.spin_top.specs.declared.words.Asked.TheVariants.{Run, Gen, Join, Vm}
+use Rattle.spin_top.specs.declared.words.Asked.TheVariants.{Run, Gen, Check, Join, Vm}
 
 -- a word that can't be taken for an option: UTF-8, not empty, and not begun by `-`
 pub record IsPlain (word : List ℕ) : Type 0 where
@@ -20,6 +20,9 @@ IsSpelled words (Run script (Some packets)) = words ≡ codes "run" ∷ script �
 IsSpelled words (Gen number) =
     (word : List ℕ) × (words ≡ codes "gen" ∷ word ∷ [])
     × (within 0 greatest (grammar.number word) ≡ Some number)
+IsSpelled words (Check script report None) = words ≡ codes "check" ∷ script ∷ report ∷ []
+IsSpelled words (Check script report (Some packets)) =
+    words ≡ codes "check" ∷ script ∷ report ∷ packets ∷ []
 IsSpelled words (Join script packets) = words ≡ codes "join" ∷ script ∷ packets ∷ []
 IsSpelled words (Vm script trace) = words ≡ codes "vm" ∷ script ∷ trace ∷ []
 

@@ -1,5 +1,6 @@
 //! The commands, each with its own words.
 
+pub mod check;
 pub mod generate;
 pub mod join;
 pub mod run;

@@ -16,6 +16,8 @@ pub enum Input {
     Script,
     /// The capture.
     Packets,
+    /// The report.
+    Report,
     /// The trace.
     Trace,
 }
@@ -51,6 +53,10 @@ pub enum End {
     NoMemory,
     /// The endpoint of that number failed.
     Endpoint(u8),
+    /// The report is that of no history of the script, which was answered.
+    NoHistory,
+    /// The report has more bytes than one may have.
+    LongReport,
     /// The trace is refused.
     Trace {
         /// The first bad line, counted from 1; 0 where it is the trace as a whole.
@@ -79,6 +85,8 @@ pub fn status_of(end: End) -> u8
         End::Absent(_) => 6,
         End::NoMemory => 7,
         End::Endpoint(_) => 8,
+        End::NoHistory => 9,
+        End::LongReport => 10,
         End::Trace { .. } => 11,
         End::Unsuited => 12,
     }
@@ -110,6 +118,7 @@ fn usage_line() -> StopLine
     let mut line = StopLine::new();
     put(&mut line, b"usage: spin run SCRIPT [PACKETS]");
     put(&mut line, b" | spin gen NUMBER");
+    put(&mut line, b" | spin check SCRIPT REPORT [PACKETS]");
     put(&mut line, b" | spin join SCRIPT PACKETS");
     put(&mut line, b" | spin vm SCRIPT TRACE");
     put(&mut line, b"\n");
@@ -124,6 +133,7 @@ fn word_of(input: Input) -> &'static [u8]
     match input {
         Input::Script => b"script",
         Input::Packets => b"packets",
+        Input::Report => b"report",
         Input::Trace => b"trace",
     }
 }
@@ -192,6 +202,14 @@ fn endpoint_line(number: u8) -> StopLine
     line
 }
 
+fn long_report_line() -> StopLine
+    ensures { result.items ≡ ended (codes "stop 10 report") }
+{
+    let mut line = StopLine::new();
+    put(&mut line, b"stop 10 report\n");
+    line
+}
+
 fn trace_line(number: u32, cause: u8) -> StopLine
     ensures { result.items
         ≡ ended (codes "stop 11 line " ++ decimal number ++ codes " cause " ++ decimal cause) }
@@ -227,6 +245,8 @@ fn line_of(end: End) -> StopLine
         End::Absent(input) => absence_line(input),
         End::NoMemory => memory_line(),
         End::Endpoint(number) => endpoint_line(number),
+        End::NoHistory => StopLine::new(),
+        End::LongReport => long_report_line(),
         End::Trace { line, cause } => trace_line(line, cause),
         End::Unsuited => unsuited_line(),
     }

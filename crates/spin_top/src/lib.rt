@@ -4,7 +4,7 @@
 //! - [`top`] has the call, [`spin`], which chooses the command;
 //! - [`words`] says what the words ask for;
 //! - [`commands`] has a module for each command;
-//! - [`load`] reads a file and the script whole, [`capture`] opens a capture;
+//! - [`load`] reads a file and the script whole, [`capture`] opens a capture, [`records`] reads one whole;
 //! - [`held`] is a source over bytes in memory;
 //! - [`end`] has the ends of a call, their statuses and lines.
 #![tactic(auto)]
@@ -14,6 +14,7 @@ mod commands;
 mod end;
 mod held;
 mod load;
+mod records;
 mod top;
 mod words;
 

@@ -5,6 +5,7 @@ ghost use Rattle.spin_top.specs.declared.end.End.TheVariants as end;
 ghost use Rattle.spin_top.specs.Outside.{outside};
 ghost use Rattle.spin_top.specs.Statuses.{Call, IsCommandStatus, IsStatus, Row, KeepsTable};
 
+use crate::commands::check::check_command;
 use crate::commands::generate::gen_command;
 use crate::commands::join::join_command;
 use crate::commands::run::run_command;
@@ -41,6 +42,11 @@ fn do_command<R: Threads + Sync, F: Shelf, K: Sink, G: Gate>(
             run_command(rt, alloc, script, packets, shelf, out, natives, ends, gate)
         }
         Asked::Gen { number } => gen_command(rt, alloc, number, out, natives, ends, gate),
+        Asked::Check {
+            script,
+            report,
+            packets,
+        } => check_command(alloc, script, report, packets, shelf, out, natives, ends),
         Asked::Join { script, packets } => {
             join_command(rt, alloc, script, packets, shelf, out, natives, ends, gate)
         }
@@ -78,14 +84,19 @@ fn choose<R: Threads + Sync, F: Shelf, K: Sink, G: Gate>(
 
 /// The top call: does what the words ask for over the shelf, the sink and the endpoints, and answers the exit status.
 ///
-/// The words are those of one command, `run SCRIPT`, `run SCRIPT PACKETS`, `gen NUMBER`, `join SCRIPT PACKETS` or
-/// `vm SCRIPT TRACE`; each is UTF-8, isn't empty, and doesn't begin with `-`. But under `gen` the script is found, read and
-/// checked, and may name the natives that are handed in. Then the capture, if one is named, is found and its header read;
-/// under `join` it is read whole, and its joined capture takes its place, in memory. Then the script is run over it by
-/// [`run_script`](spin_run::run_script), its lanes on threads, which writes the report and delivers what is sent to
-/// the endpoints. Under `vm`, when the script is checked, it is looked at whether it is suited to traces; then the trace
-/// is found and read, and [`run_trace`](spin_vm::run_trace) writes its output. The endpoints are then as they were. A
-/// stop ends the call at once, so the status is that of the first that is met.
+/// The words are those of one command, `run SCRIPT`, `run SCRIPT PACKETS`, `gen NUMBER`, `check SCRIPT REPORT`,
+/// `check SCRIPT REPORT PACKETS`, `join SCRIPT PACKETS` or `vm SCRIPT TRACE`; each is UTF-8, isn't empty, and doesn't
+/// begin with `-`. But under `gen` the script is found, read and checked, and may name the natives that are handed in.
+/// Then the capture, if one is named, is found and its header read; under `join` it is read whole, and its joined capture
+/// takes its place, in memory. Then the script is run over it by [`run_script`](spin_run::run_script), its lanes on
+/// threads, which writes the report and delivers what is sent to the endpoints. A stop ends the call at once, so the
+/// status is that of the first that is met.
+///
+/// Under `check`, when the script is checked, the capture, if one is named, is read whole; then the report is found and
+/// read, and [`check_report`](spin_check::check_report) judges whether it is that of a history of the script with that
+/// capture and the endpoints that stand, which is written as `yes` or `no`. Under `vm`, when the script is checked, it is
+/// looked at whether it is suited to traces; then the trace is found and read, and
+/// [`run_trace`](spin_vm::run_trace) writes its output. Under both the endpoints are then as they were.
 ///
 /// Under `gen` a script and a capture are made from the number by [`generate`](spin_gen::generate), in memory, and run by
 /// [`run_summary`](spin_run::run_summary), which delivers as a run does and writes six lines in place of the report: the
@@ -94,15 +105,17 @@ fn choose<R: Threads + Sync, F: Shelf, K: Sink, G: Gate>(
 ///
 /// | status | comes | line |
 /// |---|---|---|
-/// | 0 | the whole report, summary or output of a trace was written, and what was named was read to its end | none |
+/// | 0 | the whole report, summary or output of a trace was written, and what was named was read to its end; under `check` the report is that of a history, and `yes` was written | none |
 /// | 1 | exactly where the words have none of the forms | `usage: ..`, the words of every command |
 /// | 2 | exactly where the script is read and is refused at line N for cause C | `stop 2 line N cause C` |
 /// | 3 | exactly where record N of the capture is refused by fault F; record 0 is its header | `stop 3 record N fault F` |
-/// | 4 | only where the shelf's count of faults rose | `stop 4 read script`, `stop 4 read packets`, `stop 4 read trace` |
+/// | 4 | only where the shelf's count of faults rose | `stop 4 read` and `script`, `packets`, `report` or `trace` |
 /// | 5 | only where the sink's count of faults rose | none |
-/// | 6 | only where the shelf's count of absences rose | `stop 6 script`, `stop 6 packets`, `stop 6 trace` |
+/// | 6 | only where the shelf's count of absences rose | `stop 6` and `script`, `packets`, `report` or `trace` |
 /// | 7 | want of memory | `stop 7 memory` |
 /// | 8 | only where the count of endpoint P rose | `stop 8 endpoint P` |
+/// | 9 | under `check`, exactly where the report is that of no history; `no` was written | none |
+/// | 10 | under `check`, exactly where the report has more than 67,108,864 bytes | `stop 10 report` |
 /// | 11 | under `vm`, exactly where the script is suited and the trace is read and is refused at line N for cause C | `stop 11 line N cause C` |
 /// | 12 | under `vm`, exactly where the script is read and isn't suited | `stop 12 script` |
 ///
@@ -123,8 +136,8 @@ pub fn spin<R: Threads + Sync, F: Shelf, K: Sink, G: Gate>(
     // Each native does what it was handed in with.
     requires sincere { ⟦<Natives as Sincere>⟧.sincere natives }
     // 0: the report of a legal history that answers what the script asks, each once and in order, was written, or under
-    // `gen` its summary, and each endpoint has received its sends of that history; under `vm` the output of the whole
-    // trace was written.
+    // `gen` its summary, and each endpoint has received its sends of that history; under `check` the report that was
+    // read is that of a legal history; under `vm` the output of the whole trace was written.
     ensures whole { let call : Call = record {
       natives = natives_seen natives;
       words = words.now;

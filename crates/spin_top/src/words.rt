@@ -27,6 +27,15 @@ pub enum Asked {
         /// The number.
         number: u64,
     },
+    /// `check SCRIPT REPORT [PACKETS]`.
+    Check {
+        /// The name of the script.
+        script: Text,
+        /// The name of the report.
+        report: Text,
+        /// The name of the capture, if one is named.
+        packets: Option<Text>,
+    },
     /// `join SCRIPT PACKETS`.
     Join {
         /// The name of the script.
@@ -156,6 +165,35 @@ fn gen_form(names: &[&str]) -> Option<Asked>
     }
 }
 
+fn is_check(word: &str) -> bool
+    ensures yes { IsTrue result → word.now ≡ codes "check" }
+    ensures no { word.now ≡ codes "check" → IsTrue result }
+{
+    word == "check"
+}
+
+/// The words after `check`.
+fn check_form(alloc: Global, names: &[&str]) -> Result<Option<Asked>, NoMemory>
+    ensures found { IfOk result (λ form. IfSome form
+        (λ asked. IsSpelled (codes "check" ∷ map (λ text. text.now) names.now) asked)) }
+    ensures none { IfOk result (λ form. IfNone form
+        ((asked : Asked) → IsSpelled (codes "check" ∷ map (λ text. text.now) names.now) asked → ⊥)) }
+{
+    match names.len() {
+        2 => Ok(Some(Asked::Check {
+            script: Text::from_bytes(alloc, names[0].as_bytes())?,
+            report: Text::from_bytes(alloc, names[1].as_bytes())?,
+            packets: None,
+        })),
+        3 => Ok(Some(Asked::Check {
+            script: Text::from_bytes(alloc, names[0].as_bytes())?,
+            report: Text::from_bytes(alloc, names[1].as_bytes())?,
+            packets: Some(Text::from_bytes(alloc, names[2].as_bytes())?),
+        })),
+        _ => Ok(None),
+    }
+}
+
 fn is_join(word: &str) -> bool
     ensures yes { IsTrue result → word.now ≡ codes "join" }
     ensures no { word.now ≡ codes "join" → IsTrue result }
@@ -217,6 +255,9 @@ fn form_of(alloc: Global, words: &[&str]) -> Result<Option<Asked>, NoMemory>
     }
     if is_gen(words[0]) {
         return Ok(gen_form(&words[1..]));
+    }
+    if is_check(words[0]) {
+        return check_form(alloc, &words[1..]);
     }
     if is_join(words[0]) {
         return join_form(alloc, &words[1..]);

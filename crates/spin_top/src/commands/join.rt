@@ -1,14 +1,15 @@
 //! The command `join`: a script, over a capture in which fragmented datagrams are made whole.
 
-ghost use Rattle.std.specs.Prelude.{◌≡◌, ◌≤◌, ℕ, IfOk, IfErr, drop};
+ghost use Rattle.std.specs.Prelude.{◌≡◌, ◌≤◌, ℕ, IfOk, IfErr, Some, drop};
 ghost use Rattle.spin_word.specs.declared.command.TheConstants.{MAX_PLACE};
 ghost use Rattle.spin_pcap.specs.Passing.{IsFresh};
 ghost use Rattle.spin_script.specs.States.{natives_seen};
 ghost use Rattle.spin_script.specs.Scripts.{script_seen};
 ghost use Rattle.spin_script.specs.Segments.{IsOrderly};
 ghost use Rattle.spin_script.specs.Soundness.{AreValid, command_lines};
+ghost use Rattle.spin_top.specs.Captures.{NoWholeBy};
 ghost use Rattle.spin_top.specs.Inner.Joining.{HeaderRefuses, IsBehind, RunsJoined};
-ghost use Rattle.spin_top.specs.Join.{IsJoinedBy, IsJoinStatus, NotJoinedBy};
+ghost use Rattle.spin_top.specs.Join.{IsJoinedBy, IsJoinStatus};
 ghost use Rattle.spin_top.specs.Outside.{outside};
 
 use crate::commands::run::end_of;
@@ -30,7 +31,7 @@ use std::thread::Threads;
 /// The joined capture of the file of that name, which is read to its end.
 fn joined_of<F: Shelf>(alloc: Global, shelf: &mut F, name: &Text) -> Result<Octets, End>
     ensures joined { IfOk result (IsJoinedBy (F.seen shelf.old) (F.seen shelf.new) name.now) }
-    ensures refused { IfErr result (NotJoinedBy (F.seen shelf.old) (F.seen shelf.new) name.now) }
+    ensures refused { IfErr result (NoWholeBy (F.seen shelf.old) (F.seen shelf.new) (Some name.now)) }
 {
     let file = match shelf.find(name) {
         Ok(file) => file,

@@ -1,0 +1,199 @@
+-- The command `check`: why it ends so, and what its status tells.
+use Rattle.std.specs.Prelude.{◌≡◌, ◌≤◌, ◌<◌, ◌⊎◌, ℕ, Bool, true, false, Decides, if◌then◌else◌, Option, Some, None, List, Ok, length, codes}
+use Rattle.spin_outside.specs.Counts.{Rose}
+use Rattle.spin_outside.specs.Files.{File, content, IsLacking}
+use Rattle.spin_outside.specs.Seen.{ShelfSeen, SinkSeen}
+use Rattle.spin_text.specs.Words.{ended}
+use Rattle.spin_endpoint.specs.Named.{NamedEnd}
+use Rattle.spin_script.specs.Language.{IsScript}
+use Rattle.spin_script.specs.States.{NativeData, ScriptData}
+use Rattle.spin_report.specs.Runs.{Captured}
+use Rattle.spin_check.specs.RunTexts.{IsRunText}
+use Rattle.spin_top.specs.declared.end.End.{End}
+use Rattle.spin_top.specs.declared.end.End.TheVariants.{Whole, Refused, Capture, Unread, WriteFault, Absent, NoMemory, NoHistory, LongReport}
+use Rattle.spin_top.specs.declared.end.Input.TheVariants.{Script, Packets, Report}
+use Rattle.spin_top.specs.Captures.{HasBadRecord, IsCaptured, IsLackingCapture, IsNamed}
+use Rattle.spin_top.specs.Ends.{number, Tells}
+use Rattle.spin_top.specs.Join.{KnowsBadCapture}
+use Rattle.spin_top.specs.Loading.{IsContent, IsLoaded, IsOver, IsRefused, HoldsText, IsScriptText, KnowsRefused, KnowsNoScript}
+use Rattle.spin_top.specs.Outside.{Outside, OnlyStops, NoReadFailed}
+use Rattle.spin_top.specs.Run.{KnowsNoCapture}
+use Rattle.spin_top.specs.Shelves.{ShelfStood, ShelfFailed, ShelfLacked}
+
+-- ---- the report
+
+-- the most bytes that a report may have
+abbrev pub max_report : ℕ
+max_report = 67108864
+
+-- Why the report wasn't read.
+abbrev pub NoReportBy : ShelfSeen → ShelfSeen → List ℕ → End → Type 0
+NoReportBy before after name LongReport =
+    ShelfStood before after × IsOver max_report before.files name
+NoReportBy before after name (Unread Report) = ShelfFailed before after
+NoReportBy before after name (Absent Report) =
+    ShelfLacked before after × IsLacking before.files name
+NoReportBy before after name NoMemory = ShelfStood before after
+NoReportBy before after name other = ⊥
+
+-- ---- the answer
+
+abbrev pub answer : Bool → List ℕ
+answer whether = ended (if whether then codes "yes" else codes "no")
+
+-- how a call ends whose answer was written
+abbrev pub answer_end : Bool → End
+answer_end whether = if whether then Whole else NoHistory
+
+-- The answer was written, or the sink failed, and a front of it was.
+abbrev pub TellsAnswer : SinkSeen → SinkSeen → Bool → End → Type 0
+TellsAnswer before after whether end =
+    Tells before after (answer whether)
+    × (((end ≡ answer_end whether) × (after.faults ≡ before.faults))
+    ⊎ ((end ≡ WriteFault) × Rose before.faults after.faults))
+
+-- ---- why
+
+-- The script was read, and the whole capture, if one is named.
+pub record ReadBoth (natives : NativeData) (files : Option (List File)) (name : List ℕ)
+    (packets : Option (List ℕ)) : Type 0 where
+  pub script : ScriptData
+  pub loaded : IsLoaded natives files name script
+  pub capture : Option Captured
+  pub captured : IsCaptured files packets capture
+
+-- Script, capture and report were read; the answer is whether the report is that of a history of the script with the
+-- capture and the endpoints that stand; and it was written, or a front of it. The endpoints are as before.
+pub record Answered (natives : NativeData) (before after : Outside) (name report : List ℕ)
+    (packets : Option (List ℕ)) (whether : Bool) : Type 0 where
+  pub both : ReadBoth natives before.shelf.files name packets
+  pub text : List ℕ
+  pub read : IsContent before.shelf.files report text
+  pub few : length text ≤ max_report
+  pub judged : Decides whether (IsRunText both.script both.capture before.ends text)
+  pub tells : Tells before.sink after.sink (answer whether)
+  pub ends : after.ends ≡ before.ends
+
+-- Why a call of this script, report and capture ended so, and what was written. The script comes first, then the whole
+-- capture, then the report.
+abbrev pub CheckHasCause : NativeData → Outside → Outside → List ℕ → List ℕ → Option (List ℕ) → End
+    → Type 0
+CheckHasCause natives before after name report packets Whole =
+    ShelfStood before.shelf after.shelf × (after.sink.faults ≡ before.sink.faults)
+    × Answered natives before after name report packets true
+CheckHasCause natives before after name report packets NoHistory =
+    ShelfStood before.shelf after.shelf × (after.sink.faults ≡ before.sink.faults)
+    × Answered natives before after name report packets false
+CheckHasCause natives before after name report packets WriteFault =
+    ShelfStood before.shelf after.shelf × Rose before.sink.faults after.sink.faults
+    × (whether : Bool) × Answered natives before after name report packets whether
+CheckHasCause natives before after name report packets (Refused line cause) =
+    ShelfStood before.shelf after.shelf
+    × IsRefused natives before.shelf.files name line cause
+    × OnlyStops before after (Refused line cause)
+CheckHasCause natives before after name report packets (Unread Script) =
+    ShelfFailed before.shelf after.shelf × OnlyStops before after (Unread Script)
+CheckHasCause natives before after name report packets (Absent Script) =
+    ShelfLacked before.shelf after.shelf
+    × IsLacking before.shelf.files name
+    × OnlyStops before after (Absent Script)
+CheckHasCause natives before after name report packets (Capture at fault) =
+    ShelfStood before.shelf after.shelf
+    × (script : ScriptData) × IsLoaded natives before.shelf.files name script
+    × HasBadRecord before.shelf.files packets at fault
+    × OnlyStops before after (Capture at fault)
+CheckHasCause natives before after name report packets (Unread Packets) =
+    ShelfFailed before.shelf after.shelf
+    × (script : ScriptData) × IsLoaded natives before.shelf.files name script
+    × IsNamed packets × OnlyStops before after (Unread Packets)
+CheckHasCause natives before after name report packets (Absent Packets) =
+    ShelfLacked before.shelf after.shelf
+    × (script : ScriptData) × IsLoaded natives before.shelf.files name script
+    × IsLackingCapture before.shelf.files packets
+    × OnlyStops before after (Absent Packets)
+CheckHasCause natives before after name report packets LongReport =
+    ShelfStood before.shelf after.shelf
+    × ReadBoth natives before.shelf.files name packets
+    × IsOver max_report before.shelf.files report
+    × OnlyStops before after LongReport
+CheckHasCause natives before after name report packets (Unread Report) =
+    ShelfFailed before.shelf after.shelf
+    × ReadBoth natives before.shelf.files name packets
+    × OnlyStops before after (Unread Report)
+CheckHasCause natives before after name report packets (Absent Report) =
+    ShelfLacked before.shelf after.shelf
+    × ReadBoth natives before.shelf.files name packets
+    × IsLacking before.shelf.files report
+    × OnlyStops before after (Absent Report)
+CheckHasCause natives before after name report packets NoMemory =
+    ShelfStood before.shelf after.shelf × OnlyStops before after NoMemory
+CheckHasCause natives before after name report packets other = ⊥
+
+-- The status is the number of an end that has its cause.
+abbrev pub IsCheckStatus : NativeData → Outside → Outside → List ℕ → List ℕ → Option (List ℕ) → ℕ
+    → Type 0
+IsCheckStatus natives before after name report packets status =
+    (end : End) × (status ≡ number end)
+    × CheckHasCause natives before after name report packets end
+
+-- ---- what the status tells where the shelf tells its files
+
+-- The shelf tells its files: under the name stands a script, and the capture that is named is a good one.
+pub record HoldsBoth (natives : NativeData) (shelf : ShelfSeen) (held : List File) (name : List ℕ)
+    (text : List ℕ) (packets : Option (List ℕ)) (capture : Option Captured) : Type 0 where
+  pub holds : HoldsText shelf held name text
+  pub script : IsScriptText natives text
+  pub captured : IsCaptured (Some held) packets capture
+
+-- A bad capture beside a script is refused, unless a read failed or memory ran out.
+abbrev pub KnowsBadRecord : NativeData → Outside → Outside → List ℕ → Option (List ℕ) → ℕ → Type 0
+KnowsBadRecord natives before after name packets status =
+    (capture : List ℕ) → packets ≡ Some capture
+    → KnowsBadCapture natives before after name capture status
+
+-- A report that isn't there beside these is told to be absent, unless a read failed or memory ran out.
+abbrev pub KnowsNoReport : NativeData → Outside → Outside → List ℕ → List ℕ → Option (List ℕ) → ℕ
+    → Type 0
+KnowsNoReport natives before after name report packets status =
+    (held : List File) (text : List ℕ) (capture : Option Captured)
+    → HoldsBoth natives before.shelf held name text packets capture
+    → content held report ≡ None
+    → NoReadFailed before after → (status ≡ 6) ⊎ (status ≡ 7)
+
+-- A report of too many bytes beside these is told to be so, unless a read failed or memory ran out.
+abbrev pub KnowsLongReport : NativeData → Outside → Outside → List ℕ → List ℕ → Option (List ℕ) → ℕ
+    → Type 0
+KnowsLongReport natives before after name report packets status =
+    (held : List File) (text told : List ℕ) (capture : Option Captured)
+    → HoldsBoth natives before.shelf held name text packets capture
+    → content held report ≡ Some told → max_report < length told
+    → NoReadFailed before after → (status ≡ 10) ⊎ (status ≡ 7)
+
+-- The status says whether the report is that of a history of the script, as this was read. (Two readings of a text are
+-- the same script, but for where its boxes lie.)
+abbrev pub SaysWhether : NativeData → List ℕ → Option Captured → List NamedEnd → List ℕ → ℕ → Type 0
+SaysWhether natives text capture ends told status =
+    (script : ScriptData) × IsScript natives text (Ok script)
+    × (((status ≡ 0) × IsRunText script capture ends told)
+    ⊎ ((status ≡ 9) × (IsRunText script capture ends told → ⊥)))
+
+-- A report of no more bytes beside these is judged, unless a read or a write failed or memory ran out.
+abbrev pub KnowsReport : NativeData → Outside → Outside → List ℕ → List ℕ → Option (List ℕ) → ℕ
+    → Type 0
+KnowsReport natives before after name report packets status =
+    (held : List File) (text told : List ℕ) (capture : Option Captured)
+    → HoldsBoth natives before.shelf held name text packets capture
+    → content held report ≡ Some told → length told ≤ max_report
+    → NoReadFailed before after → (Rose before.sink.faults after.sink.faults → ⊥)
+    → SaysWhether natives text capture before.ends told status ⊎ (status ≡ 7)
+
+-- Which status this command always comes to.
+pub record CheckKnows (natives : NativeData) (before after : Outside) (name report : List ℕ)
+    (packets : Option (List ℕ)) (status : ℕ) : Type 0 where
+  pub refused : KnowsRefused natives before after name status
+  pub script_absent : KnowsNoScript before after name status
+  pub capture_absent : KnowsNoCapture natives before after name packets status
+  pub bad_capture : KnowsBadRecord natives before after name packets status
+  pub report_absent : KnowsNoReport natives before after name report packets status
+  pub long_report : KnowsLongReport natives before after name report packets status
+  pub judged : KnowsReport natives before after name report packets status
