@@ -181,8 +181,9 @@ const HEADERS: [(&[u8], Result<Next, PcapFault>); 9] = [
         b"\xa1\xb2\xc3\xd4\0\x02\0\x04\0\0\0\0\0\0\0\0\0\x04\0\0\0\0\0\x01",
         Ok(Next::End),
     ),
+    // the first bytes of a file of pcapng
     (
-        b"\x0a\xc3\xb2\xa1\x02\0\x04\0\0\0\0\0\0\0\0\0\0\0\x04\0\x01\0\0\0",
+        b"\x0a\x0d\x0d\x0a\x1c\0\0\0\x4d\x3c\x2b\x1a\x01\0\0\0\xff\xff\xff\xff\xff\xff\xff\xff",
         Err(PcapFault::BadMagic),
     ),
     (

@@ -162,7 +162,7 @@ pub(crate) fn payloads(alloc: Global, queries: u8) -> Result<Octets, NoMemory> {
 }
 
 /// Runs the filter over the capture, with an endpoint that has room for so many pieces, and so many bytes of them.
-fn filtered<R: Threads + Sync>(
+pub(crate) fn filtered<R: Threads + Sync>(
     rt: &R,
     alloc: Global,
     source: &mut MemSource,

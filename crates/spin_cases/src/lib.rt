@@ -1,7 +1,7 @@
 //! What only calls of a library show, and no script: headers and captures by themselves, pens that share a log, seats
-//! that share a hub, jobs, whole runs whose lanes are held up at a gate, endpoints and sinks that fail, natives that are
-//! asked and dropped. Each public call that may want memory is made once with ample memory, here or by the program on a
-//! worked case.
+//! that share a hub, jobs, whole runs whose lanes are held up at a gate, reports that are judged, endpoints and sinks
+//! that fail, natives that are asked and dropped. Each public call that may want memory is made once with ample memory,
+//! here or by the program on a worked case.
 //!
 //! There is no code here but tests. The definitions that say what the calls mean are those of the crates below.
 #![tactic(auto)]
@@ -17,6 +17,8 @@ mod executor;
 #[cfg(test)]
 mod expressions;
 #[cfg(test)]
+mod faults;
+#[cfg(test)]
 mod filter;
 #[cfg(test)]
 mod generated;
@@ -29,6 +31,8 @@ mod logs;
 #[cfg(test)]
 mod natives;
 #[cfg(test)]
+mod noting;
+#[cfg(test)]
 mod outside;
 #[cfg(test)]
 mod plans;
@@ -36,6 +40,8 @@ mod plans;
 mod reassembly;
 #[cfg(test)]
 mod replies;
+#[cfg(test)]
+mod reports;
 #[cfg(test)]
 mod rows;
 #[cfg(test)]

@@ -1,13 +1,13 @@
-//! A plan that is asked on several arguments, over guards that count how often they are asked.
+//! What tests require, and plans that are asked on several arguments over guards that count how often they are asked.
 
 ghost use Rattle.std.specs.Prelude.{◌≡◌, ◌<◌, ◌≤◌, length, IfOk, IsTrue};
 ghost use Rattle.std.specs.List.{All};
 ghost use Rattle.spin_plan.specs.Next.{IsGuard};
 
-use spin_code::{Cmp, Expr, Guards, Sincere, Test, holds};
+use spin_code::{Cmp, Expr, Guards, Sincere, Test, holds, required};
 use spin_place::Binding;
 use spin_plan::Plan;
-use spin_values::{Args, NoMemory, Numbers, Steps, Value};
+use spin_values::{Args, NoMemory, Numbers, Sequence, Steps, Value};
 use spin_word::{Mode, NO_BINDINGS, Place};
 use std::alloc::Global;
 use std::marker::Brand;
@@ -46,6 +46,46 @@ impl Guards for TwoGuards {
         self.asked.fetch_add(1, Ordering::SeqCst);
         holds(self.test_of(guard), args, steps)
     }
+}
+
+/// Guards that count how often they are asked, the first of which asks whether argument 0 is 0, the next whether it
+/// is 1, and so on.
+#[derive(Drop)]
+struct Numbered {
+    tests: Sequence<Test>,
+    asked: AtomicU64,
+}
+
+impl Sincere for Numbered {
+    ghost sincere = { λ _. Unit {0} };
+}
+
+impl Guards for Numbered {
+    ghost tests = { λ g. g.tests };
+
+    fn count(&self) -> u16 {
+        self.tests.len() as u16
+    }
+
+    fn test_of(&self, guard: u16) -> &Test {
+        self.tests.get(guard as usize - 1)
+    }
+
+    fn admits<L: Ledger>(&self, guard: u16, args: &Args, steps: &mut Steps<L>) -> bool {
+        self.asked.fetch_add(1, Ordering::SeqCst);
+        holds(self.test_of(guard), args, steps)
+    }
+}
+
+fn guards_of_numbers(alloc: Global) -> Result<Numbered, NoMemory> {
+    let mut tests = Sequence::new(alloc);
+    for number in 0..32 {
+        tests.push(Test::Compare(Cmp::Eq, Expr::Arg(0), Expr::Const(number)))?;
+    }
+    Ok(Numbered {
+        tests,
+        asked: AtomicU64::new(0),
+    })
 }
 
 fn two_guards() -> TwoGuards {
@@ -114,10 +154,10 @@ fn are_guarded(bindings: &[Binding], count: u16) -> bool
 }
 
 /// The number of the next binding of the plan of these; `None` also where a guard isn't there.
-fn next_of<L: Ledger>(
+fn next_of<C: Guards, L: Ledger>(
     alloc: Global,
     bindings: &[Binding],
-    guards: &TwoGuards,
+    guards: &C,
     from: u32,
     args: &Args,
     blank: Blank,
@@ -125,8 +165,9 @@ fn next_of<L: Ledger>(
     requires name { blank.name ≡ L.name }
     requires parts { blank.parts ≡ L.parts }
     requires some { 0 < L.parts }
+    requires sincere { C.sincere guards.now }
 {
-    if bindings.len() > 9 {
+    if bindings.len() > 64 {
         return Ok(None);
     }
     if !are_guarded(bindings, guards.count()) {
@@ -148,26 +189,136 @@ fn guards_are_asked_until_one_does_not_hold(rt: HostRuntime) -> Result<(), NoMem
         binding(alloc, 4, 1, 0)?,
         binding(alloc, 2, 0, 2)?,
         binding(alloc, 3, 2, 1)?,
+        binding(alloc, 5, 2, 2)?,
     ];
     for (word, from, wanted, asked) in [
         (5, 0, Some(4), 1),
         (5, 1, Some(2), 1),
         (5, 2, Some(3), 2),
-        (5, 3, None, 0),
-        (8, 0, Some(2), 2),
-        (8, 2, None, 2),
-        (9, 0, None, 3),
+        (5, 3, Some(5), 2),
+        (5, 4, None, 0),
+        (8, 0, Some(2), 1),
+        (8, 2, Some(5), 2),
+        (9, 0, None, 2),
+        (9, 2, None, 1),
     ] {
         let mut args = Args::new(alloc);
         args.push(Value::Word(word))?;
         guards.asked.store(0, Ordering::SeqCst);
-        let next = next_of::<Brand>(alloc, &bindings, &guards, from, &args, Blank::new(1))?;
+        let next = next_of::<TwoGuards, Brand>(
+            alloc,
+            &bindings,
+            &guards,
+            from,
+            &args,
+            Blank::new(1),
+        )?;
         assert_eq!(rt; next, wanted, "{word} from {from}");
         assert_eq!(rt;
             guards.asked.load(Ordering::SeqCst),
             asked,
             "{word} from {from}"
         );
+    }
+    Ok(())
+}
+
+/// What is next on this number, and how often a guard was asked for it.
+fn asked_on(
+    alloc: Global,
+    bindings: &[Binding],
+    guards: &Numbered,
+    word: u64,
+) -> Result<(Option<u16>, u64), NoMemory> {
+    let mut args = Args::new(alloc);
+    args.push(Value::Word(word))?;
+    guards.asked.store(0, Ordering::SeqCst);
+    let next = next_of::<Numbered, Brand>(alloc, bindings, guards, 0, &args, Blank::new(1))?;
+    Ok((next, guards.asked.load(Ordering::SeqCst)))
+}
+
+#[test]
+fn candidates_alone_are_asked(rt: HostRuntime) -> Result<(), NoMemory> {
+    let alloc = rt.alloc();
+    let guards = guards_of_numbers(alloc)?;
+    let mut bindings = Sequence::new(alloc);
+    for number in 1..33 {
+        bindings.push(binding(alloc, number, number, 0)?)?;
+    }
+    for (word, next, asked) in [(31, Some(32), 1), (40, None, 0)] {
+        assert_eq!(rt;
+            asked_on(alloc, bindings.as_slice(), &guards, word)?,
+            (next, asked),
+            "{word}"
+        );
+    }
+    Ok(())
+}
+
+#[test]
+fn bindings_without_a_guard_are_candidates(rt: HostRuntime) -> Result<(), NoMemory> {
+    let alloc = rt.alloc();
+    let guards = guards_of_numbers(alloc)?;
+    let mut bindings = Sequence::new(alloc);
+    for number in 1..17 {
+        let own_guard = if number % 2 == 1 { 2 } else { 0 };
+        bindings.push(binding(alloc, number, own_guard, 0)?)?;
+    }
+    for (word, next, asked) in [(2, Some(2), 0), (1, Some(1), 1)] {
+        assert_eq!(rt;
+            asked_on(alloc, bindings.as_slice(), &guards, word)?,
+            (next, asked),
+            "{word}"
+        );
+    }
+    Ok(())
+}
+
+/// So many bytes of argument 0, from the third on.
+fn field(width: u8) -> Expr {
+    Expr::Field {
+        arg: 0,
+        offset: 2,
+        width,
+    }
+}
+
+fn equal(a: Expr, b: Expr) -> Test {
+    Test::Compare(Cmp::Eq, a, b)
+}
+
+fn both(alloc: Global, a: Test, b: Test) -> Result<Test, NoMemory> {
+    Ok(Test::All(Box::new(alloc, a)?, Box::new(alloc, b)?))
+}
+
+fn either(alloc: Global, a: Test, b: Test) -> Result<Test, NoMemory> {
+    Ok(Test::Any(Box::new(alloc, a)?, Box::new(alloc, b)?))
+}
+
+#[test]
+fn tests_require_what_they_equate(rt: HostRuntime) -> Result<(), NoMemory> {
+    let alloc = rt.alloc();
+    let three = equal(Expr::Arg(0), Expr::Const(3));
+    let four = equal(Expr::Arg(0), Expr::Const(4));
+    let five = equal(Expr::Arg(0), Expr::Const(5));
+    let six = equal(Expr::Arg(0), Expr::Const(6));
+    let rows = [
+        (equal(Expr::Arg(0), Expr::Const(1)), Expr::Arg(0), Some(1)),
+        (equal(Expr::Const(2), field(2)), field(2), Some(2)),
+        (equal(Expr::Const(2), field(2)), field(4), None),
+        (equal(Expr::Arg(0), Expr::Const(1)), Expr::Arg(1), None),
+        (equal(Expr::Arg(0), Expr::Arg(1)), Expr::Arg(0), None),
+        (
+            Test::Compare(Cmp::Le, Expr::Arg(0), Expr::Const(1)),
+            Expr::Arg(0),
+            None,
+        ),
+        (both(alloc, three, four)?, Expr::Arg(0), Some(3)),
+        (both(alloc, Test::True, five)?, Expr::Arg(0), Some(5)),
+        (either(alloc, Test::True, six)?, Expr::Arg(0), None),
+    ];
+    for (row, (test, e, wanted)) in rows.iter().enumerate() {
+        assert_eq!(rt; required(test, e), *wanted, "row {row}");
     }
     Ok(())
 }

@@ -222,6 +222,39 @@ fn two_seats_take_turns(rt: HostRuntime) -> Result<(), Fail> {
     Ok(())
 }
 
+// The answer to the command, which is given once more after want of memory.
+fn command_again(
+    alloc: Global,
+    hub: &Hub,
+    seat: &mut Seat,
+    c: &Command,
+) -> Result<Judged, SeatFault>
+    requires sincere { ⟦<Catalogue as Sincere>⟧.sincere hub.now.setup.catalogue }
+    requires log { seat.old.pen.log ≡ hub.now.log.id }
+    requires seat { IsSeatOf (data_of hub.now.setup) seat.old }
+    requires valid { IsTrue (is_command c.now) }
+    requires lane { c.now.lane ≡ seat.old.pen.lane }
+    ensures same { IsSamePen seat.old.pen seat.new.pen }
+    ensures seat { IsSeatOf (data_of hub.now.setup) seat.new }
+{
+    match seat.command(alloc, hub, c) {
+        Err(SeatFault::NoMemory) => seat.command(alloc, hub, c),
+        answer => answer,
+    }
+}
+
+// Where the one request for memory that is refused is the command's, its second call answers as if none were.
+#[test]
+fn a_command_is_given_again_after_want_of_memory(rt: HostRuntime) -> Result<(), Fail> {
+    let alloc = rt.alloc();
+    let (hub, mut a, _b) = two_seats(alloc)?;
+    let judged = command_again(alloc, &hub, &mut a, &install_of(0))?;
+    assert_eq!(rt; judged, accepted(1));
+    let raised = raise_with(alloc, &hub, &mut a, 9)?;
+    assert_eq!(rt; raised, (1, Some(5)));
+    Ok(())
+}
+
 // Gives defaults until there is a fault, at most so often, and tells how many were judged.
 fn give_defaults(alloc: Global, hub: &Hub, seat: &mut Seat, times: u16) -> (u16, Option<SeatFault>)
     requires sincere { ⟦<Catalogue as Sincere>⟧.sincere hub.now.setup.catalogue }

@@ -1,16 +1,15 @@
 //! The top call: shelves, sinks and endpoints that fail, what an endpoint received, and the drop of a native.
 
-ghost use Rattle.std.specs.Prelude.{◌≡◌, None, [], IfOk};
+ghost use Rattle.std.specs.Prelude.{◌≡◌, [], IfOk};
 
+use crate::noting::{fresh_notes, noted, noting_ends};
 use spin_code::{Act, Sincere, Steplist};
 use spin_endpoint::{Endpoint, Ends, KeepEnd};
 use spin_objects::{Handler, Natives, Outcome};
-use spin_outside::{Failed, MemShelf, MemSink, OpenGate};
+use spin_outside::{MemShelf, MemSink, OpenGate};
 use spin_top::spin;
 use spin_values::{Args, EventType, NoMemory, Octets, Params, Text};
 use std::alloc::Global;
-use std::cell::RefCell;
-use std::rc::Rc;
 use std::sync::Arc;
 use std::sync::atomic::{AtomicU64, Ordering};
 use std::test::Fail;
@@ -31,7 +30,7 @@ end 1
 ";
 
 const USAGE: &[u8] =
-    b"usage: spin run SCRIPT [PACKETS] | spin gen NUMBER | spin join SCRIPT PACKETS | spin vm SCRIPT TRACE\n";
+    b"usage: spin run SCRIPT [PACKETS] | spin gen NUMBER | spin check SCRIPT REPORT [PACKETS] | spin join SCRIPT PACKETS | spin vm SCRIPT TRACE\n";
 
 fn text(alloc: Global, bytes: &[u8]) -> Result<Text, NoMemory> {
     Text::from_bytes(alloc, bytes)
@@ -45,18 +44,23 @@ fn words(alloc: Global, texts: &[&[u8]]) -> Result<Vec<Text>, NoMemory> {
     Ok(words)
 }
 
-fn put(alloc: Global, shelf: &mut MemShelf, name: &[u8], bytes: &[u8]) -> Result<(), NoMemory> {
+pub(crate) fn put(
+    alloc: Global,
+    shelf: &mut MemShelf,
+    name: &[u8],
+    bytes: &[u8],
+) -> Result<(), NoMemory> {
     shelf.put(text(alloc, name)?, Octets::from_bytes(alloc, bytes)?)
 }
 
-fn shelf_with(alloc: Global, script: &[u8]) -> Result<MemShelf, NoMemory> {
+pub(crate) fn shelf_with(alloc: Global, script: &[u8]) -> Result<MemShelf, NoMemory> {
     let mut shelf = MemShelf::new(alloc);
     put(alloc, &mut shelf, b"script", script)?;
     Ok(shelf)
 }
 
 /// The status of a call with these natives.
-fn status_with<R: Threads + Sync>(
+pub(crate) fn status_with<R: Threads + Sync>(
     rt: &R,
     alloc: Global,
     texts: &[&[u8]],
@@ -246,44 +250,6 @@ fn capture(alloc: Global, records: u32) -> Result<Octets, NoMemory> {
     Ok(file)
 }
 
-/// Notes what it takes, a byte 0x2c behind each piece and a byte 0x2e for each finish, and tells nothing.
-struct Noting {
-    notes: Rc<RefCell<Octets>>,
-    finishes: u64,
-}
-
-impl Noting {
-    fn note(&self, bytes: &[u8]) {
-        if let Ok(mut notes) = self.notes.try_borrow_mut() {
-            let _ = notes.extend_from_slice(bytes);
-        }
-    }
-}
-
-impl Drop for Noting {
-    fn drop(self) {
-        let Noting {
-            notes: _,
-            finishes: _,
-        } = self;
-    }
-}
-
-impl Endpoint for Noting {
-    ghost seen = { λ n. record { pieces = None; finishes = n.finishes; faults = 0 } };
-
-    fn take(&mut self, bytes: &[u8]) -> Result<(), Failed> {
-        self.note(bytes);
-        self.note(b",");
-        Ok(())
-    }
-
-    fn finish(&mut self) {
-        self.note(b".");
-        self.finishes = self.finishes.saturating_add(1);
-    }
-}
-
 /// The endpoints of which this is the only one.
 fn ends_of(alloc: Global, end: Box<dyn Endpoint>) -> Result<Ends, NoMemory> {
     let mut ends = Ends::new(alloc);
@@ -319,31 +285,14 @@ lost 0 1
 end 1 records 5 used 5 cut 5
 ";
 
-/// The only endpoint notes here.
-fn noting_ends(alloc: Global, notes: &Rc<RefCell<Octets>>) -> Result<Ends, NoMemory> {
-    let noting = Noting {
-        notes: notes.clone()?,
-        finishes: 0,
-    };
-    ends_of(alloc, Box::new(alloc, noting)?)
-}
-
-/// Whether just this was noted.
-fn noted(notes: &Rc<RefCell<Octets>>, bytes: &[u8]) -> bool {
-    match notes.try_borrow() {
-        Ok(notes) => notes.as_slice() == bytes,
-        Err(_) => false,
-    }
-}
-
 #[test]
 fn an_endpoint_receives_what_a_filter_sends(rt: HostRuntime) -> Result<(), NoMemory> {
-    let notes = Rc::new(rt.alloc(), RefCell::new(Octets::new(rt.alloc())))?;
-    let mut ends = noting_ends(rt.alloc(), &notes)?;
+    let notes = fresh_notes(rt.alloc())?;
+    let mut ends = noting_ends(rt.alloc(), &notes, NEVER)?;
     let (status, out) = run_of_the_filter(&rt, rt.alloc(), &mut ends)?;
     assert_eq!(rt; status, 0);
     assert_eq!(rt; out.bytes(), FILTERED);
-    assert!(rt; noted(&notes, b"\x08\x00+,\x08\x00+,."));
+    assert!(rt; noted(&notes, b"\x08\x00+,\x08\x00+,.,"));
     Ok(())
 }
 

@@ -12,9 +12,8 @@ use Rattle.std.specs.contracts.alloc.Global as Global
 use Rattle.std.proofs.Crossing.{crosses}
 use Rattle.spin_seat.specs.contracts.hub.Hub as Hub
 use Rattle.spin_seat.specs.contracts.seat.Seat as Seat
-use Rattle.spin_seat.proofs.seat.Seat.TheSendSync as seat
 use Rattle.spin_jobs.proofs.Crossing.{Shared}
-use Rattle.spin_run.proofs.Crossing.{hub_crosses}
+use Rattle.spin_run.proofs.Crossing.{hub_crosses, seat_send}
 use Rattle.spin_cases.specs.contracts.seats.take_turns_at_once.dyn-1 as one
 use Rattle.spin_cases.specs.contracts.seats.take_turns_at_once.dyn-2 as two
 use Rattle.spin_cases.specs.contracts.seats.take_turns_at_once.dyn-3 as three
@@ -35,7 +34,7 @@ turns_cross : {G H K : Type 0 → Type 1} (s t u : Dict → Slots) (x : Shared G
     → IsSend (TupleAt [] (ShrRef (named 0) k Global.the_row
     ∷ ShrRef (named 0) l (Hub.the_row (Vt s x.0) (Vt t y.0) (Vt u z.0) (ghosts_of s x.0 x.1) (ghosts_of t y.0 y.1) (ghosts_of u z.0 z.1))
     ∷ Seat.the_row ∷ []))
-turns_cross s t u x y z k l = taken Global.the_row _ Seat.the_row k l global_sync (hub_crosses s t u x y z) seat.the_send
+turns_cross s t u x y z k l = taken Global.the_row _ Seat.the_row k l global_sync (hub_crosses s t u x y z) seat_send
 
 pub join-requires-send-F : goal.join-requires-send-F
 join-requires-send-F g c κs within =
