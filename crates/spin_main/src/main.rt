@@ -3,9 +3,10 @@
 //! `spin run SCRIPT [PACKETS]` reads the script, and the capture if one is named, from the folder where it is called,
 //! and writes the report to standard output; `spin join SCRIPT PACKETS` does so over the joined capture.
 //! `spin gen NUMBER` runs a large script over a capture, both made from the number, and writes a summary in place of the
-//! report. `spin vm SCRIPT TRACE` reads a trace in the capture's place and writes its output. What is sent to the endpoints
-//! `out0` to `out3` goes to the files `out0.bin` to `out3.bin` of that folder, and the replies to the echo requests that
-//! are sent to the endpoint `echo` to `echo.bin`.
+//! report. `spin check SCRIPT REPORT [PACKETS]` writes whether a report is that of some run of the script. `spin vm SCRIPT
+//! TRACE` reads a trace in the capture's place and writes its output. What is sent to the endpoints `out0` to `out3` goes
+//! to the files `out0.bin` to `out3.bin` of that folder, and the replies to the echo requests that are sent to the endpoint
+//! `echo` to `echo.bin`.
 //!
 //! The one call, [`spin`](spin_top::spin), works over any shelf, sink, endpoints, natives and gate; [`natives`] are those
 //! that the program hands in.
