@@ -4,6 +4,7 @@ ghost use Rattle.std.specs.Prelude.{◌<◌};
 
 use crate::filter;
 use crate::noting::{Notes, fresh_notes, noted, noting_ends};
+use crate::texts::{RETIRED, RETIRING};
 use crate::top::{put, shelf_with, status_with};
 use spin_objects::Natives;
 use spin_outside::{MemShelf, MemSink, MemSource};
@@ -12,31 +13,6 @@ use spin_values::{NoMemory, Octets};
 use std::alloc::Global;
 use std::test::Fail;
 use std::thread::Threads;
-
-/// A script whose endpoint is retired between two sends.
-const RETIRING: &[u8] = b"\
-spin 1
-event 0 0 b last
-endpoint 0 out0
-handler 1 b send 0 0 0
-lane 0 install 0 0 1 0 free plain
-lane 0 raise 0 x6162
-barrier
-retire 0
-lane 0 raise 0 x63
-";
-
-const RETIRED: &[u8] = b"\
-report 1
-segment 0 at 0
-1 0 5 install ok
-1 0 6 raise run 0 1 send 0 2 = done
-retire 0 ok
-segment 1 at 1
-1 0 9 raise run 0 1 send 0 1 = done
-lost 0 1
-end 1
-";
 
 /// What is run.
 #[derive(Clone, Copy)]

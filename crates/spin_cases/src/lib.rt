@@ -53,6 +53,8 @@ mod seats;
 #[cfg(test)]
 mod setups;
 #[cfg(test)]
+mod texts;
+#[cfg(test)]
 mod top;
 #[cfg(test)]
 mod values;

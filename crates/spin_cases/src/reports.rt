@@ -1,5 +1,8 @@
 //! Reports that are judged: which are reports of a script, and which aren't.
 
+ghost use Rattle.std.specs.Prelude.{◌<◌, ◌≤◌, length};
+
+use crate::texts::{LANE_0_FIRST, LANE_1_FIRST, QUOTA_OF_ONE, RETIRED, RETIRING};
 use spin_check::{Captured, check_report};
 use spin_objects::Natives;
 use spin_script::{Frames, read_script};
@@ -67,32 +70,6 @@ segment 0 at 0
 end 1
 ";
 
-/// An endpoint that is retired between two sends.
-const SENDS: &[u8] = b"\
-spin 1
-event 0 0 b last
-endpoint 0 out0
-handler 1 b send 0 0 0
-lane 0 install 0 0 1 0 free plain
-lane 0 raise 0 x6162
-barrier
-retire 0
-lane 0 raise 0 x63
-";
-
-/// What a run writes where the endpoint is there.
-const SENT: &[u8] = b"\
-report 1
-segment 0 at 0
-1 0 5 install ok
-1 0 6 raise run 0 1 send 0 2 = done
-retire 0 ok
-segment 1 at 1
-1 0 9 raise run 0 1 send 0 1 = done
-lost 0 1
-end 1
-";
-
 /// What it writes where it isn't.
 const LOST: &[u8] = b"\
 report 1
@@ -138,35 +115,6 @@ segment 0 at 0
 0 0 3 raise = nohandler
 0 1 4 raise = nohandler
 end 0
-";
-
-/// Two lanes ask for the one binding that the owner grants.
-const QUOTA: &[u8] = b"\
-spin 1
-modules 2
-event 0 0 - last
-handler 1 -
-rule 0 1 1 install any all quota 1
-lane 0 install 0 1 1 0 free plain
-lane 1 install 0 1 1 0 free plain
-";
-
-/// The first lane is granted it.
-const FIRST_GRANTED: &[u8] = b"\
-report 1
-segment 0 at 0
-1 0 6 install ok
-1 1 7 install refused 9 denied 1
-end 1
-";
-
-/// The second is.
-const SECOND_GRANTED: &[u8] = b"\
-report 1
-segment 0 at 0
-1 1 7 install ok
-1 0 6 install refused 9 denied 1
-end 1
 ";
 
 /// Both are.
@@ -224,21 +172,21 @@ const CHANGES: [Change; 24] = [
         is_one: false,
     },
     Change {
-        script: QUOTA,
-        report: FIRST_GRANTED,
+        script: QUOTA_OF_ONE,
+        report: LANE_0_FIRST,
         from: b"",
         to: b"",
         is_one: true,
     },
     Change {
-        script: QUOTA,
-        report: SECOND_GRANTED,
+        script: QUOTA_OF_ONE,
+        report: LANE_1_FIRST,
         from: b"",
         to: b"",
         is_one: true,
     },
     Change {
-        script: QUOTA,
+        script: QUOTA_OF_ONE,
         report: BOTH_GRANTED,
         from: b"",
         to: b"",
@@ -359,7 +307,9 @@ const CHANGES: [Change; 24] = [
 ];
 
 /// Where the part stands first, or the length.
-fn place_of(text: &[u8], part: &[u8]) -> usize {
+fn place_of(text: &[u8], part: &[u8]) -> usize
+    ensures { result ≤ length text.now }
+{
     for at in 0..text.len() {
         if text[at..].starts_with(part) {
             return at;
@@ -370,31 +320,136 @@ fn place_of(text: &[u8], part: &[u8]) -> usize {
 
 /// The report with the change made where its first part stands.
 fn changed(alloc: Global, change: &Change) -> Result<Octets, Fail> {
-    let at = place_of(change.report, change.from);
-    let mut text = Octets::new(alloc);
-    text.extend_from_slice(&change.report[..at])?;
+    let (front, behind) = change.report.split_at(place_of(change.report, change.from));
+    let mut text = Octets::from_bytes(alloc, front)?;
     text.extend_from_slice(change.to)?;
-    let behind = (at + change.from.len()).min(change.report.len());
-    text.extend_from_slice(&change.report[behind..])?;
+    text.extend_from_slice(&behind[change.from.len().min(behind.len())..])?;
     Ok(text)
+}
+
+/// Whether the text is a report of the script, over no capture and where no endpoint stands.
+fn is_report(alloc: Global, script: &[u8], text: &[u8]) -> Result<bool, Fail> {
+    let script = read_script(alloc, script, Natives::new(alloc))?;
+    let names = Texts::new(alloc);
+    Ok(check_report(alloc, &script, &names, None, text)?)
 }
 
 #[test]
 fn each_change_is_seen(rt: HostRuntime) -> Result<(), Fail> {
     for change in &CHANGES {
-        let script = read_script(rt.alloc(), change.script, Natives::new(rt.alloc()))?;
         let report = changed(rt.alloc(), change)?;
-        let names = Texts::new(rt.alloc());
-        let is_one = check_report(rt.alloc(), &script, &names, None, report.as_slice())?;
+        let is_one = is_report(rt.alloc(), change.script, report.as_slice())?;
         assert_eq!(rt; is_one, change.is_one);
+    }
+    Ok(())
+}
+
+/// Whole reports, each behind its script. No two lines beside each other are the same.
+const WHOLE: [(&[u8], &[u8]); 6] = [
+    (SMALLEST, SMALLEST_REPORT),
+    (FIRST, FIRST_REPORT),
+    (CYCLE, CYCLE_REPORT),
+    (LANES, LANES_REPORT),
+    (RAISES, RAISES_REPORT),
+    (QUOTA_OF_ONE, LANE_0_FIRST),
+];
+
+/// The text with another byte at that place.
+fn with_byte_changed(alloc: Global, text: &[u8], at: usize) -> Result<Octets, Fail>
+    requires { at < length text.now }
+{
+    let mut changed = Octets::from_bytes(alloc, text)?;
+    changed.replace(at, text[at] ^ 1);
+    Ok(changed)
+}
+
+/// Whether the report is one no more, whichever byte of it is changed.
+fn each_byte_counts(alloc: Global, script: &[u8], report: &[u8]) -> Result<bool, Fail> {
+    for at in 0..report.len() {
+        let changed = with_byte_changed(alloc, report, at)?;
+        if is_report(alloc, script, changed.as_slice())? {
+            return Ok(false);
+        }
+    }
+    Ok(true)
+}
+
+#[test]
+fn each_byte_of_a_report_counts(rt: HostRuntime) -> Result<(), Fail> {
+    for (script, report) in WHOLE {
+        assert!(rt; each_byte_counts(rt.alloc(), script, report)?);
+    }
+    Ok(())
+}
+
+/// The lines of a text, without their ends.
+fn lines_of<'a>(alloc: Global, text: &'a [u8]) -> Result<Vec<&'a [u8]>, Fail> {
+    let mut lines = Vec::new(alloc);
+    for line in text.split(|byte: &u8| -> bool { *byte == b'\n' }) {
+        if !line.is_empty() {
+            lines.push(line)?;
+        }
+    }
+    Ok(lines)
+}
+
+/// Adds a line, where there is one.
+fn put_line(text: &mut Octets, line: Option<&&[u8]>) -> Result<(), Fail> {
+    if let Some(line) = line {
+        text.extend_from_slice(line)?;
+        text.push(b'\n')?;
+    }
+    Ok(())
+}
+
+/// The lines with the last of two left out, or with these two exchanged.
+fn with_lines_changed(
+    alloc: Global,
+    lines: &[&[u8]],
+    first: usize,
+    second: usize,
+    exchanged: bool,
+) -> Result<Octets, Fail> {
+    let mut text = Octets::new(alloc);
+    for at in 0..lines.len() {
+        if at != first && at != second {
+            put_line(&mut text, lines.get(at))?;
+        } else if at == second {
+            put_line(&mut text, lines.get(first))?;
+        } else if exchanged {
+            put_line(&mut text, lines.get(second))?;
+        }
+    }
+    Ok(text)
+}
+
+/// Whether the report is one no more, whichever line of it is left out, or exchanged with the line before it.
+fn each_line_counts(alloc: Global, script: &[u8], report: &[u8]) -> Result<bool, Fail> {
+    let lines = lines_of(alloc, report)?;
+    for second in 1..lines.len() {
+        let shorter = with_lines_changed(alloc, &lines, second - 1, second, false)?;
+        let turned = with_lines_changed(alloc, &lines, second - 1, second, true)?;
+        if is_report(alloc, script, shorter.as_slice())?
+            || is_report(alloc, script, turned.as_slice())?
+        {
+            return Ok(false);
+        }
+    }
+    Ok(true)
+}
+
+#[test]
+fn each_line_of_a_report_counts(rt: HostRuntime) -> Result<(), Fail> {
+    for (script, report) in WHOLE {
+        assert!(rt; each_line_counts(rt.alloc(), script, report)?);
     }
     Ok(())
 }
 
 /// Reports, whether the endpoint stands, and whether each is a report of the script that sends.
 const ENDPOINTS: [(&[u8], bool, bool); 4] = [
-    (SENT, true, true),
-    (SENT, false, false),
+    (RETIRED, true, true),
+    (RETIRED, false, false),
     (LOST, true, false),
     (LOST, false, true),
 ];
@@ -411,7 +466,7 @@ fn names_of(alloc: Global, stands: bool) -> Result<Texts, Fail> {
 #[test]
 fn a_report_is_of_the_endpoints_that_stand(rt: HostRuntime) -> Result<(), Fail> {
     for (report, stands, is_one) in ENDPOINTS {
-        let script = read_script(rt.alloc(), SENDS, Natives::new(rt.alloc()))?;
+        let script = read_script(rt.alloc(), RETIRING, Natives::new(rt.alloc()))?;
         let names = names_of(rt.alloc(), stands)?;
         let told = check_report(rt.alloc(), &script, &names, None, report)?;
         assert_eq!(rt; told, is_one);

@@ -1,5 +1,6 @@
 //! Whole runs whose lanes and workers are held up at gates.
 
+use crate::texts::{LANE_0_FIRST, LANE_1_FIRST, QUOTA_OF_ONE};
 use spin_endpoint::Ends;
 use spin_objects::Natives;
 use spin_outside::{Gate, MemSink, MemSource};
@@ -210,32 +211,6 @@ fn each_lane_sees_what_the_other_installs(rt: HostRuntime) -> Result<(), Fail> {
     assert!(rt; gate.other.is_in_time());
     Ok(())
 }
-
-const QUOTA_OF_ONE: &[u8] = b"\
-spin 1
-modules 2
-event 0 0 - last
-handler 1 -
-rule 0 1 1 install any all quota 1
-lane 0 install 0 1 1 0 free plain
-lane 1 install 0 1 1 0 free plain
-";
-
-const LANE_0_FIRST: &[u8] = b"\
-report 1
-segment 0 at 0
-1 0 6 install ok
-1 1 7 install refused 9 denied 1
-end 1
-";
-
-const LANE_1_FIRST: &[u8] = b"\
-report 1
-segment 0 at 0
-1 1 7 install ok
-1 0 6 install refused 9 denied 1
-end 1
-";
 
 /// Lets both lanes go at once, as soon as both are there.
 fn both_at_once() -> Both {

@@ -1,0 +1,56 @@
+//! Scripts and reports of which several files of tests speak.
+
+/// Two lanes ask for the one binding that the owner grants.
+pub(crate) const QUOTA_OF_ONE: &[u8] = b"\
+spin 1
+modules 2
+event 0 0 - last
+handler 1 -
+rule 0 1 1 install any all quota 1
+lane 0 install 0 1 1 0 free plain
+lane 1 install 0 1 1 0 free plain
+";
+
+/// Its report where the first lane is granted it.
+pub(crate) const LANE_0_FIRST: &[u8] = b"\
+report 1
+segment 0 at 0
+1 0 6 install ok
+1 1 7 install refused 9 denied 1
+end 1
+";
+
+/// Its report where the second is.
+pub(crate) const LANE_1_FIRST: &[u8] = b"\
+report 1
+segment 0 at 0
+1 1 7 install ok
+1 0 6 install refused 9 denied 1
+end 1
+";
+
+/// A script whose endpoint is retired between two sends.
+pub(crate) const RETIRING: &[u8] = b"\
+spin 1
+event 0 0 b last
+endpoint 0 out0
+handler 1 b send 0 0 0
+lane 0 install 0 0 1 0 free plain
+lane 0 raise 0 x6162
+barrier
+retire 0
+lane 0 raise 0 x63
+";
+
+/// Its report where the endpoint is there.
+pub(crate) const RETIRED: &[u8] = b"\
+report 1
+segment 0 at 0
+1 0 5 install ok
+1 0 6 raise run 0 1 send 0 2 = done
+retire 0 ok
+segment 1 at 1
+1 0 9 raise run 0 1 send 0 1 = done
+lost 0 1
+end 1
+";
