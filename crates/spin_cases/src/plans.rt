@@ -1,6 +1,6 @@
 //! What tests require, and plans that are asked on several arguments over guards that count how often they are asked.
 
-ghost use Rattle.std.specs.Prelude.{◌≡◌, ◌<◌, ◌≤◌, length, IfOk, IsTrue};
+ghost use Rattle.std.specs.Prelude.{◌≡◌, ◌<◌, ◌≤◌, ◌^◌, length, IfOk, IsTrue};
 ghost use Rattle.std.specs.List.{All};
 ghost use Rattle.spin_plan.specs.Next.{IsGuard};
 
@@ -54,6 +54,7 @@ impl Guards for TwoGuards {
 struct Numbered {
     tests: Sequence<Test>,
     asked: AtomicU64,
+    ghost few: { length tests < 2 ^ 16 },
 }
 
 impl Sincere for Numbered {
