@@ -9,7 +9,9 @@ use denote.Struct.Tuple.{TupleAt, type_at}
 use denote.Param.Object.{Vt, ghosts_of}
 use denote.Param.Send.{IsSend, IsSync, sendable, param_send, arg_send, recorded_send, struct_send, shr_send}
 use Rattle.std.specs.contracts.alloc.Global as Global
+use Rattle.std.specs.contracts.result.Result as Result
 use Rattle.std.proofs.Crossing.{crosses}
+use Rattle.spin_seat.specs.contracts.answer.SeatFault as SeatFault
 use Rattle.spin_seat.specs.contracts.hub.Hub as Hub
 use Rattle.spin_seat.specs.contracts.seat.Seat as Seat
 use Rattle.spin_jobs.proofs.Crossing.{Shared}
@@ -35,6 +37,15 @@ turns_cross : {G H K : Type 0 → Type 1} (s t u : Dict → Slots) (x : Shared G
     ∷ ShrRef (named 0) l (Hub.the_row (Vt s x.0) (Vt t y.0) (Vt u z.0) (ghosts_of s x.0 x.1) (ghosts_of t y.0 y.1) (ghosts_of u z.0 z.1))
     ∷ Seat.the_row ∷ []))
 turns_cross s t u x y z k l = taken Global.the_row _ Seat.the_row k l global_sync (hub_crosses s t u x y z) seat_send
+
+-- what the first seat's turns come to
+outcome_send : IsSend (Result.the_row Seat.the_row SeatFault.the_row)
+outcome_send = search (seat_send, sendable) depth 30 fits 20000
+
+pub join-requires-send-A : goal.join-requires-send-A
+join-requires-send-A g c κs within =
+    let given = param_send 3 _ outcome_send in
+    record { owned = given.owned; leaving = given.leaving }
 
 pub join-requires-send-F : goal.join-requires-send-F
 join-requires-send-F g c κs within =
