@@ -1,7 +1,7 @@
-//! A plain dispatcher, with no proof and no thread: what the proved one is measured against. It takes scripts of version 1
-//! with one lane, without rules, natives, retirements, asynchronous bindings and later raises, trusts that they are well
-//! formed, and refuses only bindings that are not there or too many, and wrong arguments;
-//! of these it writes the same report, byte for byte.
+//! A plain dispatcher, with no proof and no thread: what the proved one is measured against. It takes scripts with one
+//! lane, without rules, natives, retirements, asynchronous bindings and later raises, trusts that they are well formed,
+//! and refuses only bindings that are not there or too many, and wrong arguments; of these it writes the same report,
+//! byte for byte.
 //!
 //! `plain SCRIPT [PACKETS]`
 
@@ -65,7 +65,8 @@ struct Binding {
     handler: usize,
     guard: usize,
     place: String,
-    other: usize,
+    before: Vec<usize>,
+    after: Vec<usize>,
 }
 
 enum Answer {
@@ -96,6 +97,13 @@ fn number(word: &str) -> u64 {
 
 fn next(words: &mut Words) -> usize {
     number(words.next().unwrap()) as usize
+}
+
+/// In version 3 so many numbers, behind a word and how many there are.
+fn numbers(words: &mut Words) -> Vec<usize> {
+    words.next();
+    let count = next(words);
+    (0..count).map(|_| next(words)).collect()
 }
 
 fn expr(words: &mut Words) -> Expr {
@@ -255,6 +263,7 @@ fn udp(args: &[Value]) -> Result<Vec<Value>, &'static str> {
 
 #[derive(Default)]
 struct Dispatcher {
+    is_wide: bool,
     events: Vec<Event>,
     endpoints: Vec<String>,
     handlers: Vec<(String, Vec<Act>)>,
@@ -345,15 +354,24 @@ impl Dispatcher {
         match op {
             "install" => {
                 let (handler, guard) = (next(words), next(words));
-                let place = words.next().unwrap().to_string();
-                let other = if place == "before" || place == "after" { next(words) } else { 0 };
-                if other != 0 && !event.live.iter().any(|it| it.number == other) {
+                let mut place = words.next().unwrap().to_string();
+                let (mut before, mut after) = (Vec::new(), Vec::new());
+                match place.as_str() {
+                    _ if self.is_wide => (before, after) = (numbers(words), numbers(words)),
+                    "before" => before.push(next(words)),
+                    "after" => after.push(next(words)),
+                    _ => {}
+                }
+                if !matches!(place.as_str(), "first" | "last") {
+                    place = "free".to_string();
+                }
+                if before.iter().chain(&after).any(|other| event.live.iter().all(|it| it.number != *other)) {
                     return text.push_str(" refused 5 unknown_binding");
                 }
-                if event.live.len() == 32 {
+                if event.live.len() == if self.is_wide { 64 } else { 32 } {
                     return text.push_str(" refused 10 too_many");
                 }
-                event.live.push(Binding { number: self.place + 1, handler, guard, place, other });
+                event.live.push(Binding { number: self.place + 1, handler, guard, place, before, after });
             }
             "remove" | "replace" => {
                 let number = next(words);
@@ -393,8 +411,8 @@ fn order(live: &[Binding]) -> Vec<usize> {
     let precedes = |b: &Binding, c: &Binding| {
         (b.place == "first" && c.place != "first")
             || (c.place == "last" && b.place != "last")
-            || (b.place == "before" && b.other == c.number)
-            || (c.place == "after" && c.other == b.number)
+            || b.before.contains(&c.number)
+            || c.after.contains(&b.number)
     };
     let (mut left, mut order): (Vec<usize>, _) = ((0..live.len()).collect(), Vec::new());
     while !left.is_empty() {
@@ -435,6 +453,7 @@ fn main() {
     for (line, text) in script.lines().enumerate().map(|(at, text)| (at + 1, text)) {
         let mut words = text.split_ascii_whitespace().peekable();
         match words.next().unwrap_or("#") {
+            "spin" => it.is_wide = words.next() == Some("3"),
             "event" => {
                 let kinds = words.nth(2).unwrap().to_string();
                 let fold = (words.next() == Some("fold")).then(|| expr(&mut words));
