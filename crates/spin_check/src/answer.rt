@@ -18,12 +18,10 @@ use spin_objects::Catalogue;
 use spin_proto::path;
 use spin_report::{Entry, What};
 use spin_table::{Refusal, Setup, StepFault, Verdicted, Version};
-use spin_values::{NoMemory, Steps};
+use spin_values::NoMemory;
 use spin_word::Command;
 use std::alloc::Global;
-use std::marker::Brand;
 use std::sync::Arc;
-use std::sync::ledger::{Blank, Ledger};
 
 /// An entry, and the version that it leads to.
 #[derive(Drop)]
@@ -37,28 +35,6 @@ pub(crate) struct Answered {
 struct Judged {
     verdict: Verdicted,
     version: Arc<Version>,
-}
-
-// The version after the command, over a count of steps of its own.
-fn counted_after<L: Ledger>(
-    alloc: Global,
-    setup: &Setup,
-    version: &Version,
-    c: &Command,
-    blank: Blank,
-) -> Result<Version, StepFault>
-    requires name { blank.name ≡ L.name }
-    requires parts { blank.parts ≡ L.parts }
-    requires some { 0 < L.parts }
-    requires sincere { ⟦<Catalogue as Sincere>⟧.sincere setup.now.catalogue }
-    requires valid { IsTrue (is_command c.now) }
-    requires room { version.now.place < MAX_PLACE }
-    requires sound { IsSound (data_of setup.now) version.now }
-    ensures answer { IsAnswer (data_of setup.now) version.now c.now result }
-    ensures sound { IfOk result (λ v. IsSound (data_of setup.now) v) }
-{
-    let mut steps = Steps::<L>::new(blank);
-    version.after(alloc, setup, c, &mut steps)
 }
 
 fn tells_cycle(refusal: &Refusal) -> bool
@@ -112,7 +88,7 @@ fn judge(
     ensures judged { let d = data_of setup.now in
         IfOk result (IsJudged d (arc_value version.now) c.now report.now) }
 {
-    match counted_after::<Brand>(alloc, setup, version, c, Blank::new(1)) {
+    match version.next(alloc, setup, c) {
         Ok(next) => Ok(Some(Judged {
             verdict: Verdicted::Accepted,
             version: Arc::new(alloc, next)?,

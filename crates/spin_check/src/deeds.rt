@@ -1,13 +1,12 @@
 //! What the lanes of a segment are to do.
 
 ghost use Rattle.std.specs.Prelude.{◌≡◌, ◌<◌, ◌≤◌, ◌^◌, ◌∷◌, [], Decides, All, MatchOption, IfOk, OnOk, length, take, drop, replicate, slice_set};
-ghost use Rattle.spin_values.specs.declared.values.Value.TheVariants as value;
 ghost use Rattle.spin_script.specs.Soundness.{IsValidWork};
 ghost use Rattle.spin_report.specs.Segments.{records_wanted, asked_at, asked_in, wanted_by};
 ghost use Rattle.spin_check.specs.Inner.Asks.{AreAsked, Adds, work_of, queue_of, with_ask, commands_left, commands_in, packets_at, whole_at};
 
 use spin_script::{Deed, Line, Work};
-use spin_values::{Args, NoMemory, Octets, Value};
+use spin_values::{Args, NoMemory, Octets};
 use spin_word::Command;
 use std::alloc::Global;
 use std::collections::VecDeque;
@@ -109,7 +108,7 @@ impl Deeds {
         let mut part = 0;
         for frame in records {
             part += 1;
-            let args = args_with(alloc, frame)?;
+            let args = Args::of_bytes(alloc, frame)?;
             self.add(Ask {
                 lane: line.lane,
                 line: line.number,
@@ -147,36 +146,11 @@ impl Deeds {
             Work::Packet { event, .. } => self.add_packets(alloc, line, *event, records),
             Work::Command(command) => self.add_whole(line, Asked::Command(*command)),
             Work::Deed(deed) => {
-                let deed = copy_deed(deed)?;
+                let deed = deed.copy()?;
                 self.add_whole(line, Asked::Deed(deed))
             }
         }
     }
-}
-
-/// An equal deed.
-fn copy_deed(deed: &Deed) -> Result<Deed, NoMemory>
-    ensures { IfOk result (λ copy. copy ≡ deed.now) }
-{
-    match deed {
-        Deed::Raise { event, args } => Ok(Deed::Raise {
-            event: *event,
-            args: args.copy()?,
-        }),
-        Deed::Later { event, args } => Ok(Deed::Later {
-            event: *event,
-            args: args.copy()?,
-        }),
-    }
-}
-
-/// The arguments of a raise with a frame: its bytes.
-fn args_with(alloc: Global, frame: &Octets) -> Result<Args, NoMemory>
-    ensures { IfOk result (λ args. args ≡ value.Bytes frame.now ∷ []) }
-{
-    let mut args = Args::new(alloc);
-    args.push(Value::Bytes(frame.copy()?))?;
-    Ok(args)
 }
 
 /// How many records a line takes at most.

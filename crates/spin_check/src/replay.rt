@@ -7,7 +7,6 @@ ghost use Rattle.spin_table.specs.SetupOf.{data_of};
 ghost use Rattle.spin_table.specs.Soundness.{IsSound};
 ghost use Rattle.spin_text.specs.Words.{ended};
 ghost use Rattle.spin_report.specs.Lines.{entry_line};
-ghost use Rattle.spin_report.specs.Segments as segments;
 ghost use Rattle.spin_check.specs.Inner.Asks.{IsValid, commands_left};
 ghost use Rattle.spin_check.specs.Inner.Replays.{Follows, IsFresh, GoesOn, EndsAt};
 ghost use Rattle.spin_check.specs.Inner.Fronts.{IsBehind};
@@ -20,29 +19,12 @@ use crate::sends::add_of_entry;
 use crate::told::lane_told;
 use spin_code::Sincere;
 use spin_objects::Catalogue;
-use spin_report::{Entry, What, entry_text};
-use spin_table::{Setup, Verdicted, Version};
+use spin_report::{Entry, Moment, entry_text};
+use spin_table::{Setup, Version};
 use spin_values::{NoMemory, Octets};
 use std::alloc::Global;
 use std::marker::Model;
 use std::sync::Arc;
-
-/// Where an entry stands among those of its segment: by place, at one place the accepted command first, and then by
-/// lane, line and part.
-type Moment = (u16, bool, u8, u32, u32);
-
-fn moment(entry: &Entry) -> Moment
-    ensures { result ≡ segments.moment entry.now }
-{
-    let is_accepted = matches!(&entry.what, What::Command(_, Verdicted::Accepted));
-    (
-        entry.place,
-        !is_accepted,
-        entry.lane,
-        entry.line,
-        entry.part,
-    )
-}
 
 /// Where the replay of a segment stands.
 #[derive(Drop)]
@@ -89,7 +71,7 @@ fn follows(last: &Option<Moment>, entry: &Entry) -> bool
 {
     match last {
         None => true,
-        Some(last) => !(moment(entry) < *last),
+        Some(last) => !(entry.moment() < *last),
     }
 }
 
@@ -187,7 +169,7 @@ impl<'a> Replay<'a> {
         if !follows(&last, &entry) {
             return Ok(None);
         }
-        let last = Some(moment(&entry));
+        let last = Some(entry.moment());
         add_of_entry(&mut sends, &entry.what)?;
         do_jobs(alloc, setup, &version, entry, &mut owed, &mut job_sends)?;
         Ok(Some(Replay {

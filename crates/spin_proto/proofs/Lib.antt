@@ -6,3 +6,4 @@ pub mod Turning
 pub mod Calls
 pub mod Served
 pub mod Replying
+pub mod Few

@@ -1,7 +1,9 @@
 //! What is left to jobs.
 
+ghost use Rattle.std.specs.Prelude.{◌≡◌, IfOk};
+
 use spin_table::Version;
-use spin_values::{Args, Sequence};
+use spin_values::{Args, NoMemory, Sequence};
 use std::sync::Arc;
 
 /// What a job is to do.
@@ -23,6 +25,29 @@ pub enum JobCall {
         /// The arguments, as they stood when the binding was reached.
         args: Args,
     },
+}
+
+impl JobCall {
+    /// An equal call.
+    pub fn copy(&self) -> Result<JobCall, NoMemory>
+        ensures { IfOk result (λ copy. copy ≡ self.now) }
+    {
+        match self {
+            JobCall::Whole { event, args } => Ok(JobCall::Whole {
+                event: *event,
+                args: args.copy()?,
+            }),
+            JobCall::Binding {
+                event,
+                number,
+                args,
+            } => Ok(JobCall::Binding {
+                event: *event,
+                number: *number,
+                args: args.copy()?,
+            }),
+        }
+    }
 }
 
 /// Calls of jobs, in the order in which they were left.

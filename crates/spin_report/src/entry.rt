@@ -1,5 +1,8 @@
 //! Entries of a history: what was asked, by which lane and line, and what it answered.
 
+ghost use Rattle.std.specs.Prelude.{◌≡◌};
+ghost use Rattle.spin_report.specs.Segments as segments;
+
 use spin_proto::Reply;
 use spin_table::Verdicted;
 use spin_values::Sequence;
@@ -27,6 +30,20 @@ pub struct Entry {
     pub part: u32,
     /// What was asked, and its answer.
     pub what: What,
+}
+
+/// Where an entry stands among those of its segment: by place, at one place the accepted command first, and then by
+/// lane, line and part.
+pub type Moment = (u16, bool, u8, u32, u32);
+
+impl Entry {
+    /// Where it stands among the entries of its segment.
+    pub fn moment(&self) -> Moment
+        ensures { result ≡ segments.moment self.now }
+    {
+        let is_accepted = matches!(&self.what, What::Command(_, Verdicted::Accepted));
+        (self.place, !is_accepted, self.lane, self.line, self.part)
+    }
 }
 
 /// Entries in the order of the history.

@@ -12,7 +12,7 @@ mod reply;
 mod text;
 mod verdict;
 
-pub use entry::{Entries, Entry, What};
+pub use entry::{Entries, Entry, Moment, What};
 pub use law::report_tells;
 pub use reply::reply_text;
 pub use text::{

@@ -11,7 +11,6 @@ pub mod Gathering
 pub mod ManyJobs
 pub mod Segmenting
 pub mod Asked
-pub mod Few
 pub mod Jobs
 pub mod Answering
 pub mod Lining

@@ -25,7 +25,7 @@ use Rattle.spin_report.specs.Segments.{records_wanted, raise_with, parts_of, ask
 use Rattle.spin_run.specs.Lanes.{job_asked, jobs_from, jobs_of}
 use Rattle.spin_run.proofs.Asking.{numbered}
 use Rattle.spin_run.proofs.Counting.{partition_length}
-use Rattle.spin_run.proofs.Few.{calls_few}
+use Rattle.spin_proto.proofs.Few.{calls_few}
 
 length-jobs_from : (e : Entry) (index : ℕ) (calls : List JobCall) → length (jobs_from e index calls) ≡ length calls
 length-jobs_from e index [] = refl

@@ -6,7 +6,6 @@ ghost use Rattle.spin_proto.specs.Replies.{BelongsTo, calls_left};
 ghost use Rattle.spin_report.specs.Jobs.{calls_of};
 ghost use Rattle.spin_run.specs.Inner.Answering.{AddsJobs};
 
-use crate::copies::copy_call;
 use spin_proto::{Job, JobCall, Jobs, Reply};
 use spin_report::{Entry, What};
 use spin_table::Version;
@@ -50,7 +49,7 @@ pub(crate) fn leave_jobs(
     for call in calls_by(&entry.what) {
         jobs.push(Job {
             version: Arc::try_clone(pinned)?,
-            call: copy_call(call)?,
+            call: call.copy()?,
             place: entry.place,
             lane: entry.lane,
             line: entry.line,

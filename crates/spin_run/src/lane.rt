@@ -14,7 +14,6 @@ ghost use Rattle.spin_run.specs.Lanes.{HasRun};
 ghost use Rattle.spin_run.specs.Segments.{IsReady, IsFitSegment};
 ghost use Rattle.spin_run.specs.Inner.Answering.{IsFresh, Answers, Comes, Stays, asked_alone, asked_packets};
 
-use crate::copies::{args_with, copy_deed};
 use crate::jobs_left::leave_jobs;
 use spin_code::Sincere;
 use spin_objects::Catalogue;
@@ -23,7 +22,7 @@ use spin_proto::Jobs;
 use spin_report::{Entries, Entry, What};
 use spin_script::{Frames, Line, Segment};
 use spin_seat::{Hub, Judged, Raised, Seat, SeatFault};
-use spin_values::{NoMemory, Octets};
+use spin_values::{Args, NoMemory, Octets};
 use spin_word::{Command, Deed, Work};
 use std::alloc::Global;
 
@@ -133,7 +132,7 @@ impl Lane {
         match &line.work {
             Work::Command(command) => self.answer_command(alloc, hub, line.number, command, gate),
             Work::Deed(deed) => {
-                let deed = copy_deed(deed)?;
+                let deed = deed.copy()?;
                 Ok(self.answer_deed(alloc, hub, line.number, 0, deed, gate)?)
             }
             Work::Packet { event, .. } => {
@@ -197,7 +196,7 @@ impl Lane {
         let mut part = 0;
         for frame in records {
             part += 1;
-            let args = args_with(alloc, frame)?;
+            let args = Args::of_bytes(alloc, frame)?;
             self.answer_deed(alloc, hub, line, part, Deed::Raise { event, args }, gate)?;
         }
         Ok(())

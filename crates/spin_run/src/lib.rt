@@ -4,7 +4,7 @@
 //!   side;
 //! - `meeting` lets the seats of all lanes know the same;
 //! - `weave` puts the entries and jobs of all lanes into one history, and `segment` runs a segment whole;
-//! - `jobs_left` notes the jobs that an answer leaves, and `copies` copies what a lane keeps;
+//! - `jobs_left` notes the jobs that an answer leaves;
 //! - `records` reads what a segment's packet lines take of a capture, `retiring` retires endpoints, `sends` delivers;
 //! - `lines` makes a segment's lines, `writing` writes them, `one` runs a segment with all this, `ending` ends a run;
 //! - `telling` has what becomes of a segment: it is written, or counted by `tally`;
@@ -12,7 +12,6 @@
 //! - `law` says that the place of ready lanes is the number of rows that they know, `place` tells that number.
 #![tactic(auto)]
 
-mod copies;
 mod end;
 mod ending;
 mod jobs_left;

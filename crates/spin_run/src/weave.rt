@@ -2,15 +2,13 @@
 
 ghost use Rattle.std.specs.Prelude.{◌≡◌, [], map, All, IfOk, OnOk};
 ghost use Rattle.std.specs.List.{flat_map};
-ghost use Rattle.spin_report.specs.Segments as segments;
 ghost use Rattle.spin_report.specs.Segments.{IsInOrder};
 ghost use Rattle.spin_run.specs.Inner.Weaves as weaves;
 ghost use Rattle.spin_run.specs.Inner.Weaves.{AreOfTheirLanes, IsInterleaving, AreJobsInOrder, IsEmptied, trails_of, jobs_by_lane};
 
 use crate::lanes::Lanes;
 use spin_proto::{Job, Jobs};
-use spin_report::{Entries, Entry, What};
-use spin_table::Verdicted;
+use spin_report::Entries;
 use spin_values::NoMemory;
 use std::alloc::Global;
 
@@ -35,7 +33,7 @@ impl Lanes {
     {
         let (entries, jobs) = self.gather(alloc)?;
         let mut entries = entries.into_vec();
-        entries.sort_by_key(|entry| moment(entry))?;
+        entries.sort_by_key(|entry| entry.moment())?;
         let mut jobs = jobs.into_vec();
         jobs.sort_by_key(|job| job_moment(job))?;
         Ok((Entries::from_vec(entries), Jobs::from_vec(jobs)))
@@ -57,20 +55,6 @@ impl Lanes {
         }
         Ok((entries, jobs))
     }
-}
-
-// Where an entry stands among those of its segment.
-fn moment(entry: &Entry) -> (u16, bool, u8, u32, u32)
-    ensures { result ≡ segments.moment entry.now }
-{
-    let is_accepted = matches!(&entry.what, What::Command(_, Verdicted::Accepted));
-    (
-        entry.place,
-        !is_accepted,
-        entry.lane,
-        entry.line,
-        entry.part,
-    )
 }
 
 // Where a job stands among those of its segment.

@@ -12,34 +12,9 @@ ghost use Rattle.spin_table.specs.declared.refusal.Verdicted.TheVariants as verd
 use spin_code::Sincere;
 use spin_objects::Catalogue;
 use spin_table::{Setup, StepFault, Version};
-use spin_values::Steps;
 use spin_word::Command;
 use std::alloc::Global;
-use std::marker::Brand;
 use std::sync::Arc;
-use std::sync::ledger::{Blank, Ledger};
-
-// The version after the command, over a count of steps of its own.
-fn counted_after<L: Ledger>(
-    alloc: Global,
-    setup: &Setup,
-    version: &Version,
-    c: &Command,
-    blank: Blank,
-) -> Result<Version, StepFault>
-    requires name { blank.name ≡ L.name }
-    requires parts { blank.parts ≡ L.parts }
-    requires some { 0 < L.parts }
-    requires sincere { ⟦<Catalogue as Sincere>⟧.sincere setup.now.catalogue }
-    requires valid { IsTrue (is_command c.now) }
-    requires room { version.now.place < MAX_PLACE }
-    requires sound { IsSound (data_of setup.now) version.now }
-    ensures answer { IsAnswer (data_of setup.now) version.now c.now result }
-    ensures sound { IfOk result (λ v. IsSound (data_of setup.now) v) }
-{
-    let mut steps = Steps::<L>::new(blank);
-    version.after(alloc, setup, c, &mut steps)
-}
 
 /// The version after the command, with all the memory that it needs, or why there is none.
 pub(crate) fn next_version(
@@ -58,7 +33,7 @@ pub(crate) fn next_version(
         (λ fault. IsAnswer d state c.now (Err fault)) }
     ensures sound { IfOk result (λ next. IsSound (data_of setup.now) (arc_value next)) }
 {
-    match counted_after::<Brand>(alloc, setup, version, c, Blank::new(1)) {
+    match version.next(alloc, setup, c) {
         Ok(next) => Ok(Arc::new(alloc, next)?),
         Err(fault) => Err(fault),
     }

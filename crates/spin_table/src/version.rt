@@ -359,6 +359,41 @@ impl Version {
             }
         }
     }
+
+    // The same over a count of steps of its own.
+    fn counted_after<L: Ledger>(
+        &self,
+        alloc: Global,
+        setup: &Setup,
+        c: &Command,
+        blank: Blank,
+    ) -> Result<Version, StepFault>
+        requires name { blank.name ≡ L.name }
+        requires parts { blank.parts ≡ L.parts }
+        requires some { 0 < L.parts }
+        requires sincere { ⟦<Catalogue as Sincere>⟧.sincere setup.now.catalogue }
+        requires valid { IsTrue (is_command c.now) }
+        requires room { self.now.place < MAX_PLACE }
+        requires sound { IsSound (data_of setup.now) self.now }
+        ensures answer { specs.IsAnswer (data_of setup.now) self.now c.now result }
+        ensures sound { IfOk result (λ v. IsSound (data_of setup.now) v) }
+    {
+        let mut steps = Steps::<L>::new(blank);
+        self.after(alloc, setup, c, &mut steps)
+    }
+
+    /// The version after the command, as [`Version::after`] makes it, for callers that count no steps.
+    pub fn next(&self, alloc: Global, setup: &Setup, c: &Command) -> Result<Version, StepFault>
+        requires sincere { ⟦<Catalogue as Sincere>⟧.sincere setup.now.catalogue }
+        requires valid { IsTrue (is_command c.now) }
+        requires room { self.now.place < MAX_PLACE }
+        requires sound { IsSound (data_of setup.now) self.now }
+        ensures answer { specs.IsAnswer (data_of setup.now) self.now c.now result }
+        ensures sound { IfOk result (λ v. IsSound (data_of setup.now) v) }
+    {
+        self.counted_after::<Brand>(alloc, setup, c, Blank::new(1))
+    }
+
     /// Whether the command may be refused with a conflict of this cycle: no other refusal applies to it, it is an
     /// install, and the numbers are a cycle of the bindings that the event would then have. [`Version::after`] names
     /// one such cycle; this tells of every one. It takes time linear in the numbers beside the event's bindings.

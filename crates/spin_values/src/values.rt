@@ -1,11 +1,13 @@
 //! Values and arguments.
 
-ghost use Rattle.std.specs.Prelude.{◌≡◌, ◌≤◌, ◌↔◌, map, length, OnOk, OnErr, IsTrue, Some, Err, IfOk};
+ghost use Rattle.std.specs.Prelude.{◌≡◌, ◌≤◌, ◌↔◌, [], ◌∷◌, map, length, OnOk, OnErr, IsTrue, Some, Err, IfOk};
+ghost use Rattle.spin_values.specs.declared.values.Value.TheVariants as value;
 ghost use Rattle.spin_values.specs.Kinds.{kind_of, kinds_of, kind_at, with_word};
 
 use crate::list::{Octets, Sequence};
 use crate::no_memory::NoMemory;
 use crate::types::{EventType, Kind};
+use std::alloc::Global;
 use thiserror::Error;
 
 /// An argument of an event.
@@ -52,6 +54,15 @@ impl Sequence<Value> {
             copy.push(value.copy()?)?;
         }
         Ok(copy)
+    }
+
+    /// The one argument of these bytes, which are copied.
+    pub fn of_bytes(alloc: Global, bytes: &Octets) -> Result<Args, NoMemory>
+        ensures { IfOk result (λ args. args ≡ value.Bytes bytes.now ∷ []) }
+    {
+        let mut args = Sequence::new(alloc);
+        args.push(Value::Bytes(bytes.copy()?))?;
+        Ok(args)
     }
 }
 

@@ -15,23 +15,17 @@ use spin_code::Sincere;
 use spin_objects::Catalogue;
 use spin_script::{Line, Script, Work};
 use spin_table::{Setup, StepFault, Version};
-use spin_values::{NoMemory, Steps};
+use spin_values::NoMemory;
 use spin_word::Command;
 use std::alloc::Global;
-use std::marker::Brand;
-use std::sync::ledger::{Blank, Ledger};
 
 /// The version after the command, which may be refused.
-fn step<L: Ledger>(
+fn step(
     alloc: Global,
     setup: &Setup,
     version: Version,
     command: &Command,
-    blank: Blank,
 ) -> Result<Version, NoMemory>
-    requires name { blank.name ≡ L.name }
-    requires parts { blank.parts ≡ L.parts }
-    requires some { 0 < L.parts }
     requires sincere { ⟦<Catalogue as Sincere>⟧.sincere setup.now.catalogue }
     requires valid { IsTrue (is_command command.now) }
     requires room { version.place < MAX_PLACE }
@@ -39,8 +33,7 @@ fn step<L: Ledger>(
     ensures leads { IfOk result (LeadsBy (data_of setup.now) version command.now) }
     ensures sound { IfOk result (λ next. IsSound (data_of setup.now) next) }
 {
-    let mut steps = Steps::<L>::new(blank);
-    match version.after(alloc, setup, command, &mut steps) {
+    match version.next(alloc, setup, command) {
         Ok(next) => Ok(next),
         Err(StepFault::Refused(_)) => Ok(version),
         Err(StepFault::NoMemory) => Err(NoMemory),
@@ -63,7 +56,7 @@ fn after_work(
     ensures sound { IfOk result (λ next. IsSound (data_of setup.now) next) }
 {
     match work {
-        Work::Command(command) => step::<Brand>(alloc, setup, version, command, Blank::new(1)),
+        Work::Command(command) => step(alloc, setup, version, command),
         _ => unreachable!(),
     }
 }

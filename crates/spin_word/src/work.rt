@@ -1,7 +1,9 @@
 //! What a lane asks for: a command, a raise, or raises with packets.
 
+ghost use Rattle.std.specs.Prelude.{◌≡◌, IfOk};
+
 use crate::command::Command;
-use spin_values::Args;
+use spin_values::{Args, NoMemory};
 
 /// What is asked of a version.
 #[derive(PartialEq, Drop, Debug)]
@@ -20,6 +22,24 @@ pub enum Deed {
         /// Its arguments.
         args: Args,
     },
+}
+
+impl Deed {
+    /// An equal deed.
+    pub fn copy(&self) -> Result<Deed, NoMemory>
+        ensures { IfOk result (λ copy. copy ≡ self.now) }
+    {
+        match self {
+            Deed::Raise { event, args } => Ok(Deed::Raise {
+                event: *event,
+                args: args.copy()?,
+            }),
+            Deed::Later { event, args } => Ok(Deed::Later {
+                event: *event,
+                args: args.copy()?,
+            }),
+        }
+    }
 }
 
 /// What a lane line asks for.

@@ -6,7 +6,7 @@ use Rattle.spin_report.specs.declared.entry.What.TheVariants as what
 use Rattle.spin_report.specs.declared.entry.Entry.{Entry}
 use Rattle.spin_run.specs.declared.lane.Lane.{Lane}
 use Rattle.spin_run.specs.Inner.Answering.{AddsJobs}
-use Rattle.spin_run.proofs.Few.{calls_few}
+use Rattle.spin_proto.proofs.Few.{calls_few}
 use Rattle.spin_run.proofs.Rounds.{on_ok}
 use Rattle.spin_run.proofs.Answering.{reply_more}
 use Rattle.spin_run.proofs.lane.Lane.answer_deed.Goals as goal

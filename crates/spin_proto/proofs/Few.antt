@@ -2,6 +2,7 @@
 use Rattle.std.proofs.Common.{◌≡◌, ℕ, ◌≤◌, Bool, true, false, cond, ltb, List, [], ◌∷◌, map, length, flat_map, slice_get, refl, sym, subst, arith, length-append, ltb-false}
 use Rattle.std.specs.Prelude.{Option, None, Some}
 use Rattle.std.specs.Option.{option_map_or}
+use Rattle.std.proofs.lemmas.List.Sums.{sum_by-cons}
 use Rattle.spin_values.specs.declared.types.EventType.{EventType}
 use Rattle.spin_values.specs.declared.values.Value.{Value}
 use Rattle.spin_word.specs.declared.work.Deed.{Deed}
@@ -16,7 +17,6 @@ use Rattle.spin_proto.specs.declared.reply.Reply.{Reply}
 use Rattle.spin_proto.specs.declared.reply.Reply.TheVariants as reply
 use Rattle.spin_proto.specs.Whole.{Mark, Plain, Queued, step_of, calls_of, is_start, starts, Raised, raised, reply_of}
 use Rattle.spin_proto.specs.Replies.{are_fit, units_in, types_in, deed_reply, IsDeedReply, calls_left}
-use Rattle.spin_seat.proofs.Counts.{count-cons}
 
 one_few : (m : Mark) → length (calls_of m) ≤ cond {A = ℕ} (is_start m) 1 0
 one_few (Plain s) = omega arith
@@ -27,7 +27,7 @@ marks_few [] = omega arith
 marks_few (m ∷ marks) =
     let one = one_few m in
     let more = marks_few marks in
-    omega (arith, one, more, length-append (calls_of m) (flat_map calls_of marks), count-cons is_start m marks)
+    omega (arith, one, more, length-append (calls_of m) (flat_map calls_of marks), sum_by-cons (λ (x : Mark). cond {A = ℕ} (is_start x) 1 0) m marks)
 
 raised_few : (limit : ℕ) (r : Raised) → length (calls_left (reply_of limit r)) ≤ limit
 raised_few limit r = go (ltb limit (starts r.marks)) refl

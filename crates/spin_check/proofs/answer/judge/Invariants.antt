@@ -1,5 +1,0 @@
-use Rattle.spin_check.proofs.answer.judge.Given as goal
-
--- the count of the one call
-abbrev pub ghosts-counted_after : goal.ghosts-counted_after
-ghosts-counted_after g a = record { name = a.blank.name; parts = a.blank.parts }
