@@ -2,7 +2,9 @@
 
 ghost use Rattle.std.specs.Prelude.{◌<◌, ◌≤◌, length};
 
-use crate::texts::{LANE_0_FIRST, LANE_1_FIRST, QUOTA_OF_ONE, RETIRED, RETIRING};
+use crate::texts::{
+    LANE_0_FIRST, LANE_1_FIRST, QUOTA_OF_ONE, RETIRED, RETIRING, TWO_RAISED, TWO_RAISES,
+};
 use spin_check::{Captured, check_report};
 use spin_objects::Natives;
 use spin_script::{Frames, read_script};
@@ -101,22 +103,6 @@ segment 0 at 0
 end 1
 ";
 
-/// Raises of two lanes at one place.
-const RAISES: &[u8] = b"\
-spin 1
-event 0 0 - last
-lane 0 raise 0
-lane 1 raise 0
-";
-
-const RAISES_REPORT: &[u8] = b"\
-report 1
-segment 0 at 0
-0 0 3 raise = nohandler
-0 1 4 raise = nohandler
-end 0
-";
-
 /// Both are.
 const BOTH_GRANTED: &[u8] = b"\
 report 1
@@ -158,15 +144,15 @@ const CHANGES: [Change; 24] = [
         is_one: false,
     },
     Change {
-        script: RAISES,
-        report: RAISES_REPORT,
+        script: TWO_RAISES,
+        report: TWO_RAISED,
         from: b"",
         to: b"",
         is_one: true,
     },
     Change {
-        script: RAISES,
-        report: RAISES_REPORT,
+        script: TWO_RAISES,
+        report: TWO_RAISED,
         from: b"0 0 3 raise = nohandler\n0 1 4",
         to: b"0 1 4 raise = nohandler\n0 0 3",
         is_one: false,
@@ -350,7 +336,7 @@ const WHOLE: [(&[u8], &[u8]); 6] = [
     (FIRST, FIRST_REPORT),
     (CYCLE, CYCLE_REPORT),
     (LANES, LANES_REPORT),
-    (RAISES, RAISES_REPORT),
+    (TWO_RAISES, TWO_RAISED),
     (QUOTA_OF_ONE, LANE_0_FIRST),
 ];
 

@@ -1,6 +1,6 @@
 //! Whole runs whose lanes and workers are held up at gates.
 
-use crate::texts::{LANE_0_FIRST, LANE_1_FIRST, QUOTA_OF_ONE};
+use crate::texts::{LANE_0_FIRST, LANE_1_FIRST, QUOTA_OF_ONE, TWO_RAISED, TWO_RAISES};
 use spin_endpoint::Ends;
 use spin_objects::Natives;
 use spin_outside::{Gate, MemSink, MemSource};
@@ -149,21 +149,6 @@ fn report_of<R: Threads + Sync + Abort, G: Gate>(
     assert_eq!(rt; end, RunEnd::Whole);
     Ok(report)
 }
-
-const TWO_RAISES: &[u8] = b"\
-spin 1
-event 0 0 - last
-lane 0 raise 0
-lane 1 raise 0
-";
-
-const TWO_RAISED: &[u8] = b"\
-report 1
-segment 0 at 0
-0 0 3 raise = nohandler
-0 1 4 raise = nohandler
-end 0
-";
 
 #[test]
 fn each_lane_runs_beside_the_other(rt: HostRuntime) -> Result<(), Fail> {

@@ -54,3 +54,20 @@ segment 1 at 1
 lost 0 1
 end 1
 ";
+
+/// Raises of two lanes at one place.
+pub(crate) const TWO_RAISES: &[u8] = b"\
+spin 1
+event 0 0 - last
+lane 0 raise 0
+lane 1 raise 0
+";
+
+/// Its report.
+pub(crate) const TWO_RAISED: &[u8] = b"\
+report 1
+segment 0 at 0
+0 0 3 raise = nohandler
+0 1 4 raise = nohandler
+end 0
+";
