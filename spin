@@ -116,12 +116,14 @@ def prove_crates(log):
     tell(f"proving {len(names)} crates, {side_by_side()} at once")
     words = ["rt", "all", "check", "--jobs", str(side_by_side())]
     with subprocess.Popen(words, cwd=TOP, stdin=subprocess.DEVNULL, stdout=subprocess.PIPE, stderr=subprocess.STDOUT) as run:
+        name = ""
         for line in run.stdout:
             log.write(line)
-            name = re.match(rb"== (\w+)$", line)
-            if name and name[1].decode() in names:
-                done.append(name[1].decode())
-                tell(f"{len(done)} of {len(names)}: {done[-1]}, {passed(since)}")
+            if line.startswith(b"== "):
+                name = line[3:].decode().strip()
+            elif line.startswith(b"logic=proved ") and name in names and name not in done:
+                done.append(name)
+                tell(f"{len(done)} of {len(names)}: {name}, {passed(since)}")
     ended.set()
     watch.join()
     return run.returncode == 0
