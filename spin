@@ -165,4 +165,5 @@ def main():
     sys.exit(run_trial(words))
 
 
-main()
+if __name__ == "__main__":
+    main()
