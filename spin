@@ -98,7 +98,9 @@ def passed(since):
 
 def side_by_side():
     """How many crates are proved at once: as many as there are processors, with 3 GB of memory for each."""
-    memory = os.sysconf("SC_PAGE_SIZE") * os.sysconf("SC_AVPHYS_PAGES")
+    # what files keep in memory counts as free, since it is given up
+    found = re.search(r"MemAvailable:\s*(\d+) kB", Path("/proc/meminfo").read_text())
+    memory = int(found[1]) * 1024 if found else 0
     return max(1, min(len(os.sched_getaffinity(0)), memory // 3_000_000_000))
 
 
