@@ -6,6 +6,7 @@ run as a trial, which nothing has proved: a line on standard error says so. The 
 that it didn't run.
 """
 
+import contextlib
 import fcntl
 import os
 import re
@@ -104,31 +105,47 @@ def side_by_side():
     return max(1, min(len(os.sched_getaffinity(0)), memory // 3_000_000_000))
 
 
-def prove_crates(log):
-    """Proves every crate, tells how many are done, and answers whether all are."""
-    names = set(crates_listed())
-    since, done, ended = time.monotonic(), [], threading.Event()
+@contextlib.contextmanager
+def each_minute(line):
+    """Tells the line that the call gives once a minute, while what stands below this runs."""
+    ended = threading.Event()
 
-    def tell_progress():
+    def watch():
         while not ended.wait(60):
-            tell(f"{len(done)} of {len(names)} crates are proved, {passed(since)}")
+            tell(line())
 
-    watch = threading.Thread(target=tell_progress, daemon=True)
-    watch.start()
+    thread = threading.Thread(target=watch, daemon=True)
+    thread.start()
+    try:
+        yield
+    finally:
+        ended.set()
+        thread.join()
+
+
+def prove_crates(log, since):
+    """Proves every crate, tells how many are done, and answers whether all are."""
+    names, done, name = set(crates_listed()), [], ""
     tell(f"proving {len(names)} crates, {side_by_side()} at once")
     words = ["rt", "all", "check", "--jobs", str(side_by_side())]
-    with subprocess.Popen(words, cwd=TOP, stdin=subprocess.DEVNULL, stdout=subprocess.PIPE, stderr=subprocess.STDOUT) as run:
-        name = ""
-        for line in run.stdout:
-            log.write(line)
-            if line.startswith(b"== "):
-                name = line[3:].decode().strip()
-            elif line.startswith(b"logic=proved ") and name in names and name not in done:
-                done.append(name)
-                tell(f"{len(done)} of {len(names)}: {name}, {passed(since)}")
-    ended.set()
-    watch.join()
+    how = {"stdin": subprocess.DEVNULL, "stdout": subprocess.PIPE, "stderr": subprocess.STDOUT}
+    with subprocess.Popen(words, cwd=TOP, **how) as run:
+        with each_minute(lambda: f"{len(done)} of {len(names)} crates are proved, {passed(since)}"):
+            for line in run.stdout:
+                log.write(line)
+                if line.startswith(b"== "):
+                    name = line[3:].decode().strip()
+                elif line.startswith(b"logic=proved ") and name in names and name not in done:
+                    done.append(name)
+                    tell(f"{len(done)} of {len(names)}: {name}, {passed(since)}")
     return run.returncode == 0
+
+
+def compile_program(log, since):
+    """Compiles the program, whose crates are proved, and answers whether it runs."""
+    words = ["rt", "run", "--", "run", "data/first.spin"]
+    with each_minute(lambda: f"the program is being built, {passed(since)}"):
+        return subprocess.run(words, cwd=CRATE, stdin=subprocess.DEVNULL, stdout=log, stderr=log).returncode == 0
 
 
 def build():
@@ -144,8 +161,8 @@ def build():
         if is_built():
             tell("the proved program is built")
             return 0
-        words = ["rt", "run", "--", "run", "data/first.spin"]
-        if not prove_crates(log) or subprocess.run(words, cwd=CRATE, stdin=subprocess.DEVNULL, stdout=log, stderr=log).returncode:
+        since = time.monotonic()
+        if not prove_crates(log, since) or not compile_program(log, since):
             log.seek(0)
             text = log.read()
             for name, why in re.findall(rb"^(\w+): (failed .*|not run, .*)$", text, re.MULTILINE):
@@ -154,7 +171,7 @@ def build():
             tell("the program could not be built")
             return NOT_RUN
         os.utime(PROGRAM)
-    tell(f"built: {PROGRAM.relative_to(TOP)}")
+    tell(f"built: {PROGRAM.relative_to(TOP)}, {passed(since)}")
     return 0
 
 
