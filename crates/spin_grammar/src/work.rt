@@ -231,6 +231,7 @@ fn read_values(alloc: Global, words: &mut Words) -> Result<Args, Fault>
     let mut values = Args::new(alloc);
     for _ in 0..MAX_PARAMS {
         let Some(word) = words.next() else {
+            values.shrink_to_fit();
             return Ok(values);
         };
         values.push(value(alloc, word)?)?;

@@ -57,6 +57,15 @@ impl<T> Sequence<T> {
         }
     }
 
+    /// The empty list with room for just so many items, which then take no memory.
+    pub fn with_capacity(alloc: Global, items: usize) -> Result<Self, NoMemory>
+        ensures { IfOk result (λ list. list ≡ []) }
+    {
+        Ok(Sequence {
+            items: Vec::with_capacity(alloc, items)?,
+        })
+    }
+
     /// The list of these items, which takes no memory.
     pub fn from_vec(items: Vec<T>) -> Self
         ensures { result ≡ items.items }
@@ -168,6 +177,13 @@ impl<T: Drop> Sequence<T> {
     {
         self.items.reserve(more)?;
         Ok(())
+    }
+
+    /// Lets go of the room that no item takes. The items are unchanged; it takes time linear in them.
+    pub fn shrink_to_fit(&mut self)
+        ensures { self.new ≡ self.old }
+    {
+        self.items.shrink_to_fit();
     }
 
     /// Puts the item in the place of the one that is there, counted from 0.

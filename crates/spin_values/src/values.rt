@@ -45,11 +45,11 @@ impl Value {
 pub type Args = Sequence<Value>;
 
 impl Sequence<Value> {
-    /// An equal list.
+    /// An equal list, with no room for more.
     pub fn copy(&self) -> Result<Args, NoMemory>
         ensures { IfOk result (λ copy. copy ≡ self.now) }
     {
-        let mut copy = Sequence::new(self.allocator());
+        let mut copy = Sequence::with_capacity(self.allocator(), self.len())?;
         for value in self.as_slice() {
             copy.push(value.copy()?)?;
         }
@@ -60,7 +60,7 @@ impl Sequence<Value> {
     pub fn of_bytes(alloc: Global, bytes: &Octets) -> Result<Args, NoMemory>
         ensures { IfOk result (λ args. args ≡ value.Bytes bytes.now ∷ []) }
     {
-        let mut args = Sequence::new(alloc);
+        let mut args = Sequence::with_capacity(alloc, 1)?;
         args.push(Value::Bytes(bytes.copy()?))?;
         Ok(args)
     }
