@@ -1,6 +1,6 @@
 //! The work of tasks, looked up in the batches.
 
-ghost use Rattle.std.specs.Prelude.{◌≡◌, All, IfOk, IfSome};
+ghost use Rattle.std.specs.Prelude.{All, IfOk, IfSome};
 ghost use Rattle.spin_table.specs.SetupOf.{data_of};
 ghost use Rattle.spin_later.specs.Batches.{CanDo, IsReplyTo};
 ghost use Rattle.spin_later.specs.Inner.Work.{IsRight};
@@ -8,7 +8,7 @@ ghost use Rattle.spin_later.specs.Inner.Work.{IsRight};
 use crate::batch::{Batches, Call};
 use spin_code::Sincere;
 use spin_objects::Catalogue;
-use spin_proto::{JobCall, Reply, job_path};
+use spin_proto::{Reply, job_path};
 use spin_table::Setup;
 use spin_values::NoMemory;
 use std::alloc::Global;
@@ -55,25 +55,4 @@ pub(crate) fn do_task(
         number,
         reply,
     }))
-}
-
-/// An equal call.
-pub(crate) fn copy_of(call: &JobCall) -> Result<JobCall, NoMemory>
-    ensures { IfOk result (λ copy. copy ≡ call.now) }
-{
-    match call {
-        JobCall::Whole { event, args } => Ok(JobCall::Whole {
-            event: *event,
-            args: args.copy()?,
-        }),
-        JobCall::Binding {
-            event,
-            number,
-            args,
-        } => Ok(JobCall::Binding {
-            event: *event,
-            number: *number,
-            args: args.copy()?,
-        }),
-    }
 }

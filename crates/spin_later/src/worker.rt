@@ -7,7 +7,7 @@ ghost use Rattle.spin_later.specs.Batches.{CanDo};
 ghost use Rattle.spin_later.specs.Inner.Work.{IsRight, IsFresh};
 
 use crate::batch::{Batches, Call};
-use crate::doing::{Done, copy_of, do_task};
+use crate::doing::{Done, do_task};
 use crate::party::Party;
 use crate::queue::Queue;
 use spin_code::Sincere;
@@ -94,7 +94,7 @@ impl Worker {
         ensures right { All (IsRight (data_of setup.now) batches.now) self.new.done.items }
     {
         let mut version = Arc::try_clone(&call.version)?;
-        let mut asked = copy_of(&call.call)?;
+        let mut asked = call.call.copy()?;
         for _ in wait.forever() {
             let Err(full) = self.party.put(wait, queue, version, asked) else {
                 return Ok(());
