@@ -1,10 +1,11 @@
 //! What the lanes of a segment are to do.
 
-ghost use Rattle.std.specs.Prelude.{◌≡◌, ◌<◌, ◌≤◌, ◌^◌, ◌∷◌, [], Decides, All, MatchOption, IfOk, OnOk, length, take, drop, replicate, slice_set};
+ghost use Rattle.std.specs.Prelude.{◌≡◌, ◌<◌, ◌≤◌, ◌^◌, ◌∷◌, [], Decides, All, MatchOption, IfOk, OnOk, length, drop, replicate, slice_set};
 ghost use Rattle.spin_script.specs.Soundness.{IsValidWork};
-ghost use Rattle.spin_report.specs.Segments.{records_wanted, asked_at, asked_in, wanted_by};
+ghost use Rattle.spin_report.specs.Segments.{asked_at, asked_in, wanted_by};
 ghost use Rattle.spin_check.specs.Inner.Asks.{AreAsked, Adds, work_of, queue_of, with_ask, commands_left, commands_in, packets_at, whole_at};
 
+use spin_report::split_records;
 use spin_script::{Deed, Line, Work};
 use spin_values::{Args, NoMemory, Octets};
 use spin_word::Command;
@@ -151,26 +152,6 @@ impl Deeds {
             }
         }
     }
-}
-
-/// How many records a line takes at most.
-fn records_wanted(work: &Work) -> u32
-    ensures { result ≡ records_wanted work.now }
-{
-    match work {
-        Work::Packet { count, .. } => *count,
-        Work::Command(_) | Work::Deed(_) => 0,
-    }
-}
-
-/// The records that a line takes of those that are left, and the others.
-fn split_records<'a>(work: &Work, left: &'a [Octets]) -> (&'a [Octets], &'a [Octets])
-    ensures records { result.0.now ≡ take (records_wanted work.now) left.now }
-    ensures others { result.1.now ≡ drop (records_wanted work.now) left.now }
-    ensures few { length result.0.now < 2 ^ 32 }
-{
-    let wanted = records_wanted(work) as usize;
-    left.split_at(wanted.min(left.len()))
 }
 
 /// What so many lanes are to do by these lines, where these are the records left, and the records that are left then.

@@ -1,6 +1,7 @@
 //! The report of a run: the line of each entry of a history, and of each job.
 //!
 //! - `entry` is an entry of a history: where it stands, what was asked, and what it answered;
+//! - `records` are those of a capture that a line takes;
 //! - `verdict` writes what became of a command, and `reply` what a deed or a job came to;
 //! - `text` appends whole lines;
 //! - `law` says that a report tells one history from all others.
@@ -8,12 +9,14 @@
 
 mod entry;
 mod law;
+mod records;
 mod reply;
 mod text;
 mod verdict;
 
 pub use entry::{Entries, Entry, Moment, What};
 pub use law::report_tells;
+pub use records::{records_wanted, split_records};
 pub use reply::reply_text;
 pub use text::{
     CaptureCounts, end_text, entry_text, job_text, lost_text, retire_text, segment_text,

@@ -1,6 +1,6 @@
 //! One lane of a segment.
 
-ghost use Rattle.std.specs.Prelude.{◌≡◌, ◌+◌, ◌<◌, ◌≤◌, [], ◌∷◌, map, length, take, drop, All, IsTrue, OnOk};
+ghost use Rattle.std.specs.Prelude.{◌≡◌, ◌+◌, ◌<◌, ◌≤◌, [], ◌∷◌, map, length, All, IsTrue, OnOk};
 ghost use Rattle.spin_word.specs.Commands.{is_command};
 ghost use Rattle.spin_word.specs.declared.work.Work.TheVariants as work;
 ghost use Rattle.spin_table.specs.SetupOf.{data_of};
@@ -9,7 +9,7 @@ ghost use Rattle.spin_script.specs.States.{deed_count};
 ghost use Rattle.spin_script.specs.Soundness.{IsValidWork};
 ghost use Rattle.spin_script.specs.Segments.{IsOfLane};
 ghost use Rattle.spin_script.specs.declared.lanes.TheConstants.{MAX_DEEDS};
-ghost use Rattle.spin_report.specs.Segments.{records_wanted, raise_with, parts_of, asked_at, asked_in, asked_of_lane};
+ghost use Rattle.spin_report.specs.Segments.{raise_with, parts_of, asked_at, asked_in, asked_of_lane};
 ghost use Rattle.spin_run.specs.Lanes.{HasRun};
 ghost use Rattle.spin_run.specs.Segments.{IsReady, IsFitSegment};
 ghost use Rattle.spin_run.specs.Inner.Answering.{IsFresh, Answers, Comes, Stays, asked_alone, asked_packets};
@@ -19,7 +19,7 @@ use spin_code::Sincere;
 use spin_objects::Catalogue;
 use spin_outside::Gate;
 use spin_proto::Jobs;
-use spin_report::{Entries, Entry, What};
+use spin_report::{Entries, Entry, What, split_records};
 use spin_script::{Frames, Line, Segment};
 use spin_seat::{Hub, Judged, Raised, Seat, SeatFault};
 use spin_values::{Args, NoMemory, Octets};
@@ -238,16 +238,4 @@ impl Lane {
         leave_jobs(&mut self.jobs, &entry, &pinned)?;
         self.trail.push(entry)
     }
-}
-
-// The records that a line takes of those that are left, and the others.
-fn split_records<'a>(work: &Work, left: &'a [Octets]) -> (&'a [Octets], &'a [Octets])
-    ensures records { result.0.now ≡ take (records_wanted work.now) left.now }
-    ensures others { result.1.now ≡ drop (records_wanted work.now) left.now }
-{
-    let wanted = match work {
-        Work::Packet { count, .. } => *count as usize,
-        Work::Command(_) | Work::Deed(_) => 0,
-    };
-    left.split_at(wanted.min(left.len()))
 }
