@@ -34,7 +34,7 @@ over : (k : ℕ) (atoms : List Atom) (w : List ℕ) (old cur new : List (List �
 over k atoms w old cur new e first t = fails_then (Values 8 ∷ []) (Values 0 ∷ []) atoms (Bad cause.End) old cur (rw e at t) (fails_word (Values 0) w cause.End cur new (no_more w) first)
 
 pub returns-in_default : goal.returns-in_default
-returns-in_default c = ended (8 - c.loop.counter) _ _ _ _ c.in_default.ensures.0 c.in_default.ensures.1 c.loop.invariant
+returns-in_default c = rw c.shrink_to_fit.ensures (ended (8 - c.loop.counter) _ _ _ _ c.in_default.ensures.0 c.in_default.ensures.1 c.loop.invariant)
 
 pub returns-in_err-value : goal.returns-in_err-value
 returns-in_err-value c =
