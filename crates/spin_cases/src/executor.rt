@@ -54,10 +54,15 @@ const THREE: [Move; 6] = [
     (0, false, Some((1, 0))),
 ];
 
+/// The version at the start of a setup.
+fn start_of(alloc: Global, setup: &Setup) -> Result<Arc<Version>, NoMemory> {
+    Ok(Arc::new(alloc, Version::start(alloc, setup)?)?)
+}
+
 /// The version at the start of the script's setup.
 fn version_of(alloc: Global) -> Result<Arc<Version>, Fail> {
     let script = read_script(alloc, EMPTY, Natives::new(alloc))?;
-    Ok(Arc::new(alloc, Version::start(alloc, &script.setup)?)?)
+    Ok(start_of(alloc, &script.setup)?)
 }
 
 /// Puts a task, and gives its sender and number.
@@ -274,6 +279,25 @@ fn batches_of(
     Ok(batches)
 }
 
+/// The replies to so many batches of so many such calls, of an event of this setup.
+fn replies_in<R: Threads + Wait + Sync + Abort>(
+    rt: &R,
+    alloc: Global,
+    setup: &Setup,
+    count: u8,
+    calls: u32,
+    capacity: u32,
+) -> Result<BatchReplies, NoMemory>
+    requires sincere { ⟦<Catalogue as Sincere>⟧.sincere setup.now.catalogue }
+    requires parties { (1 ≤ count) × (count ≤ 8) }
+    requires room { (1 ≤ capacity) × (capacity ≤ MAX_CAPACITY) }
+{
+    assert!(rt; setup.events() > 0);
+    let version = bound(rt, alloc, setup)?;
+    let batches = batches_of(alloc, setup, &version, count, calls)?;
+    run_background(rt, rt, alloc, setup, &batches, capacity)
+}
+
 /// The replies to so many batches of so many such calls.
 fn replies_to<R: Threads + Wait + Sync + Abort>(
     rt: &R,
@@ -286,11 +310,7 @@ fn replies_to<R: Threads + Wait + Sync + Abort>(
     requires room { (1 ≤ capacity) × (capacity ≤ MAX_CAPACITY) }
 {
     let script = read_script(alloc, ONE_HANDLER, Natives::new(alloc))?;
-    let setup = &script.setup;
-    assert!(rt; setup.events() > 0);
-    let version = bound(rt, alloc, setup)?;
-    let batches = batches_of(alloc, setup, &version, count, calls)?;
-    Ok(run_background(rt, rt, alloc, setup, &batches, capacity)?)
+    Ok(replies_in(rt, alloc, &script.setup, count, calls, capacity)?)
 }
 
 /// Whether the reply is that the handler gave 1.

@@ -161,6 +161,15 @@ pub(crate) fn payloads(alloc: Global, queries: u8) -> Result<Octets, NoMemory> {
     Ok(bytes)
 }
 
+/// An endpoint `out0` that has room for so many pieces, and so many bytes of them.
+fn kept(alloc: Global, pieces: u32, bytes: u32) -> Result<Ends, Fail> {
+    let mut ends = Ends::new(alloc);
+    let name = Text::from_bytes(alloc, b"out0")?;
+    let object: Box<dyn Endpoint> = Box::new(alloc, KeepEnd::new(alloc, pieces, bytes)?)?;
+    let _ = ends.add(name, object);
+    Ok(ends)
+}
+
 /// Runs the filter over the capture, with an endpoint that has room for so many pieces, and so many bytes of them.
 pub(crate) fn filtered<R: Threads + Sync>(
     rt: &R,
@@ -170,11 +179,9 @@ pub(crate) fn filtered<R: Threads + Sync>(
     pieces: u32,
     bytes: u32,
 ) -> Result<RunEnd, Fail> {
-    let script = read_script(alloc, SCRIPT, Natives::new(alloc))?;
+    let mut ends = kept(alloc, pieces, bytes)?;
     let reader = Reader::start(alloc, source)?;
-    let object: Box<dyn Endpoint> = Box::new(alloc, KeepEnd::new(alloc, pieces, bytes)?)?;
-    let mut ends = Ends::new(alloc);
-    let _ = ends.add(Text::from_bytes(alloc, b"out0")?, object);
+    let script = read_script(alloc, SCRIPT, Natives::new(alloc))?;
     Ok(run_script(
         rt,
         alloc,

@@ -7,8 +7,9 @@ ghost use Rattle.spin_table.specs.SetupOf.{data_of};
 ghost use Rattle.spin_table.specs.Soundness.{IsSound};
 ghost use Rattle.spin_jobs.specs.Jobs.{CanRun};
 
+use spin_code::Sincere;
 use spin_jobs::{Job, Jobs, MAX_WORKERS, Replies, run_all};
-use spin_objects::Natives;
+use spin_objects::{Catalogue, Natives};
 use spin_outside::Gate;
 use spin_proto::{JobCall, Reply, Step, Trace};
 use spin_script::read_script;
@@ -110,7 +111,26 @@ fn jobs_of(alloc: Global, setup: &Setup, count: u32) -> Result<Jobs, NoMemory>
     Ok(jobs)
 }
 
-/// The replies to these jobs.
+/// The replies to so many jobs of an event of this setup.
+fn replies_in<R: Threads + Sync + Abort, G: Gate>(
+    rt: &R,
+    alloc: Global,
+    setup: &Setup,
+    count: u32,
+    workers: u8,
+    gate: &G,
+) -> Result<Replies, NoMemory>
+    requires { ⟦<Catalogue as Sincere>⟧.sincere setup.now.catalogue }
+{
+    assert!(rt; setup.events() > 0);
+    assert!(rt; workers > 0);
+    assert!(rt; workers <= MAX_WORKERS);
+    let jobs = jobs_of(alloc, setup, count)?;
+    assert_eq!(rt; jobs.len(), count as usize);
+    run_all(rt, alloc, setup, &jobs, workers, gate)
+}
+
+/// The replies to so many jobs.
 fn replies_of<R: Threads + Sync + Abort, G: Gate>(
     rt: &R,
     alloc: Global,
@@ -119,13 +139,7 @@ fn replies_of<R: Threads + Sync + Abort, G: Gate>(
     gate: &G,
 ) -> Result<Replies, Fail> {
     let script = read_script(alloc, ECHO, Natives::new(alloc))?;
-    let setup = &script.setup;
-    assert!(rt; setup.events() > 0);
-    assert!(rt; workers > 0);
-    assert!(rt; workers <= MAX_WORKERS);
-    let jobs = jobs_of(alloc, setup, count)?;
-    assert_eq!(rt; jobs.len(), count as usize);
-    Ok(run_all(rt, alloc, setup, &jobs, workers, gate)?)
+    Ok(replies_in(rt, alloc, &script.setup, count, workers, gate)?)
 }
 
 /// Whether these are the steps of one handler that gives this word.

@@ -1,6 +1,6 @@
 //! Reports that are judged: which are reports of a script, and which aren't.
 
-ghost use Rattle.std.specs.Prelude.{◌<◌, ◌≤◌, length};
+ghost use Rattle.std.specs.Prelude.{◌<◌, ◌≤◌, ◌^◌, length, IfOk, IfSome};
 
 use crate::texts::{
     LANE_0_FIRST, LANE_1_FIRST, QUOTA_OF_ONE, RETIRED, RETIRING, TWO_RAISED, TWO_RAISES,
@@ -8,7 +8,7 @@ use crate::texts::{
 use spin_check::{Captured, check_report};
 use spin_objects::Natives;
 use spin_script::{Frames, read_script};
-use spin_values::{Octets, Text, Texts};
+use spin_values::{NoMemory, Octets, Text, Texts};
 use std::alloc::Global;
 use std::test::Fail;
 
@@ -313,11 +313,23 @@ fn changed(alloc: Global, change: &Change) -> Result<Octets, Fail> {
     Ok(text)
 }
 
+/// Whether the text is a report of the script, over this capture and where endpoints of these names stand.
+fn is_report_of(
+    alloc: Global,
+    script: &[u8],
+    capture: Option<&Captured>,
+    names: &Texts,
+    text: &[u8],
+) -> Result<bool, Fail>
+    requires { IfSome capture (λ c. length c.now.frames < 2 ^ 32) }
+{
+    let script = read_script(alloc, script, Natives::new(alloc))?;
+    Ok(check_report(alloc, &script, names, capture, text)?)
+}
+
 /// Whether the text is a report of the script, over no capture and where no endpoint stands.
 fn is_report(alloc: Global, script: &[u8], text: &[u8]) -> Result<bool, Fail> {
-    let script = read_script(alloc, script, Natives::new(alloc))?;
-    let names = Texts::new(alloc);
-    Ok(check_report(alloc, &script, &names, None, text)?)
+    is_report_of(alloc, script, None, &Texts::new(alloc), text)
 }
 
 #[test]
@@ -452,9 +464,8 @@ fn names_of(alloc: Global, stands: bool) -> Result<Texts, Fail> {
 #[test]
 fn a_report_is_of_the_endpoints_that_stand(rt: HostRuntime) -> Result<(), Fail> {
     for (report, stands, is_one) in ENDPOINTS {
-        let script = read_script(rt.alloc(), RETIRING, Natives::new(rt.alloc()))?;
         let names = names_of(rt.alloc(), stands)?;
-        let told = check_report(rt.alloc(), &script, &names, None, report)?;
+        let told = is_report_of(rt.alloc(), RETIRING, None, &names, report)?;
         assert_eq!(rt; told, is_one);
     }
     Ok(())
@@ -474,14 +485,21 @@ segment 0 at 0
 end 0 records 1 used 1 cut 3
 ";
 
+/// One record, and three bytes behind it that are none.
+fn captured(alloc: Global) -> Result<Captured, NoMemory>
+    ensures { IfOk result (λ capture. length capture.frames < 2 ^ 32) }
+{
+    let mut frames = Frames::new(alloc);
+    frames.push(Octets::from_bytes(alloc, b"frame")?)?;
+    Ok(Captured { frames, cut: 3 })
+}
+
 #[test]
 fn a_report_is_of_its_capture(rt: HostRuntime) -> Result<(), Fail> {
-    let script = read_script(rt.alloc(), PACKETS, Natives::new(rt.alloc()))?;
-    let names = Texts::new(rt.alloc());
-    let mut frames = Frames::new(rt.alloc());
-    frames.push(Octets::from_bytes(rt.alloc(), b"frame")?)?;
-    let capture = Captured { frames, cut: 3 };
-    assert!(rt; check_report(rt.alloc(), &script, &names, Some(&capture), PACKETS_REPORT)?);
-    assert!(rt; !check_report(rt.alloc(), &script, &names, None, PACKETS_REPORT)?);
+    let alloc = rt.alloc();
+    let names = Texts::new(alloc);
+    let capture = captured(alloc)?;
+    assert!(rt; is_report_of(alloc, PACKETS, Some(&capture), &names, PACKETS_REPORT)?);
+    assert!(rt; !is_report_of(alloc, PACKETS, None, &names, PACKETS_REPORT)?);
     Ok(())
 }

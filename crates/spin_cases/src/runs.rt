@@ -132,10 +132,10 @@ fn report_of<R: Threads + Sync + Abort, G: Gate>(
     text: &[u8],
     gate: &G,
 ) -> Result<MemSink, Fail> {
-    let script = read_script(alloc, text, Natives::new(alloc))?;
     let mut source = MemSource::new(Octets::new(alloc));
     let mut report = MemSink::new(alloc, ROOM)?;
     let mut ends = Ends::new(alloc);
+    let script = read_script(alloc, text, Natives::new(alloc))?;
     let end = run_script(
         rt,
         alloc,
