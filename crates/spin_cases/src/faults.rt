@@ -11,6 +11,7 @@ use spin_outside::{MemShelf, MemSink, MemSource};
 use spin_run::RunEnd;
 use spin_values::{NoMemory, Octets};
 use std::alloc::Global;
+use std::process::Abort;
 use std::test::Fail;
 use std::thread::Threads;
 
@@ -441,14 +442,28 @@ fn source_of(alloc: Global, row: Row, size: u32) -> Result<MemSource, NoMemory>
     Ok(source)
 }
 
+/// What the filter writes over the row's capture, of which a read moves at most so many bytes.
+fn report_in_pieces<R: Threads + Sync + Abort>(
+    rt: &R,
+    alloc: Global,
+    row: Row,
+    size: u32,
+) -> Result<MemSink, Fail>
+    requires { 0 < size }
+{
+    let mut report = sink_of(alloc, NONE_FAILS, size)?;
+    let mut source = source_of(alloc, row, size)?;
+    let end = filter::filtered(rt, alloc, &mut source, &mut report, 20, 540)?;
+    assert_eq!(rt; end, RunEnd::Whole);
+    Ok(report)
+}
+
 #[test]
 fn sources_in_pieces(rt: HostRuntime) -> Result<(), Fail> {
     for (row, size) in PIECES {
-        let mut source = source_of(rt.alloc(), row, size)?;
-        let mut report = sink_of(rt.alloc(), NONE_FAILS, size)?;
-        let end = filter::filtered(&rt, rt.alloc(), &mut source, &mut report, 20, 540)?;
-        assert_eq!(rt; end, RunEnd::Whole);
-        assert_eq!(rt; report.bytes(), row.report(rt.alloc())?.as_slice());
+        let wanted = row.report(rt.alloc())?;
+        let report = report_in_pieces(&rt, rt.alloc(), row, size)?;
+        assert_eq!(rt; report.bytes(), wanted.as_slice());
     }
     Ok(())
 }

@@ -194,6 +194,29 @@ pub(crate) fn filtered<R: Threads + Sync>(
     ))
 }
 
+/// How the filter ends over so many copies of a record more than its capture, with an endpoint of such room; what it
+/// writes; and how many bytes it takes.
+fn filtered_to<R: Threads + Sync>(
+    rt: &R,
+    alloc: Global,
+    pieces: u32,
+    bytes: u32,
+    copies: u32,
+) -> Result<(RunEnd, MemSink, u64), Fail> {
+    let mut report = MemSink::new(alloc, 4000)?;
+    let mut source = MemSource::new(capture(alloc, copies)?);
+    let end = filtered(rt, alloc, &mut source, &mut report, pieces, bytes)?;
+    Ok((end, report, source.taken()))
+}
+
+/// What is written of a run that ends so.
+fn written_by(alloc: Global, end: RunEnd) -> Result<Octets, NoMemory> {
+    match end {
+        RunEnd::Whole => whole_report(alloc),
+        _ => Octets::from_bytes(alloc, INSTALLED),
+    }
+}
+
 #[test]
 fn the_sends_of_a_filter_fit_or_fail(rt: HostRuntime) -> Result<(), Fail> {
     let alloc = rt.alloc();
@@ -203,16 +226,11 @@ fn the_sends_of_a_filter_fit_or_fail(rt: HostRuntime) -> Result<(), Fail> {
         (20, 539, 0, RunEnd::Endpoint(0)),
         (0, 0, 100_000, RunEnd::Endpoint(0)),
     ] {
-        let mut source = MemSource::new(capture(alloc, copies)?);
-        let mut report = MemSink::new(alloc, 4000)?;
-        let end = filtered(&rt, alloc, &mut source, &mut report, pieces, bytes)?;
+        let written = written_by(alloc, wanted)?;
+        let (end, report, taken) = filtered_to(&rt, alloc, pieces, bytes, copies)?;
         assert_eq!(rt; end, wanted);
-        let told = match end {
-            RunEnd::Whole => whole_report(alloc)?,
-            _ => Octets::from_bytes(alloc, INSTALLED)?,
-        };
-        assert_eq!(rt; report.bytes(), told.as_slice());
-        assert!(rt; source.taken() <= 24 + RECORDS + MAX_HELD as u64);
+        assert_eq!(rt; report.bytes(), written.as_slice());
+        assert!(rt; taken <= 24 + RECORDS + MAX_HELD as u64);
     }
     Ok(())
 }

@@ -8,6 +8,7 @@ ghost use Rattle.spin_log.specs.Pens.{IsSamePen};
 
 use spin_log::{Log, Look, MAX_PLACE, Pen, Publish};
 use spin_word::{Command, Mode, NO_BINDINGS, Op, Place, Row, pack, unpack};
+use std::process::Abort;
 use std::test::Fail;
 use std::thread::{Threads, join};
 
@@ -108,6 +109,21 @@ fn has_all_of(rows: &[Row], lane: u8) -> bool {
     next == ROWS_EACH
 }
 
+// Each pen publishes a row, the second when it has read the first.
+fn publish_in_turn(rt: &impl Abort, log: &Log, zero: &mut Pen, one: &mut Pen, a: Row, b: Row)
+    requires zero { (zero.old.log ≡ log.now.id) × IsRowOf zero.old.lane a }
+    requires one { (one.old.log ≡ log.now.id) × IsRowOf one.old.lane b }
+    ensures zero { IsSamePen zero.old zero.new }
+    ensures one { IsSamePen one.old one.new }
+{
+    assert_eq!(rt; log.publish(zero, a), Publish::Done);
+    assert_eq!(rt; log.publish(one, b), Publish::Lost(a));
+    assert_eq!(rt; one.front(), 1);
+    assert_eq!(rt; log.publish(one, b), Publish::Done);
+    assert_eq!(rt; log.look(zero), Look::Entry(b));
+    assert_eq!(rt; log.look(zero), Look::Pinned);
+}
+
 #[test]
 fn two_pens_share_a_log(rt: HostRuntime) -> Result<(), Fail> {
     let a = pack(&default_of(0, 7));
@@ -121,12 +137,7 @@ fn two_pens_share_a_log(rt: HostRuntime) -> Result<(), Fail> {
     };
     assert_eq!(rt; zero.lane(), 0);
     assert_eq!(rt; one.lane(), 1);
-    assert_eq!(rt; log.publish(&mut zero, a), Publish::Done);
-    assert_eq!(rt; log.publish(&mut one, b), Publish::Lost(a));
-    assert_eq!(rt; one.front(), 1);
-    assert_eq!(rt; log.publish(&mut one, b), Publish::Done);
-    assert_eq!(rt; log.look(&mut zero), Look::Entry(b));
-    assert_eq!(rt; log.look(&mut zero), Look::Pinned);
+    publish_in_turn(&rt, &log, &mut zero, &mut one, a, b);
     log.meet(&mut zero, &mut one);
     assert_eq!(rt; zero.front(), 2);
     assert_eq!(rt; one.front(), 2);

@@ -156,6 +156,33 @@ fn answered(
     }
 }
 
+/// Does what a line asks for, and adds the lines of its entry and of its jobs; answers the version after it.
+fn tell_line(
+    rt: &impl Abort,
+    alloc: Global,
+    setup: &Setup,
+    version: Version,
+    line: Line,
+    out: &mut Octets,
+    jobs: &mut Octets,
+) -> Result<Version, Fail>
+    requires sincere { ⟦<Catalogue as Sincere>⟧.sincere setup.now.catalogue }
+    requires sound { IsSound (data_of setup.now) version }
+    ensures { IfOk result (λ next. IsSound (data_of setup.now) next) }
+{
+    let number = line.number;
+    let (next, what) = answered(rt, alloc, setup, version, line, jobs)?;
+    let entry = Entry {
+        place: next.place(),
+        lane: 0,
+        line: number,
+        part: 0,
+        what,
+    };
+    entry_text(&entry, out)?;
+    Ok(next)
+}
+
 /// The lines of the entries, and then those of the jobs.
 fn tell(rt: &impl Abort, alloc: Global, setup: &Setup, lines: Lines) -> Result<Octets, Fail>
     requires { ⟦<Catalogue as Sincere>⟧.sincere setup.now.catalogue }
@@ -164,17 +191,7 @@ fn tell(rt: &impl Abort, alloc: Global, setup: &Setup, lines: Lines) -> Result<O
     let mut out = Octets::new(alloc);
     let mut jobs = Octets::new(alloc);
     for line in lines.into_vec() {
-        let number = line.number;
-        let (next, what) = answered(rt, alloc, setup, version, line, &mut jobs)?;
-        version = next;
-        let entry = Entry {
-            place: version.place(),
-            lane: 0,
-            line: number,
-            part: 0,
-            what,
-        };
-        entry_text(&entry, &mut out)?;
+        version = tell_line(rt, alloc, setup, version, line, &mut out, &mut jobs)?;
     }
     out.append(&mut jobs)?;
     Ok(out)
