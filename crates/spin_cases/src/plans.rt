@@ -14,54 +14,19 @@ use std::marker::Brand;
 use std::sync::atomic::{AtomicU64, Ordering};
 use std::sync::ledger::{Blank, Ledger};
 
-/// Guard 1 asks whether argument 0 is 5, and guard 2 whether it is under 9.
+/// Guards that count how often they are asked.
 #[derive(Drop)]
-struct TwoGuards {
-    is_five: Test,
-    is_small: Test,
-    asked: AtomicU64,
-}
-
-impl Sincere for TwoGuards {
-    ghost sincere = { λ _. Unit {0} };
-}
-
-impl Guards for TwoGuards {
-    ghost use Rattle.std.specs.Prelude.{[], ◌∷◌};
-
-    ghost tests = { λ g. g.is_five ∷ g.is_small ∷ [] };
-
-    fn count(&self) -> u16 {
-        2
-    }
-
-    fn test_of(&self, guard: u16) -> &Test {
-        if guard == 1 {
-            return &self.is_five;
-        }
-        &self.is_small
-    }
-
-    fn admits<L: Ledger>(&self, guard: u16, args: &Args, steps: &mut Steps<L>) -> bool {
-        self.asked.fetch_add(1, Ordering::SeqCst);
-        holds(self.test_of(guard), args, steps)
-    }
-}
-
-/// Guards that count how often they are asked, the first of which asks whether argument 0 is 0, the next whether it
-/// is 1, and so on.
-#[derive(Drop)]
-struct Numbered {
+struct CountingGuards {
     tests: Sequence<Test>,
     asked: AtomicU64,
     ghost few: { length tests < 2 ^ 16 },
 }
 
-impl Sincere for Numbered {
+impl Sincere for CountingGuards {
     ghost sincere = { λ _. Unit {0} };
 }
 
-impl Guards for Numbered {
+impl Guards for CountingGuards {
     ghost tests = { λ g. g.tests };
 
     fn count(&self) -> u16 {
@@ -78,23 +43,27 @@ impl Guards for Numbered {
     }
 }
 
-fn guards_of_numbers(alloc: Global) -> Result<Numbered, NoMemory> {
+/// Guards the first of which asks whether argument 0 is 0, the next whether it is 1, and so on.
+fn guards_of_numbers(alloc: Global) -> Result<CountingGuards, NoMemory> {
     let mut tests = Sequence::new(alloc);
     for number in 0..32 {
         tests.push(Test::Compare(Cmp::Eq, Expr::Arg(0), Expr::Const(number)))?;
     }
-    Ok(Numbered {
+    Ok(CountingGuards {
         tests,
         asked: AtomicU64::new(0),
     })
 }
 
-fn two_guards() -> TwoGuards {
-    TwoGuards {
-        is_five: Test::Compare(Cmp::Eq, Expr::Arg(0), Expr::Const(5)),
-        is_small: Test::Compare(Cmp::Lt, Expr::Arg(0), Expr::Const(9)),
+/// Guard 1 asks whether argument 0 is 5, and guard 2 whether it is under 9.
+fn two_guards(alloc: Global) -> Result<CountingGuards, NoMemory> {
+    let mut tests = Sequence::new(alloc);
+    tests.push(Test::Compare(Cmp::Eq, Expr::Arg(0), Expr::Const(5)))?;
+    tests.push(Test::Compare(Cmp::Lt, Expr::Arg(0), Expr::Const(9)))?;
+    Ok(CountingGuards {
+        tests,
         asked: AtomicU64::new(0),
-    }
+    })
 }
 
 /// A binding with this number, own guard and imposed guard, 0 being none.
@@ -114,6 +83,15 @@ fn binding(alloc: Global, number: u16, own_guard: u16, imposed: u16) -> Result<B
         after: NO_BINDINGS,
         mode: Mode::Plain,
     })
+}
+
+/// A binding for each of these numbers, own guards and imposed guards.
+fn bindings_of(alloc: Global, rows: &[(u16, u16, u16)]) -> Result<Sequence<Binding>, NoMemory> {
+    let mut bindings = Sequence::new(alloc);
+    for &(number, own_guard, imposed) in rows {
+        bindings.push(binding(alloc, number, own_guard, imposed)?)?;
+    }
+    Ok(bindings)
 }
 
 /// Whether the guard is there, or is none.
@@ -155,10 +133,10 @@ fn are_guarded(bindings: &[Binding], count: u16) -> bool
 }
 
 /// The number of the next binding of the plan of these; `None` also where a guard isn't there.
-fn next_of<C: Guards, L: Ledger>(
+fn next_of<L: Ledger>(
     alloc: Global,
     bindings: &[Binding],
-    guards: &C,
+    guards: &CountingGuards,
     from: u32,
     args: &Args,
     blank: Blank,
@@ -166,7 +144,6 @@ fn next_of<C: Guards, L: Ledger>(
     requires name { blank.name ≡ L.name }
     requires parts { blank.parts ≡ L.parts }
     requires some { 0 < L.parts }
-    requires sincere { C.sincere guards.now }
 {
     if bindings.len() > 64 {
         return Ok(None);
@@ -182,17 +159,27 @@ fn next_of<C: Guards, L: Ledger>(
     }
 }
 
+/// What is next on this number, and how often a guard was asked for it.
+fn asked_on(
+    alloc: Global,
+    bindings: &[Binding],
+    guards: &CountingGuards,
+    from: u32,
+    word: u64,
+) -> Result<(Option<u16>, u64), NoMemory> {
+    let mut args = Args::new(alloc);
+    args.push(Value::Word(word))?;
+    guards.asked.store(0, Ordering::SeqCst);
+    let next = next_of::<Brand>(alloc, bindings, guards, from, &args, Blank::new(1))?;
+    Ok((next, guards.asked.load(Ordering::SeqCst)))
+}
+
 #[test]
 fn guards_are_asked_until_one_does_not_hold(rt: HostRuntime) -> Result<(), NoMemory> {
     let alloc = rt.alloc();
-    let guards = two_guards();
-    let bindings = [
-        binding(alloc, 4, 1, 0)?,
-        binding(alloc, 2, 0, 2)?,
-        binding(alloc, 3, 2, 1)?,
-        binding(alloc, 5, 2, 2)?,
-    ];
-    for (word, from, wanted, asked) in [
+    let guards = two_guards(alloc)?;
+    let bindings = bindings_of(alloc, &[(4, 1, 0), (2, 0, 2), (3, 2, 1), (5, 2, 2)])?;
+    for (word, from, next, asked) in [
         (5, 0, Some(4), 1),
         (5, 1, Some(2), 1),
         (5, 2, Some(3), 2),
@@ -203,39 +190,13 @@ fn guards_are_asked_until_one_does_not_hold(rt: HostRuntime) -> Result<(), NoMem
         (9, 0, None, 2),
         (9, 2, None, 1),
     ] {
-        let mut args = Args::new(alloc);
-        args.push(Value::Word(word))?;
-        guards.asked.store(0, Ordering::SeqCst);
-        let next = next_of::<TwoGuards, Brand>(
-            alloc,
-            &bindings,
-            &guards,
-            from,
-            &args,
-            Blank::new(1),
-        )?;
-        assert_eq!(rt; next, wanted, "{word} from {from}");
         assert_eq!(rt;
-            guards.asked.load(Ordering::SeqCst),
-            asked,
+            asked_on(alloc, bindings.as_slice(), &guards, from, word)?,
+            (next, asked),
             "{word} from {from}"
         );
     }
     Ok(())
-}
-
-/// What is next on this number, and how often a guard was asked for it.
-fn asked_on(
-    alloc: Global,
-    bindings: &[Binding],
-    guards: &Numbered,
-    word: u64,
-) -> Result<(Option<u16>, u64), NoMemory> {
-    let mut args = Args::new(alloc);
-    args.push(Value::Word(word))?;
-    guards.asked.store(0, Ordering::SeqCst);
-    let next = next_of::<Numbered, Brand>(alloc, bindings, guards, 0, &args, Blank::new(1))?;
-    Ok((next, guards.asked.load(Ordering::SeqCst)))
 }
 
 #[test]
@@ -248,7 +209,7 @@ fn candidates_alone_are_asked(rt: HostRuntime) -> Result<(), NoMemory> {
     }
     for (word, next, asked) in [(31, Some(32), 1), (40, None, 0)] {
         assert_eq!(rt;
-            asked_on(alloc, bindings.as_slice(), &guards, word)?,
+            asked_on(alloc, bindings.as_slice(), &guards, 0, word)?,
             (next, asked),
             "{word}"
         );
@@ -267,7 +228,7 @@ fn bindings_without_a_guard_are_candidates(rt: HostRuntime) -> Result<(), NoMemo
     }
     for (word, next, asked) in [(2, Some(2), 0), (1, Some(1), 1)] {
         assert_eq!(rt;
-            asked_on(alloc, bindings.as_slice(), &guards, word)?,
+            asked_on(alloc, bindings.as_slice(), &guards, 0, word)?,
             (next, asked),
             "{word}"
         );
