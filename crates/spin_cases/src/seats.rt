@@ -180,6 +180,25 @@ fn raise_with(
     Ok((raised.place, value_of(&raised.reply)))
 }
 
+// Whether the command is judged so.
+fn is_judged(
+    alloc: Global,
+    hub: &Hub,
+    seat: &mut Seat,
+    c: &Command,
+    wanted: &Judged,
+) -> Result<bool, SeatFault>
+    requires sincere { ⟦<Catalogue as Sincere>⟧.sincere hub.now.setup.catalogue }
+    requires log { seat.old.pen.log ≡ hub.now.log.id }
+    requires seat { IsSeatOf (data_of hub.now.setup) seat.old }
+    requires valid { IsTrue (is_command c.now) }
+    requires lane { c.now.lane ≡ seat.old.pen.lane }
+    ensures same { IsSamePen seat.old.pen seat.new.pen }
+    ensures seat { IsSeatOf (data_of hub.now.setup) seat.new }
+{
+    Ok(seat.command(alloc, hub, c)? == *wanted)
+}
+
 // A binding comes by one seat and goes by the other, and both learn of it.
 fn install_and_remove<R: Abort>(
     rt: &R,
@@ -197,15 +216,12 @@ fn install_and_remove<R: Abort>(
     ensures seat_a { IsSeatOf (data_of hub.now.setup) a.new }
     ensures seat_b { IsSeatOf (data_of hub.now.setup) b.new }
 {
-    let judged = a.command(alloc, hub, &install_of(0))?;
-    assert_eq!(rt; judged, accepted(1));
+    assert!(rt; is_judged(alloc, hub, a, &install_of(0), &accepted(1))?);
     let raised = raise_with(alloc, hub, b, 9)?;
     assert_eq!(rt; raised, (1, Some(5)));
-    let judged = b.command(alloc, hub, &remove_of(1, 1))?;
-    assert_eq!(rt; judged, accepted(2));
+    assert!(rt; is_judged(alloc, hub, b, &remove_of(1, 1), &accepted(2))?);
     assert_eq!(rt; a.front(), 1);
-    let judged = a.command(alloc, hub, &remove_of(0, 1))?;
-    assert_eq!(rt; judged, unknown_binding(2));
+    assert!(rt; is_judged(alloc, hub, a, &remove_of(0, 1), &unknown_binding(2))?);
     hub.meet(alloc, a, b)?;
     assert_eq!(rt; (a.front(), b.front()), (2, 2));
     Ok(())
@@ -243,16 +259,25 @@ fn command_again(
     }
 }
 
+// An install is given, once more after want of memory, and then a raise.
+fn install_and_raise<R: Abort>(rt: &R, alloc: Global, hub: &Hub, a: &mut Seat) -> Result<(), Fail>
+    requires sincere { ⟦<Catalogue as Sincere>⟧.sincere hub.now.setup.catalogue }
+    requires log { a.old.pen.log ≡ hub.now.log.id }
+    requires seat { IsSeatOf (data_of hub.now.setup) a.old }
+    requires lane { a.old.pen.lane ≡ 0 }
+{
+    let judged = command_again(alloc, hub, a, &install_of(0))?;
+    assert_eq!(rt; judged, accepted(1));
+    let raised = raise_with(alloc, hub, a, 9)?;
+    assert_eq!(rt; raised, (1, Some(5)));
+    Ok(())
+}
+
 // Where the one request for memory that is refused is the command's, its second call answers as if none were.
 #[test]
 fn a_command_is_given_again_after_want_of_memory(rt: HostRuntime) -> Result<(), Fail> {
-    let alloc = rt.alloc();
-    let (hub, mut a, _b) = two_seats(alloc)?;
-    let judged = command_again(alloc, &hub, &mut a, &install_of(0))?;
-    assert_eq!(rt; judged, accepted(1));
-    let raised = raise_with(alloc, &hub, &mut a, 9)?;
-    assert_eq!(rt; raised, (1, Some(5)));
-    Ok(())
+    let (hub, mut a, _b) = two_seats(rt.alloc())?;
+    install_and_raise(&rt, rt.alloc(), &hub, &mut a)
 }
 
 // Gives defaults until there is a fault, at most so often, and tells how many were judged.

@@ -182,29 +182,32 @@ fn misspelled<R: Threads + Sync>(
     Ok((status, out))
 }
 
+/// Words of no command.
+const MISSPELLED: [&[&[u8]]; 19] = [
+    &[],
+    &[b"run"],
+    &[b"help"],
+    &[b"run", b""],
+    &[b"run", b"-script"],
+    &[b"run", b"\xff"],
+    &[b"walk", b"script"],
+    &[b"run", b"--", b"script"],
+    &[b"run", b"script", b"-packets"],
+    &[b"run", b"script", b"packets", b"more"],
+    &[b"join"],
+    &[b"join", b"script"],
+    &[b"join", b"script", b"packets", b"more"],
+    &[b"run", b"script", b"packets", b"more", b"more"],
+    &[b"gen"],
+    &[b"gen", b"1x"],
+    &[b"gen", b"0x"],
+    &[b"gen", b"18446744073709551616"],
+    &[b"gen", b"1", b"1"],
+];
+
 #[test]
 fn words_of_no_command(rt: HostRuntime) -> Result<(), NoMemory> {
-    for texts in [
-        [].as_slice(),
-        &[b"run".as_slice()],
-        &[b"help".as_slice()],
-        &[b"run".as_slice(), b""],
-        &[b"run".as_slice(), b"-script"],
-        &[b"run".as_slice(), b"\xff"],
-        &[b"walk".as_slice(), b"script"],
-        &[b"run".as_slice(), b"--", b"script"],
-        &[b"run".as_slice(), b"script", b"-packets"],
-        &[b"run".as_slice(), b"script", b"packets", b"more"],
-        &[b"join".as_slice()],
-        &[b"join".as_slice(), b"script"],
-        &[b"join".as_slice(), b"script", b"packets", b"more"],
-        &[b"run".as_slice(), b"script", b"packets", b"more", b"more"],
-        &[b"gen".as_slice()],
-        &[b"gen".as_slice(), b"1x"],
-        &[b"gen".as_slice(), b"0x"],
-        &[b"gen".as_slice(), b"18446744073709551616"],
-        &[b"gen".as_slice(), b"1", b"1"],
-    ] {
+    for texts in MISSPELLED {
         let (status, out) = misspelled(&rt, rt.alloc(), texts)?;
         assert_eq!(rt; status, 1);
         assert_eq!(rt; out.bytes(), USAGE);
