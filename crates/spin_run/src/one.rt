@@ -29,10 +29,10 @@ use spin_endpoint::{Ends, EndsSeen};
 use spin_objects::Catalogue;
 use spin_outside::{Gate, Source};
 use spin_pcap::Reader;
+use spin_report::records_wanted;
 use spin_script::{Line, Segment};
 use spin_seat::Hub;
 use spin_values::Text;
-use spin_word::Work;
 use std::alloc::Global;
 use std::thread::Threads;
 
@@ -43,9 +43,7 @@ fn wanted_by(lines: &[Line]) -> u32
 {
     let mut wanted = 0;
     for line in lines {
-        if let Work::Packet { count, .. } = &line.work {
-            wanted += *count;
-        }
+        wanted += records_wanted(&line.work);
     }
     wanted
 }

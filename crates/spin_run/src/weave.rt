@@ -39,7 +39,8 @@ impl Lanes {
         Ok((Entries::from_vec(entries), Jobs::from_vec(jobs)))
     }
 
-    // The entries of all lanes, lane after lane, and so their jobs.
+    // The entries of all lanes, lane after lane, and so their jobs. The lanes' own lists of entries, the longest that a
+    // run has, give their room back.
     fn gather(&mut self, alloc: Global) -> Result<(Entries, Jobs), NoMemory>
         ensures entries { IfOk result (λ all. all.0 ≡ flat_map (λ trail. trail) (trails_of self.old)) }
         ensures jobs { IfOk result (λ all. all.1 ≡ flat_map (λ jobs. jobs) (jobs_by_lane self.old)) }
@@ -51,6 +52,7 @@ impl Lanes {
         let mut jobs = Jobs::new(alloc);
         for lane in self.items.iter_mut() {
             entries.append(&mut lane.trail)?;
+            lane.trail.shrink_to_fit();
             jobs.append(&mut lane.jobs)?;
         }
         Ok((entries, jobs))
