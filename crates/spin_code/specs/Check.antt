@@ -27,6 +27,7 @@ faults params depth nodes uses =
     ∷ (not (list_all (is_right params) uses), BadKind)
     ∷ []
 
+-- the first fault of a test that is asked of these parameters, if it has one
 abbrev pub test_check : Test → EventType → Result (Unit {0}) ActFault
 test_check t sig = unless (faults sig.params (test_depth t) (test_nodes t) (test_uses t)) tt
 
@@ -34,6 +35,7 @@ test_check t sig = unless (faults sig.params (test_depth t) (test_nodes t) (test
 abbrev pub two_words : List Param
 two_words = record { kind = kind.Word; var = false } ∷ record { kind = kind.Word; var = false } ∷ []
 
+-- the first fault of a merge, if it has one: a fold is an expression of two words, and `last` has no fault
 abbrev pub merge_check : Merge → Result (Unit {0}) ActFault
 merge_check Last = Ok tt
 merge_check (Fold e) = unless (faults two_words (expr_depth e) (expr_nodes e) (expr_uses e)) tt
@@ -48,10 +50,12 @@ abbrev pub sets_var : List Param → ActStep → Bool
 sets_var params (step.Set a e) = is_var (slice_get params a)
 sets_var params s = true
 
+-- the step gives a result
 abbrev pub is_result : ActStep → Bool
 is_result (step.Result e) = true
 is_result s = false
 
+-- the first fault of an act for events of this signature, if it has one
 abbrev pub act_check : Act → EventType → Result (Unit {0}) ActFault
 act_check act sig =
     unless (

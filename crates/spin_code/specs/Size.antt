@@ -11,7 +11,7 @@ use Rattle.spin_code.specs.declared.act.Part.TheVariants as part
 use Rattle.spin_code.specs.declared.act.ActStep.{ActStep}
 use Rattle.spin_code.specs.declared.act.ActStep.TheVariants as step
 
--- a leaf is 1 deep, and what has parts is one deeper than the deepest of them
+-- how deep an expression is: a leaf 1, and what has parts one more than the deepest of them
 abbrev pub expr_depth : Expr → ℕ
 expr_depth (Const n) = 1
 expr_depth (Arg a) = 1
@@ -20,6 +20,7 @@ expr_depth (Plus' p a q b) = suc (max (expr_depth a) (expr_depth b))
 expr_depth (And' p a q b) = suc (max (expr_depth a) (expr_depth b))
 expr_depth (Or' p a q b) = suc (max (expr_depth a) (expr_depth b))
 
+-- `true` and `has` are 1 deep, and every other test is one deeper than the deepest expression or test in it
 abbrev pub test_depth : Test → ℕ
 test_depth True = 1
 test_depth (Compare c a b) = suc (max (expr_depth a) (expr_depth b))
@@ -41,7 +42,7 @@ is_step_deep (step.Result e) = nat_lt MAX_DEPTH (expr_depth e)
 is_step_deep (step.Up event parts) = list_any is_part_deep parts
 is_step_deep (step.Layer k event) = false
 
--- each expression, test, part and step is a node
+-- how many nodes an expression has: one for itself, and those of the expressions in it
 abbrev pub expr_nodes : Expr → ℕ
 expr_nodes (Const n) = 1
 expr_nodes (Arg a) = 1
@@ -50,6 +51,7 @@ expr_nodes (Plus' p a q b) = suc (expr_nodes a + expr_nodes b)
 expr_nodes (And' p a q b) = suc (expr_nodes a + expr_nodes b)
 expr_nodes (Or' p a q b) = suc (expr_nodes a + expr_nodes b)
 
+-- how many nodes a test has: one for itself, and those of the expressions or tests in it
 abbrev pub test_nodes : Test → ℕ
 test_nodes True = 1
 test_nodes (Compare c a b) = suc (expr_nodes a + expr_nodes b)
@@ -58,10 +60,12 @@ test_nodes (Not' p t) = suc (test_nodes t)
 test_nodes (All' p a q b) = suc (test_nodes a + test_nodes b)
 test_nodes (Any' p a q b) = suc (test_nodes a + test_nodes b)
 
+-- how many nodes a part has: one for itself, and those of its expression
 abbrev pub part_nodes : Part → ℕ
 part_nodes (part.Word e) = suc (expr_nodes e)
 part_nodes (part.Bytes a from) = 1
 
+-- how many nodes a step has: one for itself, and those of its expression or its parts
 abbrev pub step_nodes : ActStep → ℕ
 step_nodes (step.Set a e) = suc (expr_nodes e)
 step_nodes (step.Send endpoint a from) = 1

@@ -22,6 +22,7 @@ pub data Use : Type 0 where
   AsBytes : (arg : ℕ) → Use
   AsField : (arg width : ℕ) → Use
 
+-- how an expression uses arguments, from left to right
 abbrev pub expr_uses : Expr → List Use
 expr_uses (Const n) = []
 expr_uses (Arg a) = AsWord a ∷ []
@@ -30,6 +31,7 @@ expr_uses (Plus' p a q b) = expr_uses a ++ expr_uses b
 expr_uses (And' p a q b) = expr_uses a ++ expr_uses b
 expr_uses (Or' p a q b) = expr_uses a ++ expr_uses b
 
+-- how a test uses arguments, from left to right; `has` wants bytes
 abbrev pub test_uses : Test → List Use
 test_uses True = []
 test_uses (Compare c a b) = expr_uses a ++ expr_uses b
@@ -38,10 +40,12 @@ test_uses (Not' p t) = test_uses t
 test_uses (All' p a q b) = test_uses a ++ test_uses b
 test_uses (Any' p a q b) = test_uses a ++ test_uses b
 
+-- how a part uses arguments
 abbrev pub part_uses : Part → List Use
 part_uses (part.Word e) = expr_uses e
 part_uses (part.Bytes a from) = AsBytes a ∷ []
 
+-- how a step uses arguments, what it sets first; what reading headers needs is said by `is_layer_right` alone
 abbrev pub step_uses : ActStep → List Use
 step_uses (step.Set a e) = AsWord a ∷ expr_uses e
 step_uses (step.Send endpoint a from) = AsBytes a ∷ []
@@ -49,6 +53,7 @@ step_uses (step.Result e) = expr_uses e
 step_uses (step.Up event parts) = flat_map part_uses parts
 step_uses (step.Layer k event) = []
 
+-- both are words, or both are bytes
 abbrev pub same_kind : Kind → Kind → Bool
 same_kind kind.Word kind.Word = true
 same_kind kind.Bytes kind.Bytes = true

@@ -21,6 +21,7 @@ pub record NamedEnd : Type 0 where
 abbrev pub added : List ℕ → EndpointSeen → NamedEnd
 added name object = record { name = name; stands = true; object = object }
 
+-- the endpoint stands, and under this name
 abbrev pub stands_as : List ℕ → NamedEnd → Bool
 stands_as name end = end.stands && bytes_eq end.name name
 
@@ -36,9 +37,11 @@ changed_as name change ends =
 abbrev pub with_piece : List ℕ → NamedEnd → NamedEnd
 with_piece piece end = record end { object = gained (piece ∷ []) end.object }
 
+-- the endpoint with that count of faults
 abbrev pub with_faults : ℕ → NamedEnd → NamedEnd
 with_faults faults end = record end { object = record end.object { faults = faults } }
 
+-- the endpoint, which no longer stands and was finished once more
 abbrev pub retired : NamedEnd → NamedEnd
 retired end = record end { stands = false; object = finished_once end.object }
 

@@ -27,6 +27,7 @@ received names sends end =
     then record end { object = gained (pieces_for names sends end.name) end.object }
     else end
 
+-- the endpoints after the sends: each that stands has gained the pieces that are sent to its name
 abbrev pub all_received : List (List ℕ) → List SentSeen → List NamedEnd → List NamedEnd
 all_received names sends ends = map (received names sends) ends
 
@@ -65,6 +66,7 @@ retired_of names numbers end =
     then retired end
     else end
 
+-- the endpoints, of which those are retired that stand under the names of these numbers
 abbrev pub all_retired : List (List ℕ) → List ℕ → List NamedEnd → List NamedEnd
 all_retired names numbers ends = map (retired_of names numbers) ends
 

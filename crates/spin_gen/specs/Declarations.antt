@@ -16,9 +16,11 @@ use Rattle.spin_grammar.specs.Lines.{Line, Modules, Event, Endpoint, Handler, Gu
 
 -- ---- signatures, all by value
 
+-- a parameter that is a word by value
 abbrev pub word : Param
 word = record { kind = kind.Word; var = false }
 
+-- a parameter that is bytes by value
 abbrev pub bytes : Param
 bytes = record { kind = kind.Bytes; var = false }
 
@@ -44,9 +46,11 @@ of_datagram = record { params = bytes ∷ word ∷ word ∷ word ∷ word ∷ []
 
 -- ---- expressions
 
+-- the expression of the sum of both
 abbrev pub plus : Expr → Expr → Expr
 plus a b = Plus' nowhere a nowhere b
 
+-- the expression of the bits that both have
 abbrev pub and : Expr → Expr → Expr
 and a b = And' nowhere a nowhere b
 

@@ -25,6 +25,7 @@ draws_of (Stated l) = 0
 draws_of (Install lane) = 3
 draws_of (Raise lane) = 1
 
+-- the place that a number says: 0 is free, 1 first, and every other last
 unfoldable pub drawn_place : ℕ → Place
 drawn_place n = if n == 0 then place.Free else if n == 1 then place.First else place.Last
 
@@ -91,9 +92,11 @@ packet_lines lanes = map packet_line (range_with_len 0 lanes)
 
 -- ---- the whole
 
+-- the lines before the first barrier: the declarations and the first segment
 unfoldable pub head_lines : List Line
 head_lines = declarations ++ first_segment
 
+-- the whole script: the lines before the first barrier, four segments of eight lanes, and the one that takes records
 unfoldable pub drafts : List Draft
 drafts =
     map Stated head_lines ++ (segments_drafts 4 ++ map Stated (Barrier ∷ packet_lines 8))

@@ -29,7 +29,7 @@ destination = 0x0a000002
 unfoldable pub ether_header : List ℕ
 ether_header = big_bytes 6 0x020000000002 ++ big_bytes 6 0x020000000001 ++ big_bytes 2 0x0800
 
--- of a packet whose number is that of its record, with a datagram of 16 bytes
+-- the header of a packet that has the number of its record, with a datagram of 16 bytes
 unfoldable pub packet_header : ℕ → List ℕ
 packet_header number = ipv4_header number 64 17 source destination 16
 
@@ -37,6 +37,7 @@ packet_header number = ipv4_header number 64 17 source destination 16
 unfoldable pub datagram : (number port : ℕ) → List ℕ
 datagram number port = udp_datagram source destination 40000 port (big_bytes 8 number)
 
+-- the frame of the record of that number: a header of Ethernet, one of IPv4, and the datagram to that port
 abbrev pub frame : (number port : ℕ) → List ℕ
 frame number port = ether_header ++ packet_header number ++ datagram number port
 
@@ -45,6 +46,7 @@ unfoldable pub record_header : ℕ → List ℕ
 record_header number =
     little_bytes 4 number ++ little_bytes 4 0 ++ little_bytes 4 50 ++ little_bytes 4 50
 
+-- the record of that number, whose datagram goes to that port: its header and its frame
 unfoldable pub record_bytes : (number port : ℕ) → List ℕ
 record_bytes number port = record_header number ++ frame number port
 

@@ -16,6 +16,7 @@ use Rattle.spin_grammar.specs.Lines.{Line, Modules, Event, Endpoint, Handler, Na
 use Rattle.spin_grammar.specs.Lines.{NativeGuard, Rules, Authoriser, Default, Lane, Barrier}
 use Rattle.spin_grammar.specs.Lines.{Retire}
 
+-- the box that takes the place of every box: it points nowhere and holds nothing
 abbrev pub nowhere : Box (Unit {0}) Global
 nowhere = record { ptr = null_ptr; alloc = record { memory = record { seal = tt } }; value = tt }
 

@@ -73,9 +73,11 @@ pub data Want : Type 0 where
 
 -- ---- what each word is followed by
 
+-- the fixed words that may stand at a place, each with what is wanted behind it
 abbrev pub Choices : Type 0
 Choices = List (List ℕ × List Want)
 
+-- an expression that begins with a fixed word: a field is three numbers, and `+`, `&` and `|` have two sides
 abbrev pub expressions : Choices
 expressions =
     (codes "f", Number 0 LAST_ARGUMENT ∷ Number 0 MAX_OFFSET ∷ Number 0 MAX_WIDTH ∷ [])
@@ -84,6 +86,7 @@ expressions =
     ∷ (codes "|", Expression ∷ Expression ∷ [])
     ∷ []
 
+-- a test: `true` has nothing behind it, a comparison has two sides, `has` two numbers, the others one or two tests
 abbrev pub tests : Choices
 tests =
     (codes "true", [])
@@ -97,6 +100,7 @@ tests =
     ∷ (codes "any", Test ∷ Test ∷ [])
     ∷ []
 
+-- a part of a raise upwards: a word, or the bytes of an argument from some byte on
 abbrev pub parts : Choices
 parts =
     (codes "w", Expression ∷ []) ∷ (codes "b", Number 0 LAST_ARGUMENT ∷ Number 0 MAX_OFFSET ∷ [])
@@ -116,17 +120,21 @@ steps =
     ∷ (codes "layer", LayerKind ∷ Number 0 LAST_EVENT ∷ Steps ∷ [])
     ∷ []
 
+-- the layers whose headers a step can read
 abbrev pub layers : Choices
 layers = (codes "ipv4", []) ∷ (codes "udp", []) ∷ []
 
+-- how results are merged: by the last one, or by a fold with an expression
 abbrev pub merges : Choices
 merges = (codes "last", []) ∷ (codes "fold", Expression ∷ []) ∷ []
 
+-- what a rule can be of: one of the ops, or any
 abbrev pub ops : Choices
 ops =
     (codes "install", []) ∷ (codes "remove", []) ∷ (codes "replace", []) ∷ (codes "default", [])
     ∷ (codes "nodefault", []) ∷ (codes "any", []) ∷ []
 
+-- whether a rule is of own bindings only, or of all
 abbrev pub owns : Choices
 owns = (codes "own", []) ∷ (codes "all", []) ∷ []
 
@@ -143,21 +151,26 @@ effects version =
           ∷ ForcedPlace ∷ ForcedMode ∷ [],
     ) ∷ [] else [])
 
+-- the place that a rule may force; `keep` forces none
 abbrev pub forced_places : Choices
 forced_places = (codes "keep", []) ∷ (codes "first", []) ∷ (codes "last", []) ∷ []
 
+-- the mode that a rule may force; `keep` forces none
 abbrev pub forced_modes : Choices
 forced_modes = (codes "keep", []) ∷ (codes "async", []) ∷ []
 
+-- the place of a binding in versions 1 and 2, or one other binding before or after which it goes
 abbrev pub spots : Choices
 spots =
     (codes "free", []) ∷ (codes "first", []) ∷ (codes "last", [])
     ∷ (codes "before", Number 0 LAST_TARGET ∷ []) ∷ (codes "after", Number 0 LAST_TARGET ∷ [])
     ∷ []
 
+-- the place of a binding, apart from the bindings that it names
 abbrev pub places : Choices
 places = (codes "free", []) ∷ (codes "first", []) ∷ (codes "last", []) ∷ []
 
+-- how a binding's handler runs
 abbrev pub modes : Choices
 modes = (codes "plain", []) ∷ (codes "filter", []) ∷ (codes "async", []) ∷ []
 
@@ -172,6 +185,7 @@ spot_wants version =
 abbrev pub last_target : ℕ → ℕ
 last_target version = if version == 3 then LAST_PLACE else LAST_TARGET
 
+-- what a lane may be told, in a script of this version, and what is wanted behind the word of each
 abbrev pub deeds : ℕ → Choices
 deeds version = (
   codes "install",
@@ -197,9 +211,11 @@ deeds version = (
 
 -- ---- one word at its place
 
+-- what a word comes to at its place: what it says with what is wanted behind it, or why it can't stand there
 abbrev pub Step : Type 0
 Step = Result (Atom × List Want) Cause
 
+-- the number that the word is, with this wanted behind it; else a number is missing
 abbrev pub as_number : Option ℕ → List Want → Step
 as_number None more = Err cause.Number
 as_number (Some n) more = Ok (Numeral n, more)
@@ -209,19 +225,23 @@ abbrev pub chosen : List ℕ → Choices → Step
 chosen w [] = Err cause.Word
 chosen w (c ∷ cs) = if bytes_eq w c.0 then Ok (Fixed w, c.1) else chosen w cs
 
+-- an a and a digit from 0 to 7
 abbrev pub is_argument : List ℕ → Bool
 is_argument w =
     length w == 2 && (slice_index w 0 == 97 && (nat_le 48 (slice_index w 1) && nat_le
     (slice_index w 1) 55))
 
+-- the signature that the word is, with this wanted behind it; else a signature is missing
 abbrev pub as_signature : Option EventType → List Want → Step
 as_signature None more = Err cause.Signature
 as_signature (Some sig) more = Ok (Typed sig, more)
 
+-- the bytes that the word is, with this wanted behind it; else bytes are missing
 abbrev pub as_blob : Option (List ℕ) → List Want → Step
 as_blob None more = Err cause.Bytes
 as_blob (Some bytes) more = Ok (Blob bytes, more)
 
+-- the count that the word is, with so many of the same wanted behind it; else a number is missing
 abbrev pub as_count : Option ℕ → Want → Step
 as_count None want = Err cause.Number
 as_count (Some n) want = Ok (Numeral n, replicate n want)
@@ -231,14 +251,17 @@ abbrev pub rising : ℕ → ℕ → List Want
 rising low zero = []
 rising low (suc more) = Rising low more ∷ []
 
+-- the count that the word is, with so many rising numbers wanted behind it; else a number is missing
 abbrev pub as_rising : Option ℕ → Step
 as_rising None = Err cause.Number
 as_rising (Some n) = Ok (Numeral n, rising 0 n)
 
+-- the number that the word is, with so many greater ones wanted behind it; else a number is missing
 abbrev pub as_rise : Option ℕ → ℕ → Step
 as_rise None more = Err cause.Number
 as_rise (Some n) more = Ok (Numeral n, rising (n + 1) more)
 
+-- what a word comes to where this is wanted
 unfoldable pub accepts : Want → List ℕ → Step
 accepts (Number low high) w = as_number (within low high (number w)) []
 accepts Name w = if is_name w then Ok (Called w, []) else Err cause.Name
@@ -286,9 +309,11 @@ may_end Steps = true
 may_end (Values k) = true
 may_end _ = false
 
+-- what words say, in order, or why they can't stand so
 abbrev pub Reading : Type 0
 Reading = Result (List Atom) Cause
 
+-- this, and then what the words behind it say; the cause where those can't stand so
 abbrev pub then_read : List Atom → Reading → Reading
 then_read front (Ok back) = Ok (front ++ back)
 then_read front (Err c) = Err c

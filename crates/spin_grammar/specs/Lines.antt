@@ -59,6 +59,7 @@ form (Lane l t) = Numeral l ∷ task_form t
 form Barrier = []
 form (Retire p) = Numeral p ∷ []
 
+-- the kind of a line, which its first word names: native handlers and guards are of the kind of the others
 abbrev pub kind_of : Line → Kind
 kind_of (Modules n) = kind.Modules
 kind_of (Event e owner sig m) = kind.Event

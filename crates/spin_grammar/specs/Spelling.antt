@@ -15,6 +15,7 @@ use Rattle.spin_grammar.specs.declared.limits.TheConstants.{MAX_NAME}
 
 -- ---- numbers
 
+-- the byte is a digit of this radix, where letters of either case count on from ten
 abbrev pub is_digit : ℕ → ℕ → Bool
 is_digit radix c = nat_lt (digit_value c) radix
 
@@ -75,16 +76,18 @@ params_of marks w =
 abbrev pub says_result : List ℕ → Bool
 says_result w = nat_le 2 (length w) && bytes_eq (drop (length w - 2) w) (codes ":w")
 
+-- the signature of these parameters, if they are there, and with a result or without
 abbrev pub as_type : Bool → Option (List Param) → Option EventType
 as_type gives None = None
 as_type gives (Some params) = Some (record { params = params; gives = gives })
 
+-- the signature that a word says, if it says one: capital letters are var, and `:w` at its end is a result
 unfoldable pub signature : List ℕ → Option EventType
 signature w =
     if says_result w then as_type true (params_of true (take (length w - 2) w)) else as_type false
     (params_of true w)
 
--- of a guard, which gives no result, and for which the case doesn't matter
+-- the signature that a word says of a guard, which gives no result, and for which the case doesn't matter
 unfoldable pub guard_signature : List ℕ → Option EventType
 guard_signature w = if says_result w then None else as_type false (params_of false w)
 

@@ -43,6 +43,7 @@ ether_of bytes =
 abbrev pub version : List ℕ → ℕ
 version bytes = slice_index bytes 0 / 16
 
+-- the fields that the bytes of an IPv4 header spell (RFC 791), its length told in bytes; valid or not
 abbrev pub ipv4_fields : List ℕ → Ipv4
 ipv4_fields bytes = record {
   header_len = slice_index bytes 0 % 16 * 4;
@@ -66,6 +67,7 @@ fragment_offset bytes = number_at 6 2 bytes % 2 ^ 13
 abbrev pub is_part : Fragment → Bool
 is_part fragment = fragment.more || not (fragment.offset == 0)
 
+-- the fields of an IPv4 header (RFC 791), where its packet stands in the datagram, and whether more fragments follow
 abbrev pub fragment_fields : List ℕ → Fragment
 fragment_fields bytes = record {
   header = ipv4_fields bytes;
@@ -129,6 +131,7 @@ abbrev pub pseudo_header : (source destination len : ℕ) → List ℕ
 pseudo_header source destination len =
     big_bytes 4 source ++ big_bytes 4 destination ++ (0 ∷ 17 ∷ []) ++ big_bytes 2 len
 
+-- the ports and the length that the bytes of a UDP header spell (RFC 768); valid or not
 abbrev pub udp_fields : List ℕ → Udp
 udp_fields bytes = record {
   source_port = number_at 0 2 bytes;
@@ -136,6 +139,7 @@ udp_fields bytes = record {
   length = number_at 4 2 bytes;
 }
 
+-- the checksum that the bytes of a UDP header spell (RFC 768), 0 saying that none was made
 abbrev pub udp_checksum : List ℕ → ℕ
 udp_checksum bytes = number_at 6 2 bytes
 

@@ -60,5 +60,6 @@ abbrev pub result_after : Option ℕ → Item → Option ℕ
 result_after last (item.Result n) = Some n
 result_after last i = last
 
+-- the last result among what was given, if there is one
 abbrev pub last_result : List Item → Option ℕ
 last_result given = fold result_after None given

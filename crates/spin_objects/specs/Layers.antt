@@ -17,14 +17,16 @@ packet_args_by packet (Err fault) = Err fault
 packet_args_by packet (Ok header) =
     Ok (Bytes (ipv4_payload header packet) ∷ Word header.protocol ∷ Word header.source ∷ Word header.destination ∷ [])
 
+-- of an IPv4 packet: its payload, its protocol and its two addresses, or the first fault of its header
 abbrev pub packet_args : List ℕ → Result (List Value) HeaderFault
 packet_args packet = packet_args_by packet (ipv4_of packet)
 
--- of an Ethernet frame: the same of the packet after its 14 bytes of header
+-- the arguments of a frame whose header is there: those of the packet after its 14 bytes
 abbrev pub frame_args_by : List ℕ → Result Ether HeaderFault → Result (List Value) HeaderFault
 frame_args_by frame (Err fault) = Err fault
 frame_args_by frame (Ok header) = packet_args (drop 14 frame)
 
+-- of an Ethernet frame: payload, protocol and addresses of the packet in it, or the first fault of its headers
 abbrev pub frame_args : List ℕ → Result (List Value) HeaderFault
 frame_args frame = frame_args_by frame (ether_of frame)
 
@@ -34,6 +36,7 @@ datagram_args_by datagram source destination (Err fault) = Err fault
 datagram_args_by datagram source destination (Ok header) =
     Ok (Bytes (udp_payload header datagram) ∷ Word header.source_port ∷ Word header.destination_port ∷ Word source ∷ Word destination ∷ [])
 
+-- of a UDP datagram between these addresses: payload, ports and addresses, or the first fault of its header
 abbrev pub datagram_args : List ℕ → ℕ → ℕ → Result (List Value) HeaderFault
 datagram_args datagram source destination = datagram_args_by datagram source destination (udp_of datagram source destination)
 

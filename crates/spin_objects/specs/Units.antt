@@ -137,10 +137,11 @@ handler_natives c = map native_of_body c.bodies
 abbrev pub guard_natives : {A C E : Type 0} {B : A → Type 0} {D : C → Type 0} {F : E → Type 0} → Catalogue A C E B D F → List (Option ℕ)
 guard_natives c = map native_of_check c.checks
 
--- what has this number, the first having number 1
+-- what has this number, the first having number 1; it is asked of numbers above 0 alone
 abbrev pub numbered : {X : Type 0} → List X → ℕ → Option X
 numbered units number = slice_get units (number - 1)
 
+-- the act, or one that does nothing where there is none
 abbrev pub act_if : Option Act → Act
 act_if None = record { steps = [] }
 act_if (Some act) = act

@@ -17,12 +17,13 @@ abbrev pub number : Order → ℕ → List ℕ → ℕ
 number order.Big width bytes = big_number width bytes
 number order.Little width bytes = little_number width bytes
 
+-- the number in so many bytes from a place on, in that order
 abbrev pub number_at : Order → ℕ → ℕ → List ℕ → ℕ
 number_at way place width bytes = number way width (drop place bytes)
 
 -- The header of the file
 
--- of microseconds, or of nanoseconds
+-- the number that a capture begins with: of microseconds, or of nanoseconds
 abbrev pub is_magic : ℕ → Bool
 is_magic n = (n == 0xa1b2c3d4) || (n == 0xa1b23c4d)
 
@@ -33,6 +34,7 @@ order_of bytes =
     else if is_magic (number order.Little 4 bytes) then Some order.Little
     else None
 
+-- the version in the header of the file is 2.4
 abbrev pub is_version : Order → List ℕ → Bool
 is_version way bytes = (number_at way 4 2 bytes == 2) && (number_at way 6 2 bytes == 4)
 

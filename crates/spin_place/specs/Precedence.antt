@@ -7,11 +7,13 @@ use Rattle.spin_word.specs.declared.command.Place.TheVariants.{Free, First, Last
 use Rattle.spin_place.specs.declared.binding.Binding.{Binding}
 use Rattle.spin_place.specs.Orders.{IsLawfulOrder, IsLeastOrder, IsCycleOf}
 
+-- it is to stand before each binding that isn't first too
 abbrev pub is_first : Place → Bool
 is_first Free = false
 is_first First = true
 is_first Last = false
 
+-- it is to stand after each binding that isn't last too
 abbrev pub is_last : Place → Bool
 is_last Free = false
 is_last First = false
@@ -30,6 +32,7 @@ must_precede b c =
     || names b.before c.number
     || names c.after b.number)
 
+-- the numbers of the bindings, in their order
 abbrev pub numbers_of : List Binding → List ℕ
 numbers_of bs = map (λ b. b.number) bs
 
@@ -38,16 +41,19 @@ abbrev pub MustPrecede : List Binding → ℕ → ℕ → Type 0
 MustPrecede bs m n =
     Any (λ b. (b.number ≡ m) × Any (λ c. (c.number ≡ n) × IsTrue (must_precede b c)) bs) bs
 
--- a lawful order, the order and a cycle of bindings, by their numbers
+-- these numbers are a lawful order of the bindings
 abbrev pub IsLawful : List Binding → List ℕ → Type 0
 IsLawful bs ns = IsLawfulOrder (MustPrecede bs) (numbers_of bs) ns
 
+-- these numbers are the order of the bindings, the least of their lawful orders
 abbrev pub IsTheOrder : List Binding → List ℕ → Type 0
 IsTheOrder bs ns = IsLeastOrder (MustPrecede bs) (numbers_of bs) ns
 
+-- two or more distinct numbers, the least first, of which each must precede the next, and the last the first
 abbrev pub IsCycle : List Binding → List ℕ → Type 0
 IsCycle bs ns = IsCycleOf (MustPrecede bs) ns
 
+-- some order of the bindings is lawful
 abbrev pub HasLawfulOrder : List Binding → Type 0
 HasLawfulOrder bs = (ns : List ℕ) × IsLawful bs ns
 

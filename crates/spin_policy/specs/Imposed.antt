@@ -10,15 +10,18 @@ use Rattle.spin_policy.specs.declared.rule.Effect.TheVariants as effect
 use Rattle.spin_policy.specs.declared.rule.Verdict.{Verdict}
 use Rattle.spin_policy.specs.declared.rule.Verdict.TheVariants as verdict
 
+-- the guards that come with an effect; only `Impose` and `Force` can have some
 abbrev pub effect_guards : Effect → List ℕ
 effect_guards (effect.Impose guards) = guards
 effect_guards (effect.Force guards place apart) = guards
 effect_guards e = []
 
+-- the place that an effect forces; only `Force` can force one
 abbrev pub effect_place : Effect → Forced
 effect_place (effect.Force guards place apart) = place
 effect_place e = forced.Keep
 
+-- the effect forces asynchronous running, which only `Force` can
 abbrev pub effect_apart : Effect → Bool
 effect_apart (effect.Force guards place apart) = apart
 effect_apart e = false

@@ -42,6 +42,7 @@ matches rule request =
     && is_of_handler rule.handler request.handler
     && (not rule.own_only || is_own request.target_owner request.requester)
 
+-- the op is an install
 abbrev pub is_install : Op → Bool
 is_install op.Install = true
 is_install o = false

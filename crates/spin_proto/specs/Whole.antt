@@ -23,6 +23,7 @@ pub data Mark : Type 0 where
   Plain : (s : Step) → Mark
   Queued : (event number : ℕ) (args : List Value) → Mark
 
+-- the step as replies tell it: of a job that is left its event and binding, without its arguments
 abbrev pub step_of : Mark → Step
 step_of (Plain s) = s
 step_of (Queued event number args) = step.Job event number
@@ -38,6 +39,7 @@ is_start (Plain (step.Run event number)) = true
 is_start (Plain s) = false
 is_start (Queued event number args) = true
 
+-- how many of these steps start a handler or leave a job
 abbrev pub starts : List Mark → ℕ
 starts marks = count_by is_start marks
 
@@ -60,6 +62,7 @@ abbrev pub up_of : Item → List Upward
 up_of (item.Up to args) = record { event = to; args = args } ∷ []
 up_of i = []
 
+-- the raises upwards among what was given, in order
 abbrev pub ups_of : List Item → List Upward
 ups_of given = flat_map up_of given
 
@@ -101,6 +104,7 @@ reply_of limit r =
     then reply.Spent
     else reply.Ran r.answer (map step_of r.marks) (flat_map calls_of r.marks)
 
+-- the answer of a job of a binding: its handler's result, or done where it gave none
 abbrev pub job_answer : Option ℕ → Answer
 job_answer None = answer.Done
 job_answer (Some n) = answer.Value n

@@ -40,6 +40,7 @@ pub record Bound : Type 0 where
   pub merge : Merge
   pub default : ℕ
 
+-- an event with these bindings in order, this merge and this default
 abbrev pub bound_of : List Binding → Merge → ℕ → Bound
 bound_of bindings m default = record { bindings = bindings; merge = m; default = default }
 
@@ -113,6 +114,7 @@ items_by (Did number merged given left) = item.Ran number ∷ given
 items_by (Apart number args) = item.Job number args ∷ []
 items_by (ByDefault given left) = item.Ran 0 ∷ given
 
+-- a list of that number, or the empty list where there is none
 abbrev pub one_if : Option ℕ → List ℕ
 one_if None = []
 one_if (Some n) = n ∷ []
@@ -129,10 +131,12 @@ abbrev pub combine : Merge → ℕ → ℕ → ℕ
 combine merge.Last so_far next = next
 combine (merge.Fold e) so_far next = value_of e (value.Word so_far ∷ value.Word next ∷ [])
 
+-- the answer where these results are merged: done where there is none, else their merge, from the first on
 abbrev pub answer_of_results : Merge → List ℕ → Answer
 answer_of_results m [] = answer.Done
 answer_of_results m (n ∷ ns) = answer.Value (fold (combine m) n ns)
 
+-- no handler where nothing fired; the default with its result, if any; else what the merged results come to
 abbrev pub answer_of : Merge → List Firing → Answer
 answer_of m [] = answer.NoHandler
 answer_of m (ByDefault given left ∷ fs) = answer.Default (last_result given)

@@ -29,6 +29,7 @@ part_of fragment packet = record {
   ttl = fragment.header.ttl;
 }
 
+-- the part that a packet is, with the key of its datagram, where its header is valid and it is a part
 abbrev pub piece_by_fragment : Result Fragment HeaderFault → List ℕ → Option Piece
 piece_by_fragment (Err wrong) packet = None
 piece_by_fragment (Ok fragment) packet =
@@ -36,6 +37,7 @@ piece_by_fragment (Ok fragment) packet =
     then Some (record { key = key_of fragment.header; part = part_of fragment packet })
     else None
 
+-- the part that the packet behind an Ethernet header is, if the header says IPv4 and the packet is a part
 abbrev pub piece_by_ether : Result Ether HeaderFault → List ℕ → Option Piece
 piece_by_ether (Err wrong) packet = None
 piece_by_ether (Ok header) packet =

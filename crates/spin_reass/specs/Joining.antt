@@ -43,6 +43,7 @@ abbrev pub last_end : List Part → Option ℕ
 last_end [] = None
 last_end (part ∷ parts) = if part.last then Some (end_of part) else last_end parts
 
+-- the byte at that place of the datagram is in the part
 abbrev pub has_byte : ℕ → Part → Bool
 has_byte at part = nat_le part.start at && nat_lt at (end_of part)
 
@@ -51,6 +52,7 @@ abbrev pub cover : List Part → ℕ → Bool
 cover parts zero = true
 cover parts (suc at) = list_any (λ part. has_byte at part) parts && cover parts at
 
+-- Each byte before that end is in some part; not so where there is no end.
 abbrev pub cover_to : List Part → Option ℕ → Bool
 cover_to parts None = false
 cover_to parts (Some end) = cover parts end
@@ -79,11 +81,13 @@ whole_frame datagram frame =
 
 -- Open datagrams, in the order in which they were opened
 
+-- source, destination, protocol and identification are the same, so both are of one datagram (RFC 791)
 abbrev pub same_key : Key → Key → Bool
 same_key a b =
     (a.source == b.source) && (a.destination == b.destination) && (a.protocol == b.protocol)
     && (a.ident == b.ident)
 
+-- the open datagram has that key
 abbrev pub has_key : Key → OpenDatagram → Bool
 has_key key datagram = same_key datagram.key key
 
@@ -134,6 +138,7 @@ gathered piece datagrams frame =
     )
     else (with_parts piece.key after datagrams, frame)
 
+-- the open datagrams and the frame, after a frame with this piece, if it has one: only a sound part changes anything
 abbrev pub joined_by : Option Piece → List OpenDatagram → List ℕ → List OpenDatagram × List ℕ
 joined_by None datagrams frame = (datagrams, frame)
 joined_by (Some piece) datagrams frame =

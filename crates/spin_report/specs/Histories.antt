@@ -26,13 +26,16 @@ pub record HistorySeen : Type 0 where
   pub end : ℕ
   pub capture : Option CaptureCounts
 
+-- the first line of every report, `report 1`
 abbrev pub first_line : List ℕ
 first_line = codes "report 1"
 
+-- an endpoint's number, with `ok` where one stood under its name and `unknown` where none did
 abbrev pub retire_words : Retired → List Word
 retire_words r =
     codes "retire" ∷ decimal r.endpoint ∷ (if r.stood then codes "ok" else codes "unknown") ∷ []
 
+-- the line that tells of an endpoint that is retired
 abbrev pub retire_line : Retired → List ℕ
 retire_line r = line_of (retire_words r)
 
@@ -40,6 +43,7 @@ retire_line r = line_of (retire_words r)
 abbrev pub segment_words : ℕ → ℕ → List Word
 segment_words number start = codes "segment" ∷ decimal number ∷ codes "at" ∷ decimal start ∷ []
 
+-- the line that tells a segment's number, and the log's length at its start
 abbrev pub segment_line : ℕ → ℕ → List ℕ
 segment_line number start = line_of (segment_words number start)
 
@@ -47,6 +51,7 @@ segment_line number start = line_of (segment_words number start)
 abbrev pub lost_words : ℕ × ℕ → List Word
 lost_words lost = codes "lost" ∷ decimal lost.0 ∷ decimal lost.1 ∷ []
 
+-- the line that tells how many sends to an endpoint were lost
 abbrev pub lost_line : ℕ × ℕ → List ℕ
 lost_line lost = line_of (lost_words lost)
 
@@ -54,6 +59,7 @@ lost_line lost = line_of (lost_words lost)
 abbrev pub losses : List ℕ → List (ℕ × ℕ)
 losses counts = filter (λ lost. not (lost.1 == 0)) (enumerate_from 0 counts)
 
+-- a line for each endpoint to which sends were lost, by number; none for the others
 abbrev pub lost_lines : List ℕ → List (List ℕ)
 lost_lines counts = map lost_line (losses counts)
 
@@ -79,6 +85,7 @@ capture_words (Some c) =
 abbrev pub end_words : ℕ → Option CaptureCounts → List Word
 end_words length capture = codes "end" ∷ decimal length ∷ capture_words capture
 
+-- the last line of a report: the log's length at the end, and what became of a capture
 abbrev pub end_line : ℕ → Option CaptureCounts → List ℕ
 end_line length capture = line_of (end_words length capture)
 
@@ -88,6 +95,7 @@ front_lines segments =
     first_line
     ∷ flat_map (λ numbered. segment_lines numbered.0 numbered.1) (enumerate_from 0 segments)
 
+-- the text of a report up to these segments, each line ended by a line feed
 abbrev pub front_text : List SegmentSeen → List ℕ
 front_text segments = text_of (front_lines segments)
 
@@ -95,6 +103,7 @@ front_text segments = text_of (front_lines segments)
 abbrev pub report_lines : HistorySeen → List (List ℕ)
 report_lines h = front_lines h.segments ++ end_line h.end h.capture ∷ []
 
+-- the text of a history's report, each line ended by a line feed
 abbrev pub report_text : HistorySeen → List ℕ
 report_text h = text_of (report_lines h)
 

@@ -16,6 +16,7 @@ abbrev pub deed_word : ℕ → Deed → Word
 deed_word part (deed.Raise event args) = if part == 0 then codes "raise" else codes "packet"
 deed_word part (deed.Later event args) = codes "later"
 
+-- the words of a command and its verdict, or of a deed and its reply
 abbrev pub what_words : ℕ → What → List Word
 what_words part (what.Command command verdict) = op_word command.op ∷ verdict_words verdict
 what_words part (what.Deed deed reply) = deed_word part deed ∷ reply_words reply
@@ -24,10 +25,12 @@ what_words part (what.Deed deed reply) = deed_word part deed ∷ reply_words rep
 abbrev pub line_word : ℕ → ℕ → Word
 line_word line part = if part == 0 then decimal line else decimal line ++ 46 ∷ decimal part
 
+-- the place, the lane and the line of an entry, and what was asked and answered there
 abbrev pub entry_words : Entry → List Word
 entry_words e =
     decimal e.place ∷ decimal e.lane ∷ line_word e.line e.part ∷ what_words e.part e.what
 
+-- the line of an entry, without its line feed
 abbrev pub entry_line : Entry → List ℕ
 entry_line e = line_of (entry_words e)
 
@@ -51,10 +54,12 @@ job_seen job reply = record {
   reply = reply;
 }
 
+-- the place, the lane and the line of a job's entry, the job's index there, and what it came to
 abbrev pub job_words : JobSeen → List Word
 job_words j =
     codes "job" ∷ decimal j.place ∷ decimal j.lane ∷ line_word j.line j.part ∷ decimal j.index
     ∷ reply_words j.reply
 
+-- the line of a job, without its line feed
 abbrev pub job_line : JobSeen → List ℕ
 job_line j = line_of (job_words j)

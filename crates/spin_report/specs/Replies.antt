@@ -11,6 +11,7 @@ use Rattle.spin_proto.specs.declared.reply.Reply.{Reply}
 use Rattle.spin_proto.specs.declared.reply.Reply.TheVariants as reply
 use Rattle.spin_text.specs.Words.{Word}
 
+-- the words of an answer; a default's value stands behind it where it gave one
 abbrev pub answer_words : Answer → List Word
 answer_words (answer.Value value) = codes "value" ∷ decimal value ∷ []
 answer_words answer.Done = codes "done" ∷ []
@@ -28,7 +29,7 @@ fault_word fault.Checksum = codes "checksum"
 fault_word fault.Fragment = codes "fragment"
 fault_word fault.UdpLength = codes "udp_length"
 
--- of a send the length alone is told
+-- the words of a step; of what is sent the length alone is told
 abbrev pub step_words : Step → List Word
 step_words (step.Run event number) = codes "run" ∷ decimal event ∷ decimal number ∷ []
 step_words (step.Result value) = codes "result" ∷ decimal value ∷ []
@@ -39,6 +40,7 @@ step_words (step.Back answer) = codes "back" ∷ answer_words answer
 step_words (step.Dropped fault) = codes "drop" ∷ fault_word fault ∷ []
 step_words (step.Job event number) = codes "job" ∷ decimal event ∷ decimal number ∷ []
 
+-- the words of a reply: the steps and, behind `=`, the answer; or `queued`; or which refusal it is
 abbrev pub reply_words : Reply → List Word
 reply_words (reply.Ran answer trace jobs) =
     flat_map step_words trace ++ (codes "=" ∷ answer_words answer)

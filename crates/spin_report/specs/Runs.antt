@@ -27,14 +27,17 @@ pub record Standing : Type 0 where
 
 -- ---- sends
 
+-- what a step sends, if it sends something
 abbrev pub sent_by : Step → Option SentSeen
 sent_by (step.Send endpoint bytes) = Some (record { endpoint = endpoint; bytes = bytes })
 sent_by other = None
 
+-- the sends of a reply's steps, in their order; a reply without steps has none
 abbrev pub sends_of_reply : Reply → List SentSeen
 sends_of_reply (reply.Ran answer trace jobs) = filter_map sent_by trace
 sends_of_reply other = []
 
+-- the sends of what an entry tells: a command has none, and a deed those of its reply
 abbrev pub sends_of : What → List SentSeen
 sends_of (what.Command command verdict) = []
 sends_of (what.Deed deed answer) = sends_of_reply answer
@@ -91,6 +94,7 @@ pub record Captured : Type 0 where
   pub frames : List (List ℕ)
   pub cut : ℕ
 
+-- the captured bytes of each record, in order; none where there is no capture
 abbrev pub frames_of : Option Captured → List (List ℕ)
 frames_of None = []
 frames_of (Some capture) = capture.frames

@@ -27,6 +27,7 @@ abbrev pub records_wanted : Work → ℕ
 records_wanted (work.Packet event count) = count
 records_wanted asked = 0
 
+-- the raise of the event whose one argument is these bytes
 abbrev pub raise_with : ℕ → List ℕ → Work
 raise_with event frame = work.Deed (deed.Raise event (value.Bytes frame ∷ []))
 
@@ -37,6 +38,7 @@ parts_of (work.Packet event count) records =
     map (λ part. (part.0, raise_with event part.1)) (enumerate_from 1 records)
 parts_of asked records = (0, asked) ∷ []
 
+-- what a line asks, where these are the records that it takes: each part by the line's lane and number
 abbrev pub asked_at : Line → List (List ℕ) → List Numbered
 asked_at line records =
     map (λ part. record { lane = line.lane; line = line.number; part = part.0; asked = part.1 })
@@ -54,11 +56,13 @@ asked_in (line ∷ lines) records =
 abbrev pub wanted_by : List Line → ℕ
 wanted_by lines = sum_by (λ line. records_wanted line.work) lines
 
+-- what is asked of that lane, in its order
 abbrev pub asked_of_lane : ℕ → List Numbered → List Numbered
 asked_of_lane lane asked = filter (λ n. n.lane == lane) asked
 
 -- ---- the order of entries
 
+-- it is a command that was accepted
 abbrev pub is_accepted : What → Bool
 is_accepted (what.Command command verdicted.Accepted) = true
 is_accepted (what.Command command (verdicted.Refused refusal)) = false
@@ -69,11 +73,13 @@ is_accepted (what.Deed asked reply) = false
 abbrev pub moment : Entry → ℕ × Bool × ℕ × ℕ × ℕ
 moment entry = (entry.place, not (is_accepted entry.what), entry.lane, entry.line, entry.part)
 
+-- moments are compared by the first of their fields in which they differ, false being less than true
 abbrev pub moment_cmp : ℕ × Bool × ℕ × ℕ × ℕ → ℕ × Bool × ℕ × ℕ × ℕ → Ordering
 moment_cmp a b =
     ordering_then (ordering_then (ordering_then (ordering_then (nat_cmp a.0 b.0) (bool_cmp a.1 b.1))
     (nat_cmp a.2 b.2)) (nat_cmp a.3 b.3)) (nat_cmp a.4 b.4)
 
+-- the entries stand in the order of their moments
 abbrev pub IsInOrder : List Entry → Type 0
 IsInOrder entries = IsSortedByKey moment moment_cmp entries
 

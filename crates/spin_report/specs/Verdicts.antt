@@ -8,6 +8,7 @@ use Rattle.spin_table.specs.declared.refusal.Verdicted.{Verdicted}
 use Rattle.spin_table.specs.declared.refusal.Verdicted.TheVariants as verdicted
 use Rattle.spin_text.specs.Words.{Word}
 
+-- the word of what a command does
 abbrev pub op_word : Op → Word
 op_word op.Install = codes "install"
 op_word op.Remove = codes "remove"
@@ -15,6 +16,7 @@ op_word op.Replace = codes "replace"
 op_word op.Default = codes "default"
 op_word op.NoDefault = codes "nodefault"
 
+-- the number by which a report tells a refusal, from 1 to 12
 abbrev pub refusal_number : Refusal → ℕ
 refusal_number refusal.UnknownEvent = 1
 refusal_number refusal.UnknownModule = 2
@@ -29,6 +31,7 @@ refusal_number refusal.TooMany = 10
 refusal_number (refusal.Conflict cycle) = 11
 refusal_number (refusal.ForcedMode rule) = 12
 
+-- the name by which a report tells a refusal
 abbrev pub refusal_name : Refusal → Word
 refusal_name refusal.UnknownEvent = codes "unknown_event"
 refusal_name refusal.UnknownModule = codes "unknown_module"
@@ -55,9 +58,11 @@ abbrev pub verdict_numbers : Verdicted → List ℕ
 verdict_numbers verdicted.Accepted = []
 verdict_numbers (verdicted.Refused r) = refusal_numbers r
 
+-- a refusal's number and name, and then the numbers that it names
 abbrev pub refusal_words : Refusal → List Word
 refusal_words r = decimal (refusal_number r) ∷ refusal_name r ∷ map decimal (refusal_numbers r)
 
+-- the words of a verdict: `ok`, or `refused` and which refusal it is
 abbrev pub verdict_words : Verdicted → List Word
 verdict_words verdicted.Accepted = codes "ok" ∷ []
 verdict_words (verdicted.Refused r) = codes "refused" ∷ refusal_words r

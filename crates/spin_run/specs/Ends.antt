@@ -28,6 +28,7 @@ pub record RunSeen : Type 0 where
   pub sink : SinkSeen
   pub ends : List NamedEnd
 
+-- this source, this sink and these endpoints, as they are seen at one moment
 abbrev pub seen : SourceSeen → SinkSeen → List NamedEnd → RunSeen
 seen source sink ends = record { source = source; sink = sink; ends = ends }
 
@@ -73,9 +74,11 @@ pub record IsReading (script : ScriptData) (frames : List (List ℕ)) (rest : Op
 
 -- ---- the text
 
+-- the text of the segment of that number, each line ended by a line feed
 abbrev pub segment_text : ℕ → SegmentSeen → List ℕ
 segment_text number part = text_of (segment_lines number part)
 
+-- the last line of a history's report, ended by a line feed
 abbrev pub end_text : HistorySeen → List ℕ
 end_text history = ended (end_line history.end history.capture)
 
@@ -182,9 +185,11 @@ EndsBy script past frames rest before after (end.Endpoint endpoint) =
 
 -- ---- counts of faults
 
+-- the count of faults of each endpoint, in their order
 abbrev pub faults_of : List NamedEnd → List ℕ
 faults_of ends = map (λ end. end.object.faults) ends
 
+-- the count of faults of the endpoint at that place, or 0 where there is none
 abbrev pub faults_at : List NamedEnd → ℕ → ℕ
 faults_at ends place = slice_index_or (faults_of ends) place 0
 

@@ -20,15 +20,18 @@ use Rattle.spin_run.specs.Ends.{RunSeen, IsWhole, Writes, WritesInto, EndsBy}
 
 -- ---- what is counted
 
+-- it is a command that was refused
 abbrev pub is_refused : What → Bool
 is_refused (what.Command command verdicted.Accepted) = false
 is_refused (what.Command command (verdicted.Refused refusal)) = true
 is_refused (what.Deed deed reply) = false
 
+-- the step runs a handler
 abbrev pub is_run : Step → Bool
 is_run (step.Run event number) = true
 is_run other = false
 
+-- the step sends
 abbrev pub is_send : Step → Bool
 is_send (step.Send endpoint bytes) = true
 is_send other = false
@@ -38,6 +41,7 @@ abbrev pub steps_of_reply : Reply → List Step
 steps_of_reply (reply.Ran answer trace jobs) = trace
 steps_of_reply other = []
 
+-- the steps of what an entry tells: a command has none, and a deed those of its reply
 abbrev pub steps_of : What → List Step
 steps_of (what.Command command verdict) = []
 steps_of (what.Deed deed answer) = steps_of_reply answer
@@ -50,6 +54,7 @@ pub record Counts : Type 0 where
   pub runs : ℕ
   pub sends : ℕ
 
+-- how many these entries are, their accepted and refused commands, and their run and send steps
 abbrev pub counts_in : List Entry → Counts
 counts_in entries = record {
   entries = length entries;
@@ -61,6 +66,7 @@ counts_in entries = record {
 
 -- ---- the lines
 
+-- a line of a word and a number
 abbrev pub count_line : List ℕ → ℕ → List ℕ
 count_line word count = line_of (word ∷ decimal count ∷ [])
 

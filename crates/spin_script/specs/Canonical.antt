@@ -64,6 +64,7 @@ words_of l = first_word (kind_of l) ∷ map spell (form l)
 abbrev pub line_text : line.Line → List ℕ
 line_text l = ended (line_of (words_of l))
 
+-- lines as text, one after another, each ended by a line feed
 abbrev pub text_of : List line.Line → List ℕ
 text_of lines = flat_map line_text lines
 

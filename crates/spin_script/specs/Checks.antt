@@ -66,12 +66,13 @@ step_checks endpoints events steps =
     ∷ (not (list_all (is_step_fit events) steps), cause.Mismatch)
     ∷ []
 
--- of the native handler of that index
+-- the checks of the steps of the native handler of that index; where there is none, that is the cause
 abbrev pub native_checks : NativeData → State → Option ℕ → List (Bool × Cause)
 native_checks n s None = (true, cause.Native) ∷ []
 native_checks n s (Some native) =
     step_checks (length s.endpoints) s.events (handler_if (slice_get n.handlers native)).act.steps
 
+-- 13, 20 and 21: of one rule more for the event; where the event isn't there, 20 alone
 abbrev pub rule_checks : State → Rule → Option EventDef → List (Bool × Cause)
 rule_checks s r None = (true, cause.Undeclared) ∷ []
 rule_checks s r (Some e) =
@@ -103,6 +104,7 @@ authoriser_checks s policy (Some e) =
 unfoldable pub cannot_serve : List HandlerUnit → (event : ℕ) → EventDef → (handler : ℕ) → Bool
 cannot_serve handlers event e handler = not (is_fit_handler handlers event e mode.Plain handler)
 
+-- 20, 21 and 23: of a first default for the event; where the event isn't there, 20 alone
 abbrev pub default_checks : State → (event handler : ℕ) → Option EventDef → List (Bool × Cause)
 default_checks s event handler None = (true, cause.Undeclared) ∷ []
 default_checks s event handler (Some e) =
@@ -111,10 +113,11 @@ default_checks s event handler (Some e) =
     ∷ (not (e.first_default == 0), cause.Repeated)
     ∷ []
 
--- the greatest number of command lines, and of deeds
+-- the greatest number of command lines of a script of that version
 abbrev pub most_commands : ℕ → ℕ
 most_commands version = if version == 3 then MAX_PLACE else MAX_EARLY_COMMANDS
 
+-- the most deeds of a script, commands among them; a packet line counts each record that it asks for
 abbrev pub most_deeds : ℕ
 most_deeds = MAX_DEEDS
 
@@ -124,6 +127,7 @@ is_full version commands deeds w =
     nat_lt (most_commands version) (commands + command_count w)
     || nat_lt most_deeds (deeds + deed_count w)
 
+-- the causes for which a line can't stand behind the script so far, in order, each with its condition
 abbrev pub checks : NativeData → State → line.Line → List (Bool × Cause)
 checks n s (line.Modules count) = []
 checks n s (line.Event e owner sig m) =

@@ -17,6 +17,7 @@ use Rattle.spin_script.specs.Checks.{checks}
 
 -- ---- a line as a whole
 
+-- what a line is as a whole: skipped, the first, or one that says something
 pub data Head : Type 0 where
   Skipped : Head
   -- the first line, which names the version
@@ -28,6 +29,7 @@ pub data Head : Type 0 where
 abbrev pub is_allowed : ℕ → Bool
 is_allowed b = (b == 9) || nat_le 32 b && nat_le b 126
 
+-- the version that a word names: it is 1, 2 or 3, written just so
 abbrev pub version_word : List ℕ → Option ℕ
 version_word w =
     if bytes_eq w (codes "1") then Some 1
@@ -40,10 +42,12 @@ version_of (first ∷ second ∷ []) =
     if bytes_eq first (codes "spin") then version_word second else None
 version_of ws = None
 
+-- the first line that isn't skipped begins the script, where it names a version; else cause 3
 abbrev pub first_head : Option ℕ → Result Head Cause
 first_head None = Err cause.Version
 first_head (Some version) = Ok (Begins version)
 
+-- a line of this kind, where one may stand here: cause 4 where the first word begins none, 5 where it is out of order
 abbrev pub kind_head : State → Option Kind → List (List ℕ) → Result Head Cause
 kind_head s None ws = Err cause.Keyword
 kind_head s (Some k) ws =
@@ -74,12 +78,14 @@ abbrev pub SaysIll : NativeData → State → Kind → List (List ℕ) → Cause
 SaysIll n s k ws c = (reads (wanted s.version k) ws ≡ Err c)
     ⊎ ((l : Line) × Spells s.version k ws l × (first_of (checks n s l) ≡ Some c))
 
+-- the line that is this as a whole can stand behind s, and t is the script with it
 abbrev pub Passes : NativeData → State → ℕ → Result Head Cause → State → Type 0
 Passes n s number (Err c) t = ⊥
 Passes n s number (Ok Skipped) t = t ≡ s
 Passes n s number (Ok (Begins version)) t = t ≡ record s { version = version }
 Passes n s number (Ok (Says k ws)) t = SaysWell n s number k ws t
 
+-- the line that is this as a whole can't stand behind s, by that cause
 abbrev pub IsRefused : NativeData → State → Result Head Cause → Cause → Type 0
 IsRefused n s (Err why) c = c ≡ why
 IsRefused n s (Ok Skipped) c = ⊥

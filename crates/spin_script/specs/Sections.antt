@@ -3,6 +3,7 @@ use Rattle.std.specs.Prelude.{ℕ, Bool, true, false, not, ◌&&◌, ◌||◌, �
 use Rattle.spin_grammar.specs.declared.kind.Kind.{Kind}
 use Rattle.spin_grammar.specs.declared.kind.Kind.TheVariants as kind
 
+-- the words that begin lines, each with the kind of line that it begins
 abbrev pub first_words : List (List ℕ × Kind)
 first_words =
     (codes "modules", kind.Modules)
@@ -37,6 +38,7 @@ section kind.Lane = 8
 section kind.Barrier = 8
 section kind.Retire = 8
 
+-- a line of this kind retires an endpoint
 abbrev pub is_retire : Kind → Bool
 is_retire kind.Retire = true
 is_retire k = false

@@ -18,6 +18,7 @@ IsValidWork w = ⊤
 abbrev pub AreValid : List Segment → Type 0
 AreValid segments = All (λ line. IsValidWork line.work) (lines_in segments)
 
+-- it asks for a command, and not for a raise or for packets
 abbrev pub is_command_work : Work → Bool
 is_command_work (work.Command c) = true
 is_command_work w = false

@@ -18,11 +18,13 @@ use Rattle.spin_grammar.specs.Lines as line
 
 -- ---- the natives that a script may name
 
+-- the natives of each kind in the order of adding: their names, each with what it was handed in with
 pub record NativeData : Type 0 where
   pub handlers : List (Named HandlerUnit)
   pub guards : List (Named GuardUnit)
   pub authorisers : List (Named (List Rule))
 
+-- the natives as they were handed in, without their objects
 abbrev pub natives_seen : {A C E : Type 0} {B : A → Type 0} {D : C → Type 0} {F : E → Type 0}
     → Natives A C E B D F → NativeData
 natives_seen n = record {
@@ -42,6 +44,7 @@ policies n = map (λ a. a.unit) n.authorisers
 
 -- ---- the state
 
+-- the script so far: what the lines up to here say, and what decides which line may follow
 pub record State : Type 0 where
   -- 0 before the first line that isn't skipped
   pub version : ℕ
@@ -63,9 +66,11 @@ pub record State : Type 0 where
   -- 1 more than the greatest lane that is named
   pub lanes : ℕ
 
+-- a segment that retires no endpoint and has no lane lines
 abbrev pub empty_segment : Segment
 empty_segment = record { retires = []; lines = [] }
 
+-- the script before all lines: it has one module and one lane, and nothing is declared
 abbrev pub start : State
 start = record {
   version = 0;
@@ -101,6 +106,7 @@ abbrev pub given_rules : Authority → List Rule
 given_rules (authority.Rules rules) = rules
 given_rules (authority.Native native) = []
 
+-- a native authoriser answers for the event's owner
 abbrev pub is_native : Authority → Bool
 is_native (authority.Rules rules) = false
 is_native (authority.Native native) = true
@@ -110,20 +116,24 @@ abbrev pub with_event : (EventDef → EventDef) → ℕ → List EventDef → Li
 with_event change event events =
     option_map_or (λ e. slice_set events event (change e)) (slice_get events event) events
 
+-- the event with one rule more, behind those that were given
 abbrev pub with_rule : Rule → EventDef → EventDef
 with_rule r e = record e { authority = authority.Rules (given_rules e.authority ++ r ∷ []) }
 
+-- the event with the native of that index as its authoriser, which leaves it no rules
 abbrev pub with_authoriser : ℕ → EventDef → EventDef
 with_authoriser native e = record e { authority = authority.Native native }
 
+-- the event with that handler as its first default
 abbrev pub with_default : ℕ → EventDef → EventDef
 with_default handler e = record e { first_default = handler }
 
--- how many command lines and how many deeds a lane line counts for
+-- how many command lines a lane line counts for: a command 1, and every other line none
 abbrev pub command_count : Work → ℕ
 command_count (work.Command c) = 1
 command_count w = 0
 
+-- how many deeds a lane line counts for: a packet line the records that it asks for, and every other line 1
 abbrev pub deed_count : Work → ℕ
 deed_count (work.Packet e n) = n
 deed_count w = 1
@@ -143,16 +153,19 @@ with_work s number lane w = record s {
   lanes = max s.lanes (lane + 1);
 }
 
+-- the script with the native of that index as the event's authoriser; the same script where there is none
 abbrev pub with_authority : State → ℕ → Option ℕ → State
 with_authority s event None = s
 with_authority s event (Some native) =
     record s { section = 6; events = with_event (with_authoriser native) event s.events }
 
+-- the script with the native of that index as one handler more; the same script where there is none
 abbrev pub with_handler : NativeData → State → Option ℕ → State
 with_handler n s None = s
 with_handler n s (Some native) =
     record s { section = 4; handlers = s.handlers ++ handler_if (slice_get n.handlers native) ∷ [] }
 
+-- the script with the native of that index as one guard more; the same script where there is none
 abbrev pub with_guard : NativeData → State → Option ℕ → State
 with_guard n s None = s
 with_guard n s (Some native) =
@@ -199,6 +212,7 @@ after n s number (line.Retire p) =
 
 -- ---- what a script comes to
 
+-- a script: its setup, its version, the names of its endpoints, how many lanes it has, and its segments
 pub record ScriptData : Type 0 where
   pub setup : SetupData
   pub version : ℕ
@@ -210,6 +224,7 @@ pub record ScriptData : Type 0 where
 abbrev pub most_live : ℕ → ℕ
 most_live version = if version == 3 then 64 else 32
 
+-- what the script declares; the policies are those of all native authorisers that were handed in
 abbrev pub setup_in : NativeData → State → SetupData
 setup_in n s = record {
   modules = s.modules;
@@ -220,6 +235,7 @@ setup_in n s = record {
   policies = policies n;
 }
 
+-- the script that ends here: the segment that goes on is its last
 abbrev pub script_in : NativeData → State → ScriptData
 script_in n s = record {
   setup = setup_in n s;

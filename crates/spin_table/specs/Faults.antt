@@ -43,6 +43,7 @@ has_bad_owner modules e = nat_le modules e.owner
 abbrev pub has_bad_merge : EventDef → Bool
 has_bad_merge e = is_err (merge_check e.merge)
 
+-- the kind of the argument that a part makes
 abbrev pub part_kind : Part → Kind
 part_kind (part.Word e) = kind.Word
 part_kind (part.Bytes arg from) = kind.Bytes

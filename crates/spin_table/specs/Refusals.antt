@@ -48,11 +48,11 @@ lacks_binding bs c =
 abbrev pub used_handler : List HandlerUnit → Command → Option HandlerUnit
 used_handler handlers c = if handler_is_used c.op then numbered handlers c.handler else None
 
--- something of the handler that the op uses
+-- the handler that the op uses is there, and is so
 abbrev pub of_handler : List HandlerUnit → Command → (HandlerUnit → Bool) → Bool
 of_handler handlers c test = option_map_or test (used_handler handlers c) false
 
--- something of the guard that the op uses, which isn't 0
+-- the guard that the op uses is one, is there, and is so
 abbrev pub of_guard : List GuardUnit → Command → (GuardUnit → Bool) → Bool
 of_guard guards c test = guard_is_used c.op && option_map_or test (numbered guards c.guard) false
 
@@ -123,6 +123,7 @@ refusals_at d e bs c =
     ∷ unit_refusals d.handlers d.guards e bs c
     ++ owner_refusals d e bs c
 
+-- the first refusal that applies where event and state are these, but for a conflict; 1 where one of them isn't there
 abbrev pub refusal_on : SetupData → Command → Option EventDef → Option EventState → Option Refusal
 refusal_on d c (Some e) (Some s) = first_of (refusals_at d e s.bindings c)
 refusal_on d c _ _ = Some refusal.UnknownEvent

@@ -22,6 +22,7 @@ pub record SetupData : Type 0 where
 abbrev pub tests_in : SetupData → List Test
 tests_in d = map (λ g. g.test) d.guards
 
+-- these rules, or none where there is no policy
 abbrev pub rules_if : Option (List Rule) → List Rule
 rules_if None = []
 rules_if (Some rules) = rules

@@ -29,6 +29,7 @@ start_of d = record { place = 0; events = map (first_state (tests_in d)) d.event
 abbrev pub binding_of : List Binding → ℕ → Option Binding
 binding_of bs number = find (λ b. b.number == number) bs
 
+-- a live binding has that number
 abbrev pub is_live : List Binding → ℕ → Bool
 is_live bs number = is_some (binding_of bs number)
 

@@ -44,6 +44,7 @@ abbrev pub numbers_under : Forced → List ℕ → List ℕ
 numbers_under forced.Keep asked = asked
 numbers_under f asked = no_numbers
 
+-- asynchronous, where that is forced, or else the mode that is asked for
 abbrev pub mode_under : Bool → Mode → Mode
 mode_under true asked = mode.Async
 mode_under false asked = asked
@@ -108,6 +109,7 @@ state_after d c s = record {
       (slice_get s.events c.event) s.events;
 }
 
+-- the event's live bindings, or none where there is no event
 abbrev pub bindings_if : Option EventState → List Binding
 bindings_if (Some e) = e.bindings
 bindings_if None = []

@@ -16,10 +16,12 @@ use Rattle.spin_table.specs.declared.event.EventDef.{EventDef}
 use Rattle.spin_objects.specs.Units.{HandlerUnit, GuardUnit}
 use Rattle.spin_values.specs.First.{numbered}
 
+-- both are true or both are false
 abbrev pub same_truth : Bool → Bool → Bool
 same_truth true b = b
 same_truth false b = not b
 
+-- both parameters have one kind, and both are var or neither is
 abbrev pub same_param : Param → Param → Bool
 same_param p q = same_kind p.kind q.kind && same_truth p.var q.var
 
@@ -41,6 +43,7 @@ step_raises_down event s = false
 abbrev pub raises_down : ℕ → Act → Bool
 raises_down event act = list_any (step_raises_down event) act.steps
 
+-- the step sets an argument
 abbrev pub is_set : ActStep → Bool
 is_set (step.Set arg to) = true
 is_set s = false
@@ -49,6 +52,7 @@ is_set s = false
 abbrev pub sets_argument : Act → Bool
 sets_argument act = list_any is_set act.steps
 
+-- the mode is that of a filter
 abbrev pub is_filter : Mode → Bool
 is_filter mode.Filter = true
 is_filter m = false

@@ -30,6 +30,7 @@ answer_to policies e bs c =
     if c.requester == e.owner then verdict.Allow else verdict_of
     (rules_of policies e.authority) (request_of bs c)
 
+-- the verdict is a denial, by whatever rule or by none
 abbrev pub is_denied : Verdict → Bool
 is_denied (verdict.Deny rule) = true
 is_denied v = false

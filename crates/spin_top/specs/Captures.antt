@@ -34,16 +34,17 @@ pub record IsGoodHeader (held : List File) (name : List ℕ) : Type 0 where
   pub order : Order
   pub header : header_of bytes ≡ Ok order
 
--- Where a capture is named, on a shelf that tells its files: it has its header; or a bad one, by the fault of that
--- number; or it isn't there.
+-- Where a capture is named, on a shelf that tells its files, it has its header.
 abbrev pub HasHeader : Option (List File) → Option (List ℕ) → Type 0
 HasHeader files None = ⊤
 HasHeader files (Some name) = IfSome files (λ held. IsGoodHeader held name)
 
+-- A capture is named; and where the shelf tells its files, the capture's header has the fault of that number.
 abbrev pub HasBadHeader : Option (List File) → Option (List ℕ) → ℕ → Type 0
 HasBadHeader files None fault = ⊥
 HasBadHeader files (Some name) fault = IfSome files (λ held. IsBadHeader held name fault)
 
+-- A capture is named; and where the shelf tells its files, none of them has the capture's name.
 abbrev pub IsLackingCapture : Option (List File) → Option (List ℕ) → Type 0
 IsLackingCapture files None = ⊥
 IsLackingCapture files (Some name) = IsLacking files name

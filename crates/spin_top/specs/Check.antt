@@ -38,6 +38,7 @@ NoReportBy before after name other = ⊥
 
 -- ---- the answer
 
+-- the line of the answer, `yes` or `no`, ended by a line feed
 abbrev pub answer : Bool → List ℕ
 answer whether = ended (if whether then codes "yes" else codes "no")
 

@@ -13,6 +13,7 @@ pub record Outside : Type 0 where
   pub sink : SinkSeen
   pub ends : List NamedEnd
 
+-- this shelf, this sink and these endpoints, as they are seen at one moment
 abbrev pub outside : ShelfSeen → SinkSeen → List NamedEnd → Outside
 outside shelf sink ends = record { shelf = shelf; sink = sink; ends = ends }
 

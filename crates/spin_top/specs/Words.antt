@@ -6,7 +6,7 @@ use Rattle.spin_grammar.specs.Spelling.{within, greatest}
 use Rattle.spin_top.specs.declared.words.Asked.{Asked}
 use Rattle.spin_top.specs.declared.words.Asked.TheVariants.{Run, Gen, Check, Join, Vm}
 
--- a word that can't be taken for an option: UTF-8, not empty, and not begun by `-`
+-- a word that can't be taken for an option: not empty, not begun by `-`, and UTF-8
 pub record IsPlain (word : List ℕ) : Type 0 where
   pub some : 0 < length word
   pub plain : slice_index word 0 ≢ 45

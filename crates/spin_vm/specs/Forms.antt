@@ -22,19 +22,23 @@ kind_of w =
     if bytes_eq w (codes "r") then Some false
     else (if bytes_eq w (codes "w") then Some true else None)
 
+-- that there is a space of that number, if the word is a number
 abbrev pub space_if : Option ℕ → Option Said
 space_if None = None
 space_if (Some space) = Some (said.Space space)
 
+-- that a space has a region, if space, start and pages are numbers and the rights are known
 abbrev pub region_if : Option ℕ → Option ℕ → Option ℕ → Option Bool → Option Said
 region_if (Some space) (Some start) (Some pages) (Some writable) =
     Some (said.At space (request.Region (record { start = start; pages = pages; writable = writable })))
 region_if _ _ _ _ = None
 
+-- that a page is taken out of the map of a space, if both words are numbers
 abbrev pub unmap_if : Option ℕ → Option ℕ → Option Said
 unmap_if (Some space) (Some page) = Some (said.At space (request.Unmap page))
 unmap_if _ _ = None
 
+-- that a space has an access, if space and address are numbers and the kind is known
 abbrev pub access_if : Option ℕ → Option ℕ → Option Bool → Option Said
 access_if (Some space) (Some address) (Some write) =
     Some (said.At space (request.Access address write))

@@ -23,6 +23,7 @@ use Rattle.spin_script.specs.Soundness.{lines_in, is_command_work}
 
 -- ---- scripts whose events are translation faults
 
+-- the kind is that of words
 abbrev pub is_word_kind : Kind → Bool
 is_word_kind kind.Word = true
 is_word_kind kind.Bytes = false
@@ -31,6 +32,7 @@ is_word_kind kind.Bytes = false
 abbrev pub is_word : Param → Bool
 is_word p = is_word_kind p.kind && not p.var
 
+-- there are just three parameters, each a word by value
 abbrev pub are_three_words : List Param → Bool
 are_three_words (a ∷ b ∷ c ∷ []) = is_word a && is_word b && is_word c
 are_three_words params = false
@@ -44,6 +46,7 @@ abbrev pub takes_faults : List EventDef → ℕ → Bool
 takes_faults events event =
     option_map_or (λ (e : EventDef). is_fault_type e.sig) (slice_get events event) false
 
+-- each of the lane lines asks for a command
 abbrev pub are_commands : List Line → Bool
 are_commands lines = list_all (λ (line : Line). is_command_work line.work) lines
 
@@ -52,9 +55,11 @@ abbrev pub has_fault_events : List EventDef → Bool
 has_fault_events events =
     takes_faults events 0 && takes_faults events 1 && takes_faults events 2
 
+-- each lane line of each segment asks for a command
 abbrev pub asks_commands : List Segment → Bool
 asks_commands segments = list_all (λ (s : Segment). are_commands s.lines) segments
 
+-- the script has one segment and one lane
 abbrev pub is_single : ScriptData → Bool
 is_single script = length script.segments == 1 && script.lanes == 1
 
@@ -76,6 +81,7 @@ AllLead d s [] last = last ≡ s
 AllLead d s (line ∷ lines) last =
     (next : State) × Leads d s line.work next × AllLead d next lines last
 
+-- the lane lines of the script, all in order, lead from the start to this state
 abbrev pub IsLast : ScriptData → State → Type 0
 IsLast script last = AllLead script.setup (start_of script.setup) (lines_in script.segments) last
 

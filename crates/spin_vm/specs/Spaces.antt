@@ -30,6 +30,7 @@ pub record Space : Type 0 where
   pub regions : List Region
   pub pages : List (ℕ × ℕ)
 
+-- a space without regions, in which no page is mapped
 abbrev pub empty_space : Space
 empty_space = record { regions = []; pages = [] }
 
@@ -37,6 +38,7 @@ empty_space = record { regions = []; pages = [] }
 abbrev pub page_of : ℕ → ℕ
 page_of address = address / PAGE_SIZE
 
+-- the page lies in the region
 abbrev pub has_page : ℕ → Region → Bool
 has_page page r = has_some page (page + 1) r
 
@@ -74,6 +76,7 @@ raise_of f space page write =
     deed.Raise (event_of f)
     (value.Word space ∷ value.Word page ∷ value.Word (if write then 1 else 0) ∷ [])
 
+-- the frame of that number, if the number is below 65,536
 abbrev pub frame_if : ℕ → Option ℕ
 frame_if n = if nat_lt n FRAMES then Some n else None
 
@@ -90,9 +93,11 @@ frame_given other answered = None
 
 -- ---- what lines come to, where `reply` replies to raises
 
+-- what an access with a fault comes to: the fault, the reply to its raise, and the frame that this gives, if any
 abbrev pub faulted : Fault → Reply → Came
 faulted f answered = came.Faulted f answered (frame_given f answered)
 
+-- what an access comes to: the frame that was found, or the fault and the reply to its raise
 abbrev pub access_came : (Deed → Reply) → (space page : ℕ) → Bool → Result ℕ Fault → Came
 access_came reply space page write (Ok frame) = came.Found frame
 access_came reply space page write (Err f) = faulted f (reply (raise_of f space page write))
@@ -109,6 +114,7 @@ abbrev pub mapped : ℕ → Came → List (ℕ × ℕ) → List (ℕ × ℕ)
 mapped page (came.Faulted f answered frame) pages = with_page page frame pages
 mapped page other pages = pages
 
+-- the space after an access: a page that wasn't there is mapped where the reply gave a frame
 abbrev pub after_access : (Deed → Reply) → ℕ → Space → ℕ → Bool → Space
 after_access reply space s page write =
     record s { pages = mapped page (access_came reply space page write (look_up s page write)) s.pages }
@@ -122,10 +128,12 @@ space_after reply space s (request.Access address write) =
 
 -- ---- all spaces
 
+-- the space, or an empty one where there is none
 abbrev pub space_if : Option Space → Space
 space_if None = empty_space
 space_if (Some s) = s
 
+-- the space of that number, or an empty one where there is none
 abbrev pub space_at : List Space → ℕ → Space
 space_at spaces space = space_if (slice_get spaces space)
 
@@ -153,6 +161,7 @@ abbrev pub space_of : Said → ℕ
 space_of (said.Space space) = space
 space_of (said.At space asked) = space
 
+-- a list of what the line came to, with its number and its space; the empty list where it came to nothing
 abbrev pub answered_if : TraceLine → Option Came → List Answered
 answered_if line None = []
 answered_if line (Some c) = record { number = line.number; space = space_of line.said; came = c } ∷ []

@@ -20,6 +20,7 @@ use Rattle.spin_vm.specs.Regions.{has_some, with_region}
 
 -- ---- the spaces so far, by their regions
 
+-- these regions, or none where there is no space
 abbrev pub regions_if : Option (List Region) → List Region
 regions_if None = []
 regions_if (Some regions) = regions
@@ -47,6 +48,7 @@ is_bad_region regions r =
     r.pages == 0 || nat_lt PAGES (r.start + r.pages)
     || list_any (has_some r.start (r.start + r.pages)) regions
 
+-- 7 and 8: of a region that is added to these; other requests have no such causes
 abbrev pub region_checks : List Region → Request → List (Bool × TraceCause)
 region_checks regions (request.Region r) =
     (is_bad_region regions r, cause.Region)
@@ -54,6 +56,7 @@ region_checks regions (request.Region r) =
     ∷ []
 region_checks regions other = []
 
+-- the causes for which what a line says can't stand behind these spaces, in order, each with its condition
 abbrev pub checks : List (List Region) → Said → List (Bool × TraceCause)
 checks spaces (said.Space space) =
     (not (space == length spaces) || nat_lt LAST_SPACE space, cause.Next) ∷ []
@@ -75,23 +78,28 @@ pub record TraceState : Type 0 where
   pub spaces : List (List Region)
   pub lines : List TraceLine
 
+-- the trace before all lines
 abbrev pub start : TraceState
 start = record { begun = false; spaces = []; lines = [] }
 
+-- the trace with that line more, which has that number in the text
 abbrev pub with_line : TraceState → ℕ → Said → TraceState
 with_line s number what = record s {
   spaces = regions_after s.spaces what;
   lines = s.lines ++ record { number = number; said = what } ∷ [];
 }
 
+-- the trace with that line more, or the cause for which the line is bad, if there is one
 abbrev pub line_if : TraceState → ℕ → Said → Option TraceCause → Result TraceState TraceCause
 line_if s number what None = Ok (with_line s number what)
 line_if s number what (Some c) = Err c
 
+-- the trace after a line that says this: 4 where it has no form, or else the first cause that applies
 abbrev pub after_said : TraceState → ℕ → Option Said → Result TraceState TraceCause
 after_said s number None = Err cause.Form
 after_said s number (Some what) = line_if s number what (first_of (checks s.spaces what))
 
+-- the trace after its first line, or 3 where that isn't `vm 1`
 abbrev pub after_first : TraceState → Bool → Result TraceState TraceCause
 after_first s true = Ok (record s { begun = true })
 after_first s false = Err cause.Version

@@ -10,7 +10,7 @@ use Rattle.spin_word.specs.declared.command.Mode.TheVariants.{Plain, Filter, Asy
 use Rattle.spin_word.specs.declared.command.Command.{Command}
 use Rattle.spin_word.specs.declared.command.TheConstants.{MAX_EVENTS, LANE_LIMIT, HANDLER_LIMIT, GUARD_LIMIT, MAX_PLACE, NO_BINDING, NO_BINDINGS}
 
--- the numbers of ops, places and modes
+-- the number of an op
 abbrev pub number_of_op : Op → ℕ
 number_of_op Install = 1
 number_of_op Remove = 2
@@ -18,11 +18,13 @@ number_of_op Replace = 3
 number_of_op Default = 4
 number_of_op NoDefault = 5
 
+-- the number of a place
 abbrev pub number_of_place : Place → ℕ
 number_of_place Free = 0
 number_of_place First = 1
 number_of_place Last = 2
 
+-- the number of a mode
 abbrev pub number_of_mode : Mode → ℕ
 number_of_mode Plain = 0
 number_of_mode Filter = 1
@@ -50,17 +52,19 @@ bindings_or_none ns = (length ns == 4) && list_all binding_or_none ns && rises n
 abbrev pub all_none : List ℕ → Bool
 all_none ns = list_all (λ n. n == no_number) ns
 
--- which ops use which fields. All use event, lane and requester
+-- the op uses the target; event, lane and requester are used by each
 abbrev pub target_is_used : Op → Bool
 target_is_used Remove = true
 target_is_used Replace = true
 target_is_used op = false
 
+-- only an install and a replace use a guard
 abbrev pub guard_is_used : Op → Bool
 guard_is_used Install = true
 guard_is_used Replace = true
 guard_is_used op = false
 
+-- only an install, a replace and a default use a handler
 abbrev pub handler_is_used : Op → Bool
 handler_is_used Install = true
 handler_is_used Replace = true
