@@ -1,15 +1,16 @@
 //! The command `check`: whether a report is that of a history of a script.
 
-ghost use Rattle.std.specs.Prelude.{◌≡◌, ◌≤◌, Decides, IfOk, IfErr, IfSome, length, option_map};
+ghost use Rattle.std.specs.Prelude.{◌≡◌, ◌≤◌, ℕ, List, Decides, IfOk, IfErr, IfSome, length, option_map};
 ghost use Rattle.spin_check.specs.RunTexts.{IsRunText, StandAs, capture_of};
 ghost use Rattle.spin_word.specs.declared.command.TheConstants.{MAX_PLACE};
 ghost use Rattle.spin_pcap.specs.declared.limits.TheConstants.{MAX_RECORDS};
-ghost use Rattle.spin_script.specs.States.{natives_seen};
+ghost use Rattle.spin_outside.specs.Seen.{ShelfSeen};
+ghost use Rattle.spin_script.specs.States.{NativeData, natives_seen};
 ghost use Rattle.spin_script.specs.Scripts.{script_seen};
 ghost use Rattle.spin_script.specs.Segments.{IsOrderly};
 ghost use Rattle.spin_script.specs.Soundness.{AreValid, command_lines};
 ghost use Rattle.spin_top.specs.Check.{max_report, answer, answer_end, IsCheckStatus, NoReportBy, TellsAnswer};
-ghost use Rattle.spin_top.specs.Loading.{IsContent};
+ghost use Rattle.spin_top.specs.Loading.{IsContent, IsLoaded};
 ghost use Rattle.spin_top.specs.Outside.{outside};
 ghost use Rattle.spin_top.specs.Shelves.{ShelfStood};
 
@@ -102,6 +103,44 @@ fn tell<K: Sink>(out: &mut K, yes: bool) -> End
     }
 }
 
+/// Judges the report by a script that was read, and answers the status.
+fn check_script<F: Shelf, K: Sink>(
+    alloc: Global,
+    script: &Script,
+    report: &Text,
+    packets: Option<Text>,
+    shelf: &mut F,
+    out: &mut K,
+    ends: &Ends,
+) -> u8
+    requires sincere { ⟦<Catalogue as Sincere>⟧.sincere script.now.setup.catalogue }
+    requires valid { AreValid script.now.segments }
+    requires commands { command_lines script.now.segments ≤ MAX_PLACE }
+    requires orderly { IsOrderly (script_seen script.now) }
+    ensures { (natives : NativeData) (before : ShelfSeen) (name : List ℕ)
+        → ShelfStood before (F.seen shelf.old)
+        → IsLoaded natives before.files name (script_seen script.now)
+        → IsCheckStatus natives
+        (outside before (K.seen out.old) (⟦<Ends as EndsSeen>⟧.all ends.now))
+        (outside (F.seen shelf.new) (K.seen out.new) (⟦<Ends as EndsSeen>⟧.all ends.now))
+        name report.now packets result }
+{
+    let capture = match captured_of(alloc, shelf, packets) {
+        Ok(capture) => capture,
+        Err(end) => return stop(out, end),
+    };
+    let text = match report_of(alloc, shelf, report) {
+        Ok(text) => text,
+        Err(end) => return stop(out, end),
+    };
+    let yes = match is_of_history(alloc, script, &capture, ends, text.as_slice()) {
+        Ok(yes) => yes,
+        Err(NoMemory) => return stop(out, End::NoMemory),
+    };
+    let end = tell(out, yes);
+    stop(out, end)
+}
+
 /// Does `check SCRIPT REPORT` or `check SCRIPT REPORT PACKETS`, and answers the status, which has its cause. Nothing is
 /// sent to the endpoints; which of them stand is all that is asked. Script, capture and report are held in memory.
 pub fn check_command<F: Shelf, K: Sink>(
@@ -120,22 +159,8 @@ pub fn check_command<F: Shelf, K: Sink>(
         (outside (F.seen shelf.new) (K.seen out.new) (⟦<Ends as EndsSeen>⟧.all ends.now))
         name report packets result }
 {
-    let script = match script_of(alloc, shelf, &name, natives) {
-        Ok(script) => script,
-        Err(end) => return stop(out, end),
-    };
-    let capture = match captured_of(alloc, shelf, packets) {
-        Ok(capture) => capture,
-        Err(end) => return stop(out, end),
-    };
-    let text = match report_of(alloc, shelf, &report) {
-        Ok(text) => text,
-        Err(end) => return stop(out, end),
-    };
-    let yes = match is_of_history(alloc, &script, &capture, ends, text.as_slice()) {
-        Ok(yes) => yes,
-        Err(NoMemory) => return stop(out, End::NoMemory),
-    };
-    let end = tell(out, yes);
-    stop(out, end)
+    match script_of(alloc, shelf, &name, natives) {
+        Ok(script) => check_script(alloc, &script, &report, packets, shelf, out, ends),
+        Err(end) => stop(out, end),
+    }
 }

@@ -1,28 +1,10 @@
 use Rattle.std.proofs.Common.{refl}
-use Rattle.std.specs.Prelude.{option_map}
-use Rattle.spin_script.specs.Scripts.{script_seen}
-use Rattle.spin_check.specs.RunTexts.{capture_of}
-use Rattle.spin_top.specs.declared.end.End.TheVariants.{NoMemory}
-use Rattle.spin_top.proofs.CheckCauses.{not_captured, not_judged, not_loaded, not_reported, was_answered}
+use Rattle.spin_top.proofs.CheckCauses.{not_loaded}
 use Rattle.spin_top.proofs.commands.check.check_command.Goals as goal
 
-pub returns-in-Err : goal.returns-in-Err
-returns-in-Err g c =
-    (c.in-Err.end, c.stop.ensures.status, not_loaded _ _ _ _ _ _ c.in-Err.end c.in-Err.ensures.refused (record { ends = refl; tells = c.stop.ensures.line }))
-
-pub returns-in-Err-captured_of : goal.returns-in-Err-captured_of
-returns-in-Err-captured_of g c =
-    (c.in-Err-captured_of.end, c.stop-in-Err-captured_of.ensures.status, not_captured _ _ _ _ _ _ _ (script_seen c.in-Ok.script) c.in-Err-captured_of.end c.in-Ok.ensures.stood c.in-Ok.ensures.loaded c.in-Err-captured_of.ensures.refused (record { ends = refl; tells = c.stop-in-Err-captured_of.ensures.line }))
-
-pub returns-in-Err-report_of : goal.returns-in-Err-report_of
-returns-in-Err-report_of g c =
-    (c.in-Err-report_of.end, c.stop-in-Err-report_of.ensures.status, not_reported _ _ _ _ _ _ _ _ (script_seen c.in-Ok.script) (option_map capture_of c.in-Ok-captured_of.capture) c.in-Err-report_of.end c.in-Ok.ensures.stood c.in-Ok.ensures.loaded c.in-Ok-captured_of.ensures.stood c.in-Ok-captured_of.ensures.read c.in-Err-report_of.ensures.refused (record { ends = refl; tells = c.stop-in-Err-report_of.ensures.line }))
-
-pub returns-in-Err-is_of_history : goal.returns-in-Err-is_of_history
-returns-in-Err-is_of_history g c =
-    (NoMemory, c.stop-in-Err-is_of_history.ensures.status, not_judged _ _ _ _ c.in-Ok.ensures.stood c.in-Ok-captured_of.ensures.stood c.in-Ok-report_of.ensures.stood (record { ends = refl; tells = c.stop-in-Err-is_of_history.ensures.line }))
+pub returns-in-Ok : goal.returns-in-Ok
+returns-in-Ok g c = c.check_script.ensures _ _ _ c.in-Ok.ensures.stood c.in-Ok.ensures.loaded
 
 pub returns : goal.returns
 returns g c =
-    let judged = rw c.as_slice.ensures at c.in-Ok-is_of_history.ensures in
-    (c.tell-end.result, c.stop-2.ensures.status, was_answered _ _ _ _ _ _ _ _ _ (script_seen c.in-Ok.script) (option_map capture_of c.in-Ok-captured_of.capture) _ c.in-Ok-is_of_history.yes c.tell-end.result c.in-Ok.ensures.stood c.in-Ok.ensures.loaded c.in-Ok-captured_of.ensures.stood c.in-Ok-captured_of.ensures.read c.in-Ok-report_of.ensures.stood c.in-Ok-report_of.ensures.read c.in-Ok-report_of.ensures.few judged c.tell-end.ensures c.stop-2.ensures.line refl)
+    (c.in-Err.end, c.stop.ensures.status, not_loaded _ _ _ _ _ _ c.in-Err.end c.in-Err.ensures.refused (record { ends = refl; tells = c.stop.ensures.line }))
