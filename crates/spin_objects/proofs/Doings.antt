@@ -1,6 +1,6 @@
 -- What a native does is what its place in the lists says.
-use Rattle.std.proofs.Common.{◌≡◌, ℕ, List, map, refl, ap, ◌∙◌}
-use Rattle.std.specs.Prelude.{Option, None, Some, slice_get}
+use Rattle.std.proofs.Common.{◌≡◌, ℕ, ◌<◌, List, map, refl, ap, ◌∙◌}
+use Rattle.std.specs.Prelude.{Option, None, Some, IfSome, slice_get}
 use Rattle.std.specs.Option.{option_map}
 use Rattle.std.proofs.lemmas.Option.{slice_get-map, same_Some}
 use Rattle.spin_values.specs.declared.values.Value.{Value}
@@ -11,6 +11,7 @@ use Rattle.spin_objects.specs.declared.unit.Body.{Body}
 use Rattle.spin_objects.specs.declared.unit.Body.TheVariants as body
 use Rattle.spin_objects.specs.declared.unit.Check.{Check}
 use Rattle.spin_objects.specs.declared.unit.Check.TheVariants as check
+use Rattle.spin_objects.specs.There.{IsBodyThere, IsCheckThere}
 use Rattle.spin_objects.specs.Units.{Named, HandlerUnit, GuardUnit, unit_of_body, unit_of_check, native_of_body, native_of_check, handler_if, guard_if, act_if, known_handler, known_guard}
 
 -- a native handler of an index that is there
@@ -22,6 +23,15 @@ handler_known natives k n there = rw (slice_get-map known_handler natives k, the
 pub guard_known : {C : Type 0} {D : C → Type 0} (natives : List (NativeGuard C D)) (k : ℕ) (n : NativeGuard C D)
     → slice_get natives k ≡ Some n → guard_if (slice_get (map known_guard natives) k) ≡ (known_guard n).unit
 guard_known natives k n there = rw (slice_get-map known_guard natives k, there) refl
+
+-- the native that a handler is, and the one that a guard is, is there
+pub native_body_there : (natives : ℕ) (b : Body) → IsBodyThere natives b → IfSome (native_of_body b) (λ native. native < natives)
+native_body_there natives (body.Coded sig act) there = tt
+native_body_there natives (body.Native native) there = there
+
+pub native_check_there : (natives : ℕ) (c : Check) → IsCheckThere natives c → IfSome (native_of_check c) (λ native. native < natives)
+native_check_there natives (check.Coded sig test) there = tt
+native_check_there natives (check.Native native) there = there
 
 found_act : (natives : List (Named HandlerUnit)) (found : Option Body) (native : ℕ)
     → option_map native_of_body found ≡ Some (Some native)

@@ -1,13 +1,34 @@
 -- Reading a list that was mapped, and finding in it.
-use Rattle.std.proofs.Common.{◌≡◌, ℕ, ◌+◌, Bool, not, cond, List, [], ◌∷◌, map, length, refl, sym, ap, ◌∙◌}
-use Rattle.std.specs.Prelude.{Some, None, slice_get, nat_lt, position}
+use Rattle.std.proofs.Common.{◌≡◌, ℕ, ◌+◌, ◌-◌, ◌<◌, ◌≤◌, Bool, not, cond, List, [], ◌∷◌, map, length, refl, sym, ap, subst, ◌∙◌, arith}
+use Rattle.std.specs.Prelude.{Some, None, IsSomeAnd, All, slice_get, nat_lt, position}
 use Rattle.std.specs.List.{position_or_len}
 use Rattle.std.proofs.lemmas.List.{length-map}
-use Rattle.std.proofs.lemmas.Option.{slice_get-map}
+use Rattle.std.proofs.lemmas.List.Elements.{All-get_or}
+use Rattle.std.proofs.lemmas.Option.{slice_get-map, slice_get_within, get_or_from_slice_get}
 
 pub read_mapped : {A B C : Type 0} (f : A → B) (g : B → C) (xs : List A) (k : ℕ) (x : A)
     → slice_get xs k ≡ Some x → slice_get (map g (map f xs)) k ≡ Some (g (f x))
 read_mapped f g xs k x there = rw (slice_get-map g (map f xs) k, slice_get-map f xs k, there) refl
+
+-- what holds of what an element was mapped to
+pub read_and : {A B : Type 0} (f : A → B) (P : B → Type 0) (xs : List A) (k : ℕ) (x : A)
+    → slice_get xs k ≡ Some x → P (f x) → IsSomeAnd (slice_get (map f xs) k) P
+read_and f P xs k x there this = rw (slice_get-map f xs k, there) this
+
+-- what holds of each element holds of one that is there
+pub read_all : {A : Type 0} (P : A → Type 0) (xs : List A) (k : ℕ) (x : A) → All P xs → slice_get xs k ≡ Some x → P x
+read_all P xs k x all there = subst P (get_or_from_slice_get xs k x x there) (All-get_or P xs k x (slice_get_within xs k x there) all)
+
+-- the place of what has a number, the first having number 1
+pub place_there : {A B : Type 0} (f : A → B) (xs : List A) (number : ℕ) → 0 < number → number ≤ length (map f xs) → number - 1 < length xs
+place_there f xs number first last = omega (arith, first, last, length-map xs f)
+
+-- a place of a list that was mapped, and of one that was mapped twice, is one of the list
+pub place_mapped : {A B : Type 0} (f : A → B) (xs : List A) (k : ℕ) → k < length (map f xs) → k < length xs
+place_mapped f xs k there = omega (arith, there, length-map xs f)
+
+pub place_mapped_twice : {A B C : Type 0} (f : A → B) (g : B → C) (xs : List A) (k : ℕ) → k < length (map g (map f xs)) → k < length xs
+place_mapped_twice f g xs k there = place_mapped f xs k (place_mapped g (map f xs) k there)
 
 position_or_len_mapped : {A B : Type 0} (p : B → Bool) (f : A → B) (xs : List A) → position_or_len p (map f xs) ≡ position_or_len (λ x. p (f x)) xs
 position_or_len_mapped p f [] = refl

@@ -9,7 +9,7 @@ use crate::item::Outcome;
 use crate::kinds::NativeKind;
 use crate::natives::Natives;
 use crate::run::run_act;
-use crate::unit::{Body, CatalogueFault, Check};
+use crate::unit::{Body, CatalogueFault, Check, keep};
 use spin_code::{Act, Guards, Sincere, Test, holds};
 use spin_values::{Args, EventType, NoMemory, Sequence, Steps};
 use std::alloc::Global;
@@ -76,13 +76,8 @@ impl Catalogue {
         ensures answer { IsBy (handler_refusal body (length (native_handlers self.old.natives)) (length (handlers_of self.old))) result }
     {
         let natives = self.natives.count(NativeKind::Handler);
-        match body.refusal(natives, self.bodies.len()) {
-            Some(fault) => Err(fault),
-            None => match self.bodies.push(body) {
-                Ok(()) => Ok(self.bodies.len() as u16),
-                Err(NoMemory) => Err(CatalogueFault::NoMemory),
-            },
-        }
+        let refusal = body.refusal(natives, self.bodies.len());
+        keep(&mut self.bodies, body, refusal)
     }
 
     /// Adds a guard, and answers its number, the first being 1.
@@ -104,13 +99,28 @@ impl Catalogue {
         ensures answer { IsBy (guard_refusal check (length (native_guards self.old.natives)) (length (guards_of self.old))) result }
     {
         let natives = self.natives.count(NativeKind::Guard);
-        match check.refusal(natives, self.checks.len()) {
-            Some(fault) => Err(fault),
-            None => match self.checks.push(check) {
-                Ok(()) => Ok(self.checks.len() as u16),
-                Err(NoMemory) => Err(CatalogueFault::NoMemory),
-            },
-        }
+        let refusal = check.refusal(natives, self.checks.len());
+        keep(&mut self.checks, check, refusal)
+    }
+
+    /// The handler of a number that is there.
+    fn body(&self, handler: u16) -> &Body
+        requires first { 0 < handler }
+        requires last { handler ≤ length (handlers_of self.now) }
+        ensures body { numbered self.now.bodies handler ≡ Some result.now }
+        ensures there { IsBodyThere (length self.now.natives.handlers) result.now }
+    {
+        self.bodies.get(handler as usize - 1)
+    }
+
+    /// The guard of a number that is there.
+    fn check(&self, guard: u16) -> &Check
+        requires first { 0 < guard }
+        requires last { guard ≤ length (guards_of self.now) }
+        ensures check { numbered self.now.checks guard ≡ Some result.now }
+        ensures there { IsCheckThere (length self.now.natives.guards) result.now }
+    {
+        self.checks.get(guard as usize - 1)
     }
 
     /// The natives.
@@ -127,7 +137,7 @@ impl Catalogue {
         ensures native { numbered (handler_natives self.now) handler ≡ Some result }
         ensures there { IfSome result (λ native. native < length (native_handlers self.now.natives)) }
     {
-        self.bodies.get(handler as usize - 1).native()
+        self.body(handler).native()
     }
 
     /// Of a guard that is there, the index of the native that it is; `None` exactly where it is coded.
@@ -137,7 +147,7 @@ impl Catalogue {
         ensures native { numbered (guard_natives self.now) guard ≡ Some result }
         ensures there { IfSome result (λ native. native < length (native_guards self.now.natives)) }
     {
-        self.checks.get(guard as usize - 1).native()
+        self.check(guard).native()
     }
 
     /// How many handlers there are.
@@ -153,7 +163,7 @@ impl Catalogue {
         requires last { handler ≤ length (acts_of self.now) }
         ensures { numbered (acts_of self.now) handler ≡ Some result.now }
     {
-        match self.bodies.get(handler as usize - 1) {
+        match self.body(handler) {
             Body::Coded(_, act) => act,
             Body::Native(native) => &self.natives.handler(*native).act,
         }
@@ -165,7 +175,7 @@ impl Catalogue {
         requires last { handler ≤ length (handlers_of self.now) }
         ensures { IsSomeAnd (numbered (handlers_of self.now) handler) (λ u. result.now ≡ u.sig) }
     {
-        match self.bodies.get(handler as usize - 1) {
+        match self.body(handler) {
             Body::Coded(sig, _) => sig,
             Body::Native(native) => &self.natives.handler(*native).sig,
         }
@@ -177,7 +187,7 @@ impl Catalogue {
         requires last { guard ≤ length (guards_of self.now) }
         ensures { IsSomeAnd (numbered (guards_of self.now) guard) (λ u. result.now ≡ u.sig) }
     {
-        match self.checks.get(guard as usize - 1) {
+        match self.check(guard) {
             Check::Coded(sig, _) => sig,
             Check::Native(native) => &self.natives.guard(*native).sig,
         }
@@ -214,7 +224,7 @@ impl Guards for Catalogue {
     }
 
     fn test_of(&self, guard: u16) -> &Test {
-        match self.checks.get(guard as usize - 1) {
+        match self.check(guard) {
             Check::Coded(_, test) => test,
             Check::Native(native) => &self.natives.guard(*native).test,
         }

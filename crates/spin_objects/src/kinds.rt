@@ -1,9 +1,10 @@
 //! The kinds of natives, and why a native is refused.
 
-ghost use Rattle.std.specs.Prelude.{◌≡◌};
+ghost use Rattle.std.specs.Prelude.{◌≡◌, ◌++◌, [], ◌∷◌, OnOk, OnErr};
 ghost use Rattle.spin_objects.specs.Adding as specs;
 
 use spin_code::ActFault;
+use spin_values::{NoMemory, Sequence};
 use thiserror::Error;
 
 /// The greatest number of natives of one kind.
@@ -45,5 +46,24 @@ pub(crate) fn checked_refusal(checked: Result<(), ActFault>, count: usize) -> Op
         Err(fault) => Some(NativeFault::Bad(fault)),
         Ok(()) if count < MAX_NATIVES => None,
         Ok(()) => Some(NativeFault::TooMany),
+    }
+}
+
+/// Adds a native to those of its kind, which stay as they are where it is refused, or where there is no memory for it.
+pub(crate) fn keep<T: Drop>(
+    natives: &mut Sequence<T>,
+    native: T,
+    refusal: Option<NativeFault>,
+) -> Result<(), NativeFault>
+    ensures added { OnOk result (natives.new ≡ natives.old ++ native ∷ []) }
+    ensures kept { OnErr result (natives.new ≡ natives.old) }
+    ensures answer { specs.IsNativeBy refusal result }
+{
+    match refusal {
+        Some(fault) => Err(fault),
+        None => match natives.push(native) {
+            Ok(()) => Ok(()),
+            Err(NoMemory) => Err(NativeFault::NoMemory),
+        },
     }
 }

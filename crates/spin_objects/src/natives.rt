@@ -8,7 +8,7 @@ ghost use Rattle.spin_objects.specs.Doing.{IsDone};
 ghost use Rattle.spin_objects.specs.declared.kinds.TheConstants.{MAX_NATIVES};
 
 use crate::item::Outcome;
-use crate::kinds::{NativeFault, NativeKind, checked_refusal};
+use crate::kinds::{NativeFault, NativeKind, checked_refusal, keep};
 use crate::object::{Guard, Handler};
 use crate::pair::{NativeAuthoriser, NativeGuard, NativeHandler, place_of};
 use spin_code::{Act, ActFault, Sincere, Test, check_act, check_test};
@@ -101,21 +101,15 @@ impl Natives {
         ensures authorisers { native_authorisers self.new ≡ native_authorisers self.old }
         ensures answer { IsNativeBy (adding_refusal name (names_of NativeKind.Handler self.old) (act_check act sig)) result }
     {
-        match self.refusal(NativeKind::Handler, &name, check_act(&act, &sig)) {
-            Some(fault) => Err(fault),
-            None => {
-                let native = NativeHandler {
-                    name,
-                    sig,
-                    act,
-                    object,
-                };
-                match self.handlers.push(native) {
-                    Ok(()) => Ok(()),
-                    Err(NoMemory) => Err(NativeFault::NoMemory),
-                }
-            }
-        }
+        let native = NativeHandler {
+            name,
+            sig,
+            act,
+            object,
+        };
+        let checked = check_act(&native.act, &native.sig);
+        let refusal = self.refusal(NativeKind::Handler, &native.name, checked);
+        keep(&mut self.handlers, native, refusal)
     }
 
     /// Adds a guard of this name, whose object asks this test of events of this signature.
@@ -139,21 +133,15 @@ impl Natives {
         ensures authorisers { native_authorisers self.new ≡ native_authorisers self.old }
         ensures answer { IsNativeBy (adding_refusal name (names_of NativeKind.Guard self.old) (test_check test sig)) result }
     {
-        match self.refusal(NativeKind::Guard, &name, check_test(&test, &sig)) {
-            Some(fault) => Err(fault),
-            None => {
-                let native = NativeGuard {
-                    name,
-                    sig,
-                    test,
-                    object,
-                };
-                match self.guards.push(native) {
-                    Ok(()) => Ok(()),
-                    Err(NoMemory) => Err(NativeFault::NoMemory),
-                }
-            }
-        }
+        let native = NativeGuard {
+            name,
+            sig,
+            test,
+            object,
+        };
+        let checked = check_test(&native.test, &native.sig);
+        let refusal = self.refusal(NativeKind::Guard, &native.name, checked);
+        keep(&mut self.guards, native, refusal)
     }
 
     /// Adds an authoriser of this name, whose object answers by this policy.
@@ -176,20 +164,13 @@ impl Natives {
         ensures guards { native_guards self.new ≡ native_guards self.old }
         ensures answer { IsNativeBy (adding_refusal name (names_of NativeKind.Authoriser self.old) (Ok tt)) result }
     {
-        match self.refusal(NativeKind::Authoriser, &name, Ok(())) {
-            Some(fault) => Err(fault),
-            None => {
-                let native = NativeAuthoriser {
-                    name,
-                    policy,
-                    object,
-                };
-                match self.authorisers.push(native) {
-                    Ok(()) => Ok(()),
-                    Err(NoMemory) => Err(NativeFault::NoMemory),
-                }
-            }
-        }
+        let native = NativeAuthoriser {
+            name,
+            policy,
+            object,
+        };
+        let refusal = self.refusal(NativeKind::Authoriser, &native.name, Ok(()));
+        keep(&mut self.authorisers, native, refusal)
     }
 
     /// How many natives of the kind there are. An index is there exactly where it is below.

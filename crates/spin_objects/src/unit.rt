@@ -1,10 +1,11 @@
 //! Handlers and guards as they are handed to a catalogue, and why they are refused.
 
-ghost use Rattle.std.specs.Prelude.{◌≡◌};
+ghost use Rattle.std.specs.Prelude.{◌≡◌, ◌+◌, ◌<◌, ◌++◌, [], ◌∷◌, length, None, OnOk, OnErr, IfOk};
 ghost use Rattle.spin_objects.specs.Adding as specs;
+ghost use Rattle.spin_objects.specs.declared.unit.TheConstants.{MAX_UNITS};
 
 use spin_code::{Act, ActFault, Test, check_act, check_test};
-use spin_values::EventType;
+use spin_values::{EventType, NoMemory, Sequence};
 use thiserror::Error;
 
 /// What a handler is.
@@ -117,4 +118,29 @@ fn native_refusal(native: u16, natives: u16, count: usize) -> Option<CatalogueFa
         return Some(CatalogueFault::NoNative);
     }
     None
+}
+
+/// Adds a handler or a guard to those that are there, and answers its number, the first being 1. They stay as they are
+/// where it is refused, or where there is no memory for it.
+pub(crate) fn keep<T: Drop>(
+    units: &mut Sequence<T>,
+    unit: T,
+    refusal: Option<CatalogueFault>,
+) -> Result<u16, CatalogueFault>
+    requires room { refusal ≡ None → length units.old < MAX_UNITS }
+    ensures number { IfOk result (λ number. number ≡ length units.old + 1) }
+    ensures added { OnOk result (units.new ≡ units.old ++ unit ∷ []) }
+    ensures kept { OnErr result (units.new ≡ units.old) }
+    ensures answer { specs.IsBy refusal result }
+{
+    match refusal {
+        Some(fault) => Err(fault),
+        None => {
+            let number = units.len() as u16 + 1;
+            match units.push(unit) {
+                Ok(()) => Ok(number),
+                Err(NoMemory) => Err(CatalogueFault::NoMemory),
+            }
+        }
+    }
 }
