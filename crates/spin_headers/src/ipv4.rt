@@ -1,7 +1,7 @@
 //! The header of IPv4.
 
 ghost use Rattle.std.specs.Prelude.{◌≡◌, ◌≤◌, ◌+◌, ◌++◌, ℕ, List, length, drop, Ok, IfOk};
-ghost use Rattle.spin_headers.specs.Headers.{fragment_of, ipv4_of, ipv4_header, ipv4_payload, is_part};
+ghost use Rattle.spin_headers.specs.Headers.{fragment_of, ipv4_of, ipv4_bytes, ipv4_header, ipv4_payload, is_part};
 ghost use Rattle.spin_headers.specs.Headers as specs;
 
 use crate::fault::HeaderFault;
@@ -148,9 +148,32 @@ pub fn read_ipv4(bytes: &[u8]) -> Result<Ipv4, HeaderFault>
     Ok(fragment.header)
 }
 
+/// A header of those fields with 0 in place of its checksum.
+fn without_checksum(
+    ident: u16,
+    ttl: u8,
+    protocol: u8,
+    source: u32,
+    destination: u32,
+    payload_len: u16,
+) -> [u8; 20]
+    requires { payload_len ≤ 65515 }
+    ensures { result ≡ ipv4_bytes ident ttl protocol source destination payload_len 0 }
+{
+    let mut header = [0u8; 20];
+    header[0] = VERSION_AND_WORDS;
+    BigEndian::write_u16(&mut header[2..], 20 + payload_len);
+    BigEndian::write_u16(&mut header[4..], ident);
+    BigEndian::write_u16(&mut header[6..], DO_NOT_FRAGMENT);
+    header[8] = ttl;
+    header[9] = protocol;
+    BigEndian::write_u32(&mut header[12..], source);
+    BigEndian::write_u32(&mut header[16..], destination);
+    header
+}
+
 /// Writes a header for a payload of that many bytes, at most 65,515, into `out`, which has 20 bytes: no options,
 /// type of service 0, not to be broken up, and the right checksum. With any such payload after it it is valid.
-#[tactic(auto, unfolding(crate::specs::Headers::ipv4_of))]
 pub fn write_ipv4(
     ident: u16,
     ttl: u8,
@@ -176,15 +199,7 @@ pub fn write_ipv4(
         → (ipv4_of (out.new ++ payload) ≡ Ok header)
         × (ipv4_payload header (out.new ++ payload) ≡ payload) }
 {
-    let mut header = [0u8; 20];
-    header[0] = VERSION_AND_WORDS;
-    BigEndian::write_u16(&mut header[2..], 20 + payload_len);
-    BigEndian::write_u16(&mut header[4..], ident);
-    BigEndian::write_u16(&mut header[6..], DO_NOT_FRAGMENT);
-    header[8] = ttl;
-    header[9] = protocol;
-    BigEndian::write_u32(&mut header[12..], source);
-    BigEndian::write_u32(&mut header[16..], destination);
+    let mut header = without_checksum(ident, ttl, protocol, source, destination, payload_len);
     let sum = checksum(&header);
     BigEndian::write_u16(&mut header[10..], sum);
     out.copy_from_slice(&header);

@@ -1,7 +1,7 @@
 //! The header of UDP.
 
 ghost use Rattle.std.specs.Prelude.{◌≡◌, ◌≤◌, ◌+◌, ◌++◌, length, Ok, IfOk};
-ghost use Rattle.spin_headers.specs.Headers.{udp_of, udp_payload, udp_datagram};
+ghost use Rattle.spin_headers.specs.Headers.{udp_of, udp_bytes, udp_payload, udp_datagram};
 ghost use Rattle.spin_headers.specs.Headers as specs;
 ghost use Rattle.spin_headers.specs.Sums.{word_sum};
 
@@ -81,11 +81,24 @@ pub fn read_udp(bytes: &[u8], source: u32, destination: u32) -> Result<Udp, Head
     Ok(header)
 }
 
+/// Writes header and payload into `out` with 0 in place of the checksum.
+fn write_without_checksum(source_port: u16, destination_port: u16, payload: &[u8], out: &mut [u8])
+    requires room { length out.old ≡ 8 + length payload.now }
+    requires payload { length payload.now ≤ 65507 }
+    ensures { out.new ≡ udp_bytes source_port destination_port 0 payload.now }
+{
+    let mut header = [0u8; HEADER];
+    BigEndian::write_u16(&mut header, source_port);
+    BigEndian::write_u16(&mut header[2..], destination_port);
+    BigEndian::write_u16(&mut header[4..], (HEADER + payload.len()) as u16);
+    out[..HEADER].copy_from_slice(&header);
+    out[HEADER..].copy_from_slice(payload);
+}
+
 /// Writes header and payload into `out`, which has 8 bytes more than the payload, with the checksum for these
 /// addresses. The payload has at most 65,507 bytes, which is what fits an IPv4 packet. A checksum that is computed
 /// as 0 is written as 0xFFFF, since 0 says that none was made. It takes one pass over the payload to copy it, and
 /// one to sum it.
-#[tactic(auto, unfolding(crate::specs::Headers::udp_of))]
 pub fn write_udp(
     source: u32,
     destination: u32,
@@ -107,12 +120,7 @@ pub fn write_udp(
         × (udp_payload header out.new ≡ payload.now) }
 {
     let length = (HEADER + payload.len()) as u16;
-    let mut header = [0u8; HEADER];
-    BigEndian::write_u16(&mut header, source_port);
-    BigEndian::write_u16(&mut header[2..], destination_port);
-    BigEndian::write_u16(&mut header[4..], length);
-    out[..HEADER].copy_from_slice(&header);
-    out[HEADER..].copy_from_slice(payload);
+    write_without_checksum(source_port, destination_port, payload, out);
     let sum = sum_with_addresses(source, destination, length, out);
     let checksum = if sum == WHOLE { WHOLE } else { WHOLE - sum };
     BigEndian::write_u16(&mut out[6..], checksum);
