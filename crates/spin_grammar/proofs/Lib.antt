@@ -2,6 +2,7 @@ pub mod Blanks
 pub mod LineEnds
 pub mod Numerals
 pub mod Parts
+pub mod Tables
 pub mod Numbers
 pub mod Regrown
 pub mod Joined

@@ -1,11 +1,12 @@
 -- How the readings of parts make up the reading of a whole.
-use Rattle.std.proofs.Common.{◌≡◌, ℕ, true, false, List, [], ◌∷◌, ◌++◌, Ok, Err, refl, sym, ap, ◌∙◌, append_assoc}
+use Rattle.std.proofs.Common.{◌≡◌, ℕ, true, false, List, [], ◌∷◌, ◌++◌, Result, Ok, Err, MatchResult, refl, sym, ap, ◌∙◌, append_assoc}
 use Rattle.spin_grammar.specs.declared.cause.Cause.{Cause}
 use Rattle.spin_grammar.specs.declared.cause.Cause.TheVariants as cause
 use Rattle.spin_grammar.specs.declared.fault.Fault.{Fault}
-use Rattle.spin_grammar.specs.declared.fault.Fault.TheVariants.{Bad}
+use Rattle.spin_grammar.specs.declared.fault.Fault.TheVariants.{Bad, NoMemory}
 use Rattle.spin_grammar.specs.Grammar.{Atom, Want, Reading, accepts, reads, then_read, may_end}
-use Rattle.spin_grammar.specs.Inner.Reading.{Leads, Fails}
+use Rattle.spin_grammar.specs.Inner.Heads.{Next}
+use Rattle.spin_grammar.specs.Inner.Reading.{Leads, Takes, Fails, GivesSome, GivesBehind}
 
 pub then_read-nest : (a b : List Atom) (r : Reading) → then_read a (then_read b r) ≡ then_read (a ++ b) r
 then_read-nest a b (Ok c) = ap (λ (x : List Atom). Ok x) (sym (append_assoc a b c))
@@ -55,6 +56,10 @@ pub fails_end : (want : Want) (old : List (List ℕ)) → old ≡ [] → may_end
 unfolding reads
 fails_end want old first e = record { whole = λ d is more. rw (first, e) (let same : cause.End ≡ d = cc in ap (λ (x : Cause). Err x) same) }
 
+-- without memory nothing is said of the words
+pub fails_bare : (wants : List Want) (f : Fault) (old : List (List ℕ)) → f ≡ NoMemory → Fails wants f old
+fails_bare wants f old e = record { whole = λ c is more. absurd cc }
+
 pub fails_then : (w1 w2 : List Want) (a : List Atom) (f : Fault) (old mid : List (List ℕ)) → Leads w1 a w2 old mid → Fails w2 f mid → Fails w1 f old
 fails_then w1 w2 a f old mid t h = record { whole = λ c is more. t.whole more ∙ ap (λ (r : Reading). then_read a r) (h.whole c is more) }
 
@@ -69,5 +74,17 @@ fails_head want wants f old h = fails_with (want ∷ []) wants f old h
 
 pub fails_next : (want : Want) (wants : List Want) (a : List Atom) (f : Fault) (old mid : List (List ℕ)) → Leads (want ∷ []) a [] old mid → Fails wants f mid → Fails (want ∷ wants) f old
 fails_next want wants a f old mid t h = fails_then (want ∷ wants) wants a f old mid (leads_with (want ∷ []) [] wants a old mid t) h
+
+-- a first word, and what was read behind it
+pub gives_behind : {A B : Type 0} (stands : A → B → Type 0) (form : B → List Atom) (want : Want) (next : Next) (r : Result A Fault) (old mid new : List (List ℕ)) → Leads (want ∷ []) (next.0 ∷ []) next.1 old mid → GivesBehind stands form next r mid new
+    → GivesSome stands form (want ∷ []) r old new
+gives_behind stands form want next (Ok a) old mid new head g = (g.0, rw g.2 (leads_then (want ∷ []) next.1 [] (next.0 ∷ []) g.1 old mid new head g.3), g.4)
+gives_behind stands form want next (Err f) old mid new head g = fails_then (want ∷ []) next.1 (next.0 ∷ []) f old mid head g
+
+-- what was made of what was read, unless there was no memory
+pub gives_made : {A B : Type 0} (is_made : A → Type 0) (stands : A → B → Type 0) (form : B → List Atom) (wants : List Want) (r : Result A Fault) (old new : List (List ℕ)) → MatchResult r is_made (λ f. f ≡ NoMemory)
+    → ((a : A) → is_made a → (b : B) × Takes wants (form b) old new × stands a b) → GivesSome stands form wants r old new
+gives_made is_made stands form wants (Ok a) old new h made = made a h
+gives_made is_made stands form wants (Err f) old new h made = fails_bare wants f old h
 
 pub ruleset failing = (fails_head, fails_next, fails_then)

@@ -80,7 +80,7 @@ fn join(
     ensures { MatchResult result (λ o. Joins expr_form expr_depth expr_form expr_depth
         (sign operator) left right o) (λ f. f ≡ NoMemory) }
 {
-    let (Some(left), Some(right)) = (left, right) else {
+    let Some((left, right)) = left.zip(right) else {
         return Ok(None);
     };
     let left = Box::new(alloc, left)?;
@@ -120,7 +120,7 @@ pub(crate) fn read_expression(
         ExprWord::Binary(operator) => {
             let left = read_expression(alloc, words, limit - 1)?;
             let right = read_expression(alloc, words, limit - 1)?;
-            Ok(join(alloc, operator, left, right)?)
+            join(alloc, operator, left, right)
         }
     }
 }

@@ -384,20 +384,22 @@ pub(crate) fn mode_word(word: &[u8]) -> Result<Mode, Cause>
     meaning(word, MODES.as_slice())
 }
 
+/// The first words of deeds.
+const DEEDS: [(&[u8], DeedWord); 8] = [
+    (b"install", DeedWord::Install),
+    (b"remove", DeedWord::Remove),
+    (b"replace", DeedWord::Replace),
+    (b"default", DeedWord::Default),
+    (b"nodefault", DeedWord::NoDefault),
+    (b"raise", DeedWord::Raise),
+    (b"later", DeedWord::Later),
+    (b"packet", DeedWord::Packet),
+];
+
 /// The first word of a deed, in a script of this version.
 #[tactic(auto, unfolding(crate::specs::Grammar::accepts))]
 pub(crate) fn deed_word(word: &[u8], version: u8) -> Result<DeedWord, Cause>
     ensures { step_of (deed_next version) result ≡ accepts (grammar.Deed version) word.now }
 {
-    match word {
-        b"install" => Ok(DeedWord::Install),
-        b"remove" => Ok(DeedWord::Remove),
-        b"replace" => Ok(DeedWord::Replace),
-        b"default" => Ok(DeedWord::Default),
-        b"nodefault" => Ok(DeedWord::NoDefault),
-        b"raise" => Ok(DeedWord::Raise),
-        b"later" => Ok(DeedWord::Later),
-        b"packet" => Ok(DeedWord::Packet),
-        _ => Err(Cause::Word),
-    }
+    meaning(word, DEEDS.as_slice())
 }

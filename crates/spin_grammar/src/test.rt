@@ -78,7 +78,7 @@ fn skip_test(words: &mut Words) -> Result<(), Fault>
 fn compare(cmp: Cmp, left: Option<Expr>, right: Option<Expr>) -> Option<Test>
     ensures { Joins expr_form expr_depth test_form test_depth (cmp_word cmp) left right result }
 {
-    let (Some(left), Some(right)) = (left, right) else {
+    let Some((left, right)) = left.zip(right) else {
         return None;
     };
     Some(Test::Compare(cmp, left, right))
@@ -94,7 +94,7 @@ fn pair(
     ensures { MatchResult result (λ o. Joins test_form test_depth test_form test_depth
         (joint_word joint) left right o) (λ f. f ≡ NoMemory) }
 {
-    let (Some(left), Some(right)) = (left, right) else {
+    let Some((left, right)) = left.zip(right) else {
         return Ok(None);
     };
     let left = Box::new(alloc, left)?;
@@ -142,12 +142,12 @@ pub(crate) fn read_test(alloc: Global, words: &mut Words, limit: u8) -> Result<O
         }
         TestWord::Not => {
             let test = read_test(alloc, words, limit - 1)?;
-            Ok(negate(alloc, test)?)
+            negate(alloc, test)
         }
         TestWord::Pair(joint) => {
             let left = read_test(alloc, words, limit - 1)?;
             let right = read_test(alloc, words, limit - 1)?;
-            Ok(pair(alloc, joint, left, right)?)
+            pair(alloc, joint, left, right)
         }
     }
 }

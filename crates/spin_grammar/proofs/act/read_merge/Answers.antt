@@ -1,8 +1,19 @@
+use Rattle.std.proofs.lemmas.Result.{err_from_is_err_and}
 use Rattle.spin_code.specs.declared.merge.Merge.TheVariants.{Fold}
 use Rattle.spin_code.specs.Size.{expr_depth}
-use Rattle.spin_grammar.proofs.Parts.{leads_then}
+use Rattle.spin_grammar.proofs.Parts.{leads_then, fails_then}
 use Rattle.spin_grammar.proofs.Kept.{deep_by}
 use Rattle.spin_grammar.proofs.act.read_merge.Goals as goal
+
+pub returns-in_err-merge_word : goal.returns-in_err-merge_word
+returns-in_err-merge_word c =
+    let p = err_from_is_err_and c.from_residual.result c.from_residual.ensures.1 in
+    rw (p.1, p.2) c.in_err-merge_word.ensures.opens
+
+pub returns-in_err-read_expression-in-Fold : goal.returns-in_err-read_expression-in-Fold
+returns-in_err-read_expression-in-Fold c =
+    let p = err_from_is_err_and c.from_residual-in_err-read_expression-in-Fold.result c.from_residual-in_err-read_expression-in-Fold.ensures.1 in
+    rw (p.1, p.2) (fails_then _ _ _ _ _ _ (rw c.in-Fold.is at c.in_ok-merge_word.ensures.opens) c.in_err-read_expression-in-Fold.ensures.gives)
 
 pub returns-in-None : goal.returns-in-None
 returns-in-None c =

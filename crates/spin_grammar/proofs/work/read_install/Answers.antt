@@ -2,8 +2,28 @@ use Rattle.std.proofs.Common.{[], ◌∷◌, ◌++◌, refl}
 use Rattle.std.proofs.lemmas.Result.{err_from_is_err_and}
 use Rattle.spin_grammar.specs.Grammar.{Number, Mode, spot_wants}
 use Rattle.spin_grammar.specs.Forms.{Install}
-use Rattle.spin_grammar.proofs.Parts.{takes_then, leads_with, fails_then, fails_with}
+use Rattle.spin_grammar.proofs.Parts.{takes_then, leads_with, fails_then, fails_with, fails_head, fails_next}
 use Rattle.spin_grammar.proofs.work.read_install.Goals as goal
+
+pub returns-in_err-event-clause-gives : goal.returns-in_err-event-clause-gives
+returns-in_err-event-clause-gives c =
+    let p = err_from_is_err_and c.from_residual.result c.from_residual.ensures.1 in
+    rw (p.1, p.2) (fails_head _ _ _ _ c.in_err-event.ensures.gives)
+
+pub returns-in_err-requester-clause-gives : goal.returns-in_err-requester-clause-gives
+returns-in_err-requester-clause-gives c =
+    let p = err_from_is_err_and c.from_residual-in_err-requester.result c.from_residual-in_err-requester.ensures.1 in
+    rw (p.1, p.2) (fails_next _ _ _ _ _ _ c.in_ok-event.ensures.gives (fails_head _ _ _ _ c.in_err-requester.ensures.gives))
+
+pub returns-in_err-handler-clause-gives : goal.returns-in_err-handler-clause-gives
+returns-in_err-handler-clause-gives c =
+    let p = err_from_is_err_and c.from_residual-in_err-handler.result c.from_residual-in_err-handler.ensures.1 in
+    rw (p.1, p.2) (fails_next _ _ _ _ _ _ c.in_ok-event.ensures.gives (fails_next _ _ _ _ _ _ c.in_ok-requester.ensures.gives (fails_head _ _ _ _ c.in_err-handler.ensures.gives)))
+
+pub returns-in_err-guard-clause-gives : goal.returns-in_err-guard-clause-gives
+returns-in_err-guard-clause-gives c =
+    let p = err_from_is_err_and c.from_residual-in_err-guard.result c.from_residual-in_err-guard.ensures.1 in
+    rw (p.1, p.2) (fails_next _ _ _ _ _ _ c.in_ok-event.ensures.gives (fails_next _ _ _ _ _ _ c.in_ok-requester.ensures.gives (fails_next _ _ _ _ _ _ c.in_ok-handler.ensures.gives (fails_head _ _ _ _ c.in_err-guard.ensures.gives))))
 
 pub returns-in_err-around-clause-gives : goal.returns-in_err-around-clause-gives
 returns-in_err-around-clause-gives c =

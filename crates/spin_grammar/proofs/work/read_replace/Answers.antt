@@ -1,7 +1,36 @@
 use Rattle.std.proofs.Common.{refl}
+use Rattle.std.proofs.lemmas.Result.{err_from_is_err_and}
 use Rattle.spin_grammar.specs.Forms.{Replace}
-use Rattle.spin_grammar.proofs.Parts.{takes_then}
+use Rattle.spin_grammar.proofs.Parts.{takes_then, fails_head, fails_next}
 use Rattle.spin_grammar.proofs.work.read_replace.Goals as goal
+
+pub returns-in_err-event-clause-gives : goal.returns-in_err-event-clause-gives
+returns-in_err-event-clause-gives c =
+    let p = err_from_is_err_and c.from_residual.result c.from_residual.ensures.1 in
+    rw (p.1, p.2) (fails_head _ _ _ _ c.in_err-event.ensures.gives)
+
+pub returns-in_err-requester-clause-gives : goal.returns-in_err-requester-clause-gives
+returns-in_err-requester-clause-gives c =
+    let p = err_from_is_err_and c.from_residual-in_err-requester.result c.from_residual-in_err-requester.ensures.1 in
+    rw (p.1, p.2) (fails_next _ _ _ _ _ _ c.in_ok-event.ensures.gives (fails_head _ _ _ _ c.in_err-requester.ensures.gives))
+
+pub returns-in_err-command-clause-gives : goal.returns-in_err-command-clause-gives
+returns-in_err-command-clause-gives c =
+    let p = err_from_is_err_and c.from_residual-in_err-command.result c.from_residual-in_err-command.ensures.1 in
+    let target = rw c.last_target.ensures.last at c.in_err-command.ensures.gives in
+    rw (p.1, p.2) (fails_next _ _ _ _ _ _ c.in_ok-event.ensures.gives (fails_next _ _ _ _ _ _ c.in_ok-requester.ensures.gives (fails_head _ _ _ _ target)))
+
+pub returns-in_err-command-2-clause-gives : goal.returns-in_err-command-2-clause-gives
+returns-in_err-command-2-clause-gives c =
+    let p = err_from_is_err_and c.from_residual-in_err-command-2.result c.from_residual-in_err-command-2.ensures.1 in
+    let target = rw c.last_target.ensures.last at c.in_ok-command.ensures.gives in
+    rw (p.1, p.2) (fails_next _ _ _ _ _ _ c.in_ok-event.ensures.gives (fails_next _ _ _ _ _ _ c.in_ok-requester.ensures.gives (fails_next _ _ _ _ _ _ target (fails_head _ _ _ _ c.in_err-command-2.ensures.gives))))
+
+pub returns-in_err-command-3-clause-gives : goal.returns-in_err-command-3-clause-gives
+returns-in_err-command-3-clause-gives c =
+    let p = err_from_is_err_and c.from_residual-in_err-command-3.result c.from_residual-in_err-command-3.ensures.1 in
+    let target = rw c.last_target.ensures.last at c.in_ok-command.ensures.gives in
+    rw (p.1, p.2) (fails_next _ _ _ _ _ _ c.in_ok-event.ensures.gives (fails_next _ _ _ _ _ _ c.in_ok-requester.ensures.gives (fails_next _ _ _ _ _ _ target (fails_next _ _ _ _ _ _ c.in_ok-command-2.ensures.gives c.in_err-command-3.ensures.gives))))
 
 pub returns-clause-gives : goal.returns-clause-gives
 returns-clause-gives c =

@@ -1,0 +1,13 @@
+use Rattle.std.proofs.lemmas.Result.{err_from_is_err_and}
+use Rattle.spin_grammar.proofs.Parts.{fails_head, fails_next}
+use Rattle.spin_grammar.proofs.work.read_raise.Goals as goal
+
+pub returns-in_err-event : goal.returns-in_err-event
+returns-in_err-event c =
+    let p = err_from_is_err_and c.from_residual.result c.from_residual.ensures.1 in
+    rw (p.1, p.2) (fails_head _ _ _ _ c.in_err-event.ensures.gives)
+
+pub returns-in_err-args : goal.returns-in_err-args
+returns-in_err-args c =
+    let p = err_from_is_err_and c.from_residual-in_err-args.result c.from_residual-in_err-args.ensures.1 in
+    rw (p.1, p.2) (fails_next _ _ _ _ _ _ c.in_ok-event.ensures.gives c.in_err-args.ensures)
