@@ -4,5 +4,6 @@ pub mod Crossing
 pub mod Ends
 pub mod Gathering
 pub mod Placing
+pub mod Replied
 pub mod Totals
 pub mod Working

@@ -1,11 +1,11 @@
 -- A worker in the middle of its run.
-use Rattle.std.proofs.Common.{◌≡◌, ℕ, suc, ◌<◌, List, [], ◌∷◌, ◌++◌, All, sym, subst, arith}
+use Rattle.std.proofs.Common.{◌≡◌, ◌∙◌, ℕ, suc, ◌<◌, List, [], ◌∷◌, ◌++◌, All, sym, ap, subst, arith}
 use Rattle.std.proofs.lemmas.List.{map-append}
 use Rattle.std.proofs.lemmas.List.Elements.{All-nil, All-cons, All-push}
 use Rattle.spin_jobs.specs.declared.claim.Claim.{Claim}
 use Rattle.spin_jobs.specs.declared.worker.Done.{Done}
 use Rattle.spin_jobs.specs.declared.worker.Worker.{Worker}
-use Rattle.spin_jobs.specs.Claims.{Took}
+use Rattle.spin_jobs.specs.Claims.{Took, worker}
 use Rattle.spin_jobs.specs.Inner.Numbered.{Outcomes}
 use Rattle.spin_jobs.specs.Inner.Workers.{IsRight, StandsForOne, numbers}
 
@@ -35,3 +35,19 @@ all_of_jobs may count w number k lt =
 -- its next number is greater
 pub rises : (may : Outcomes) (count : ℕ) (w : Worker) (number next : ℕ) (after : Claim) → Works may count w number → Took w.seat.me.0 next after → number < next
 rises may count w number next after k t = last_of_all (λ x. x < next) (numbers w.done.items) number (subst (All (λ x. x < next)) k.claimed t.1)
+
+-- it has claimed its first number
+pub works_first : (may : Outcomes) (count : ℕ) (w w' : Worker) (next : ℕ) → w.seat.me.0 ≡ worker → w.seat.me.1 ≡ [] → w.done.items ≡ [] → w'.done.items ≡ w.done.items → w'.seat.me.1 ≡ w.seat.me.1 → Took w.seat.me.0 next w'.seat.me.0 → Works may count w' next
+works_first may count w w' next new alone none same slots t = record {
+  seat = (slots ∙ alone, ap (λ (v : Claim). v.workers) (t.0) ∙ ap (λ (v : Claim). v.workers) new, ap (λ (v : Claim). v.room) (t.0) ∙ ap (λ (v : Claim). v.room) new);
+  right = subst (All (IsRight may count)) (sym (same ∙ none)) (All-nil (IsRight may count));
+  claimed = ap (λ (v : Claim). v.claimed) (t.0) ∙ ap (λ (v : Claim). v.claimed ++ next ∷ []) new ∙ sym (ap (λ ds. numbers ds ++ next ∷ []) (same ∙ none));
+}
+
+-- it has done what it claimed last, and claimed the next number
+pub works_on : (may : Outcomes) (count : ℕ) (w w' : Worker) (d : Done) (next : ℕ) → Works may count w d.number → IsRight may count d → w'.done.items ≡ w.done.items ++ d ∷ [] → w'.seat.me.1 ≡ w.seat.me.1 → Took w.seat.me.0 next w'.seat.me.0 → Works may count w' next
+works_on may count w w' d next k right items slots t = record {
+  seat = (slots ∙ k.seat.0, ap (λ (v : Claim). v.workers) (t.0) ∙ k.seat.1, ap (λ (v : Claim). v.room) (t.0) ∙ k.seat.2);
+  right = subst (All (IsRight may count)) (sym items) (All-push (IsRight may count) w.done.items d k.right right);
+  claimed = ap (λ (v : Claim). v.claimed) (t.0) ∙ ap (λ xs. xs ++ next ∷ []) (k.claimed ∙ sym (numbers_push w.done.items d)) ∙ sym (ap (λ ds. numbers ds ++ next ∷ []) items);
+}

@@ -1,6 +1,6 @@
 //! Lines as wholes: which are skipped, which begins, and what each other one is about.
 
-ghost use Rattle.std.specs.Prelude.{◌≡◌, ◌+◌, ◌≤◌, ◌∷◌, ℕ, List, length};
+ghost use Rattle.std.specs.Prelude.{◌≡◌, ◌+◌, ◌≤◌, ◌∷◌, ℕ, List, length, map};
 ghost use Rattle.std.specs.List.{list_all};
 ghost use Rattle.spin_objects.specs.Units.{HandlerUnit, GuardUnit};
 ghost use Rattle.spin_script.specs.Sections.{look_up, first_words, section, is_retire, is_out_of_order};
@@ -35,44 +35,38 @@ pub fn all_allowed(line: &[u8]) -> bool
     line.iter().all(|byte| is_allowed(*byte))
 }
 
+/// The words that lines begin with.
+const FIRST_WORDS: [(&[u8], Kind); 11] = [
+    (b"modules", Kind::Modules),
+    (b"event", Kind::Event),
+    (b"endpoint", Kind::Endpoint),
+    (b"handler", Kind::Handler),
+    (b"guard", Kind::Guard),
+    (b"rule", Kind::Rule),
+    (b"authoriser", Kind::Authoriser),
+    (b"default", Kind::Default),
+    (b"lane", Kind::Lane),
+    (b"barrier", Kind::Barrier),
+    (b"retire", Kind::Retire),
+];
+
+/// What the first of the rows with this word says.
+fn look_up(word: &[u8], rows: &[(&[u8], Kind)]) -> Option<Kind>
+    ensures { result ≡ look_up word.now (map (λ row. (row.0.now, row.1)) rows.now) }
+{
+    for row in rows {
+        if word == row.0 {
+            return Some(row.1);
+        }
+    }
+    None
+}
+
 /// What a line with this first word is about.
 fn kind_of(word: &[u8]) -> Option<Kind>
     ensures { result ≡ look_up word.now first_words }
 {
-    if word == b"modules".as_slice() {
-        return Some(Kind::Modules);
-    }
-    if word == b"event".as_slice() {
-        return Some(Kind::Event);
-    }
-    if word == b"endpoint".as_slice() {
-        return Some(Kind::Endpoint);
-    }
-    if word == b"handler".as_slice() {
-        return Some(Kind::Handler);
-    }
-    if word == b"guard".as_slice() {
-        return Some(Kind::Guard);
-    }
-    if word == b"rule".as_slice() {
-        return Some(Kind::Rule);
-    }
-    if word == b"authoriser".as_slice() {
-        return Some(Kind::Authoriser);
-    }
-    if word == b"default".as_slice() {
-        return Some(Kind::Default);
-    }
-    if word == b"lane".as_slice() {
-        return Some(Kind::Lane);
-    }
-    if word == b"barrier".as_slice() {
-        return Some(Kind::Barrier);
-    }
-    if word == b"retire".as_slice() {
-        return Some(Kind::Retire);
-    }
-    None
+    look_up(word, FIRST_WORDS.as_slice())
 }
 
 /// The number of the section of such a line.

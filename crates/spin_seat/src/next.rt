@@ -33,8 +33,6 @@ pub(crate) fn next_version(
         (λ fault. IsAnswer d state c.now (Err fault)) }
     ensures sound { IfOk result (λ next. IsSound (data_of setup.now) (arc_value next)) }
 {
-    match version.next(alloc, setup, c) {
-        Ok(next) => Ok(Arc::new(alloc, next)?),
-        Err(fault) => Err(fault),
-    }
+    let next = version.next(alloc, setup, c)?;
+    Ok(Arc::new(alloc, next)?)
 }
