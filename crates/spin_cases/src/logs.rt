@@ -1,13 +1,15 @@
 //! Pens that share a log, in one thread and in several.
 
-ghost use Rattle.std.specs.Prelude.{◌≡◌, ◌<◌, IsTrue};
+ghost use Rattle.std.specs.Prelude.{◌≡◌, ◌<◌, IfOk, IsTrue};
 ghost use Rattle.std.specs.Thread.{IsSync};
 ghost use Rattle.spin_word.specs.Commands.{is_command};
 ghost use Rattle.spin_log.specs.Rows.{IsRowOf};
 ghost use Rattle.spin_log.specs.Pens.{IsSamePen};
 
-use spin_log::{Log, Look, MAX_PLACE, Pen, Publish};
+use spin_log::{Log, Look, MAX_PLACE, Pen, Pens, Publish};
+use spin_values::NoMemory;
 use spin_word::{Command, Mode, NO_BINDINGS, Op, Place, Row, pack, unpack};
+use std::alloc::Global;
 use std::process::Abort;
 use std::test::Fail;
 use std::thread::{Threads, join};
@@ -124,25 +126,34 @@ fn publish_in_turn(rt: &impl Abort, log: &Log, zero: &mut Pen, one: &mut Pen, a:
     assert_eq!(rt; log.look(zero), Look::Pinned);
 }
 
+// A log of two lanes, and their pens.
+fn two_pens(alloc: Global) -> Result<(Log, Pen, Pen), NoMemory>
+    ensures lanes { IfOk result (λ made. made.0.lanes ≡ 2) }
+    ensures zero { IfOk result (λ made. (made.1.log ≡ made.0.id) × (made.1.lane ≡ 0)) }
+    ensures one { IfOk result (λ made. (made.2.log ≡ made.0.id) × (made.2.lane ≡ 1)) }
+{
+    let (log, mut pens) = Log::new(alloc, 2)?;
+    let Some(zero) = pens.take_first() else {
+        unreachable!()
+    };
+    let Some(one) = pens.take_first() else {
+        unreachable!()
+    };
+    Ok((log, zero, one))
+}
+
 #[test]
 fn two_pens_share_a_log(rt: HostRuntime) -> Result<(), Fail> {
     let a = pack(&default_of(0, 7));
     let b = pack(&default_of(1, 7));
-    let (log, mut pens) = Log::new(rt.alloc(), 2)?;
-    let Some(mut zero) = pens.take_first() else {
-        unreachable!()
-    };
-    let Some(mut one) = pens.take_first() else {
-        unreachable!()
-    };
+    let (log, mut zero, mut one) = two_pens(rt.alloc())?;
     assert_eq!(rt; zero.lane(), 0);
     assert_eq!(rt; one.lane(), 1);
     publish_in_turn(&rt, &log, &mut zero, &mut one, a, b);
     log.meet(&mut zero, &mut one);
     assert_eq!(rt; zero.front(), 2);
     assert_eq!(rt; one.front(), 2);
-    pens.push(zero)?;
-    pens.push(one)?;
+    let pens = Pens::from_vec(vec![in rt.alloc(); zero, one]?);
     let rows = log.close(rt.alloc(), pens)?;
     assert_eq!(rt; rows.as_slice(), [a, b].as_slice());
     Ok(())
@@ -185,10 +196,7 @@ fn four_lanes_publish_at_once(rt: HostRuntime) -> Result<(), Fail> {
         || publish_both(&rt, &log, zero, one),
         || publish_both(&rt, &log, two, three),
     );
-    pens.push(zero)?;
-    pens.push(one)?;
-    pens.push(two)?;
-    pens.push(three)?;
+    let pens = Pens::from_vec(vec![in rt.alloc(); zero, one, two, three]?);
     let rows = log.close(rt.alloc(), pens)?;
     assert_eq!(rt; rows.len(), 1000);
     for lane in 0..4 {

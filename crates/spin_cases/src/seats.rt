@@ -1,6 +1,6 @@
 //! Seats that share a hub, in one thread and in two.
 
-ghost use Rattle.std.specs.Prelude.{◌≡◌, ◌<◌, ◌≤◌, IfOk, IsTrue};
+ghost use Rattle.std.specs.Prelude.{◌≡◌, ◌<◌, ◌≤◌, IfOk, IsTrue, Ok};
 ghost use Rattle.std.specs.Thread.{IsSync};
 ghost use Rattle.spin_word.specs.Commands.{is_command};
 ghost use Rattle.spin_log.specs.Pens.{IsSamePen};
@@ -131,9 +131,7 @@ fn close_both(alloc: Global, hub: Hub, a: Seat, b: Seat) -> Result<Rows, NoMemor
     requires seat_b { IsSeatOf (data_of hub.setup) b }
     requires order { (a.pen.lane ≡ 0) × (b.pen.lane ≡ 1) }
 {
-    let mut seats = Seats::new(alloc);
-    seats.push(a)?;
-    seats.push(b)?;
+    let seats = Seats::from_vec(vec![in alloc; a, b]?);
     hub.close(alloc, seats)
 }
 
@@ -393,12 +391,28 @@ fn count_of(rows: &[Row], row: &Row) -> u16 {
     count
 }
 
+// Both seats, where both lanes came to their end.
+fn both(
+    ended: (Result<Seat, SeatFault>, Result<Seat, SeatFault>),
+) -> Result<(Seat, Seat), SeatFault>
+    ensures a { IfOk result (λ both. ended.0 ≡ Ok both.0) }
+    ensures b { IfOk result (λ both. ended.1 ≡ Ok both.1) }
+{
+    let (a, b) = ended;
+    Ok((a?, b?))
+}
+
+// The whole log of two lanes that took their turns at once.
+fn play_at_once<R: Threads + Sync>(rt: &R, alloc: Global) -> Result<Rows, Fail> {
+    let (hub, a, b) = two_seats(alloc)?;
+    let (a, b) = both(take_turns_at_once(rt, alloc, &hub, a, b))?;
+    Ok(close_both(alloc, hub, a, b)?)
+}
+
 #[test]
 fn two_seats_install_and_raise_at_once(rt: HostRuntime) -> Result<(), Fail> {
     let alloc = rt.alloc();
-    let (hub, a, b) = two_seats(alloc)?;
-    let (a, b) = take_turns_at_once(&rt, alloc, &hub, a, b);
-    let rows = close_both(alloc, hub, a?, b?)?;
+    let rows = play_at_once(&rt, rt.alloc())?;
     assert_eq!(rt; rows.len(), 24);
     assert_eq!(rt; count_of(rows.as_slice(), &pack(&install_of(0))), TURNS);
     assert_eq!(rt; count_of(rows.as_slice(), &pack(&install_of(1))), TURNS);
