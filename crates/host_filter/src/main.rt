@@ -14,9 +14,10 @@ use spin_script::read_script;
 use spin_values::{NoMemory, Octets, Text};
 use std::alloc::Global;
 use std::cell::Cell;
-use std::io;
+use std::io::{self, Print};
 use std::process::ExitCode;
 use std::rc::Rc;
+use std::thread::Threads;
 
 /// Frames climb from Ethernet over IPv4 to UDP; what is for port 53 is sent to the endpoint `dns`.
 const SCRIPT: &[u8] = b"spin 1
@@ -91,46 +92,65 @@ fn capture_of(alloc: Global, ports: &[u16]) -> Result<Octets, NoMemory> {
     Ok(capture)
 }
 
-fn main(rt: HostRuntime) -> Result<ExitCode, NoMemory> {
-    let alloc = rt.alloc();
-    let tally = Rc::new(
-        alloc,
-        Tally {
-            pieces: Cell::new(0),
-            bytes: Cell::new(0),
-        },
-    )?;
+/// A tally of nothing.
+fn no_tally(alloc: Global) -> Result<Rc<Tally>, NoMemory> {
+    let tally = Tally {
+        pieces: Cell::new(0),
+        bytes: Cell::new(0),
+    };
+    Ok(Rc::new(alloc, tally)?)
+}
+
+/// Adds the endpoint `dns`, which counts in the tally. There is no other, so only memory may be lacking.
+fn add_counter(alloc: Global, ends: &mut Ends, tally: &Rc<Tally>) -> Result<(), NoMemory> {
     let counter = Counter {
         tally: tally.clone()?,
         finishes: 0,
     };
-    let mut ends = Ends::new(alloc);
     let object: Box<dyn Endpoint> = Box::new(alloc, counter)?;
-    let added = ends.add(Text::from_bytes(alloc, b"dns")?, object).is_ok();
+    match ends.add(Text::from_bytes(alloc, b"dns")?, object) {
+        Ok(()) => Ok(()),
+        Err(_) => Err(NoMemory),
+    }
+}
 
-    let Ok(script) = read_script(alloc, SCRIPT, Natives::new(alloc)) else {
-        return Ok(ExitCode::from(2));
-    };
+/// Whether the run of the script over five datagrams, two of them for other ports, came to its end.
+fn is_run_whole<R: Print + Threads + Sync>(
+    rt: &R,
+    alloc: Global,
+    ends: &mut Ends,
+) -> Result<bool, NoMemory> {
     let mut source = MemSource::new(capture_of(alloc, &[53, 80, 53, 123, 53])?);
     let Ok(reader) = Reader::start(alloc, &mut source) else {
-        return Ok(ExitCode::from(3));
+        return Ok(false);
     };
-    let mut out = StdSink::new(io::writer(&rt));
+    let Ok(script) = read_script(alloc, SCRIPT, Natives::new(alloc)) else {
+        return Ok(false);
+    };
+    let mut out = StdSink::new(io::writer(rt));
     let end = run_script(
-        &rt,
+        rt,
         alloc,
         script,
         Some(reader),
         &mut source,
         &mut out,
-        &mut ends,
+        ends,
         &OpenGate,
     );
+    Ok(matches!(end, RunEnd::Whole))
+}
+
+fn main(rt: HostRuntime) -> Result<ExitCode, NoMemory> {
+    let alloc = rt.alloc();
+    let tally = no_tally(alloc)?;
+    let mut ends = Ends::new(alloc);
+    add_counter(alloc, &mut ends, &tally)?;
+    let is_whole = is_run_whole(&rt, alloc, &mut ends)?;
     let _ = println!(rt;
         "{} datagrams, {} bytes",
         tally.pieces.get(),
         tally.bytes.get()
     );
-    let whole = added && matches!(end, RunEnd::Whole);
-    Ok(ExitCode::from(if whole { 0 } else { 1 }))
+    Ok(ExitCode::from(if is_whole { 0 } else { 1 }))
 }

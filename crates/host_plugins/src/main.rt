@@ -2,7 +2,7 @@
 //! and replaces it by the second, while the other raises the event; no thread takes a lock or waits for the other.
 #![tactic(auto)]
 
-ghost use Rattle.std.specs.Prelude.{◌≡◌, ◌∷◌, [], IfOk, IfSome};
+ghost use Rattle.std.specs.Prelude.{◌≡◌, ◌∷◌, [], IfOk, IfSome, Ok};
 ghost use Rattle.spin_code.specs.declared.act.ActStep.TheVariants.{Result};
 ghost use Rattle.spin_code.specs.declared.expr.Expr.TheVariants.{Const};
 ghost use Rattle.spin_log.specs.Pens.{IsSamePen};
@@ -18,8 +18,9 @@ use spin_raise::Answer;
 use spin_script::{Script, read_script};
 use spin_seat::{Hub, Seat, SeatFault, Seats};
 use spin_values::{Args, EventType, NoMemory, Params, Text};
-use spin_word::{Command, Op, unpack};
+use spin_word::{Command, Op, Row, unpack};
 use std::alloc::Global;
+use std::io::Print;
 use std::process::ExitCode;
 use std::thread::{Threads, join};
 
@@ -184,38 +185,47 @@ fn close(alloc: Global, hub: Hub, a: Seat, b: Seat) -> Option<Rows>
     requires seat_b { IsSeatOf (data_of hub.setup) b }
     requires order { (a.pen.lane ≡ 0) × (b.pen.lane ≡ 1) }
 {
-    let mut seats = Seats::new(alloc);
-    seats.push(a).ok()?;
-    seats.push(b).ok()?;
+    let seats = Seats::from_vec(vec![in alloc; a, b].ok()?);
     hub.close(alloc, seats).ok()
+}
+
+/// Both seats, and how many raises were answered as owed, where both threads came to their end.
+fn both(
+    bound: Result<Seat, SeatFault>,
+    raised: Result<(Seat, u32), SeatFault>,
+) -> Option<(Seat, Seat, u32)>
+    ensures a { IfSome result (λ both. bound ≡ Ok both.0) }
+    ensures b { IfSome result (λ both. raised ≡ Ok (both.1, both.2)) }
+{
+    match (bound, raised) {
+        (Ok(a), Ok((b, right))) => Some((a, b, right)),
+        _ => None,
+    }
+}
+
+/// The plug-in in its two versions; none where memory is lacking.
+fn plugins(alloc: Global) -> Option<Natives>
+    ensures { IfSome result (λ natives. ⟦<Natives as Sincere>⟧.sincere natives) }
+{
+    let mut natives = Natives::new(alloc);
+    let first: Box<dyn Handler + Send + Sync> = Box::new(alloc, Plugin { version: 1 }).ok()?;
+    add(alloc, &mut natives, b"first", 1, first)?;
+    let second: Box<dyn Handler + Send + Sync> = Box::new(alloc, Plugin { version: 2 }).ok()?;
+    add(alloc, &mut natives, b"second", 2, second)?;
+    Some(natives)
 }
 
 /// The commands of the history that both threads made, and how many raises were answered as owed; none where memory
 /// is lacking.
-fn play<R: Threads + Sync>(rt: &R, alloc: Global, natives: Natives) -> Option<(Rows, u32)>
-    requires sincere { ⟦<Natives as Sincere>⟧.sincere natives }
-{
-    let (hub, a, b) = open(alloc, natives)?;
+fn play<R: Threads + Sync>(rt: &R, alloc: Global) -> Option<(Rows, u32)> {
+    let (hub, a, b) = open(alloc, plugins(alloc)?)?;
     let (bound, raised) = take_turns(rt, alloc, &hub, a, b);
-    let Ok(a) = bound else {
-        return None;
-    };
-    let Ok((b, right)) = raised else {
-        return None;
-    };
+    let (a, b, right) = both(bound, raised)?;
     Some((close(alloc, hub, a, b)?, right))
 }
 
-fn main(rt: HostRuntime) -> Result<ExitCode, NoMemory> {
-    let alloc = rt.alloc();
-    let mut natives = Natives::new(alloc);
-    let first: Box<dyn Handler + Send + Sync> = Box::new(alloc, Plugin { version: 1 })?;
-    let second: Box<dyn Handler + Send + Sync> = Box::new(alloc, Plugin { version: 2 })?;
-    let added = add(alloc, &mut natives, b"first", 1, first).is_some()
-        && add(alloc, &mut natives, b"second", 2, second).is_some();
-    let Some((rows, right)) = play(&rt, alloc, natives) else {
-        return Ok(ExitCode::from(7));
-    };
+/// Tells each command of the history with its place.
+fn tell<R: Print>(rt: &R, rows: &[Row]) {
     for (place, row) in rows.iter().enumerate() {
         if let Some(command) = unpack(row) {
             let _ = println!(rt;
@@ -226,8 +236,15 @@ fn main(rt: HostRuntime) -> Result<ExitCode, NoMemory> {
             );
         }
     }
+}
+
+fn main(rt: HostRuntime) -> ExitCode {
+    let Some((rows, right)) = play(&rt, rt.alloc()) else {
+        return ExitCode::from(1);
+    };
+    tell(&rt, rows.as_slice());
     let _ = println!(rt;
         "{right} of {RAISES} raises answered by the version in force at their place"
     );
-    Ok(ExitCode::from(if added { 0 } else { 1 }))
+    ExitCode::from(0)
 }
