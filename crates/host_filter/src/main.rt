@@ -101,13 +101,8 @@ fn no_tally(alloc: Global) -> Result<Rc<Tally>, NoMemory> {
     Ok(Rc::new(alloc, tally)?)
 }
 
-/// Adds the endpoint `dns`, which counts in the tally. There is no other, so only memory may be lacking.
-fn add_counter(alloc: Global, ends: &mut Ends, tally: &Rc<Tally>) -> Result<(), NoMemory> {
-    let counter = Counter {
-        tally: tally.clone()?,
-        finishes: 0,
-    };
-    let object: Box<dyn Endpoint> = Box::new(alloc, counter)?;
+/// Adds the endpoint `dns`. There is no other, so only memory may be lacking.
+fn add_dns(alloc: Global, ends: &mut Ends, object: Box<dyn Endpoint>) -> Result<(), NoMemory> {
     match ends.add(Text::from_bytes(alloc, b"dns")?, object) {
         Ok(()) => Ok(()),
         Err(_) => Err(NoMemory),
@@ -144,8 +139,13 @@ fn is_run_whole<R: Print + Threads + Sync>(
 fn main(rt: HostRuntime) -> Result<ExitCode, NoMemory> {
     let alloc = rt.alloc();
     let tally = no_tally(alloc)?;
+    let counter = Counter {
+        tally: tally.clone()?,
+        finishes: 0,
+    };
+    let object: Box<dyn Endpoint> = Box::new(alloc, counter)?;
     let mut ends = Ends::new(alloc);
-    add_counter(alloc, &mut ends, &tally)?;
+    add_dns(alloc, &mut ends, object)?;
     let is_whole = is_run_whole(&rt, alloc, &mut ends)?;
     let _ = println!(rt;
         "{} datagrams, {} bytes",

@@ -203,22 +203,28 @@ fn both(
     }
 }
 
-/// The plug-in in its two versions; none where memory is lacking.
-fn plugins(alloc: Global) -> Option<Natives>
+/// Both versions of the plug-in, each under its name; none where memory is lacking.
+fn plugins(
+    alloc: Global,
+    first: Box<dyn Handler + Send + Sync>,
+    second: Box<dyn Handler + Send + Sync>,
+) -> Option<Natives>
+    requires first { does first ≡ record { steps = Result (Const 1) ∷ [] } }
+    requires second { does second ≡ record { steps = Result (Const 2) ∷ [] } }
     ensures { IfSome result (λ natives. ⟦<Natives as Sincere>⟧.sincere natives) }
 {
     let mut natives = Natives::new(alloc);
-    let first: Box<dyn Handler + Send + Sync> = Box::new(alloc, Plugin { version: 1 }).ok()?;
     add(alloc, &mut natives, b"first", 1, first)?;
-    let second: Box<dyn Handler + Send + Sync> = Box::new(alloc, Plugin { version: 2 }).ok()?;
     add(alloc, &mut natives, b"second", 2, second)?;
     Some(natives)
 }
 
-/// The commands of the history that both threads made, and how many raises were answered as owed; none where memory
-/// is lacking.
-fn play<R: Threads + Sync>(rt: &R, alloc: Global) -> Option<(Rows, u32)> {
-    let (hub, a, b) = open(alloc, plugins(alloc)?)?;
+/// The commands of the history that both threads made with these plug-ins, and how many raises were answered as owed;
+/// none where memory is lacking.
+fn play<R: Threads + Sync>(rt: &R, alloc: Global, natives: Natives) -> Option<(Rows, u32)>
+    requires sincere { ⟦<Natives as Sincere>⟧.sincere natives }
+{
+    let (hub, a, b) = open(alloc, natives)?;
     let (bound, raised) = take_turns(rt, alloc, &hub, a, b);
     let (a, b, right) = both(bound, raised)?;
     Some((close(alloc, hub, a, b)?, right))
@@ -238,13 +244,15 @@ fn tell<R: Print>(rt: &R, rows: &[Row]) {
     }
 }
 
-fn main(rt: HostRuntime) -> ExitCode {
-    let Some((rows, right)) = play(&rt, rt.alloc()) else {
-        return ExitCode::from(1);
-    };
+fn main(rt: HostRuntime) -> Result<ExitCode, NoMemory> {
+    let alloc = rt.alloc();
+    let first: Box<dyn Handler + Send + Sync> = Box::new(alloc, Plugin { version: 1 })?;
+    let second: Box<dyn Handler + Send + Sync> = Box::new(alloc, Plugin { version: 2 })?;
+    let natives = plugins(alloc, first, second).ok_or(NoMemory)?;
+    let (rows, right) = play(&rt, alloc, natives).ok_or(NoMemory)?;
     tell(&rt, rows.as_slice());
     let _ = println!(rt;
         "{right} of {RAISES} raises answered by the version in force at their place"
     );
-    ExitCode::from(0)
+    Ok(ExitCode::from(0))
 }
