@@ -12,6 +12,7 @@ use Rattle.spin_run.specs.declared.end.RunEnd.TheVariants as end
 use Rattle.spin_run.specs.Ends.{RunSeen, faults_of, faults_at, EndRose, CountsBy}
 use Rattle.spin_run.specs.Inner.Reading.{EndByCount}
 use Rattle.spin_run.specs.Inner.Sending.{SendsAll, SendsByCount}
+use Rattle.spin_run.specs.Inner.Steps.{ResultCounts}
 use Rattle.spin_run.specs.Inner.Tallies.{Tells, TellsByCount}
 
 -- ---- what is received, and what is retired, changes no count
@@ -150,6 +151,11 @@ counts_later names end.Whole a b c source sink ends h = (h.0 ∙ source, h.1 ∙
 counts_later names end.NoMemory a b c source sink ends h = (h.0 ∙ source, h.1 ∙ sink, h.2 ∙ ends)
 counts_later names (end.Capture n reason) a b c source sink ends h = (h.0 ∙ source, h.1 ∙ sink, h.2 ∙ ends)
 counts_later names (end.Endpoint p) a b c source sink ends h = (h.0 ∙ source, h.1 ∙ sink, rose_from (name_of names p) a.ends b.ends c.ends ends h.2)
+
+-- the same of an answer
+pub results_later : {T : Type 0} (names : List (List ℕ)) (result : Result T RunEnd) (a b c : RunSeen) → b.source.faults ≡ a.source.faults → b.sink.faults ≡ a.sink.faults → faults_of b.ends ≡ faults_of a.ends → ResultCounts names b c result → ResultCounts names a c result
+results_later names (Ok done) a b c source sink ends h = counts_later names end.Whole a b c source sink ends h
+results_later names (Err stop) a b c source sink ends h = counts_later names stop a b c source sink ends h
 
 -- by calls that have no endpoints
 pub counts_beside : (names : List (List ℕ)) (stop : RunEnd) (a b c : RunSeen) → b.source.faults ≡ a.source.faults → b.sink.faults ≡ a.sink.faults → faults_of c.ends ≡ faults_of a.ends → CountsBy [] (record b { ends = [] }) (record c { ends = [] }) stop → CountsBy names a c stop

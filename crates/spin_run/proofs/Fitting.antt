@@ -11,6 +11,7 @@ use Rattle.spin_script.specs.States.{ScriptData, deed_count}
 use Rattle.spin_script.specs.Soundness.{lines_in, AreValid, IsValidWork, command_lines, is_command_work}
 use Rattle.spin_script.specs.Segments.{IsOrderly, IsOnLane}
 use Rattle.spin_run.specs.Segments.{IsFitSegment, commands_in}
+use Rattle.spin_run.specs.Inner.Steps.{Setting, setting_of, script_in}
 use Rattle.spin_run.proofs.Steps.{take_next}
 
 -- a part of a list
@@ -30,6 +31,15 @@ around : {X : Type 0} (f : Segment → List X) (segments : List Segment) (i : �
 around f segments i segment there =
     ap (flat_map f) (sym (take-append-drop (i + 1) segments) ∙ ap (λ x. x ++ drop (i + 1) segments) (take_next segments i segment there) ∙ append_assoc (take i segments) (segment ∷ []) (drop (i + 1) segments))
     ∙ flat_map-append f (take i segments) (segment ∷ drop (i + 1) segments)
+
+-- an orderly script is so in its setting, whatever its version
+pub orderly_in : (script : ScriptData) (s : Setting) → s ≡ setting_of script → IsOrderly script → IsOrderly (script_in s script.segments 0)
+orderly_in script s same h = subst (λ (x : Setting). IsOrderly (script_in x script.segments 0)) (sym same) (record {
+  numbers = h.numbers;
+  lanes = h.lanes;
+  deeds = h.deeds;
+  endpoints = h.endpoints;
+})
 
 abbrev lines_of : Segment → List Line
 lines_of s = s.lines

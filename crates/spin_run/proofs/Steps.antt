@@ -26,7 +26,7 @@ use Rattle.spin_run.specs.declared.end.RunEnd.TheVariants as end
 use Rattle.spin_run.specs.Records.{AreRecords, room_of, IsTakenPast}
 use Rattle.spin_run.specs.Ends.{RunSeen, HasRun, IsReading, retired_before, segment_text, wanted_to, Writes, WritesInto, EndsWithin, TakesFor, EndsBy, CountsBy, seen}
 use Rattle.spin_run.specs.Inner.Reading.{given_by, IsGoing, HasTaken, TakesFrames}
-use Rattle.spin_run.specs.Inner.Steps.{Moment, standing, setting_of, RunsFrom, retired_for, HasRunOne, HasTold, StopsOne, Stands, HasToldAll, WalksBy, Setting}
+use Rattle.spin_run.specs.Inner.Steps.{Moment, standing, setting_of, RunsFrom, retired_for, HasRunOne, HasTold, StopsOne, Stands, HasToldAll, WalksBy, AllBy, RunsAll, Setting}
 use Rattle.spin_run.specs.Summaries.{Counts, counts_in}
 use Rattle.spin_run.specs.Inner.Tallies.{TalliesOn}
 use Rattle.spin_run.proofs.Counted.{tallies_none, tallies_more, entries_more}
@@ -150,6 +150,11 @@ told_next script reader frames rest before count segment now next tally tally' t
   counted = subst (λ (es : List Entry). TalliesOn tally tally'' (counts_in es)) (entries_more s.stands.parts told.one.part)
       (tallies_more tally tally' tally'' (flat_map (λ (p : SegmentSeen). p.entries) s.stands.parts) told.one.part.entries s.counted told.counted);
 }
+
+-- what was run in a setting is a run of the script whose setting it is
+pub runs_script : (script : ScriptData) (s : Setting) (reader : Option ReaderState) (frames : List (List ℕ)) (rest : Option (Result Next PcapFault)) (start : RunSeen) (now : Moment) (tally counted : Option Counts) (capture : Option ReaderState) (after : RunSeen) (tally' : Option Counts) (result : Result ℕ RunEnd) → s ≡ setting_of script → RunsAll s script.segments now counted capture after tally' result → HasToldAll script reader frames rest start 0 now tally counted → AllBy script reader start tally capture after tally' result frames rest
+runs_script script s reader frames rest start now tally counted capture after tally' result same h told =
+    subst (λ (x : Setting). RunsAll x script.segments now counted capture after tally' result) same h script.version reader start tally frames rest told
 
 retired_is : (script : ScriptData) (count : ℕ) (segment : Segment) (ends : List NamedEnd) → slice_get script.segments count ≡ Some segment → all_retired script.endpoints segment.retires ends ≡ retired_before script count ends
 retired_is script count segment ends there = ap (λ (o : Option Segment). option_map_or (λ (t : Segment). all_retired script.endpoints t.retires ends) o ends) (sym there)

@@ -1,15 +1,17 @@
 //! Whole runs of scripts.
 
-ghost use Rattle.std.specs.Prelude.{◌≡◌, ◌≤◌, IfSome};
+ghost use Rattle.std.specs.Prelude.{◌≡◌, ◌≤◌, ℕ, [], length, IfSome};
 ghost use Rattle.spin_word.specs.declared.command.TheConstants.{MAX_PLACE};
 ghost use Rattle.spin_pcap.specs.Passing.{IsFresh};
+ghost use Rattle.spin_table.specs.SetupOf.{data_of};
 ghost use Rattle.spin_script.specs.Scripts.{script_seen};
 ghost use Rattle.spin_script.specs.Segments.{IsOrderly};
 ghost use Rattle.spin_script.specs.Soundness.{AreValid, command_lines};
 ghost use Rattle.spin_run.specs.Ends.{seen, EndsBy, CountsBy};
 ghost use Rattle.spin_run.specs.Records.{room_of};
+ghost use Rattle.spin_run.specs.Segments.{AreReady, front_of, state_of};
 ghost use Rattle.spin_run.specs.Inner.Reading.{ForRecords};
-ghost use Rattle.spin_run.specs.Inner.Steps.{AllBy, WalksBy, ResultCounts};
+ghost use Rattle.spin_run.specs.Inner.Steps.{moment, setting, script_in, AllBy, RunsAll, WalksBy, ResultCounts};
 
 use crate::end::RunEnd;
 use crate::ending::finish;
@@ -21,12 +23,114 @@ use spin_endpoint::{Ends, EndsSeen};
 use spin_objects::Catalogue;
 use spin_outside::{Gate, Sink, Source};
 use spin_pcap::Reader;
-use spin_script::Script;
+use spin_script::{Script, Segments};
 use spin_seat::Hub;
+use spin_table::Setup;
+use spin_values::Text;
 use std::alloc::Global;
 use std::thread::Threads;
 
-/// Runs the segments one after another, and tells each. It answers how many commands were accepted.
+/// Runs the segments one after another over lanes that are ready and know no row, and tells each. It answers how many
+/// commands were accepted. The names are those of the endpoints by number.
+fn run_each<R: Threads + Sync, S: Source, T: Telling, G: Gate>(
+    rt: &R,
+    alloc: Global,
+    hub: &Hub,
+    lanes: &mut Lanes,
+    names: &[Text],
+    segments: &Segments,
+    capture: &mut Option<Reader>,
+    source: &mut S,
+    out: &mut T,
+    ends: &mut Ends,
+    gate: &G,
+) -> Result<u16, RunEnd>
+    requires sincere { ⟦<Catalogue as Sincere>⟧.sincere hub.now.setup.catalogue }
+    requires ready { let d = data_of hub.now.setup in
+        AreReady d hub.now.log.id hub.now.log.lanes lanes.old }
+    requires front { front_of lanes.old ≡ [] }
+    requires valid { AreValid segments.now }
+    requires commands { command_lines segments.now ≤ MAX_PLACE }
+    requires orderly { let s = setting (data_of hub.now.setup) (length lanes.old) names.now in
+        IsOrderly (script_in s segments.now 0) }
+    ensures end { let d = data_of hub.now.setup in
+        let before = moment (state_of d lanes.old) capture.old (S.seen source.old) (T.seen out.old)
+        (⟦<Ends as EndsSeen>⟧.all ends.old) in
+        let after = seen (S.seen source.new) (T.seen out.new)
+        (⟦<Ends as EndsSeen>⟧.all ends.new) in
+        RunsAll (setting d (length lanes.old) names.now) segments.now before (T.counts out.old)
+        capture.new after (T.counts out.new) result }
+    ensures keep { (S.seen source.new).keep ≡ (S.seen source.old).keep }
+    ensures same { T.reference out.new ≡ T.reference out.old }
+    ensures counts { let before = seen (S.seen source.old) (T.seen out.old)
+        (⟦<Ends as EndsSeen>⟧.all ends.old) in
+        let after = seen (S.seen source.new) (T.seen out.new)
+        (⟦<Ends as EndsSeen>⟧.all ends.new) in
+        ResultCounts names.now before after result }
+{
+    for number in 0..segments.len() {
+        let segment = segments.get(number);
+        if let Err(end) = run_one(
+            rt, alloc, hub, lanes, names, number, segment, capture, source, out, ends, gate,
+        ) {
+            return Err(end);
+        }
+    }
+    Ok(lanes.place(hub))
+}
+
+/// Begins, makes a lane for each of so many seats, and runs the segments over them. It answers how many commands were
+/// accepted. After want of memory nothing but the beginning was told.
+fn run_over<R: Threads + Sync, S: Source, T: Telling, G: Gate>(
+    rt: &R,
+    alloc: Global,
+    setup: Setup,
+    lane_count: u8,
+    names: &[Text],
+    segments: &Segments,
+    capture: &mut Option<Reader>,
+    source: &mut S,
+    out: &mut T,
+    ends: &mut Ends,
+    gate: &G,
+) -> Result<u16, RunEnd>
+    requires sincere { ⟦<Catalogue as Sincere>⟧.sincere setup.catalogue }
+    requires valid { AreValid segments.now }
+    requires commands { command_lines segments.now ≤ MAX_PLACE }
+    requires orderly { let s = setting (data_of setup) lane_count names.now in
+        IsOrderly (script_in s segments.now 0) }
+    requires fresh { IfSome capture.old IsFresh }
+    ensures end { let s = setting (data_of setup) lane_count names.now in
+        let before = seen (S.seen source.old) (T.seen out.old)
+        (⟦<Ends as EndsSeen>⟧.all ends.old) in
+        let after = seen (S.seen source.new) (T.seen out.new)
+        (⟦<Ends as EndsSeen>⟧.all ends.new) in
+        (version : ℕ) → ForRecords capture.old (S.seen source.old)
+        (AllBy (script_in s segments.now version) capture.old before (T.counts out.old)
+        capture.new after (T.counts out.new) result) }
+    ensures keep { (S.seen source.new).keep ≡ (S.seen source.old).keep }
+    ensures same { T.reference out.new ≡ T.reference out.old }
+    ensures counts { let before = seen (S.seen source.old) (T.seen out.old)
+        (⟦<Ends as EndsSeen>⟧.all ends.old) in
+        let after = seen (S.seen source.new) (T.seen out.new)
+        (⟦<Ends as EndsSeen>⟧.all ends.new) in
+        ResultCounts names.now before after result }
+{
+    if let Err(_) = out.begin() {
+        return Err(RunEnd::WriteFault);
+    }
+    let Ok((hub, seats)) = Hub::new(alloc, setup, lane_count) else {
+        return Err(RunEnd::NoMemory);
+    };
+    let Ok(mut lanes) = Lanes::of_seats(alloc, &hub, seats) else {
+        return Err(RunEnd::NoMemory);
+    };
+    run_each(
+        rt, alloc, &hub, &mut lanes, names, segments, capture, source, out, ends, gate,
+    )
+}
+
+/// Takes the script apart, and runs its segments. It answers how many commands were accepted.
 fn run_segments<R: Threads + Sync, S: Source, T: Telling, G: Gate>(
     rt: &R,
     alloc: Global,
@@ -57,9 +161,6 @@ fn run_segments<R: Threads + Sync, S: Source, T: Telling, G: Gate>(
         (⟦<Ends as EndsSeen>⟧.all ends.new) in
         ResultCounts (script_seen script).endpoints before after result }
 {
-    if let Err(_) = out.begin() {
-        return Err(RunEnd::WriteFault);
-    }
     let Script {
         setup,
         endpoints,
@@ -67,22 +168,19 @@ fn run_segments<R: Threads + Sync, S: Source, T: Telling, G: Gate>(
         segments,
         ..
     } = script;
-    let Ok((hub, seats)) = Hub::new(alloc, setup, lanes) else {
-        return Err(RunEnd::NoMemory);
-    };
-    let Ok(mut lanes) = Lanes::of_seats(alloc, &hub, seats) else {
-        return Err(RunEnd::NoMemory);
-    };
-    let names = endpoints.as_slice();
-    for number in 0..segments.len() {
-        let segment = segments.get(number);
-        if let Err(end) = run_one(
-            rt, alloc, &hub, &mut lanes, names, number, segment, capture, source, out, ends, gate,
-        ) {
-            return Err(end);
-        }
-    }
-    Ok(lanes.place(&hub))
+    run_over(
+        rt,
+        alloc,
+        setup,
+        lanes,
+        endpoints.as_slice(),
+        &segments,
+        capture,
+        source,
+        out,
+        ends,
+        gate,
+    )
 }
 
 /// Runs a script whole, and tells what it comes to.

@@ -168,3 +168,23 @@ AllBy script reader start tally capture after tally' (Ok end_length) frames rest
     (record { state = state; capture = capture; outside = after }) tally tally'
 AllBy script reader start tally capture after tally' (Err stop) frames rest =
     WalksBy script (room_of reader) frames rest start tally after tally' stop
+
+-- the script of that version whose segments run in the setting
+abbrev pub script_in : Setting → List Segment → ℕ → ScriptData
+script_in s segments version = record {
+  setup = s.setup;
+  version = version;
+  endpoints = s.endpoints;
+  lanes = s.lanes;
+  segments = segments;
+}
+
+-- From a moment at which none was run, all were run, and the log has that length; or it stopped so: whatever the script's
+-- version is, and wherever the run began that came to the moment.
+abbrev pub RunsAll : Setting → List Segment → Moment → Option Counts → Option ReaderState → RunSeen
+    → Option Counts → Result ℕ RunEnd → Type 0
+RunsAll s segments now counted capture after tally' result =
+    (version : ℕ) (reader : Option ReaderState) (start : RunSeen) (tally : Option Counts)
+    (frames : List (List ℕ)) (rest : Option (Result Next PcapFault))
+    → HasToldAll (script_in s segments version) reader frames rest start 0 now tally counted
+    → AllBy (script_in s segments version) reader start tally capture after tally' result frames rest

@@ -1,4 +1,4 @@
-use Rattle.std.proofs.Common.{◌≡◌, ◌<◌, List, ◌∷◌, ◌++◌, ℕ, length, map, take, Ok, Err, refl, sym, ap, subst, ◌∙◌}
+use Rattle.std.proofs.Common.{◌≡◌, ◌<◌, List, ◌∷◌, ◌++◌, ℕ, length, map, take, Ok, Err, refl, sym, ap, subst, ◌∙◌, ◌⊎◌, inr}
 use Rattle.std.specs.Prelude.{All}
 use Rattle.spin_endpoint.specs.Inner.View.{view_of}
 use Rattle.spin_endpoint.specs.Sends.{SentSeen, all_retired}
@@ -8,12 +8,17 @@ use Rattle.spin_report.specs.Lines.{entry_line, job_line}
 use Rattle.spin_report.specs.Histories.{retire_line, segment_line, lost_lines}
 use Rattle.spin_report.specs.Segments.{wanted_by}
 use Rattle.spin_report.specs.Runs.{retirements}
+use Rattle.spin_run.specs.Ends.{seen}
+use Rattle.spin_run.specs.Records.{room_of}
 use Rattle.spin_run.specs.Segments.{state_of, jobs_seen}
 use Rattle.spin_run.specs.Inner.Sending.{sends_made}
 use Rattle.spin_run.specs.Inner.Lining.{counts_to}
+use Rattle.spin_run.specs.Inner.Writing.{joined}
 use Rattle.spin_run.specs.Inner.Steps.{moment, setting}
 use Rattle.spin_run.proofs.Sent.{all_sent}
-use Rattle.spin_run.proofs.OneSegment.{HasAnswered, HasLines, sends_are, sends_as, stops_sending, stops_telling, has_told}
+use Rattle.spin_run.proofs.Faults.{counts_reading, counts_sending, counts_telling}
+use Rattle.spin_run.proofs.Taking.{past_none, takes_before, takes_reading, takes_same}
+use Rattle.spin_run.proofs.OneSegment.{HasAnswered, HasLines, sends_are, sends_as, stops_retiring, stops_reading_in, stops_sending, stops_telling, has_told}
 use Rattle.spin_run.proofs.one.run_one.Goals as goal
 
 pub send_all-requires-clause-named : goal.send_all-requires-clause-named
@@ -24,45 +29,113 @@ send_all-requires-clause-named g c =
     subst (λ (x : List SentSeen). All (λ (sent : SentSeen). sent.endpoint < length c.args.names.now) x) (sym same)
     (all_sent (length c.args.names.now) (data_of c.args.hub.now.setup) _ _ w.entries (jobs_seen w.jobs w.replies) c.requires.sent woven.legal woven.jobs_are)
 
-pub returns-in-Err-send_all-clause-one : goal.returns-in-Err-send_all-clause-one
-returns-in-Err-send_all-clause-one g c =
+pub returns-in_default : goal.returns-in_default
+returns-in_default g c =
     let d = data_of c.args.hub.now.setup in
     let all = λ (ends : _). map (view_of (λ e. (goal.Endpoint-dyn g (e.object.vtable, e.object.value)).seen e.object.value)) ends in
+    let source = g.S.Source.seen in
+    let sink = g.T.Telling.seen in
     let s = setting d (length c.args.lanes.now) c.args.names.now in
-    let before = moment (state_of d c.args.lanes.now) c.args.capture.now (g.S.Source.seen c.args.source.now) (g.T.Telling.seen c.args.out.now) (all c.args.ends.now.ends.items) in
-    let after = moment (state_of d c.run_segment.new.lanes) c.read_records.new.capture (g.S.Source.seen c.read_records.new.source) (g.T.Telling.seen c.args.out.now) (all c.send_all.new.ends.ends.items) in
-    let w = c.in-Ok-run_segment.woven in
-    let lines : c.as_slice-2.result.now ≡ c.args.segment.now.lines = c.as_slice-2.ensures in
-    let wanted : c.wanted_by-wanted.result ≡ wanted_by c.args.segment.now.lines = c.wanted_by-wanted.ensures ∙ ap wanted_by lines in
+    let before = moment (state_of d c.args.lanes.now) c.args.capture.now (source c.args.source.now) (sink c.args.out.now) (all c.args.ends.now.ends.items) in
+    let after = moment (state_of d c.args.lanes.now) c.args.capture.now (source c.args.source.now) (sink c.args.out.now) (all c.retire.new.ends.ends.items) in
+    let ends = all c.args.ends.now.ends.items in
+    let ends' = all c.retire.new.ends.ends.items in
+    let memory = subst (λ (x : List ℕ). (ends' ≡ ends) ⊎ (ends' ≡ all_retired c.args.names.now x ends)) c.as_slice.ensures c.in_default.ensures.memory in
+    record {
+      one = λ left rest r. stops_retiring s c.args.number c.args.segment.now before after left rest refl memory;
+      ready = tt;
+      taken = tt;
+      took = λ left rest r le. past_none (room_of c.args.capture.now) (source c.args.source.now) (take (wanted_by c.args.segment.now.lines) left);
+      keep = refl;
+      same = refl;
+      counts = (refl, refl, c.in_default.ensures.faults);
+    }
+
+pub returns-in-Err : goal.returns-in-Err
+returns-in-Err g c =
+    let d = data_of c.args.hub.now.setup in
+    let all = λ (ends : _). map (view_of (λ e. (goal.Endpoint-dyn g (e.object.vtable, e.object.value)).seen e.object.value)) ends in
+    let source = g.S.Source.seen in
+    let sink = g.T.Telling.seen in
+    let s = setting d (length c.args.lanes.now) c.args.names.now in
+    let before = moment (state_of d c.args.lanes.now) c.args.capture.now (source c.args.source.now) (sink c.args.out.now) (all c.args.ends.now.ends.items) in
+    let after = moment (state_of d c.args.lanes.now) c.read_records.new.capture (source c.read_records.new.source) (sink c.args.out.now) (all c.retire.new.ends.ends.items) in
     let retired : all c.retire.new.ends.ends.items ≡ all_retired c.args.names.now c.args.segment.now.retires (all c.args.ends.now.ends.items) = c.in-Ok.ensures.ends ∙ ap (λ x. all_retired c.args.names.now x (all c.args.ends.now.ends.items)) c.as_slice.ensures in
-    λ left rest r.
-    let given = c.in-Ok-read_records.ensures.answer left rest r in
-    let answered : HasAnswered s c.args.segment.now before left (state_of d c.run_segment.new.lanes) w.entries w.jobs w.replies c.in-Ok-read_records.frames = record {
-      read = given.0 ∙ ap (λ n. take n left) wanted;
-      woven = c.in-Ok-run_segment.ensures.woven;
-      replies_are = c.in-Ok-run_segment.ensures.replies;
-    } in
+    let wanted : c.wanted_by-wanted.result ≡ wanted_by c.args.segment.now.lines = c.wanted_by-wanted.ensures ∙ ap wanted_by c.as_slice-2.ensures in
+    record {
+      one = λ left rest r. stops_reading_in s c.args.number c.args.segment.now before after left rest c.wanted_by-wanted.result c.read_records.new.capture (source c.read_records.new.source) c.in-Err.end refl retired wanted (c.in-Err.ensures.answer left rest r);
+      ready = tt;
+      taken = tt;
+      took = λ left rest r. takes_reading c.args.capture.now (source c.args.source.now) (source c.read_records.new.source) left c.wanted_by-wanted.result (wanted_by c.args.segment.now.lines) wanted (c.in-Err.ensures.took left rest r);
+      keep = c.in-Err.ensures.keep;
+      same = refl;
+      counts = counts_reading c.args.names.now c.in-Err.end before.outside after.outside c.in-Err.ensures.cause refl c.in-Ok.ensures.faults;
+    }
+
+pub returns-in_default-run_segment : goal.returns-in_default-run_segment
+returns-in_default-run_segment g c =
+    let d = data_of c.args.hub.now.setup in
+    let all = λ (ends : _). map (view_of (λ e. (goal.Endpoint-dyn g (e.object.vtable, e.object.value)).seen e.object.value)) ends in
+    let source = g.S.Source.seen in
+    let sink = g.T.Telling.seen in
+    let s = setting d (length c.args.lanes.now) c.args.names.now in
+    let before = moment (state_of d c.args.lanes.now) c.args.capture.now (source c.args.source.now) (sink c.args.out.now) (all c.args.ends.now.ends.items) in
+    let after = moment (state_of d c.run_segment.new.lanes) c.read_records.new.capture (source c.read_records.new.source) (sink c.args.out.now) (all c.retire.new.ends.ends.items) in
+    let retired : all c.retire.new.ends.ends.items ≡ all_retired c.args.names.now c.args.segment.now.retires (all c.args.ends.now.ends.items) = c.in-Ok.ensures.ends ∙ ap (λ x. all_retired c.args.names.now x (all c.args.ends.now.ends.items)) c.as_slice.ensures in
+    let wanted : c.wanted_by-wanted.result ≡ wanted_by c.args.segment.now.lines = c.wanted_by-wanted.ensures ∙ ap wanted_by c.as_slice-2.ensures in
+    record {
+      one = λ left rest r. stops_retiring s c.args.number c.args.segment.now before after left rest refl (inr retired);
+      ready = tt;
+      taken = tt;
+      took = λ left rest r. takes_before c.args.capture.now c.read_records.new.capture (source c.args.source.now) (source c.read_records.new.source) left c.wanted_by-wanted.result (wanted_by c.args.segment.now.lines) wanted (c.in-Ok-read_records.ensures.took left rest r);
+      keep = c.in-Ok-read_records.ensures.keep;
+      same = refl;
+      counts = (c.in-Ok-read_records.ensures.cause, refl, c.in-Ok.ensures.faults);
+    }
+
+pub returns-in-Err-send_all : goal.returns-in-Err-send_all
+returns-in-Err-send_all g c =
+    let d = data_of c.args.hub.now.setup in
+    let all = λ (ends : _). map (view_of (λ e. (goal.Endpoint-dyn g (e.object.vtable, e.object.value)).seen e.object.value)) ends in
+    let source = g.S.Source.seen in
+    let sink = g.T.Telling.seen in
+    let s = setting d (length c.args.lanes.now) c.args.names.now in
+    let before = moment (state_of d c.args.lanes.now) c.args.capture.now (source c.args.source.now) (sink c.args.out.now) (all c.args.ends.now.ends.items) in
+    let after = moment (state_of d c.run_segment.new.lanes) c.read_records.new.capture (source c.read_records.new.source) (sink c.args.out.now) (all c.send_all.new.ends.ends.items) in
+    let retired : all c.retire.new.ends.ends.items ≡ all_retired c.args.names.now c.args.segment.now.retires (all c.args.ends.now.ends.items) = c.in-Ok.ensures.ends ∙ ap (λ x. all_retired c.args.names.now x (all c.args.ends.now.ends.items)) c.as_slice.ensures in
+    let wanted : c.wanted_by-wanted.result ≡ wanted_by c.args.segment.now.lines = c.wanted_by-wanted.ensures ∙ ap wanted_by c.as_slice-2.ensures in
+    let w = c.in-Ok-run_segment.woven in
+    let sends = sends_made c.as_slice-entries.result.now c.as_slice-3.result.now in
     let sent = sends_as c.args.names.now _ w.entries _ w.replies _ _ (all c.send_all.new.ends.ends.items) (Err c.in-Err-send_all.end) c.as_slice-entries.ensures c.as_slice-3.ensures retired c.in-Err-send_all.ensures.sends in
-    stops_sending s c.args.number c.args.segment.now before after left c.in-Ok-read_records.frames rest (state_of d c.run_segment.new.lanes) w.entries w.jobs w.replies c.in-Err-send_all.end refl answered sent
+    record {
+      one = λ left rest r.
+          let given = c.in-Ok-read_records.ensures.answer left rest r in
+          let answered : HasAnswered s c.args.segment.now before left (state_of d c.run_segment.new.lanes) w.entries w.jobs w.replies c.in-Ok-read_records.frames = record {
+            read = given.0 ∙ ap (λ n. take n left) wanted;
+            woven = c.in-Ok-run_segment.ensures.woven;
+            replies_are = c.in-Ok-run_segment.ensures.replies;
+          } in
+          stops_sending s c.args.number c.args.segment.now before after left c.in-Ok-read_records.frames rest (state_of d c.run_segment.new.lanes) w.entries w.jobs w.replies c.in-Err-send_all.end refl answered sent;
+      ready = tt;
+      taken = tt;
+      took = λ left rest r. takes_before c.args.capture.now c.read_records.new.capture (source c.args.source.now) (source c.read_records.new.source) left c.wanted_by-wanted.result (wanted_by c.args.segment.now.lines) wanted (c.in-Ok-read_records.ensures.took left rest r);
+      keep = c.in-Ok-read_records.ensures.keep;
+      same = refl;
+      counts = counts_sending c.args.names.now sends c.in-Err-send_all.end before.outside after.outside (all c.retire.new.ends.ends.items) c.in-Ok-read_records.ensures.cause refl c.in-Ok.ensures.faults c.in-Err-send_all.ensures.sends;
+    }
 
-pub returns-in-Ok-tell-clause-one : goal.returns-in-Ok-tell-clause-one
-returns-in-Ok-tell-clause-one g c =
+pub returns-in-Ok-tell : goal.returns-in-Ok-tell
+returns-in-Ok-tell g c =
     let d = data_of c.args.hub.now.setup in
     let all = λ (ends : _). map (view_of (λ e. (goal.Endpoint-dyn g (e.object.vtable, e.object.value)).seen e.object.value)) ends in
+    let source = g.S.Source.seen in
+    let sink = g.T.Telling.seen in
     let s = setting d (length c.args.lanes.now) c.args.names.now in
-    let before = moment (state_of d c.args.lanes.now) c.args.capture.now (g.S.Source.seen c.args.source.now) (g.T.Telling.seen c.args.out.now) (all c.args.ends.now.ends.items) in
-    let after = moment (state_of d c.run_segment.new.lanes) c.read_records.new.capture (g.S.Source.seen c.read_records.new.source) (g.T.Telling.seen c.tell.new.self) (all c.send_all.new.ends.ends.items) in
-    let w = c.in-Ok-run_segment.woven in
-    let lines : c.as_slice-2.result.now ≡ c.args.segment.now.lines = c.as_slice-2.ensures in
-    let wanted : c.wanted_by-wanted.result ≡ wanted_by c.args.segment.now.lines = c.wanted_by-wanted.ensures ∙ ap wanted_by lines in
+    let before = moment (state_of d c.args.lanes.now) c.args.capture.now (source c.args.source.now) (sink c.args.out.now) (all c.args.ends.now.ends.items) in
+    let after = moment (state_of d c.run_segment.new.lanes) c.read_records.new.capture (source c.read_records.new.source) (sink c.tell.new.self) (all c.send_all.new.ends.ends.items) in
     let retired : all c.retire.new.ends.ends.items ≡ all_retired c.args.names.now c.args.segment.now.retires (all c.args.ends.now.ends.items) = c.in-Ok.ensures.ends ∙ ap (λ x. all_retired c.args.names.now x (all c.args.ends.now.ends.items)) c.as_slice.ensures in
-    λ left rest r.
-    let given = c.in-Ok-read_records.ensures.answer left rest r in
-    let answered : HasAnswered s c.args.segment.now before left (state_of d c.run_segment.new.lanes) w.entries w.jobs w.replies c.in-Ok-read_records.frames = record {
-      read = given.0 ∙ ap (λ n. take n left) wanted;
-      woven = c.in-Ok-run_segment.ensures.woven;
-      replies_are = c.in-Ok-run_segment.ensures.replies;
-    } in
+    let wanted : c.wanted_by-wanted.result ≡ wanted_by c.args.segment.now.lines = c.wanted_by-wanted.ensures ∙ ap wanted_by c.as_slice-2.ensures in
+    let w = c.in-Ok-run_segment.woven in
     let sent = sends_as c.args.names.now _ w.entries _ w.replies _ _ (all c.send_all.new.ends.ends.items) (Ok c.in-Ok-send_all.lost) c.as_slice-entries.ensures c.as_slice-3.ensures retired c.in-Ok-send_all.ensures.sends in
     let lines_told = c.in-Ok.retired ++ map ended (segment_line c.args.number c.place-start.result ∷ map entry_line w.entries ++ map job_line (jobs_seen w.jobs w.replies) ++ lost_lines (counts_to c.in-Ok-send_all.lost (length c.args.names.now))) in
     let made : HasLines s c.args.number c.args.segment.now before w.entries w.jobs w.replies c.in-Ok-send_all.lost c.in-Ok.retired lines_told = record {
@@ -72,26 +145,35 @@ returns-in-Ok-tell-clause-one g c =
       start_is = c.place-start.ensures;
       lines_are = refl;
     } in
-    has_told s c.args.number c.args.segment.now before after left c.in-Ok-read_records.frames rest w.entries w.jobs w.replies c.in-Ok-send_all.lost c.in-Ok.retired lines_told c.wanted_by-wanted.result answered (record { sent = sent }) made c.in-Ok-tell.ensures.told wanted given _ _ c.in-Ok-tell.ensures.counts
+    record {
+      one = λ left rest r.
+          let given = c.in-Ok-read_records.ensures.answer left rest r in
+          let answered : HasAnswered s c.args.segment.now before left (state_of d c.run_segment.new.lanes) w.entries w.jobs w.replies c.in-Ok-read_records.frames = record {
+            read = given.0 ∙ ap (λ n. take n left) wanted;
+            woven = c.in-Ok-run_segment.ensures.woven;
+            replies_are = c.in-Ok-run_segment.ensures.replies;
+          } in
+          has_told s c.args.number c.args.segment.now before after left c.in-Ok-read_records.frames rest w.entries w.jobs w.replies c.in-Ok-send_all.lost c.in-Ok.retired lines_told c.wanted_by-wanted.result answered (record { sent = sent }) made c.in-Ok-tell.ensures.told wanted given _ _ c.in-Ok-tell.ensures.counts;
+      ready = c.in-Ok-run_segment.ensures.ready;
+      taken = c.in-Ok-run_segment.ensures.taken;
+      took = λ left rest r. takes_same c.args.capture.now c.read_records.new.capture (source c.args.source.now) (source c.read_records.new.source) left c.wanted_by-wanted.result (wanted_by c.args.segment.now.lines) wanted (c.in-Ok-read_records.ensures.took left rest r);
+      keep = c.in-Ok-read_records.ensures.keep;
+      same = c.in-Ok-tell.ensures.same;
+      counts = (c.in-Ok-read_records.ensures.cause, c.in-Ok-tell.ensures.cause, c.in-Ok-send_all.ensures.counts ∙ c.in-Ok.ensures.faults);
+    }
 
-pub returns-clause-one : goal.returns-clause-one
-returns-clause-one g c =
+pub returns : goal.returns
+returns g c =
     let d = data_of c.args.hub.now.setup in
     let all = λ (ends : _). map (view_of (λ e. (goal.Endpoint-dyn g (e.object.vtable, e.object.value)).seen e.object.value)) ends in
+    let source = g.S.Source.seen in
+    let sink = g.T.Telling.seen in
     let s = setting d (length c.args.lanes.now) c.args.names.now in
-    let before = moment (state_of d c.args.lanes.now) c.args.capture.now (g.S.Source.seen c.args.source.now) (g.T.Telling.seen c.args.out.now) (all c.args.ends.now.ends.items) in
-    let after = moment (state_of d c.run_segment.new.lanes) c.read_records.new.capture (g.S.Source.seen c.read_records.new.source) (g.T.Telling.seen c.tell.new.self) (all c.send_all.new.ends.ends.items) in
-    let w = c.in-Ok-run_segment.woven in
-    let lines : c.as_slice-2.result.now ≡ c.args.segment.now.lines = c.as_slice-2.ensures in
-    let wanted : c.wanted_by-wanted.result ≡ wanted_by c.args.segment.now.lines = c.wanted_by-wanted.ensures ∙ ap wanted_by lines in
+    let before = moment (state_of d c.args.lanes.now) c.args.capture.now (source c.args.source.now) (sink c.args.out.now) (all c.args.ends.now.ends.items) in
+    let after = moment (state_of d c.run_segment.new.lanes) c.read_records.new.capture (source c.read_records.new.source) (sink c.tell.new.self) (all c.send_all.new.ends.ends.items) in
     let retired : all c.retire.new.ends.ends.items ≡ all_retired c.args.names.now c.args.segment.now.retires (all c.args.ends.now.ends.items) = c.in-Ok.ensures.ends ∙ ap (λ x. all_retired c.args.names.now x (all c.args.ends.now.ends.items)) c.as_slice.ensures in
-    λ left rest r.
-    let given = c.in-Ok-read_records.ensures.answer left rest r in
-    let answered : HasAnswered s c.args.segment.now before left (state_of d c.run_segment.new.lanes) w.entries w.jobs w.replies c.in-Ok-read_records.frames = record {
-      read = given.0 ∙ ap (λ n. take n left) wanted;
-      woven = c.in-Ok-run_segment.ensures.woven;
-      replies_are = c.in-Ok-run_segment.ensures.replies;
-    } in
+    let wanted : c.wanted_by-wanted.result ≡ wanted_by c.args.segment.now.lines = c.wanted_by-wanted.ensures ∙ ap wanted_by c.as_slice-2.ensures in
+    let w = c.in-Ok-run_segment.woven in
     let sent = sends_as c.args.names.now _ w.entries _ w.replies _ _ (all c.send_all.new.ends.ends.items) (Ok c.in-Ok-send_all.lost) c.as_slice-entries.ensures c.as_slice-3.ensures retired c.in-Ok-send_all.ensures.sends in
     let lines_told = c.in-Ok.retired ++ map ended (segment_line c.args.number c.place-start.result ∷ map entry_line w.entries ++ map job_line (jobs_seen w.jobs w.replies) ++ lost_lines (counts_to c.in-Ok-send_all.lost (length c.args.names.now))) in
     let made : HasLines s c.args.number c.args.segment.now before w.entries w.jobs w.replies c.in-Ok-send_all.lost c.in-Ok.retired lines_told = record {
@@ -101,4 +183,19 @@ returns-clause-one g c =
       start_is = c.place-start.ensures;
       lines_are = refl;
     } in
-    stops_telling s c.args.number c.args.segment.now before after left c.in-Ok-read_records.frames rest w.entries w.jobs w.replies c.in-Ok-send_all.lost c.in-Ok.retired lines_told c.in-Err-tell.end answered (record { sent = sent }) made c.in-Err-tell.ensures.told
+    record {
+      one = λ left rest r.
+          let given = c.in-Ok-read_records.ensures.answer left rest r in
+          let answered : HasAnswered s c.args.segment.now before left (state_of d c.run_segment.new.lanes) w.entries w.jobs w.replies c.in-Ok-read_records.frames = record {
+            read = given.0 ∙ ap (λ n. take n left) wanted;
+            woven = c.in-Ok-run_segment.ensures.woven;
+            replies_are = c.in-Ok-run_segment.ensures.replies;
+          } in
+          stops_telling s c.args.number c.args.segment.now before after left c.in-Ok-read_records.frames rest w.entries w.jobs w.replies c.in-Ok-send_all.lost c.in-Ok.retired lines_told c.in-Err-tell.end answered (record { sent = sent }) made c.in-Err-tell.ensures.told;
+      ready = tt;
+      taken = tt;
+      took = λ left rest r. takes_before c.args.capture.now c.read_records.new.capture (source c.args.source.now) (source c.read_records.new.source) left c.wanted_by-wanted.result (wanted_by c.args.segment.now.lines) wanted (c.in-Ok-read_records.ensures.took left rest r);
+      keep = c.in-Ok-read_records.ensures.keep;
+      same = c.in-Err-tell.ensures.same;
+      counts = counts_telling c.args.names.now (joined lines_told) c.in-Err-tell.end before.outside after.outside c.in-Ok-read_records.ensures.cause (c.in-Ok-send_all.ensures.counts ∙ c.in-Ok.ensures.faults) c.in-Err-tell.ensures.told c.in-Err-tell.ensures.cause;
+    }

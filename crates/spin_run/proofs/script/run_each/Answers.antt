@@ -1,0 +1,127 @@
+use Rattle.std.proofs.Common.{◌≡◌, ◌<◌, ◌≤◌, ℕ, List, map, length, refl, sym, ap, subst, ◌∙◌, arith}
+use Rattle.spin_endpoint.specs.Inner.View.{view_of}
+use Rattle.spin_table.specs.SetupOf.{data_of}
+use Rattle.spin_run.specs.Ends.{seen}
+use Rattle.spin_run.specs.Records.{room_of}
+use Rattle.spin_run.specs.Segments.{IsFitSegment, state_of}
+use Rattle.spin_run.specs.Inner.Steps.{moment, setting, script_in, setting_of, StopsOne, HasTold, HasToldAll}
+use Rattle.spin_run.proofs.Fitting.{fits, retires_named, commands_more}
+use Rattle.spin_run.proofs.Faults.{counts_later}
+use Rattle.spin_run.proofs.Steps.{told_next, one_ends, one_walks}
+use Rattle.spin_run.proofs.script.run_each.Goals as goal
+
+pub loop-number-init : goal.loop-number-init
+loop-number-init g c = record {
+  stands = λ version reader start tally frames rest told. told;
+  ready = c.requires.ready;
+  room = omega (arith, ap length c.requires.front);
+  keep = refl;
+  same = refl;
+  reads = refl;
+  writes = refl;
+  faults = refl;
+}
+
+pub run_one-requires-clause-sincere : goal.run_one-requires-clause-sincere
+run_one-requires-clause-sincere g c κs lives = c.requires.sincere
+
+pub run_one-requires-clause-ready : goal.run_one-requires-clause-ready
+run_one-requires-clause-ready g c κs lives = c.loop-number.invariant.ready
+
+pub run_one-requires-clause-lines : goal.run_one-requires-clause-lines
+run_one-requires-clause-lines g c κs lives =
+    subst (λ (n : ℕ). IsFitSegment n c.get-segment.result.now.lines) (c.requires.ready.all ∙ sym c.loop-number.invariant.ready.all)
+    (fits (script_in (setting (data_of c.args.hub.now.setup) (length c.args.lanes.now) c.args.names.now) c.args.segments.now 0) c.loop-number.number c.get-segment.result.now c.get-segment.ensures c.requires.orderly c.requires.valid)
+
+pub run_one-requires-clause-room : goal.run_one-requires-clause-room
+run_one-requires-clause-room g c =
+    let more = commands_more c.args.segments.now c.loop-number.number c.get-segment.result.now c.get-segment.ensures in
+    omega (arith, c.loop-number.invariant.room, more.1, c.requires.commands)
+
+pub run_one-requires-clause-few : goal.run_one-requires-clause-few
+run_one-requires-clause-few g c κs lives = c.requires.orderly.endpoints.few
+
+pub run_one-requires-clause-retired : goal.run_one-requires-clause-retired
+run_one-requires-clause-retired g c κs lives =
+    retires_named (script_in (setting (data_of c.args.hub.now.setup) (length c.args.lanes.now) c.args.names.now) c.args.segments.now 0) c.loop-number.number c.get-segment.result.now c.get-segment.ensures c.requires.orderly
+
+pub run_one-requires-clause-sent : goal.run_one-requires-clause-sent
+run_one-requires-clause-sent g c κs lives = c.requires.orderly.endpoints.sent
+
+pub returns-in-Err : goal.returns-in-Err
+returns-in-Err g c =
+    let all = λ (ends : _). map (view_of (λ e. (goal.Endpoint-dyn g (e.object.vtable, e.object.value)).seen e.object.value)) ends in
+    let source = g.S.Source.seen in
+    let sink = g.T.Telling.seen in
+    let d = data_of c.args.hub.now.setup in
+    let names = c.args.names.now in
+    let s = setting d (length c.args.lanes.now) names in
+    let segment = c.get-segment.result.now in
+    let number = c.loop-number.number in
+    let before = seen (source c.args.source.now) (sink c.args.out.now) (all c.args.ends.now.ends.items) in
+    let now = moment (state_of d c.loop-number.lanes) c.loop-number.capture (source c.loop-number.source) (sink c.loop-number.out) (all c.loop-number.ends.ends.items) in
+    let next = moment (state_of d c.run_one.new.lanes) c.run_one.new.capture (source c.run_one.new.source) (sink c.run_one.new.out) (all c.run_one.new.ends.ends.items) in
+    let lanes_are : length c.loop-number.lanes ≡ length c.args.lanes.now = c.loop-number.invariant.ready.all ∙ sym c.requires.ready.all in
+    let stop = c.in-Err.end in
+    record {
+      end = λ version reader start tally frames rest told.
+          let t = (c.loop-number.invariant.stands version reader start tally frames rest told).stands in
+          let one = subst (λ (n : ℕ). StopsOne (setting d n names) number segment now next t.left rest stop) lanes_are (c.in-Err.ensures.one t.left rest t.records) in
+          one_walks (script_in s c.args.segments.now version) (room_of reader) frames rest start next.outside tally (g.T.Telling.counts c.run_one.new.out) s number segment now next t.left stop one
+          (one_ends (script_in s c.args.segments.now version) reader frames rest start number segment now next stop c.get-segment.ensures t one (c.in-Err.ensures.took t.left rest t.records));
+      keep = c.in-Err.ensures.keep ∙ c.loop-number.invariant.keep;
+      same = c.in-Err.ensures.same ∙ c.loop-number.invariant.same;
+      counts = counts_later names stop before now.outside next.outside c.loop-number.invariant.reads c.loop-number.invariant.writes c.loop-number.invariant.faults c.in-Err.ensures.counts;
+    }
+
+pub loop-number-preserved : goal.loop-number-preserved
+loop-number-preserved g c =
+    let all = λ (ends : _). map (view_of (λ e. (goal.Endpoint-dyn g (e.object.vtable, e.object.value)).seen e.object.value)) ends in
+    let source = g.S.Source.seen in
+    let sink = g.T.Telling.seen in
+    let d = data_of c.args.hub.now.setup in
+    let names = c.args.names.now in
+    let s = setting d (length c.args.lanes.now) names in
+    let segment = c.get-segment.result.now in
+    let number = c.loop-number.number in
+    let now = moment (state_of d c.loop-number.lanes) c.loop-number.capture (source c.loop-number.source) (sink c.loop-number.out) (all c.loop-number.ends.ends.items) in
+    let next = moment (state_of d c.run_one.new.lanes) c.run_one.new.capture (source c.run_one.new.source) (sink c.run_one.new.out) (all c.run_one.new.ends.ends.items) in
+    let lanes_are : length c.loop-number.lanes ≡ length c.args.lanes.now = c.loop-number.invariant.ready.all ∙ sym c.requires.ready.all in
+    let more = commands_more c.args.segments.now number segment c.get-segment.ensures in
+    let counted = g.T.Telling.counts c.loop-number.out in
+    let counted' = g.T.Telling.counts c.run_one.new.out in
+    record {
+      stands = λ version reader start tally frames rest told.
+          let t = c.loop-number.invariant.stands version reader start tally frames rest told in
+          let one = subst (λ (n : ℕ). HasTold (setting d n names) number segment now next counted counted' t.stands.left rest) lanes_are (c.in_default.ensures.one t.stands.left rest t.stands.records) in
+          told_next (script_in s c.args.segments.now version) reader frames rest start number segment now next tally counted counted' c.get-segment.ensures t one (c.in_default.ensures.took t.stands.left rest t.stands.records);
+      ready = c.in_default.ensures.ready;
+      room = omega (arith, c.in_default.ensures.taken, c.loop-number.invariant.room, more.0);
+      keep = c.in_default.ensures.keep ∙ c.loop-number.invariant.keep;
+      same = c.in_default.ensures.same ∙ c.loop-number.invariant.same;
+      reads = c.in_default.ensures.counts.0 ∙ c.loop-number.invariant.reads;
+      writes = c.in_default.ensures.counts.1 ∙ c.loop-number.invariant.writes;
+      faults = c.in_default.ensures.counts.2 ∙ c.loop-number.invariant.faults;
+    }
+
+pub place-requires : goal.place-requires
+place-requires g c = record { ready = c.loop-number.invariant.ready }
+
+pub returns : goal.returns
+returns g c =
+    let all = λ (ends : _). map (view_of (λ e. (goal.Endpoint-dyn g (e.object.vtable, e.object.value)).seen e.object.value)) ends in
+    let d = data_of c.args.hub.now.setup in
+    let s = setting d (length c.args.lanes.now) c.args.names.now in
+    let lanes = c.loop-number.lanes in
+    let now = moment (state_of d lanes) c.loop-number.capture (g.S.Source.seen c.loop-number.source) (g.T.Telling.seen c.loop-number.out) (all c.loop-number.ends.ends.items) in
+    let done : c.loop-number.number ≡ length c.args.segments.now = omega arith in
+    record {
+      end = λ version reader start tally frames rest told. (
+        state_of d lanes,
+        c.place.ensures,
+        subst (λ (n : ℕ). HasToldAll (script_in s c.args.segments.now version) reader frames rest start n now tally (g.T.Telling.counts c.loop-number.out)) done (c.loop-number.invariant.stands version reader start tally frames rest told),
+      );
+      keep = c.loop-number.invariant.keep;
+      same = c.loop-number.invariant.same;
+      counts = (c.loop-number.invariant.reads, c.loop-number.invariant.writes, c.loop-number.invariant.faults);
+    }
