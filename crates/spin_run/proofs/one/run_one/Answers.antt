@@ -8,7 +8,6 @@ use Rattle.spin_report.specs.Lines.{entry_line, job_line}
 use Rattle.spin_report.specs.Histories.{retire_line, segment_line, lost_lines}
 use Rattle.spin_report.specs.Segments.{wanted_by}
 use Rattle.spin_report.specs.Runs.{retirements}
-use Rattle.spin_run.specs.Ends.{seen}
 use Rattle.spin_run.specs.Records.{room_of}
 use Rattle.spin_run.specs.Segments.{state_of, jobs_seen}
 use Rattle.spin_run.specs.Inner.Sending.{sends_made}

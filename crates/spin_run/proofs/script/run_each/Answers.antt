@@ -1,10 +1,10 @@
-use Rattle.std.proofs.Common.{◌≡◌, ◌<◌, ◌≤◌, ℕ, List, map, length, refl, sym, ap, subst, ◌∙◌, arith}
+use Rattle.std.proofs.Common.{◌≡◌, ℕ, map, length, refl, sym, ap, subst, ◌∙◌, arith}
 use Rattle.spin_endpoint.specs.Inner.View.{view_of}
 use Rattle.spin_table.specs.SetupOf.{data_of}
 use Rattle.spin_run.specs.Ends.{seen}
 use Rattle.spin_run.specs.Records.{room_of}
 use Rattle.spin_run.specs.Segments.{IsFitSegment, state_of}
-use Rattle.spin_run.specs.Inner.Steps.{moment, setting, script_in, setting_of, StopsOne, HasTold, HasToldAll}
+use Rattle.spin_run.specs.Inner.Steps.{moment, setting, script_in, StopsOne, HasTold, HasToldAll}
 use Rattle.spin_run.proofs.Fitting.{fits, retires_named, commands_more}
 use Rattle.spin_run.proofs.Faults.{counts_later}
 use Rattle.spin_run.proofs.Steps.{told_next, one_ends, one_walks}
