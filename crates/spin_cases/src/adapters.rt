@@ -7,6 +7,7 @@ use spin_outside::{
 use std::alloc::Global;
 use std::fs;
 use std::io::{self, ErrorKind, Write};
+use std::process::Abort;
 use std::rt::Files;
 
 /// A writer that takes so many bytes of a piece at most, and fails at the calls from one on.
@@ -47,6 +48,11 @@ impl Write for Narrow {
 
 fn text(alloc: Global, name: &[u8]) -> Result<Text, NoMemory> {
     Text::from_bytes(alloc, name)
+}
+
+/// Whether the file comes to have this text.
+fn put(files: &impl Files, name: &str, text: &str) -> bool {
+    fs::write(files, name, text).is_ok()
 }
 
 /// The number under which a file is found.
@@ -103,16 +109,20 @@ const TURNS: [(u32, &[u8]); 10] = [
     (3, b""),
 ];
 
-#[test]
-fn files_of_a_folder_are_read_in_turns(rt: HostRuntime) -> Result<(), NoMemory> {
-    assert!(rt; fs::write(&rt, "turns_a.txt", "abcdef").is_ok());
-    assert!(rt; fs::write(&rt, "turns_b.txt", "ABCD").is_ok());
-    let mut shelf = FolderShelf::new(rt.alloc(), &rt);
-    assert_eq!(rt; three_found(rt.alloc(), &mut shelf)?, [0, 1, 2]);
+/// Three files are found, and each read gives what it should.
+fn read_in_turns<F: Shelf>(rt: &impl Abort, alloc: Global, shelf: &mut F) -> Result<(), NoMemory> {
+    assert_eq!(rt; three_found(alloc, shelf)?, [0, 1, 2]);
     for (file, bytes) in TURNS {
-        assert!(rt; gives(&mut shelf, file, bytes), "file {file}");
+        assert!(rt; gives(shelf, file, bytes), "file {file}");
     }
     Ok(())
+}
+
+#[test]
+fn files_of_a_folder_are_read_in_turns(rt: HostRuntime) -> Result<(), NoMemory> {
+    assert!(rt; put(&rt, "turns_a.txt", "abcdef"));
+    assert!(rt; put(&rt, "turns_b.txt", "ABCD"));
+    read_in_turns(&rt, rt.alloc(), &mut FolderShelf::new(rt.alloc(), &rt))
 }
 
 /// Whether the shelf has no such file.
@@ -120,13 +130,17 @@ fn is_absent<F: Shelf>(alloc: Global, shelf: &mut F, name: &[u8]) -> Result<bool
     Ok(shelf.find(&text(alloc, name)?) == Err(FindFault::Absent))
 }
 
-#[test]
-fn what_a_folder_lacks(rt: HostRuntime) -> Result<(), NoMemory> {
-    let mut shelf = FolderShelf::new(rt.alloc(), &rt);
+/// Names that are no file's are absent.
+fn are_absent<F: Shelf>(rt: &impl Abort, alloc: Global, shelf: &mut F) -> Result<(), NoMemory> {
     for name in [b"not there".as_slice(), b"no folder/a", b"\xff"] {
-        assert!(rt; is_absent(rt.alloc(), &mut shelf, name)?);
+        assert!(rt; is_absent(alloc, shelf, name)?);
     }
     Ok(())
+}
+
+#[test]
+fn what_a_folder_lacks(rt: HostRuntime) -> Result<(), NoMemory> {
+    are_absent(&rt, rt.alloc(), &mut FolderShelf::new(rt.alloc(), &rt))
 }
 
 /// A folder is opened as a file is, and each read of it fails.
@@ -164,15 +178,19 @@ const LIMITS: [(&[u8], u32, Option<usize>); 4] = [
     (b"empty.txt", 0, Some(0)),
 ];
 
-#[test]
-fn files_of_a_folder_are_taken_up_to_a_limit(rt: HostRuntime) -> Result<(), NoMemory> {
-    assert!(rt; fs::write(&rt, "limit.txt", "abcdef").is_ok());
-    assert!(rt; fs::write(&rt, "empty.txt", "").is_ok());
-    let mut shelf = FolderShelf::new(rt.alloc(), &rt);
+/// Of each file as many bytes are taken as should be.
+fn are_taken<F: Shelf>(rt: &impl Abort, alloc: Global, shelf: &mut F) -> Result<(), NoMemory> {
     for (name, limit, length) in LIMITS {
-        assert_eq!(rt; taken(rt.alloc(), &mut shelf, name, limit)?, length);
+        assert_eq!(rt; taken(alloc, shelf, name, limit)?, length);
     }
     Ok(())
+}
+
+#[test]
+fn files_of_a_folder_are_taken_up_to_a_limit(rt: HostRuntime) -> Result<(), NoMemory> {
+    assert!(rt; put(&rt, "limit.txt", "abcdef"));
+    assert!(rt; put(&rt, "empty.txt", ""));
+    are_taken(&rt, rt.alloc(), &mut FolderShelf::new(rt.alloc(), &rt))
 }
 
 /// How many bytes a call takes, at how many calls, and what `write_all` of four bytes answers.

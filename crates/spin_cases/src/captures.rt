@@ -5,6 +5,7 @@ ghost use Rattle.std.specs.Prelude.{◌<◌};
 use spin_outside::{MemSource, NoMemory, Octets};
 use spin_pcap::{Next, PcapFault, Reader};
 use std::alloc::Global;
+use std::process::Abort;
 
 /// The header of a file whose writer put the lowest byte first, with times in microseconds.
 pub(crate) const LITTLE: [u8; 24] = [
@@ -126,15 +127,19 @@ fn read_failing(alloc: Global, bytes: &[u8], call: u32) -> Result<End, NoMemory>
     read_all(alloc, &mut source)
 }
 
-#[test]
-fn whole_capture_in_pieces(rt: HostRuntime) -> Result<(), NoMemory> {
-    let file = capture(rt.alloc(), 40)?;
+/// The file has 40 records, in whatever pieces it comes.
+fn has_40_in_pieces(rt: &impl Abort, alloc: Global, file: &[u8]) -> Result<(), NoMemory> {
     assert_eq!(rt; file.len(), 24 + 3_180);
     for size in [1u32, 7, 65_536] {
-        let end = read_pieces(rt.alloc(), file.as_slice(), size)?;
+        let end = read_pieces(alloc, file, size)?;
         assert_eq!(rt; end, (Ok(Next::End), 40));
     }
     Ok(())
+}
+
+#[test]
+fn whole_capture_in_pieces(rt: HostRuntime) -> Result<(), NoMemory> {
+    has_40_in_pieces(&rt, rt.alloc(), capture(rt.alloc(), 40)?.as_slice())
 }
 
 /// What ends a file of so many bytes of three records, which end at 82, 172 and 249.

@@ -6,6 +6,7 @@ use spin_endpoint::{DeliverFault, Endpoint, Ends, EndsFault, Failed, KeepEnd, Se
 use spin_values::{NoMemory, Text};
 use std::alloc::Global;
 use std::cell::RefCell;
+use std::process::Abort;
 use std::rc::Rc;
 
 /// What an endpoint was asked.
@@ -149,15 +150,24 @@ fn sends(ends: &mut Ends, names: &[Text; 2]) -> bool {
         && second.is_ok_and(|lost| lost.to(0) == 2 && lost.to(1) == 0)
 }
 
+/// The endpoint of the second name alone.
+fn keeping_ends(alloc: Global) -> Result<Ends, NoMemory> {
+    ends_of(alloc, b"kept", Box::new(alloc, keep(alloc, 0)?)?)
+}
+
+/// Which of three retirements found an endpoint.
+fn retired(ends: &mut Ends, names: &[Text; 2]) -> [bool; 3] {
+    let mut stood = [false; 3];
+    ends.retire_all(names, &[1, 0, 1], &mut stood);
+    stood
+}
+
 #[test]
 fn sends_in_one_call(rt: HostRuntime) -> Result<(), NoMemory> {
-    let alloc = rt.alloc();
-    let names = two_names(alloc)?;
-    let mut ends = ends_of(alloc, b"kept", Box::new(alloc, keep(alloc, 0)?)?)?;
+    let names = two_names(rt.alloc())?;
+    let mut ends = keeping_ends(rt.alloc())?;
     assert!(rt; sends(&mut ends, &names));
-    let mut stood = [false; 3];
-    ends.retire_all(&names, &[1, 0, 1], &mut stood);
-    assert_eq!(rt; stood, [true, false, false]);
+    assert!(rt; retired(&mut ends, &names) == [true, false, false]);
     Ok(())
 }
 
@@ -170,17 +180,26 @@ fn added(alloc: Global, ends: &mut Ends, name: &[u8]) -> Result<Option<EndsFault
     }
 }
 
-#[test]
-fn at_most_64_are_added(rt: HostRuntime) -> Result<(), NoMemory> {
-    let mut ends = Ends::new(rt.alloc());
+/// What a retirement is answered.
+fn retire(alloc: Global, ends: &mut Ends, name: &[u8]) -> Result<Result<(), Unknown>, NoMemory> {
+    Ok(ends.retire(&text(alloc, name)?))
+}
+
+/// Endpoints are added up to the 64th, one of which is retired, and none under a name that another has.
+fn add_64(rt: &impl Abort, alloc: Global, ends: &mut Ends) -> Result<(), NoMemory> {
     for number in 0..66u8 {
         let fault = (number >= 64).then_some(EndsFault::TooMany);
-        assert_eq!(rt; added(rt.alloc(), &mut ends, &[b'e', number])?, fault);
+        assert_eq!(rt; added(alloc, ends, &[b'e', number])?, fault);
         if number == 7 {
-            assert_eq!(rt; ends.retire(&text(rt.alloc(), b"e\x07")?), Ok(()));
+            assert_eq!(rt; retire(alloc, ends, b"e\x07")?, Ok(()));
         }
     }
-    let again = added(rt.alloc(), &mut ends, b"e\x00")?;
+    let again = added(alloc, ends, b"e\x00")?;
     assert_eq!(rt; again, Some(EndsFault::SameName));
     Ok(())
+}
+
+#[test]
+fn at_most_64_are_added(rt: HostRuntime) -> Result<(), NoMemory> {
+    add_64(&rt, rt.alloc(), &mut Ends::new(rt.alloc()))
 }

@@ -6,7 +6,7 @@ ghost use Rattle.spin_word.specs.Commands.{is_command};
 ghost use Rattle.spin_log.specs.Rows.{IsRowOf};
 ghost use Rattle.spin_log.specs.Pens.{IsSamePen};
 
-use spin_log::{Log, Look, MAX_PLACE, Pen, Pens, Publish};
+use spin_log::{Log, Look, MAX_PLACE, Pen, Pens, Publish, Rows};
 use spin_values::NoMemory;
 use spin_word::{Command, Mode, NO_BINDINGS, Op, Place, Row, pack, unpack};
 use std::alloc::Global;
@@ -142,43 +142,90 @@ fn two_pens(alloc: Global) -> Result<(Log, Pen, Pen), NoMemory>
     Ok((log, zero, one))
 }
 
+// Both pens meet, and have read as far.
+fn meet(rt: &impl Abort, log: &Log, zero: &mut Pen, one: &mut Pen)
+    requires { (zero.old.log ≡ log.now.id) × (one.old.log ≡ log.now.id) }
+    ensures zero { IsSamePen zero.old zero.new }
+    ensures one { IsSamePen one.old one.new }
+{
+    assert_eq!(rt; (zero.lane(), one.lane()), (0, 1));
+    log.meet(zero, one);
+    assert_eq!(rt; (zero.front(), one.front()), (2, 2));
+}
+
+// The rows of a log of two lanes.
+fn close_two(alloc: Global, log: Log, zero: Pen, one: Pen) -> Result<Rows, NoMemory>
+    requires lanes { log.lanes ≡ 2 }
+    requires logs { (zero.log ≡ log.id) × (one.log ≡ log.id) }
+{
+    let pens = Pens::from_vec(vec![in alloc; zero, one]?);
+    log.close(alloc, pens)
+}
+
 #[test]
 fn two_pens_share_a_log(rt: HostRuntime) -> Result<(), Fail> {
     let a = pack(&default_of(0, 7));
     let b = pack(&default_of(1, 7));
     let (log, mut zero, mut one) = two_pens(rt.alloc())?;
-    assert_eq!(rt; zero.lane(), 0);
-    assert_eq!(rt; one.lane(), 1);
     publish_in_turn(&rt, &log, &mut zero, &mut one, a, b);
-    log.meet(&mut zero, &mut one);
-    assert_eq!(rt; zero.front(), 2);
-    assert_eq!(rt; one.front(), 2);
-    let pens = Pens::from_vec(vec![in rt.alloc(); zero, one]?);
-    let rows = log.close(rt.alloc(), pens)?;
-    assert_eq!(rt; rows.as_slice(), [a, b].as_slice());
+    meet(&rt, &log, &mut zero, &mut one);
+    let rows = close_two(rt.alloc(), log, zero, one)?;
+    assert!(rt; rows.as_slice() == [a, b].as_slice());
     Ok(())
+}
+
+// A log of one lane, and its pen.
+fn one_pen(alloc: Global) -> Result<(Log, Pen), NoMemory>
+    ensures lanes { IfOk result (λ made. made.0.lanes ≡ 1) }
+    ensures pen { IfOk result (λ made. (made.1.log ≡ made.0.id) × (made.1.lane ≡ 0)) }
+{
+    let (log, mut pens) = Log::new(alloc, 1)?;
+    let Some(pen) = pens.take_first() else {
+        unreachable!()
+    };
+    Ok((log, pen))
+}
+
+// The row is published until the log is full.
+fn publish_all_places(rt: &impl Abort, log: &Log, pen: &mut Pen, row: Row)
+    requires log { pen.old.log ≡ log.now.id }
+    requires row { IsRowOf pen.old.lane row }
+    ensures { IsSamePen pen.old pen.new }
+{
+    assert_eq!(rt; publish_often(log, pen, row, 4097), 4096);
+    assert_eq!(rt; log.publish(pen, row), Publish::Full);
+    assert_eq!(rt; log.look(pen), Look::Pinned);
+    assert_eq!(rt; pen.front(), 4096);
+}
+
+// The rows of a log of one lane.
+fn close_one(alloc: Global, log: Log, pen: Pen) -> Result<Rows, NoMemory>
+    requires lanes { log.lanes ≡ 1 }
+    requires log { pen.log ≡ log.id }
+{
+    let pens = Pens::from_vec(vec![in alloc; pen]?);
+    log.close(alloc, pens)
 }
 
 #[test]
 fn a_log_is_full(rt: HostRuntime) -> Result<(), Fail> {
     let row = pack(&default_of(0, 7));
-    let (log, mut pens) = Log::new(rt.alloc(), 1)?;
-    let Some(mut pen) = pens.take_first() else {
-        unreachable!()
-    };
-    assert_eq!(rt; publish_often(&log, &mut pen, row, 4097), 4096);
-    assert_eq!(rt; log.publish(&mut pen, row), Publish::Full);
-    assert_eq!(rt; log.look(&mut pen), Look::Pinned);
-    assert_eq!(rt; pen.front(), 4096);
-    pens.push(pen)?;
-    let rows = log.close(rt.alloc(), pens)?;
+    let (log, mut pen) = one_pen(rt.alloc())?;
+    publish_all_places(&rt, &log, &mut pen, row);
+    let rows = close_one(rt.alloc(), log, pen)?;
     assert_eq!(rt; rows.len(), 4096);
     Ok(())
 }
 
-#[test]
-fn four_lanes_publish_at_once(rt: HostRuntime) -> Result<(), Fail> {
-    let (log, mut pens) = Log::new(rt.alloc(), 4)?;
+// A log of four lanes, and their pens.
+fn four_pens(alloc: Global) -> Result<(Log, (Pen, Pen), (Pen, Pen)), NoMemory>
+    ensures lanes { IfOk result (λ made. made.0.lanes ≡ 4) }
+    ensures zero { IfOk result (λ made. made.1.0.log ≡ made.0.id) }
+    ensures one { IfOk result (λ made. made.1.1.log ≡ made.0.id) }
+    ensures two { IfOk result (λ made. made.2.0.log ≡ made.0.id) }
+    ensures three { IfOk result (λ made. made.2.1.log ≡ made.0.id) }
+{
+    let (log, mut pens) = Log::new(alloc, 4)?;
     let Some(zero) = pens.take_first() else {
         unreachable!()
     };
@@ -191,16 +238,43 @@ fn four_lanes_publish_at_once(rt: HostRuntime) -> Result<(), Fail> {
     let Some(three) = pens.take_first() else {
         unreachable!()
     };
-    let ((zero, one), (two, three)) = join(
+    Ok((log, (zero, one), (two, three)))
+}
+
+// The rows of a log of four lanes.
+fn close_four(
+    alloc: Global,
+    log: Log,
+    first: (Pen, Pen),
+    second: (Pen, Pen),
+) -> Result<Rows, NoMemory>
+    requires lanes { log.lanes ≡ 4 }
+    requires first { (first.0.log ≡ log.id) × (first.1.log ≡ log.id) }
+    requires second { (second.0.log ≡ log.id) × (second.1.log ≡ log.id) }
+{
+    let (zero, one) = first;
+    let (two, three) = second;
+    let pens = Pens::from_vec(vec![in alloc; zero, one, two, three]?);
+    log.close(alloc, pens)
+}
+
+// Each of four lanes has all its rows.
+fn have_all(rt: &impl Abort, rows: &[Row]) {
+    assert_eq!(rt; rows.len(), 1000);
+    for lane in 0..4 {
+        assert!(rt; has_all_of(rows, lane));
+    }
+}
+
+#[test]
+fn four_lanes_publish_at_once(rt: HostRuntime) -> Result<(), Fail> {
+    let (log, (zero, one), (two, three)) = four_pens(rt.alloc())?;
+    let (first, second) = join(
         &rt,
         || publish_both(&rt, &log, zero, one),
         || publish_both(&rt, &log, two, three),
     );
-    let pens = Pens::from_vec(vec![in rt.alloc(); zero, one, two, three]?);
-    let rows = log.close(rt.alloc(), pens)?;
-    assert_eq!(rt; rows.len(), 1000);
-    for lane in 0..4 {
-        assert!(rt; has_all_of(rows.as_slice(), lane));
-    }
+    let rows = close_four(rt.alloc(), log, first, second)?;
+    have_all(&rt, rows.as_slice());
     Ok(())
 }

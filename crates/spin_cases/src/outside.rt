@@ -5,6 +5,7 @@ use spin_outside::{
     TakeFault, Text, read_up_to, write_all,
 };
 use std::alloc::Global;
+use std::process::Abort;
 
 fn named(alloc: Global, name: &[u8]) -> Result<Text, NoMemory> {
     Text::from_bytes(alloc, name)
@@ -34,14 +35,19 @@ const WRITES: [(&[u8], Result<(), Failed>, &[u8]); 4] = [
     (b"", Ok(()), b"abcdef"),
 ];
 
+/// Each piece is answered, and the sink has what it should.
+fn are_written(rt: &impl Abort, sink: &mut MemSink) {
+    for (piece, answer, bytes) in WRITES {
+        assert_eq!(rt; write_all(sink, piece), answer);
+        assert_eq!(rt; sink.bytes(), bytes);
+    }
+}
+
 #[test]
 fn sink_in_memory(rt: HostRuntime) -> Result<(), NoMemory> {
     let mut sink = MemSink::new(rt.alloc(), 6)?;
     sink.fail_at(1)?;
-    for (piece, answer, bytes) in WRITES {
-        assert_eq!(rt; write_all(&mut sink, piece), answer);
-        assert_eq!(rt; sink.bytes(), bytes);
-    }
+    are_written(&rt, &mut sink);
     Ok(())
 }
 
@@ -61,14 +67,18 @@ const FINDS: [(&[u8], Option<FindFault>); 3] = [
     (b"c", Some(FindFault::Absent)),
 ];
 
-#[test]
-fn files_of_a_shelf_are_found(rt: HostRuntime) -> Result<(), NoMemory> {
-    let mut shelf = shelf_of_two(rt.alloc())?;
+/// Each name is found, or not for its fault. The second find fails.
+fn are_found(rt: &impl Abort, alloc: Global, shelf: &mut MemShelf) -> Result<(), NoMemory> {
     shelf.fail_find(1)?;
     for (name, fault) in FINDS {
-        assert_eq!(rt; found(rt.alloc(), &mut shelf, name)?.err(), fault);
+        assert_eq!(rt; found(alloc, shelf, name)?.err(), fault);
     }
     Ok(())
+}
+
+#[test]
+fn files_of_a_shelf_are_found(rt: HostRuntime) -> Result<(), NoMemory> {
+    are_found(&rt, rt.alloc(), &mut shelf_of_two(rt.alloc())?)
 }
 
 /// The number of file a.
@@ -85,17 +95,21 @@ fn taken(alloc: Global, shelf: &mut MemShelf, file: u32, limit: u32) -> Result<b
     Ok(bytes.as_slice() == b"first".as_slice())
 }
 
-#[test]
-fn files_of_a_shelf_are_taken(rt: HostRuntime) -> Result<(), NoMemory> {
-    let mut shelf = shelf_of_two(rt.alloc())?;
+/// File a is taken whole; of the file that is found again a read fails, and then it is too large.
+fn are_taken(rt: &impl Abort, alloc: Global, shelf: &mut MemShelf) -> Result<(), NoMemory> {
     shelf.fail_read(2)?;
-    let file = first_file(rt.alloc(), &mut shelf)?;
-    assert_eq!(rt; taken(rt.alloc(), &mut shelf, file, 5), Ok(true));
-    let again = first_file(rt.alloc(), &mut shelf)?;
+    let file = first_file(alloc, shelf)?;
+    assert_eq!(rt; taken(alloc, shelf, file, 5), Ok(true));
+    let again = first_file(alloc, shelf)?;
     for (limit, fault) in [(5, TakeFault::Failed), (4, TakeFault::TooLarge)] {
-        assert_eq!(rt; taken(rt.alloc(), &mut shelf, again, limit), Err(fault));
+        assert_eq!(rt; taken(alloc, shelf, again, limit), Err(fault));
     }
     Ok(())
+}
+
+#[test]
+fn files_of_a_shelf_are_taken(rt: HostRuntime) -> Result<(), NoMemory> {
+    are_taken(&rt, rt.alloc(), &mut shelf_of_two(rt.alloc())?)
 }
 
 /// Reads to the end, and over failed calls; answers what was read and the numbers of the calls that failed.
@@ -135,27 +149,33 @@ fn source_of_ten(alloc: Global) -> Result<MemSource, NoMemory> {
     Ok(source)
 }
 
-#[test]
-fn source_in_memory(rt: HostRuntime) -> Result<(), NoMemory> {
-    let mut source = source_of_ten(rt.alloc())?;
+/// Four bytes are read, and then the others in pieces and over two faults.
+fn is_read(rt: &impl Abort, alloc: Global, source: &mut MemSource) -> Result<(), NoMemory> {
     let mut buf = [0u8; 4];
     assert_eq!(rt; source.read(&mut buf), Ok(4));
     assert_eq!(rt; buf, *b"abcd");
     source.in_pieces(3);
-    assert!(rt; are_read(rt.alloc(), &mut source, b"efghij", &[0, 2])?);
+    assert!(rt; are_read(alloc, source, b"efghij", &[0, 2])?);
     assert_eq!(rt; source.taken(), 10);
     Ok(())
 }
 
 #[test]
-fn file_of_a_shelf_as_a_source(rt: HostRuntime) -> Result<(), NoMemory> {
-    let mut shelf = shelf_of_two(rt.alloc())?;
+fn source_in_memory(rt: HostRuntime) -> Result<(), NoMemory> {
+    is_read(&rt, rt.alloc(), &mut source_of_ten(rt.alloc())?)
+}
+
+/// Whether file a is read, and over a fault.
+fn first_is_read(alloc: Global, shelf: &mut MemShelf) -> Result<bool, NoMemory> {
     shelf.fail_read(1)?;
-    let file = first_file(rt.alloc(), &mut shelf)?;
-    let mut source = ShelfSource {
-        shelf: &mut shelf,
-        file,
-    };
-    assert!(rt; are_read(rt.alloc(), &mut source, b"first", &[1])?);
+    let file = first_file(alloc, shelf)?;
+    let mut source = ShelfSource { shelf, file };
+    are_read(alloc, &mut source, b"first", &[1])
+}
+
+#[test]
+fn file_of_a_shelf_as_a_source(rt: HostRuntime) -> Result<(), NoMemory> {
+    let is_read = first_is_read(rt.alloc(), &mut shelf_of_two(rt.alloc())?)?;
+    assert!(rt; is_read);
     Ok(())
 }

@@ -11,6 +11,7 @@ use spin_values::{Args, NoMemory, Numbers, Sequence, Steps, Value};
 use spin_word::{Mode, NO_BINDINGS, Place};
 use std::alloc::Global;
 use std::marker::Brand;
+use std::process::Abort;
 use std::sync::atomic::{AtomicU64, Ordering};
 use std::sync::ledger::{Blank, Ledger};
 
@@ -174,66 +175,80 @@ fn asked_on(
     Ok((next, guards.asked.load(Ordering::SeqCst)))
 }
 
+/// A word, the number of a binding from which on one is looked for, what is next, and how often a guard is asked.
+type Asking = (u64, u32, Option<u16>, u64);
+
+/// Each asking comes to what it should.
+fn are_asked(
+    rt: &impl Abort,
+    alloc: Global,
+    bindings: &[Binding],
+    guards: &CountingGuards,
+    askings: &[Asking],
+) -> Result<(), NoMemory> {
+    for &(word, from, next, asked) in askings {
+        let told = asked_on(alloc, bindings, guards, from, word)?;
+        assert_eq!(rt; told, (next, asked), "{word} from {from}");
+    }
+    Ok(())
+}
+
+/// Askings of four bindings.
+const FOUR: [Asking; 9] = [
+    (5, 0, Some(4), 1),
+    (5, 1, Some(2), 1),
+    (5, 2, Some(3), 2),
+    (5, 3, Some(5), 2),
+    (5, 4, None, 0),
+    (8, 0, Some(2), 1),
+    (8, 2, Some(5), 2),
+    (9, 0, None, 2),
+    (9, 2, None, 1),
+];
+
 #[test]
 fn guards_are_asked_until_one_does_not_hold(rt: HostRuntime) -> Result<(), NoMemory> {
     let alloc = rt.alloc();
     let guards = two_guards(alloc)?;
     let bindings = bindings_of(alloc, &[(4, 1, 0), (2, 0, 2), (3, 2, 1), (5, 2, 2)])?;
-    for (word, from, next, asked) in [
-        (5, 0, Some(4), 1),
-        (5, 1, Some(2), 1),
-        (5, 2, Some(3), 2),
-        (5, 3, Some(5), 2),
-        (5, 4, None, 0),
-        (8, 0, Some(2), 1),
-        (8, 2, Some(5), 2),
-        (9, 0, None, 2),
-        (9, 2, None, 1),
-    ] {
-        assert_eq!(rt;
-            asked_on(alloc, bindings.as_slice(), &guards, from, word)?,
-            (next, asked),
-            "{word} from {from}"
-        );
+    are_asked(&rt, alloc, bindings.as_slice(), &guards, &FOUR)
+}
+
+/// So many bindings, each with the own guard of its number.
+fn own_guarded(alloc: Global, count: u16) -> Result<Sequence<Binding>, NoMemory> {
+    let mut bindings = Sequence::new(alloc);
+    for number in 1..=count {
+        bindings.push(binding(alloc, number, number, 0)?)?;
     }
-    Ok(())
+    Ok(bindings)
 }
 
 #[test]
 fn candidates_alone_are_asked(rt: HostRuntime) -> Result<(), NoMemory> {
     let alloc = rt.alloc();
     let guards = guards_of_numbers(alloc)?;
+    let bindings = own_guarded(alloc, 32)?;
+    let askings = [(31, 0, Some(32), 1), (40, 0, None, 0)];
+    are_asked(&rt, alloc, bindings.as_slice(), &guards, &askings)
+}
+
+/// So many bindings, of which those with odd numbers have guard 2, and the others none.
+fn half_guarded(alloc: Global, count: u16) -> Result<Sequence<Binding>, NoMemory> {
     let mut bindings = Sequence::new(alloc);
-    for number in 1..33 {
-        bindings.push(binding(alloc, number, number, 0)?)?;
+    for number in 1..=count {
+        let own_guard = if number % 2 == 1 { 2 } else { 0 };
+        bindings.push(binding(alloc, number, own_guard, 0)?)?;
     }
-    for (word, next, asked) in [(31, Some(32), 1), (40, None, 0)] {
-        assert_eq!(rt;
-            asked_on(alloc, bindings.as_slice(), &guards, 0, word)?,
-            (next, asked),
-            "{word}"
-        );
-    }
-    Ok(())
+    Ok(bindings)
 }
 
 #[test]
 fn bindings_without_a_guard_are_candidates(rt: HostRuntime) -> Result<(), NoMemory> {
     let alloc = rt.alloc();
     let guards = guards_of_numbers(alloc)?;
-    let mut bindings = Sequence::new(alloc);
-    for number in 1..17 {
-        let own_guard = if number % 2 == 1 { 2 } else { 0 };
-        bindings.push(binding(alloc, number, own_guard, 0)?)?;
-    }
-    for (word, next, asked) in [(2, Some(2), 0), (1, Some(1), 1)] {
-        assert_eq!(rt;
-            asked_on(alloc, bindings.as_slice(), &guards, 0, word)?,
-            (next, asked),
-            "{word}"
-        );
-    }
-    Ok(())
+    let bindings = half_guarded(alloc, 16)?;
+    let askings = [(2, 0, Some(2), 0), (1, 0, Some(1), 1)];
+    are_asked(&rt, alloc, bindings.as_slice(), &guards, &askings)
 }
 
 /// So many bytes of argument 0, from the third on.

@@ -9,6 +9,7 @@ use spin_outside::{MemSource, NoMemory, Octets};
 use spin_reass::{EchoEnd, EchoFault, JoinFault, echo_reply, join_capture};
 use std::alloc::Global;
 use std::cell::RefCell;
+use std::process::Abort;
 use std::rc::Rc;
 
 const SOURCE: u32 = 0x0a00_0001;
@@ -24,8 +25,8 @@ const PAYLOAD: &[u8; 24] = b"\x00\x35\x04\x00\x00\x18\0\0abcdefghijklmnop";
 /// A fragment: its offset in units of 8 bytes, whether more follow, its time to live, and its bytes.
 type Fragment = (u16, bool, u8, &'static [u8]);
 
-/// The frame of a fragment.
-fn frame_of(alloc: Global, ident: u16, fragment: Fragment) -> Result<Octets, NoMemory> {
+/// The packet's header of a fragment.
+fn header_of(ident: u16, fragment: Fragment) -> [u8; 20] {
     let (offset, more, ttl, bytes) = fragment;
     let len = u16::try_from(bytes.len()).unwrap_or(0).min(65_515);
     let mut header = [0u8; 20];
@@ -39,20 +40,28 @@ fn frame_of(alloc: Global, ident: u16, fragment: Fragment) -> Result<Octets, NoM
     let [high, low] = checksum(&header).to_be_bytes();
     header[10] = high;
     header[11] = low;
+    header
+}
+
+/// The frame of a packet with this header.
+fn framed(alloc: Global, header: &[u8], bytes: &[u8]) -> Result<Octets, NoMemory> {
     let mut frame = Octets::from_bytes(alloc, ETHER)?;
-    frame.extend_from_slice(&header)?;
+    frame.extend_from_slice(header)?;
     frame.extend_from_slice(bytes)?;
     Ok(frame)
+}
+
+/// The frame of a fragment.
+fn frame_of(alloc: Global, ident: u16, fragment: Fragment) -> Result<Octets, NoMemory> {
+    let (_, _, _, bytes) = fragment;
+    framed(alloc, &header_of(ident, fragment), bytes)
 }
 
 /// The frame of the whole datagram.
 fn whole_frame(alloc: Global, ttl: u8) -> Result<Octets, NoMemory> {
     let mut header = [0u8; 20];
     write_ipv4(1, ttl, 17, SOURCE, DESTINATION, 24, &mut header);
-    let mut frame = Octets::from_bytes(alloc, ETHER)?;
-    frame.extend_from_slice(&header)?;
-    frame.extend_from_slice(PAYLOAD)?;
-    Ok(frame)
+    framed(alloc, &header, PAYLOAD)
 }
 
 /// Adds the record of a frame.
@@ -62,11 +71,54 @@ fn push_record(file: &mut Octets, frame: &[u8]) -> Result<(), NoMemory> {
     file.extend_from_slice(frame)
 }
 
+/// Adds the record of a fragment.
+fn push_fragment(
+    alloc: Global,
+    file: &mut Octets,
+    ident: u16,
+    fragment: Fragment,
+) -> Result<(), NoMemory> {
+    let frame = frame_of(alloc, ident, fragment)?;
+    push_record(file, frame.as_slice())
+}
+
+/// Adds the record of the whole datagram.
+fn push_whole(alloc: Global, file: &mut Octets, ttl: u8) -> Result<(), NoMemory> {
+    let frame = whole_frame(alloc, ttl)?;
+    push_record(file, frame.as_slice())
+}
+
 /// The joined capture of these bytes, which come in pieces.
 fn join(alloc: Global, file: &Octets) -> Result<Result<Octets, JoinFault>, NoMemory> {
     let mut source = MemSource::new(file.copy()?);
     source.in_pieces(11);
     Ok(join_capture(alloc, &mut source))
+}
+
+/// Adds the fragments' records to the capture, and to the wanted one the records that are to become of them.
+fn push_both(
+    alloc: Global,
+    fragments: &[Fragment],
+    whole: Option<(usize, u8)>,
+    file: &mut Octets,
+    wanted: &mut Octets,
+) -> Result<(), NoMemory> {
+    for (number, fragment) in fragments.iter().enumerate() {
+        push_fragment(alloc, file, 1, *fragment)?;
+        match whole {
+            Some((at, ttl)) if at == number => push_whole(alloc, wanted, ttl)?,
+            _ => push_fragment(alloc, wanted, 1, *fragment)?,
+        }
+    }
+    Ok(())
+}
+
+/// Whether the capture is joined, and to this one.
+fn is_joined_to(alloc: Global, file: &Octets, wanted: &[u8]) -> Result<bool, NoMemory> {
+    match join(alloc, file)? {
+        Ok(joined) => Ok(joined.as_slice() == wanted),
+        Err(_) => Ok(false),
+    }
 }
 
 /// Whether the capture of these fragments is joined so: the one of that number, from 0, becomes the whole datagram
@@ -78,21 +130,8 @@ fn joins(
 ) -> Result<bool, NoMemory> {
     let mut file = Octets::from_bytes(alloc, &LITTLE)?;
     let mut wanted = Octets::from_bytes(alloc, &LITTLE)?;
-    for (number, fragment) in fragments.iter().enumerate() {
-        let frame = frame_of(alloc, 1, *fragment)?;
-        push_record(&mut file, frame.as_slice())?;
-        match whole {
-            Some((at, ttl)) if at == number => {
-                let joined = whole_frame(alloc, ttl)?;
-                push_record(&mut wanted, joined.as_slice())?;
-            }
-            _ => push_record(&mut wanted, frame.as_slice())?,
-        }
-    }
-    match join(alloc, &file)? {
-        Ok(joined) => Ok(joined.as_slice() == wanted.as_slice()),
-        Err(_) => Ok(false),
-    }
+    push_both(alloc, fragments, whole, &mut file, &mut wanted)?;
+    is_joined_to(alloc, &file, wanted.as_slice())
 }
 
 /// The first 16 bytes, and the last 8.
@@ -151,11 +190,9 @@ fn fragments_are_joined(rt: HostRuntime) -> Result<(), NoMemory> {
 fn many(alloc: Global, fronts: u16, back: u16) -> Result<Octets, NoMemory> {
     let mut file = Octets::from_bytes(alloc, &LITTLE)?;
     for ident in 0..fronts {
-        let frame = frame_of(alloc, ident, FRONT)?;
-        push_record(&mut file, frame.as_slice())?;
+        push_fragment(alloc, &mut file, ident, FRONT)?;
     }
-    let frame = frame_of(alloc, back, BACK)?;
-    push_record(&mut file, frame.as_slice())?;
+    push_fragment(alloc, &mut file, back, BACK)?;
     Ok(file)
 }
 
@@ -302,15 +339,18 @@ impl Endpoint for Noting {
     }
 }
 
-#[test]
-fn replies_alone_are_handed_on(rt: HostRuntime) -> Result<(), NoMemory> {
-    let bytes = Rc::new(rt.alloc(), RefCell::new(Octets::new(rt.alloc())))?;
+/// An endpoint that answers, and keeps the replies here.
+fn echo_end(alloc: Global, bytes: &Rc<RefCell<Octets>>) -> Result<EchoEnd<Noting>, NoMemory> {
     let inner = Noting {
         bytes: bytes.clone()?,
         finishes: 0,
         faults: 0,
     };
-    let mut end = EchoEnd::new(rt.alloc(), inner)?;
+    EchoEnd::new(alloc, inner)
+}
+
+/// The endpoint takes a request and three pieces that are none, and is finished.
+fn takes_each<E: Endpoint>(rt: &impl Abort, end: &mut E) {
     for piece in [
         &REQUEST[..],
         &REPLY[..],
@@ -320,9 +360,20 @@ fn replies_alone_are_handed_on(rt: HostRuntime) -> Result<(), NoMemory> {
         assert_eq!(rt; end.take(piece), Ok(()));
     }
     end.finish();
+}
+
+/// Whether just this was kept.
+fn kept(bytes: &Rc<RefCell<Octets>>, wanted: &[u8]) -> bool {
     match bytes.try_borrow() {
-        Ok(kept) => assert_eq!(rt; kept.as_slice(), &REPLY[..]),
-        Err(_) => return Err(NoMemory),
+        Ok(kept) => kept.as_slice() == wanted,
+        Err(_) => false,
     }
+}
+
+#[test]
+fn replies_alone_are_handed_on(rt: HostRuntime) -> Result<(), NoMemory> {
+    let bytes = Rc::new(rt.alloc(), RefCell::new(Octets::new(rt.alloc())))?;
+    takes_each(&rt, &mut echo_end(rt.alloc(), &bytes)?);
+    assert!(rt; kept(&bytes, REPLY));
     Ok(())
 }
