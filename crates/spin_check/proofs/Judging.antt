@@ -3,6 +3,7 @@ use Rattle.std.proofs.Common.{◌≡◌, ℕ, ◌<◌, ◌^◌, true, false, Lis
 use Rattle.std.specs.Prelude.{Option, None, Some, MatchOption, All}
 use Rattle.spin_word.specs.declared.command.Command.{Command}
 use Rattle.spin_word.specs.declared.command.TheConstants.{MAX_PLACE}
+use Rattle.spin_word.specs.declared.work.Work.{Work}
 use Rattle.spin_word.specs.declared.work.Work.TheVariants as work
 use Rattle.spin_word.specs.declared.work.Deed.{Deed}
 use Rattle.spin_table.specs.declared.refusal.Refusal.{Refusal}
@@ -18,7 +19,7 @@ use Rattle.spin_table.specs.Steps.{ChangesTo, IsStep, MayConflict}
 use Rattle.spin_table.proofs.OneStep.{one_step}
 use Rattle.spin_table.proofs.Conflicts.{cycle_bound}
 use Rattle.spin_proto.specs.declared.reply.Reply.{Reply}
-use Rattle.spin_proto.specs.Replies.{IsDeedReply, BelongsTo}
+use Rattle.spin_proto.specs.Replies.{IsDeedReply, BelongsTo, calls_left}
 use Rattle.spin_report.specs.declared.entry.What.{What}
 use Rattle.spin_report.specs.declared.entry.What.TheVariants as what
 use Rattle.spin_report.specs.declared.entry.Entry.{Entry}
@@ -29,7 +30,7 @@ use Rattle.spin_report.proofs.Answering.{one_reply, one_next}
 use Rattle.spin_check.specs.declared.deeds.Ask.{Ask}
 use Rattle.spin_check.specs.Inner.Told.{Begins, TellsVerdict, conflict}
 use Rattle.spin_check.specs.Inner.Asks.{work_of, numbered}
-use Rattle.spin_check.specs.Inner.Answers.{tells_cycle, IsJudged}
+use Rattle.spin_check.specs.Inner.Answers.{tells_cycle, IsConflictTold, IsJudged, IsDone, IsAnswered}
 
 -- one answer leads to one state
 pub same_next : (d : SetupData) (s : State) (e : Entry) (a b : State) → IsNextEntry d s e a → IsNextEntry d s e b → a ≡ b
@@ -164,27 +165,88 @@ pub one_refused : (d : SetupData) (s after : State) (c : Command) (r : Refusal) 
 one_refused d s after c r report plain step sound state =
     subst (IsOne d s c report (verdicted.Refused r)) (sym state) (step, sound, λ v other h tells. refused_alone d s c r plain step v other h)
 
--- where a conflict applies: no cycle is told, or one that the command can't be refused for, or one that it may be
-module _ (d : SetupData) (s : State) (c : Command) (r : Refusal) (report : List ℕ) (sound : IsSound d s) (room : s.place < MAX_PLACE) (is : tells_cycle r ≡ true) (step : IsStep d s c (verdicted.Refused r) s) where
-  pub no_cycle : ((cycle : List ℕ) → All (λ n. n < 2 ^ 16) cycle → TellsVerdict report (conflict cycle) → ◌≡◌ {A = Option (List ℕ)} None (Some cycle)) → IsJudged d s c report None
-  no_cycle told v next h tells =
-      let found = conflicts d s c r sound room is step v next h in
-      absurd (cc (told found.0 found.3 (subst (TellsVerdict report) found.1 tells)))
+-- no cycle is told, or one that the command can't be refused for, or one that it may be
+module _ (d : SetupData) (s : State) (c : Command) (report : List ℕ) where
+  pub no_cycle : ((cycle : List ℕ) → All (λ n. n < 2 ^ 16) cycle → TellsVerdict report (conflict cycle) → ◌≡◌ {A = Option (List ℕ)} None (Some cycle)) → IsConflictTold d s c report None
+  no_cycle told cycle low may tells = absurd (cc (told cycle low tells))
 
   module _ (cycle : List ℕ) (told : (other : List ℕ) → All (λ n. n < 2 ^ 16) other → TellsVerdict report (conflict other) → ◌≡◌ {A = Option (List ℕ)} (Some cycle) (Some other)) where
-    told_cycle : (v : Verdicted) (next : State) → IsStep d s c v next → TellsVerdict report v → (v ≡ conflict cycle) × MayConflict d s c cycle
-    told_cycle v next h tells =
+    same_cycle : (other : List ℕ) → All (λ n. n < 2 ^ 16) other → TellsVerdict report (conflict other) → cycle ≡ other
+    same_cycle other low tells = cc (told other low tells)
+
+    pub other_cycle : (MayConflict d s c cycle → ⊥) → IsConflictTold d s c report None
+    other_cycle none other low may tells = none (subst (MayConflict d s c) (sym (same_cycle other low tells)) may)
+
+    pub own_cycle : MayConflict d s c cycle → IsConflictTold d s c report (Some cycle)
+    own_cycle may = (may, same_cycle)
+
+-- where a conflict applies
+module _ (d : SetupData) (s : State) (c : Command) (r : Refusal) (report : List ℕ) (sound : IsSound d s) (room : s.place < MAX_PLACE) (is : tells_cycle r ≡ true) (step : IsStep d s c (verdicted.Refused r) s) where
+  pub none_judged : IsConflictTold d s c report None → IsJudged d s c report None
+  none_judged none v next h tells =
+      let found = conflicts d s c r sound room is step v next h in
+      none found.0 found.3 found.2 (subst (TellsVerdict report) found.1 tells)
+
+  pub cycle_judged : (cycle : List ℕ) (after : State) → IsConflictTold d s c report (Some cycle) → after ≡ s → IsOne d s c report (conflict cycle) after
+  cycle_judged cycle after told state = subst (IsOne d s c report (conflict cycle)) (sym state) (
+    told.0,
+    sound,
+    λ v next h tells.
         let found = conflicts d s c r sound room is step v next h in
-        let same : cycle ≡ found.0 = cc (told found.0 found.3 (subst (TellsVerdict report) found.1 tells)) in
-        (found.1 ∙ sym (ap conflict same), subst (MayConflict d s c) (sym same) found.2)
+        found.1 ∙ sym (ap conflict (told.1 found.0 found.3 (subst (TellsVerdict report) found.1 tells))),
+  )
 
-    pub other_cycle : (MayConflict d s c cycle → ⊥) → IsJudged d s c report None
-    other_cycle none v next h tells = none (told_cycle v next h tells).1
+-- ---- what is done
 
-    pub own_cycle : (after : State) → MayConflict d s c cycle → after ≡ s → IsOne d s c report (conflict cycle) after
-    own_cycle after may state = subst (IsOne d s c report (conflict cycle)) (sym state) (may, sound, λ v next h tells. (told_cycle v next h tells).0)
+-- the answer, which leads to that state, is the one that is told
+abbrev pub IsOneDone : SetupData → State → Work → List ℕ → What → State → Type 0
+IsOneDone d s asked report w after =
+    Answers d s w after × (asked ≡ asked_by w) × IsSound d after × All (BelongsTo after) (calls_of w)
+    × ((e : Entry) (next : State) → IsNextEntry d s e next → asked ≡ asked_by e.what → Begins report e → (e.what ≡ w) × (next ≡ after))
 
--- ---- entries
+-- to a command, where its verdict is known
+pub command_done : (d : SetupData) (s after : State) (c : Command) (v : Verdicted) (report : List ℕ) → IsOne d s c report v after → IsOneDone d s (work.Command c) report (what.Command c v) after
+command_done d s after c v report one = (one.0, refl, one.1, λ k x lt. absurd (omega (arith, lt)), alone) where
+  alone : (e : Entry) (next : State) → IsNextEntry d s e next → work.Command c ≡ asked_by e.what → Begins report e → (e.what ≡ what.Command c v) × (next ≡ after)
+  alone e next h is begins = go e.what refl where
+    go : (w : What) → e.what ≡ w → (e.what ≡ what.Command c v) × (next ≡ after)
+    go (what.Deed f r) done = absurd (let same : work.Command c ≡ work.Deed f = is ∙ ap asked_by done in cc (same))
+    go (what.Command b u) done =
+        let same : work.Command c ≡ work.Command b = is ∙ ap asked_by done in
+        let command : c ≡ b = cc (same) in
+        let moved : IsStep d s b u next = subst (λ w. Answers d s w next) done h.0 in
+        let own : IsStep d s c u next = subst (λ x. IsStep d s x u next) (sym command) moved in
+        let verdict : u ≡ v = one.2 u next own (e, b, done, begins) in
+        (done ∙ (λ i. what.Command (sym command i) (verdict i)), one_next d s c v next after (subst (λ w. IsStep d s c w next) verdict own) one.0)
+
+-- where none of its verdicts is told
+pub command_none : (d : SetupData) (s : State) (c : Command) (report : List ℕ) → IsJudged d s c report None → IsDone d s (work.Command c) report None
+command_none d s c report none e next h is begins = go e.what refl where
+  go : (w : What) → e.what ≡ w → ⊥
+  go (what.Deed f r) done = absurd (let same : work.Command c ≡ work.Deed f = is ∙ ap asked_by done in cc (same))
+  go (what.Command b u) done =
+      let same : work.Command c ≡ work.Command b = is ∙ ap asked_by done in
+      let command : c ≡ b = cc (same) in
+      let moved : IsStep d s b u next = subst (λ w. Answers d s w next) done h.0 in
+      none u next (subst (λ x. IsStep d s x u next) (sym command) moved) (e, b, done, begins)
+
+-- to a deed, which leaves the state
+pub deed_done : (d : SetupData) (s after : State) (deed : Deed) (r : Reply) (report : List ℕ) → IsDeedReply d s deed r → IsSound d s → All (BelongsTo s) (calls_left r) → after ≡ s
+    → IsOneDone d s (work.Deed deed) report (what.Deed deed r) after
+deed_done d s after deed r report reply sound belong state =
+    subst (IsOneDone d s (work.Deed deed) report (what.Deed deed r)) (sym state) ((reply, refl), refl, sound, belong, alone) where
+      alone : (e : Entry) (next : State) → IsNextEntry d s e next → work.Deed deed ≡ asked_by e.what → Begins report e → (e.what ≡ what.Deed deed r) × (next ≡ s)
+      alone e next h is begins = go e.what refl where
+        go : (w : What) → e.what ≡ w → (e.what ≡ what.Deed deed r) × (next ≡ s)
+        go (what.Command b u) done = absurd (let same : work.Deed deed ≡ work.Command b = is ∙ ap asked_by done in cc (same))
+        go (what.Deed f t) done =
+            let same : work.Deed deed ≡ work.Deed f = is ∙ ap asked_by done in
+            let own : deed ≡ f = cc (same) in
+            let moved : IsDeedReply d s f t × (next ≡ s) = subst (λ w. Answers d s w next) done h.0 in
+            let answer : t ≡ r = one_reply d s deed t r (subst (λ x. IsDeedReply d s x t) (sym own) moved.0) reply in
+            (done ∙ (λ i. what.Deed (sym own i) (answer i)), moved.1)
+
+-- ---- what is answered
 
 entry_is : (e : Entry) (place : ℕ) (ask : Ask) (w : What) → e.place ≡ place → numbered ask ≡ asked_of e → e.what ≡ w → e ≡ record { place = place; lane = ask.lane; line = ask.line; part = ask.part; what = w }
 entry_is e place ask w at is done =
@@ -193,79 +255,23 @@ entry_is e place ask w at is done =
     let part : e.part ≡ ask.part = sym (ap (λ (n : Numbered). n.part) is) in
     λ i. record { place = at i; lane = lane i; line = line i; part = part i; what = done i }
 
--- the entry of a command, where its verdict is known
-pub command_entry : (d : SetupData) (s after : State) (ask : Ask) (c : Command) (v : Verdicted) (report : List ℕ) → work_of ask.asked ≡ work.Command c → IsStep d s c v after
-    → ((w : Verdicted) (next : State) → IsStep d s c w next → TellsVerdict report w → w ≡ v)
-    → (e : Entry) (next : State) → IsNextEntry d s e next → numbered ask ≡ asked_of e → Begins report e
-    → (e ≡ record { place = after.place; lane = ask.lane; line = ask.line; part = ask.part; what = what.Command c v }) × (next ≡ after)
-command_entry d s after ask c v report asks step alone e next h is begins = go e.what refl where
-  work_is : work.Command c ≡ asked_by e.what
-  work_is = sym asks ∙ ap (λ (n : Numbered). n.asked) is
-
-  go : (w : What) → e.what ≡ w → (e ≡ record { place = after.place; lane = ask.lane; line = ask.line; part = ask.part; what = what.Command c v }) × (next ≡ after)
-  go (what.Deed f r) done = absurd (let same : work.Command c ≡ work.Deed f = work_is ∙ ap asked_by done in cc (same))
-  go (what.Command b u) done =
-      let same : work.Command c ≡ work.Command b = work_is ∙ ap asked_by done in
-      let command : c ≡ b = cc (same) in
-      let moved : IsStep d s b u next = subst (λ w. Answers d s w next) done h.0 in
-      let own : IsStep d s c u next = subst (λ x. IsStep d s x u next) (sym command) moved in
-      let verdict : u ≡ v = alone u next own (e, b, done, begins) in
-      let state : next ≡ after = one_next d s c v next after (subst (λ w. IsStep d s c w next) verdict own) step in
-      let whole : e.what ≡ what.Command c v = done ∙ (λ i. what.Command (sym command i) (verdict i)) in
-      (entry_is e after.place ask (what.Command c v) (h.1 ∙ ap (λ (t : State). t.place) state) is whole, state)
-
--- none of the verdicts is told
-pub command_none : (d : SetupData) (s : State) (ask : Ask) (c : Command) (report : List ℕ) → work_of ask.asked ≡ work.Command c
-    → ((w : Verdicted) (next : State) → IsStep d s c w next → TellsVerdict report w → ⊥)
-    → (e : Entry) (next : State) → IsNextEntry d s e next → numbered ask ≡ asked_of e → Begins report e → ⊥
-command_none d s ask c report asks none e next h is begins = go e.what refl where
-  work_is : work.Command c ≡ asked_by e.what
-  work_is = sym asks ∙ ap (λ (n : Numbered). n.asked) is
-
-  go : (w : What) → e.what ≡ w → ⊥
-  go (what.Deed f r) done = absurd (let same : work.Command c ≡ work.Deed f = work_is ∙ ap asked_by done in cc (same))
-  go (what.Command b u) done =
-      let same : work.Command c ≡ work.Command b = work_is ∙ ap asked_by done in
-      let command : c ≡ b = cc (same) in
-      let moved : IsStep d s b u next = subst (λ w. Answers d s w next) done h.0 in
-      none u next (subst (λ x. IsStep d s x u next) (sym command) moved) (e, b, done, begins)
-
--- the entry of a deed
-pub deed_entry : (d : SetupData) (s : State) (ask : Ask) (deed : Deed) (r : Reply) → work_of ask.asked ≡ work.Deed deed → IsDeedReply d s deed r
-    → (e : Entry) (next : State) → IsNextEntry d s e next → numbered ask ≡ asked_of e
-    → (e ≡ record { place = s.place; lane = ask.lane; line = ask.line; part = ask.part; what = what.Deed deed r }) × (next ≡ s)
-deed_entry d s ask deed r asks reply e next h is = go e.what refl where
-  work_is : work.Deed deed ≡ asked_by e.what
-  work_is = sym asks ∙ ap (λ (n : Numbered). n.asked) is
-
-  go : (w : What) → e.what ≡ w → (e ≡ record { place = s.place; lane = ask.lane; line = ask.line; part = ask.part; what = what.Deed deed r }) × (next ≡ s)
-  go (what.Command b u) done = absurd (let same : work.Deed deed ≡ work.Command b = work_is ∙ ap asked_by done in cc (same))
-  go (what.Deed f t) done =
-      let same : work.Deed deed ≡ work.Deed f = work_is ∙ ap asked_by done in
-      let own : deed ≡ f = cc (same) in
-      let moved : IsDeedReply d s f t × (next ≡ s) = subst (λ w. Answers d s w next) done h.0 in
-      let answer : t ≡ r = one_reply d s deed t r (subst (λ x. IsDeedReply d s x t) (sym own) moved.0) reply in
-      let whole : e.what ≡ what.Deed deed r = done ∙ (λ i. what.Deed (sym own i) (answer i)) in
-      (entry_is e s.place ask (what.Deed deed r) (h.1 ∙ ap (λ (t : State). t.place) moved.1) is whole, moved.1)
-
--- ---- what is answered
-
 -- the entry, which leads to that state, is the one with whose line the report begins
 abbrev pub IsOneAnswer : SetupData → State → Ask → List ℕ → Entry → State → Type 0
 IsOneAnswer d s ask report entry after =
     IsNextEntry d s entry after × (numbered ask ≡ asked_of entry) × IsSound d after × All (BelongsTo after) (calls_of entry.what)
     × ((e : Entry) (next : State) → IsNextEntry d s e next → numbered ask ≡ asked_of e → Begins report e → (e ≡ entry) × (next ≡ after))
 
-abbrev entry_with : Ask → What → ℕ → Entry
-entry_with ask w place = record { place = place; lane = ask.lane; line = ask.line; part = ask.part; what = w }
+pub one_answer : (d : SetupData) (s after : State) (ask : Ask) (w : What) (place : ℕ) (report : List ℕ) → IsOneDone d s (work_of ask.asked) report w after → place ≡ after.place
+    → IsOneAnswer d s ask report (record { place = place; lane = ask.lane; line = ask.line; part = ask.part; what = w }) after
+one_answer d s after ask w place report done at = (
+  (done.0, at),
+  λ i. record { lane = ask.lane; line = ask.line; part = ask.part; asked = done.1 i },
+  done.2,
+  done.3,
+  λ e next h same begins.
+      let one = done.4 e next h (ap (λ (n : Numbered). n.asked) same) begins in
+      (entry_is e place ask w (h.1 ∙ ap (λ (t : State). t.place) one.1 ∙ sym at) same one.0, one.1),
+)
 
-pub one_answer : (d : SetupData) (s after own : State) (ask : Ask) (w written : What) (place : ℕ) (report : List ℕ)
-    → work_of ask.asked ≡ asked_by w → Answers d s w after → IsSound d after → All (BelongsTo after) (calls_of w)
-    → ((e : Entry) (next : State) → IsNextEntry d s e next → numbered ask ≡ asked_of e → Begins report e → (e ≡ entry_with ask w after.place) × (next ≡ after))
-    → written ≡ w → own ≡ after → place ≡ own.place → IsOneAnswer d s ask report (entry_with ask written place) own
-one_answer d s after own ask w written place report asks next sound belong alone what_is state at =
-    let asked : numbered ask ≡ asked_of (entry_with ask w after.place) = λ i. record { lane = ask.lane; line = ask.line; part = ask.part; asked = asks i } in
-    let place_is : after.place ≡ place = sym (at ∙ ap (λ (t : State). t.place) state) in
-    let here : IsOneAnswer d s ask report (entry_with ask w after.place) after = ((next, refl), asked, sound, belong, alone) in
-    subst (λ v. IsOneAnswer d s ask report (entry_with ask v place) own) (sym what_is)
-    (subst (λ t. IsOneAnswer d s ask report (entry_with ask w place) t) (sym state) (subst (λ n. IsOneAnswer d s ask report (entry_with ask w n) after) place_is here))
+pub no_entry : (d : SetupData) (s : State) (ask : Ask) (report : List ℕ) → IsDone d s (work_of ask.asked) report None → IsAnswered d s ask report None
+no_entry d s ask report none e next h same begins = none e next h (ap (λ (n : Numbered). n.asked) same) begins

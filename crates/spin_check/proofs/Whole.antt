@@ -12,20 +12,8 @@ use Rattle.spin_report.specs.Histories.{SegmentSeen, first_line, segment_lines, 
 use Rattle.spin_report.specs.Runs.{Standing, Captured, AreRun, frames_of, start_with, counts_of}
 use Rattle.spin_check.specs.RunTexts.{IsRunText}
 use Rattle.spin_check.specs.Inner.Segments.{Mark, standing, IsPart, Passes, Goes}
+use Rattle.spin_check.specs.Inner.Remains.{lines_at, end_text, Remains}
 use Rattle.spin_check.proofs.Along.{text_of-append}
-
-abbrev lines_at : ℕ × SegmentSeen → List (List ℕ)
-lines_at p = segment_lines p.0 p.1
-
-abbrev pub end_text : Option Captured → Standing → List ℕ
-end_text capture last = ended (end_line last.state.place (option_map (counts_of last.left) capture))
-
--- the text is that of the segments that are left, from that number and standing on, and of the last line
-pub record Remains (script : ScriptData) (capture : Option Captured) (segments : List Segment) (number : ℕ) (at : Standing) (text : List ℕ) : Type 0 where
-  pub seen : List SegmentSeen
-  pub last : Standing
-  pub run : AreRun script segments at seen last
-  pub is : text ≡ text_of (flat_map lines_at (enumerate_from number seen)) ++ end_text capture last
 
 -- the whole report is that of all segments behind its first line
 pub remains_whole : (script : ScriptData) (capture : Option Captured) (ends : List NamedEnd) (report rest : List ℕ) → report ≡ ended first_line ++ rest

@@ -6,3 +6,4 @@ pub mod Answers
 pub mod Standings
 pub mod Replays
 pub mod Segments
+pub mod Remains

@@ -1,11 +1,13 @@
 //! Whether a text is a report of a script.
 
-ghost use Rattle.std.specs.Prelude.{◌≡◌, ◌<◌, ◌≤◌, ◌^◌, ℕ, List, All, Decides, IfOk, IfSome, Option, length, bytes_eq, slice_index_or, false};
+ghost use Rattle.std.specs.Prelude.{◌≡◌, ◌<◌, ◌≤◌, ◌+◌, ◌^◌, ℕ, List, All, Decides, IfOk, IfSome, Option, length, bytes_eq, slice_index_or, false};
 ghost use Rattle.std.specs.Option.{option_map, option_copied};
 ghost use Rattle.std.specs.List.{list_any};
 ghost use Rattle.spin_word.specs.declared.command.TheConstants.{MAX_PLACE};
 ghost use Rattle.spin_endpoint.specs.Named.{NamedEnd};
 ghost use Rattle.spin_endpoint.specs.Sends.{name_of};
+ghost use Rattle.spin_table.specs.SetupOf.{data_of};
+ghost use Rattle.spin_table.specs.Soundness.{IsSound};
 ghost use Rattle.spin_text.specs.Words.{ended};
 ghost use Rattle.spin_script.specs.Scripts.{script_seen};
 ghost use Rattle.spin_script.specs.Segments.{IsOrderly};
@@ -13,6 +15,8 @@ ghost use Rattle.spin_script.specs.Soundness.{AreValid, command_lines};
 ghost use Rattle.spin_report.specs.Histories.{end_line};
 ghost use Rattle.spin_report.specs.Runs.{frames_of, counts_of};
 ghost use Rattle.spin_check.specs.RunTexts.{StandAs, IsRunText, capture_of};
+ghost use Rattle.spin_check.specs.Inner.Standings.{AreFlags};
+ghost use Rattle.spin_check.specs.Inner.Remains.{AreLeft};
 
 use crate::captured::Captured;
 use crate::front::behind;
@@ -86,6 +90,36 @@ fn is_end(alloc: Global, mark: &Mark<'_>, capture: Option<CaptureCounts>) -> Res
     Ok(mark.rest == line.as_slice())
 }
 
+// Whether what is left of the report is of the script's segments, from the first on, and of the last line.
+fn are_left(
+    alloc: Global,
+    script: &Script,
+    capture: Option<&Captured>,
+    mark: &mut Mark<'_>,
+) -> Result<bool, NoMemory>
+    requires sincere { ⟦<Catalogue as Sincere>⟧.sincere script.now.setup.catalogue }
+    requires valid { AreValid script.now.segments }
+    requires commands { mark.old.state.place + command_lines script.now.segments ≤ MAX_PLACE }
+    requires orderly { IsOrderly (script_seen script.now) }
+    requires few { IfSome capture (λ c. length c.now.frames < 2 ^ 32) }
+    requires sound { IsSound (data_of script.now.setup) mark.old.state }
+    requires long { length mark.old.flags ≡ length script.now.endpoints }
+    requires left { length mark.old.left ≤ length (frames_of (option_map capture_of (option_copied capture))) }
+    ensures { (ends : List NamedEnd) → AreFlags script.now.endpoints ends mark.old.flags
+        → IfOk result (λ yes. Decides yes (AreLeft (script_seen script.now)
+        (option_map capture_of (option_copied capture.entry)) ends mark.old)) }
+{
+    for number in 0..script.segments.len() {
+        let segment = script.segments.get(number);
+        let went = mark.pass(alloc, &script.setup, script.lanes, number, segment)?;
+        if !went {
+            return Ok(false);
+        }
+    }
+    let counts = counts(capture, mark.left);
+    is_end(alloc, mark, counts)
+}
+
 /// Whether the report is the text of one legal history of the script with the capture, `names` being the names of the
 /// endpoints that stand at its start: whether some run of the script could have written it, whatever the schedule of
 /// its lanes. It is judged by the very definition of whole histories by which [`spin_report`] says what a run writes.
@@ -123,13 +157,5 @@ pub fn check_report(
         left: records_of(capture),
         flags: flags_of(alloc, script.endpoints.as_slice(), names.as_slice())?,
     };
-    for number in 0..script.segments.len() {
-        let segment = script.segments.get(number);
-        let Some(next) = mark.pass(alloc, &script.setup, script.lanes, number, segment)? else {
-            return Ok(false);
-        };
-        mark = next;
-    }
-    let counts = counts(capture, mark.left);
-    is_end(alloc, &mark, counts)
+    are_left(alloc, script, capture, &mut mark)
 }

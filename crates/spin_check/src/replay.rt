@@ -1,6 +1,6 @@
 //! The replay of a segment's entries along the report.
 
-ghost use Rattle.std.specs.Prelude.{◌≡◌, ◌≤◌, ◌+◌, ◌++◌, All, IfOk, Decides, length};
+ghost use Rattle.std.specs.Prelude.{◌≡◌, ◌≤◌, ◌+◌, All, IfOk, Decides, length};
 ghost use Rattle.std.specs.Arc.{arc_value};
 ghost use Rattle.spin_word.specs.declared.command.TheConstants.{MAX_PLACE};
 ghost use Rattle.spin_table.specs.SetupOf.{data_of};
@@ -111,28 +111,6 @@ impl<'a> Replay<'a> {
             sends: Octets::new(alloc),
             job_sends: Octets::new(alloc),
         }
-    }
-
-    /// What is left of the report, the version, the lines that are owed, and the numbers of the endpoints that were sent
-    /// to, by entries and then by jobs.
-    pub(crate) fn into_parts(self) -> Result<(&'a [u8], Arc<Version>, Octets, Octets), NoMemory>
-        ensures rest { IfOk result (λ r. r.0.now ≡ self.entry.rest) }
-        ensures state { IfOk result (λ r. arc_value r.1 ≡ self.entry.state) }
-        ensures owed { IfOk result (λ r. r.2 ≡ self.entry.owed) }
-        ensures sends { IfOk result (λ r. r.3 ≡ self.entry.sends ++ self.entry.job_sends) }
-    {
-        let Replay {
-            rest,
-            version,
-            owed,
-            sends,
-            job_sends,
-            ..
-        } = self;
-        let mut all = sends;
-        let mut of_jobs = job_sends;
-        all.append(&mut of_jobs)?;
-        Ok((rest, version, owed, all))
     }
 
     /// Goes on by the one entry that may come next, with its jobs.

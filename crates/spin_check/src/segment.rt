@@ -1,15 +1,20 @@
 //! One segment of a report.
 
-ghost use Rattle.std.specs.Prelude.{◌≡◌, ◌<◌, ◌≤◌, ◌+◌, ◌++◌, ℕ, List, All, IfOk, OnOk, length, map};
+ghost use Rattle.std.specs.Prelude.{◌≡◌, ◌<◌, ◌≤◌, ◌+◌, ◌++◌, ℕ, List, All, IfOk, length};
 ghost use Rattle.spin_word.specs.declared.command.TheConstants.{MAX_LANES, MAX_PLACE};
 ghost use Rattle.spin_endpoint.specs.declared.ends.TheConstants.{MAX_ENDPOINTS};
 ghost use Rattle.spin_endpoint.specs.Named.{NamedEnd};
+ghost use Rattle.spin_endpoint.specs.Sends.{SentSeen, all_retired};
 ghost use Rattle.spin_table.specs.SetupOf.{data_of};
 ghost use Rattle.spin_table.specs.Soundness.{IsSound};
+ghost use Rattle.spin_text.specs.Words.{text_of};
 ghost use Rattle.spin_script.specs.Soundness.{IsValidWork};
+ghost use Rattle.spin_report.specs.Histories.{lost_lines};
+ghost use Rattle.spin_report.specs.Runs.{retirements, lost_counts};
 ghost use Rattle.spin_check.specs.Inner.Asks.{commands_in};
-ghost use Rattle.spin_check.specs.Inner.Standings.{AreFlags};
-ghost use Rattle.spin_check.specs.Inner.Segments.{Goes, IsGoodMark};
+ghost use Rattle.spin_check.specs.Inner.Standings.{AreFlags, numbers_of};
+ghost use Rattle.spin_check.specs.Inner.Fronts.{IsBehind};
+ghost use Rattle.spin_check.specs.Inner.Segments.{Goes, IsGoodMark, gone_to, head_text};
 
 use crate::deeds::deeds_of;
 use crate::flags::{lost_all, retire_all};
@@ -55,57 +60,105 @@ impl<'a> Model for Mark<'a> {
     } };
 }
 
+/// What is left of the report behind the head of a segment: the line of each endpoint that it retires, and the line of
+/// its number and of the place where it begins. None where the report doesn't begin with the head.
+fn behind_head<'a>(
+    alloc: Global,
+    report: &'a [u8],
+    number: usize,
+    place: u16,
+    retires: &[u16],
+    flags: &mut [bool],
+) -> Result<Option<&'a [u8]>, NoMemory>
+    requires { All (λ n. n < length flags.old) retires.now }
+    ensures { (names : List (List ℕ)) (ends : List NamedEnd) → AreFlags names ends flags.old
+        → IfOk result (λ rest. IsBehind (head_text number place (retirements names retires.now ends)) report.now rest
+        × AreFlags names (all_retired names retires.now ends) flags.new) }
+{
+    let mut head = Octets::new(alloc);
+    retire_all(flags, retires, &mut head)?;
+    segment_text(number, place, &mut head)?;
+    Ok(behind(report, head.as_slice()))
+}
+
+/// What is left of the report behind the lines that are owed behind a segment's entries: those of its jobs, and one for
+/// each endpoint to which sends are lost. None where the report doesn't begin with them.
+fn behind_tail<'a>(
+    report: &'a [u8],
+    flags: &[bool],
+    sends: &mut Octets,
+    job_sends: &mut Octets,
+    owed: &mut Octets,
+) -> Result<Option<&'a [u8]>, NoMemory>
+    requires { length flags.now ≤ MAX_ENDPOINTS }
+    ensures { (names : List (List ℕ)) (ends : List NamedEnd) (sent : List SentSeen) → AreFlags names ends flags.now
+        → numbers_of sent ≡ sends.old ++ job_sends.old
+        → IfOk result (IsBehind (owed.old ++ text_of (lost_lines (lost_counts names ends sent))) report.now) }
+{
+    sends.append(job_sends)?;
+    lost_all(flags, sends.as_slice(), owed)?;
+    Ok(behind(report, owed.as_slice()))
+}
+
 impl<'a> Mark<'a> {
     /// Goes over a segment: its endpoints are retired, its lanes' deeds are replayed along the report, its jobs are done
-    /// and its lost sends counted. None where the report goes on with no history of the segment. It is linear in the
+    /// and its lost sends counted. False where the report goes on with no history of the segment. It is linear in the
     /// segment's part of the report and in its lines, beside the work of the raises.
     pub(crate) fn pass(
-        self,
+        &mut self,
         alloc: Global,
         setup: &Setup,
         lanes: u8,
         number: usize,
         segment: &Segment,
-    ) -> Result<Option<Mark<'a>>, NoMemory>
+    ) -> Result<bool, NoMemory>
         requires sincere { ⟦<Catalogue as Sincere>⟧.sincere setup.now.catalogue }
-        requires sound { IsSound (data_of setup.now) self.state }
+        requires sound { IsSound (data_of setup.now) self.old.state }
         requires few_lanes { lanes ≤ MAX_LANES }
         requires on_lanes { All (λ line. line.lane < lanes) segment.now.lines }
         requires valid { All (λ line. IsValidWork line.work) segment.now.lines }
-        requires retired { All (λ number. number < length self.flags) segment.now.retires }
-        requires few { length self.flags ≤ MAX_ENDPOINTS }
-        requires room { self.state.place + commands_in segment.now.lines ≤ MAX_PLACE }
-        ensures goes { (names : List (List ℕ)) (ends : List NamedEnd) → AreFlags names ends self.entry.flags
-            → IfOk result (Goes (data_of setup.now) lanes names number segment.now self.entry ends) }
-        ensures good { IfOk result (IsGoodMark (data_of setup.now) segment.now self.entry) }
+        requires retired { All (λ number. number < length self.old.flags) segment.now.retires }
+        requires few { length self.old.flags ≤ MAX_ENDPOINTS }
+        requires room { self.old.state.place + commands_in segment.now.lines ≤ MAX_PLACE }
+        ensures goes { (names : List (List ℕ)) (ends : List NamedEnd) → AreFlags names ends self.old.flags
+            → IfOk result (λ went. Goes (data_of setup.now) lanes names number segment.now self.old ends (gone_to went self.new)) }
+        ensures good { IfOk result (λ went. IsGoodMark (data_of setup.now) segment.now self.old (gone_to went self.new)) }
     {
-        let Mark {
-            rest,
-            version,
-            left,
-            mut flags,
-        } = self;
-        let mut head = Octets::new(alloc);
-        retire_all(flags.as_mut_slice(), segment.retires.as_slice(), &mut head)?;
-        segment_text(number, version.place(), &mut head)?;
-        let Some(rest) = behind(rest, head.as_slice()) else {
-            return Ok(None);
-        };
-        let (deeds, left) = deeds_of(alloc, lanes, segment.lines.as_slice(), left)?;
-        let replay = Replay::new(alloc, rest, version, deeds);
-        let Some(replay) = replay.run(alloc, setup)? else {
-            return Ok(None);
-        };
-        let (rest, version, mut owed, sends) = replay.into_parts()?;
-        lost_all(flags.as_slice(), sends.as_slice(), &mut owed)?;
-        let Some(rest) = behind(rest, owed.as_slice()) else {
-            return Ok(None);
-        };
-        Ok(Some(Mark {
-            rest,
-            version,
-            left,
+        let place = self.version.place();
+        let flags = self.flags.as_mut_slice();
+        let head = behind_head(
+            alloc,
+            self.rest,
+            number,
+            place,
+            segment.retires.as_slice(),
             flags,
-        }))
+        )?;
+        let Some(rest) = head else {
+            return Ok(false);
+        };
+        let (deeds, left) = deeds_of(alloc, lanes, segment.lines.as_slice(), self.left)?;
+        let version = Arc::try_clone(&self.version)?;
+        let ran = Replay::new(alloc, rest, version, deeds).run(alloc, setup)?;
+        let Some(replay) = ran else {
+            return Ok(false);
+        };
+        let Replay {
+            rest: behind_entries,
+            version,
+            mut owed,
+            mut sends,
+            mut job_sends,
+            ..
+        } = replay;
+        let flags = self.flags.as_slice();
+        let tail = behind_tail(behind_entries, flags, &mut sends, &mut job_sends, &mut owed)?;
+        let Some(rest) = tail else {
+            return Ok(false);
+        };
+        self.rest = rest;
+        self.version = version;
+        self.left = left;
+        Ok(true)
     }
 }

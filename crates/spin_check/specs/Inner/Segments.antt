@@ -1,15 +1,19 @@
 -- One segment of a report.
-use Rattle.std.specs.Prelude.{◌≡◌, ◌≤◌, ◌+◌, ℕ, List, ◌++◌, Bool, Option, None, Some, length, ⊤}
+use Rattle.std.specs.Prelude.{◌≡◌, ◌≤◌, ◌+◌, ℕ, List, ◌++◌, map, Bool, true, false, Option, None, Some, length, ⊤}
 use Rattle.spin_table.specs.Setups.{SetupData}
 use Rattle.spin_table.specs.States.{State}
 use Rattle.spin_table.specs.Soundness.{IsSound}
 use Rattle.spin_endpoint.specs.Named.{NamedEnd}
 use Rattle.spin_script.specs.declared.script.Segment.{Segment}
-use Rattle.spin_text.specs.Words.{text_of}
-use Rattle.spin_report.specs.Histories.{SegmentSeen, segment_lines}
+use Rattle.spin_text.specs.Words.{ended, text_of}
+use Rattle.spin_report.specs.Histories.{Retired, SegmentSeen, retire_line, segment_line, segment_lines}
 use Rattle.spin_report.specs.Runs.{Standing, IsSegmentRun}
 use Rattle.spin_check.specs.Inner.Asks.{commands_in}
 use Rattle.spin_check.specs.Inner.Standings.{AreFlags}
+
+-- the text of what stands before a segment's entries
+abbrev pub head_text : ℕ → ℕ → List Retired → List ℕ
+head_text number start retired = text_of (map retire_line retired) ++ ended (segment_line number start)
 
 -- Where a check stands between two segments: the state, the records of the capture that are left, which endpoints
 -- stand, and what is left of the report.
@@ -57,3 +61,8 @@ IsGoodMark d segment mark (Some next) =
     IsSound d next.state × (next.state.place ≤ mark.state.place + commands_in segment.lines)
     × (length next.flags ≡ length mark.flags)
     × (length next.left ≤ length mark.left)
+
+-- the mark that a check came to, if it went over the segment
+abbrev pub gone_to : Bool → Mark → Option Mark
+gone_to true mark = Some mark
+gone_to false mark = None

@@ -1,127 +1,48 @@
-use Rattle.std.proofs.Common.{◌≡◌, ◌<◌, ◌≤◌, ℕ, List, length, get_or, sym, ap, subst, ◌∙◌, arith}
-use Rattle.std.specs.Prelude.{All, Decides, bytes_eq}
+use Rattle.std.proofs.Common.{◌≡◌, ◌<◌, ◌≤◌, ℕ, List, length, sym, ap, subst, ◌∙◌, arith}
+use Rattle.std.specs.Prelude.{Decides, bytes_eq}
 use Rattle.std.specs.Arc.{arc_value}
 use Rattle.std.specs.List.{list_any}
 use Rattle.std.specs.Option.{option_map, option_copied}
-use Rattle.std.proofs.lemmas.Option.{get_or_from_slice_get}
 use Rattle.std.proofs.lemmas.Result.{IfOk-weaker}
 use Rattle.spin_endpoint.specs.Sends.{name_of}
+use Rattle.spin_table.specs.States.{State}
 use Rattle.spin_table.specs.Soundness.{IsSound}
-use Rattle.spin_text.specs.Words.{ended}
 use Rattle.spin_script.specs.Scripts.{script_seen}
-use Rattle.spin_script.specs.Segments.{IsOnLane}
-use Rattle.spin_script.specs.Soundness.{IsValidWork}
-use Rattle.spin_report.specs.Histories.{end_line}
-use Rattle.spin_report.specs.Runs.{frames_of, counts_of}
+use Rattle.spin_report.specs.Runs.{frames_of}
 use Rattle.spin_check.specs.RunTexts.{IsRunText, capture_of}
-use Rattle.spin_check.specs.Inner.Segments.{Mark, Goes, IsGoodMark}
-use Rattle.spin_check.proofs.Reporting.{on_whole_none, on_whole_more, room_here, no_more, whole_end, no_begin, all_here}
+use Rattle.spin_check.specs.Inner.Segments.{Mark}
+use Rattle.spin_check.specs.Inner.Remains.{AreLeft}
+use Rattle.spin_check.proofs.Reporting.{flags_first, whole_text, no_begin}
 use Rattle.spin_check.proofs.check.check_report.Goals as goal
 
 pub returns-in_default : goal.returns-in_default
 returns-in_default g c = λ ends named.
     no_begin (script_seen c.args.script.now) (option_map capture_of (option_copied c.args.capture)) ends c.args.report.now c.in_default.ensures
 
-pub loop-number-init : goal.loop-number-init
-loop-number-init g c =
-    let script = script_seen c.args.script.now in
-    let capture = option_map capture_of (option_copied c.args.capture) in
-    let flags = c.in_ok-flags_of.ensures in
-    let mark : Mark = record { state = arc_value c.in_ok-new.field-0; left = c.records_of.result.now; flags = c.in_ok-flags_of.field-0.items; rest = c.in-Some.rest.now } in
-    on_whole_none script c.args.names.now capture c.args.report.now mark c.requires.orderly c.in-Some.ensures (c.in_ok-new.ensures.ok ∙ c.in_ok-version.ensures.start) c.records_of.ensures
-    (flags.all ∙ ap length c.as_slice.ensures)
-    (λ n lt.
-    flags.each n (subst (λ (l : List (List ℕ)). n < length l) (sym c.as_slice.ensures) lt)
-    ∙ (λ i. list_any (bytes_eq (name_of (c.as_slice.ensures i) n)) (c.as_slice-2.ensures i)))
-    (subst (IsSound script.setup) (sym c.in_ok-new.ensures.ok) c.in_ok-version.ensures.sound)
+pub are_left-requires-clause-commands : goal.are_left-requires-clause-commands
+are_left-requires-clause-commands g c =
+    let at = ap (λ (s : State). s.place) (c.in_ok-new.ensures.ok ∙ c.in_ok-version.ensures.start) in
+    omega (arith, at, c.requires.commands)
 
-pub pass-requires-clause-sound : goal.pass-requires-clause-sound
-pass-requires-clause-sound g c = c.loop-number.invariant.sound
+pub are_left-requires-clause-sound : goal.are_left-requires-clause-sound
+are_left-requires-clause-sound g c = let script = script_seen c.args.script.now in subst (IsSound script.setup) (sym c.in_ok-new.ensures.ok) c.in_ok-version.ensures.sound
 
-pub pass-requires-clause-on_lanes : goal.pass-requires-clause-on_lanes
-pass-requires-clause-on_lanes g c =
-    let script = script_seen c.args.script.now in
-    let number = c.loop-number.number in
-    let segment = c.get-segment.result.now in
-    let lt : number < length script.segments = omega (arith, c.loop-number-test.true, c.len-number-end.ensures) in
-    let is : segment ≡ get_or script.segments number segment = sym (get_or_from_slice_get script.segments number segment segment c.get-segment.ensures) in
-    let on = all_here (IsOnLane script.lanes) (λ s. s.lines) script.segments number segment lt is c.requires.orderly.lanes.each in
-    λ k d within. (on k d within).below
+pub are_left-requires-clause-long : goal.are_left-requires-clause-long
+are_left-requires-clause-long g c = c.in_ok-flags_of.ensures.all ∙ ap length c.as_slice.ensures
 
-pub pass-requires-clause-few_lanes : goal.pass-requires-clause-few_lanes
-pass-requires-clause-few_lanes g c = c.requires.orderly.lanes.few
-
-pub pass-requires-clause-valid : goal.pass-requires-clause-valid
-pass-requires-clause-valid g c =
-    let script = script_seen c.args.script.now in
-    let number = c.loop-number.number in
-    let segment = c.get-segment.result.now in
-    let lt : number < length script.segments = omega (arith, c.loop-number-test.true, c.len-number-end.ensures) in
-    let is : segment ≡ get_or script.segments number segment = sym (get_or_from_slice_get script.segments number segment segment c.get-segment.ensures) in
-    all_here (λ line. IsValidWork line.work) (λ s. s.lines) script.segments number segment lt is c.requires.valid
-
-pub pass-requires-clause-retired : goal.pass-requires-clause-retired
-pass-requires-clause-retired g c =
-    let script = script_seen c.args.script.now in
-    let number = c.loop-number.number in
-    let segment = c.get-segment.result.now in
-    let lt : number < length script.segments = omega (arith, c.loop-number-test.true, c.len-number-end.ensures) in
-    let is : segment ≡ get_or script.segments number segment = sym (get_or_from_slice_get script.segments number segment segment c.get-segment.ensures) in
-    let on = all_here (λ endpoint. endpoint < length script.endpoints) (λ s. s.retires) script.segments number segment lt is c.requires.orderly.endpoints.retired in
-    subst (λ n. All (λ endpoint. endpoint < n) segment.retires) (sym c.loop-number.invariant.long) on
-
-pub pass-requires-clause-few : goal.pass-requires-clause-few
-pass-requires-clause-few g c = let long = c.loop-number.invariant.long in omega (arith, long, c.requires.orderly.endpoints.few)
-
-pub pass-requires-clause-room : goal.pass-requires-clause-room
-pass-requires-clause-room g c =
-    let script = script_seen c.args.script.now in
-    let capture = option_map capture_of (option_copied c.args.capture) in
-    let number = c.loop-number.number in
-    let segment = c.get-segment.result.now in
-    let lt : number < length script.segments = omega (arith, c.loop-number-test.true, c.len-number-end.ensures) in
-    let is : segment ≡ get_or script.segments number segment = sym (get_or_from_slice_get script.segments number segment segment c.get-segment.ensures) in
-    let room = room_here script c.args.names.now capture c.args.report.now number c.loop-number.mark segment lt is c.loop-number.invariant in
-    omega (arith, room, c.requires.commands)
-
-pub returns-in_default-2 : goal.returns-in_default-2
-returns-in_default-2 g c = λ start named.
-    let script = script_seen c.args.script.now in
-    let capture = option_map capture_of (option_copied c.args.capture) in
-    let number = c.loop-number.number in
-    let segment = c.get-segment.result.now in
-    let lt : number < length script.segments = omega (arith, c.loop-number-test.true, c.len-number-end.ensures) in
-    let is : segment ≡ get_or script.segments number segment = sym (get_or_from_slice_get script.segments number segment segment c.get-segment.ensures) in
-    let mark = c.loop-number.mark in
-    no_more script c.args.names.now capture c.args.report.now number mark segment lt is
-    (λ names ends are. subst (Goes script.setup script.lanes names number segment mark ends) c.in_default-2.is (c.in_ok-next.ensures.goes names ends are)) c.loop-number.invariant start named
-
-pub loop-number-preserved : goal.loop-number-preserved
-loop-number-preserved g c =
-    let script = script_seen c.args.script.now in
-    let capture = option_map capture_of (option_copied c.args.capture) in
-    let number = c.loop-number.number in
-    let segment = c.get-segment.result.now in
-    let lt : number < length script.segments = omega (arith, c.loop-number-test.true, c.len-number-end.ensures) in
-    let is : segment ≡ get_or script.segments number segment = sym (get_or_from_slice_get script.segments number segment segment c.get-segment.ensures) in
-    let mark = c.loop-number.mark in
-    on_whole_more script c.args.names.now capture c.args.report.now number mark c.in-Some-2.next segment lt is
-    (λ names ends are. subst (Goes script.setup script.lanes names number segment mark ends) c.in-Some-2.is (c.in_ok-next.ensures.goes names ends are))
-    (subst (IsGoodMark script.setup segment mark) c.in-Some-2.is c.in_ok-next.ensures.good) c.loop-number.invariant
-
-pub counts-counts-requires-clause-left : goal.counts-counts-requires-clause-left
-counts-counts-requires-clause-left g c =
-    let left_is : c.mark.inside.left.now ≡ c.loop-number.mark.left = ap (λ (m : Mark). m.left) c.mark.view_is in
-    subst (λ (l : List (List ℕ)). length l ≤ length (frames_of (option_map capture_of (option_copied c.args.capture)))) (sym left_is) c.loop-number.invariant.left
+pub are_left-requires-clause-left : goal.are_left-requires-clause-left
+are_left-requires-clause-left g c = let same = ap length c.records_of.ensures in omega (arith, same)
 
 pub returns : goal.returns
 returns g c = λ start named.
     let script = script_seen c.args.script.now in
     let capture = option_map capture_of (option_copied c.args.capture) in
-    let mark = c.loop-number.mark in
-    let left_is : c.mark.inside.left.now ≡ mark.left = ap (λ (m : Mark). m.left) c.mark.view_is in
-    let told : c.counts-counts.result ≡ option_map (counts_of mark.left) capture = c.counts-counts.ensures ∙ ap (λ l. option_map (counts_of l) capture) left_is in
-    IfOk-weaker c.is_end.result (λ yes. Decides yes (mark.rest ≡ ended (end_line mark.state.place c.counts-counts.result))) (λ yes. Decides yes (IsRunText script capture start c.args.report.now))
-    (λ yes decides.
-    whole_end script c.args.names.now capture c.args.report.now c.loop-number.number mark yes (omega (arith, c.loop-number-test.false, c.len-number-end.ensures))
-    (λ ends. subst (λ counts. Decides yes (mark.rest ≡ ended (end_line mark.state.place counts))) told decides) c.loop-number.invariant start named) c.is_end.ensures
+    let flags = c.in_ok-flags_of.ensures in
+    let mark : Mark = record { state = arc_value c.in_ok-new.field-0; left = c.records_of.result.now; flags = c.in_ok-flags_of.field-0.items; rest = c.in-Some.rest.now } in
+    let are = flags_first script c.args.names.now mark.flags start c.requires.orderly (flags.all ∙ ap length c.as_slice.ensures)
+    (λ n lt.
+    flags.each n (subst (λ (l : List (List ℕ)). n < length l) (sym c.as_slice.ensures) lt)
+    ∙ (λ i. list_any (bytes_eq (name_of (c.as_slice.ensures i) n)) (c.as_slice-2.ensures i))) named in
+    IfOk-weaker c.are_left.result (λ yes. Decides yes (AreLeft script capture start mark)) (λ yes. Decides yes (IsRunText script capture start c.args.report.now))
+    (λ yes decides. whole_text script capture start c.args.report.now mark yes c.in-Some.ensures (c.in_ok-new.ensures.ok ∙ c.in_ok-version.ensures.start) c.records_of.ensures decides)
+    (c.are_left.ensures start are)

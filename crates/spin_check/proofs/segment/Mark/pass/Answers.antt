@@ -1,4 +1,4 @@
-use Rattle.std.proofs.Common.{◌≡◌, ◌≢◌, ◌++◌, ℕ, List, length, drop, refl, sym, ap, subst, ◌∙◌}
+use Rattle.std.proofs.Common.{◌≡◌, ◌++◌, ℕ, List, length, drop, refl, sym, ap, subst, ◌∙◌}
 use Rattle.std.specs.Prelude.{None, Some}
 use Rattle.std.specs.Vec.{with_items}
 use Rattle.std.specs.Arc.{arc_value}
@@ -7,14 +7,16 @@ use Rattle.spin_endpoint.specs.Sends.{all_retired}
 use Rattle.spin_table.specs.SetupOf.{data_of}
 use Rattle.spin_table.specs.States.{State}
 use Rattle.spin_text.specs.Words.{text_of}
+use Rattle.spin_script.specs.declared.script.Line.{Line}
 use Rattle.spin_report.specs.Histories.{lost_lines}
-use Rattle.spin_report.specs.Segments.{asked_in, wanted_by}
+use Rattle.spin_report.specs.Segments.{wanted_by}
 use Rattle.spin_report.specs.Runs.{retirements, lost_counts}
-use Rattle.spin_check.specs.Inner.Asks.{AreAsked}
-use Rattle.spin_check.specs.Inner.Standings.{AreFlags, numbers_of}
-use Rattle.spin_check.specs.Inner.Replays.{EndsAt}
-use Rattle.spin_check.specs.Inner.Segments.{Mark, Goes, Passes}
-use Rattle.spin_check.proofs.Parting.{head_text, head_is, IsBegun, no_head, no_entries, no_tail, passes, sent_now, sent_numbers}
+use Rattle.spin_check.specs.Inner.Asks.{commands_in, commands_left}
+use Rattle.spin_check.specs.Inner.Fronts.{IsBehind}
+use Rattle.spin_check.specs.Inner.Standings.{AreFlags}
+use Rattle.spin_check.specs.Inner.Replays.{At, EndsAt}
+use Rattle.spin_check.specs.Inner.Segments.{Mark, Goes, Passes, IsGoodMark, head_text}
+use Rattle.spin_check.proofs.Parting.{TellsTail, head_here, begins, as_many, no_head, no_entries, no_tail, passes, good_mark}
 use Rattle.spin_check.proofs.segment.Mark.pass.Goals as goal
 
 pub returns-in_default-clause-goes : goal.returns-in_default-clause-goes
@@ -25,79 +27,62 @@ returns-in_default-clause-goes g c =
     let segment = c.args.segment.now in
     λ names ends are.
     let flags : AreFlags names ends now.flags = subst (λ (m : Mark). AreFlags names ends m.flags) (sym c.self.view_is) are in
-    let retired = c.in_ok-retire_all.ensures names ends (subst (AreFlags names ends) (sym c.as_mut_slice.ensures.value) flags) in
-    let head = c.as_slice-2.result.now in
-    let is : head ≡ head_text c.args.number now.state.place (retirements names segment.retires ends) =
-    head_is names ends c.args.number c.place.result now.state.place c.as_slice.result.now segment.retires c.new-head.result c.retire_all.new.out c.segment_text.new.out head
-    c.as_slice.ensures c.new-head.ensures retired.0 c.in_ok-segment_text.ensures.ok (c.place.ensures ∙ ap (λ (t : State). t.place) c.deref.ensures) c.as_slice-2.ensures in
+    let head = c.in_ok-head.ensures names ends (subst (AreFlags names ends) (sym c.as_mut_slice-flags.ensures.value) flags) in
+    let at : c.place-place.result ≡ now.state.place = c.place-place.ensures ∙ ap (λ (t : State). t.place) c.deref.ensures in
+    let none = head_here d c.args.lanes names c.args.number segment now ends c.place-place.result c.as_slice.result.now None at c.as_slice.ensures
+    (subst (IsBehind (head_text c.args.number c.place-place.result (retirements names c.as_slice.result.now ends)) now.rest) c.in_default.is head.0) in
     subst (λ (m : Mark). Goes d c.args.lanes names c.args.number segment m ends None) c.self.view_is
-    (no_head d c.args.lanes names c.args.number segment now ends head is c.in_default.ensures)
+    (no_head d c.args.lanes names c.args.number segment now ends none)
 
-pub returns-in_default-2-clause-goes : goal.returns-in_default-2-clause-goes
-returns-in_default-2-clause-goes g c =
+pub returns-in_default-ran-clause-goes : goal.returns-in_default-ran-clause-goes
+returns-in_default-ran-clause-goes g c =
     let d = data_of c.args.setup.now in
     let i = c.self.inside in
     let now : Mark = record { state = arc_value i.version; left = i.left.now; flags = i.flags.items; rest = i.rest.now } in
     let segment = c.args.segment.now in
     λ names ends are.
     let flags : AreFlags names ends now.flags = subst (λ (m : Mark). AreFlags names ends m.flags) (sym c.self.view_is) are in
-    let retired = c.in_ok-retire_all.ensures names ends (subst (AreFlags names ends) (sym c.as_mut_slice.ensures.value) flags) in
-    let head = c.as_slice-2.result.now in
-    let is : head ≡ head_text c.args.number now.state.place (retirements names segment.retires ends) =
-    head_is names ends c.args.number c.place.result now.state.place c.as_slice.result.now segment.retires c.new-head.result c.retire_all.new.out c.segment_text.new.out head
-    c.as_slice.ensures c.new-head.ensures retired.0 c.in_ok-segment_text.ensures.ok (c.place.ensures ∙ ap (λ (t : State). t.place) c.deref.ensures) c.as_slice-2.ensures in
-    let start = c.new-replay.result in
-    let rest = c.in-Some.rest.now in
-    let begun : IsBegun d c.args.lanes names c.args.number segment now ends rest start = record {
-      state = c.new-replay.ensures.state;
-      asked = subst (λ ls. AreAsked c.args.lanes (asked_in ls now.left) start.queues) c.as_slice-3.ensures
-          (subst (AreAsked c.args.lanes (asked_in c.as_slice-3.result.now now.left)) (sym c.new-replay.ensures.queues) c.in_ok-deeds.ensures.deeds);
-      rest_is = c.new-replay.ensures.rest;
-    } in
-    let none : EndsAt d start None = subst (EndsAt d start) c.in_default-2.is c.in_ok-replay.ensures in
+    let head = c.in_ok-head.ensures names ends (subst (AreFlags names ends) (sym c.as_mut_slice-flags.ensures.value) flags) in
+    let at : c.place-place.result ≡ now.state.place = c.place-place.ensures ∙ ap (λ (t : State). t.place) c.deref.ensures in
+    let rest = c.in-Some.rest in
+    let cut = head_here d c.args.lanes names c.args.number segment now ends c.place-place.result c.as_slice.result.now (Some rest) at c.as_slice.ensures
+    (subst (IsBehind (head_text c.args.number c.place-place.result (retirements names c.as_slice.result.now ends)) now.rest) c.in-Some.is head.0) in
+    let start = c.new.result in
+    let begun = begins d c.args.lanes names c.args.number segment now ends rest.now start c.as_slice-2.result.now c.in_ok-deeds.deeds (c.new.ensures.state ∙ c.in_ok-version.ensures) c.new.ensures.queues c.as_slice-2.ensures
+    c.in_ok-deeds.ensures.deeds c.new.ensures.rest in
+    let none : EndsAt d start None = subst (EndsAt d start) c.in_default-ran.is c.in_ok-ran.ensures in
     subst (λ (m : Mark). Goes d c.args.lanes names c.args.number segment m ends None) c.self.view_is
-    (no_entries d c.args.lanes names c.args.number segment now ends head rest start is c.in-Some.ensures begun none)
+    (no_entries d c.args.lanes names c.args.number segment now ends rest.now start cut begun none)
 
-pub returns-in_default-behind-clause-goes : goal.returns-in_default-behind-clause-goes
-returns-in_default-behind-clause-goes g c =
+pub returns-in_default-tail-clause-goes : goal.returns-in_default-tail-clause-goes
+returns-in_default-tail-clause-goes g c =
     let d = data_of c.args.setup.now in
     let i = c.self.inside in
     let now : Mark = record { state = arc_value i.version; left = i.left.now; flags = i.flags.items; rest = i.rest.now } in
     let segment = c.args.segment.now in
     λ names ends are.
     let flags : AreFlags names ends now.flags = subst (λ (m : Mark). AreFlags names ends m.flags) (sym c.self.view_is) are in
-    let retired = c.in_ok-retire_all.ensures names ends (subst (AreFlags names ends) (sym c.as_mut_slice.ensures.value) flags) in
-    let head = c.as_slice-2.result.now in
-    let is : head ≡ head_text c.args.number now.state.place (retirements names segment.retires ends) =
-    head_is names ends c.args.number c.place.result now.state.place c.as_slice.result.now segment.retires c.new-head.result c.retire_all.new.out c.segment_text.new.out head
-    c.as_slice.ensures c.new-head.ensures retired.0 c.in_ok-segment_text.ensures.ok (c.place.ensures ∙ ap (λ (t : State). t.place) c.deref.ensures) c.as_slice-2.ensures in
-    let start = c.new-replay.result in
-    let rest = c.in-Some.rest.now in
-    let begun : IsBegun d c.args.lanes names c.args.number segment now ends rest start = record {
-      state = c.new-replay.ensures.state;
-      asked = subst (λ ls. AreAsked c.args.lanes (asked_in ls now.left) start.queues) c.as_slice-3.ensures
-          (subst (AreAsked c.args.lanes (asked_in c.as_slice-3.result.now now.left)) (sym c.new-replay.ensures.queues) c.in_ok-deeds.ensures.deeds);
-      rest_is = c.new-replay.ensures.rest;
-    } in
-    let at = c.in-Some-2.replay in
-    let ended_so : EndsAt d start (Some at) = subst (EndsAt d start) c.in-Some-2.is c.in_ok-replay.ensures in
-    let entries = ended_so.0 in
-    let jobs = ended_so.1 in
-    let done = ended_so.2 in
+    let head = c.in_ok-head.ensures names ends (subst (AreFlags names ends) (sym c.as_mut_slice-flags.ensures.value) flags) in
+    let at : c.place-place.result ≡ now.state.place = c.place-place.ensures ∙ ap (λ (t : State). t.place) c.deref.ensures in
+    let rest = c.in-Some.rest in
+    let cut = head_here d c.args.lanes names c.args.number segment now ends c.place-place.result c.as_slice.result.now (Some rest) at c.as_slice.ensures
+    (subst (IsBehind (head_text c.args.number c.place-place.result (retirements names c.as_slice.result.now ends)) now.rest) c.in-Some.is head.0) in
+    let start = c.new.result in
+    let begun = begins d c.args.lanes names c.args.number segment now ends rest.now start c.as_slice-2.result.now c.in_ok-deeds.deeds (c.new.ensures.state ∙ c.in_ok-version.ensures) c.new.ensures.queues c.as_slice-2.ensures
+    c.in_ok-deeds.ensures.deeds c.new.ensures.rest in
+    let r = c.replay.inside in
+    let at_end : At = record { state = arc_value r.version; queues = r.deeds; last = r.last; rest = r.rest.now; owed = r.owed; sends = r.sends; job_sends = r.job_sends } in
+    let ended_so : EndsAt d start (Some at_end) = subst (λ (a : At). EndsAt d start (Some a)) (sym c.replay.view_is) (subst (EndsAt d start) c.in-Some-ran.is c.in_ok-ran.ensures) in
     let ends_now = all_retired names segment.retires ends in
-    let flags_now : AreFlags names ends_now c.retire_all.new.flags = subst (λ ns. AreFlags names (all_retired names ns ends) c.retire_all.new.flags) c.as_slice.ensures retired.1 in
-    let long : length c.retire_all.new.flags ≡ i.flags.len = retired.1.all ∙ sym flags.all ∙ sym i.flags.ok.0 in
-    let kept : (with_items i.flags c.retire_all.new.flags).items ≡ c.retire_all.new.flags = with_items_is i.flags c.retire_all.new.flags long in
-    let flags_kept : AreFlags names ends_now (with_items i.flags c.retire_all.new.flags).items = subst (AreFlags names ends_now) (sym kept) flags_now in
-    let sent = sent_now d c.args.lanes names c.args.number segment now ends head rest start at entries jobs is c.in-Some.ensures begun done in
-    let numbers : numbers_of sent ≡ c.as_slice-5.result.now =
-    sent_numbers d c.args.lanes names c.args.number segment now ends head rest start at entries jobs is c.in-Some.ensures begun done ∙ sym (c.as_slice-5.ensures ∙ c.in_ok-rest.ensures.sends) in
-    let lost = c.in_ok-lost_all.ensures names ends_now sent (subst (AreFlags names ends_now) (sym c.as_slice-4.ensures.value) flags_kept) numbers in
-    let owed = c.as_slice-6.result.now in
-    let owes : owed ≡ at.owed ++ text_of (lost_lines (lost_counts names ends_now sent)) = c.as_slice-6.ensures ∙ lost ∙ ap (λ t. t ++ text_of (lost_lines (lost_counts names ends_now sent))) c.in_ok-rest.ensures.owed in
-    let none : (more : List ℕ) → at.rest ≢ owed ++ more = λ more other. c.in_default-behind.ensures more (c.in_ok-rest.ensures.rest ∙ other) in
+    let new = c.behind_head.new.flags in
+    let flags_now : AreFlags names ends_now new = subst (λ ns. AreFlags names (all_retired names ns ends) new) c.as_slice.ensures head.1 in
+    let long : length new ≡ i.flags.len = as_many names ends ends_now now.flags new flags flags_now ∙ sym i.flags.ok.0 in
+    let now_kept : (with_items i.flags new).items ≡ new = with_items_is i.flags new long in
+    let flags_kept : AreFlags names ends_now (with_items i.flags new).items = subst (AreFlags names ends_now) (sym now_kept) flags_now in
+    let tells : TellsTail at_end (with_items i.flags new).items None = λ ns es sent so same.
+    subst (IsBehind (at_end.owed ++ text_of (lost_lines (lost_counts ns es sent))) at_end.rest) c.in_default-tail.is (c.in_ok-tail.ensures ns es sent (subst (AreFlags ns es) (sym c.as_slice-flags.ensures.value) so) same) in
     subst (λ (m : Mark). Goes d c.args.lanes names c.args.number segment m ends None) c.self.view_is
-    (no_tail d c.args.lanes names c.args.number segment now ends head rest start at entries jobs is c.in-Some.ensures begun done owed owes none)
+    (no_tail d c.args.lanes names c.args.number segment now ends rest.now start at_end cut begun ended_so (with_items i.flags new).items flags_kept tells)
 
 pub returns-clause-goes : goal.returns-clause-goes
 returns-clause-goes g c =
@@ -107,38 +92,42 @@ returns-clause-goes g c =
     let segment = c.args.segment.now in
     λ names ends are.
     let flags : AreFlags names ends now.flags = subst (λ (m : Mark). AreFlags names ends m.flags) (sym c.self.view_is) are in
-    let retired = c.in_ok-retire_all.ensures names ends (subst (AreFlags names ends) (sym c.as_mut_slice.ensures.value) flags) in
-    let head = c.as_slice-2.result.now in
-    let is : head ≡ head_text c.args.number now.state.place (retirements names segment.retires ends) =
-    head_is names ends c.args.number c.place.result now.state.place c.as_slice.result.now segment.retires c.new-head.result c.retire_all.new.out c.segment_text.new.out head
-    c.as_slice.ensures c.new-head.ensures retired.0 c.in_ok-segment_text.ensures.ok (c.place.ensures ∙ ap (λ (t : State). t.place) c.deref.ensures) c.as_slice-2.ensures in
-    let start = c.new-replay.result in
-    let rest = c.in-Some.rest.now in
-    let begun : IsBegun d c.args.lanes names c.args.number segment now ends rest start = record {
-      state = c.new-replay.ensures.state;
-      asked = subst (λ ls. AreAsked c.args.lanes (asked_in ls now.left) start.queues) c.as_slice-3.ensures
-          (subst (AreAsked c.args.lanes (asked_in c.as_slice-3.result.now now.left)) (sym c.new-replay.ensures.queues) c.in_ok-deeds.ensures.deeds);
-      rest_is = c.new-replay.ensures.rest;
-    } in
-    let at = c.in-Some-2.replay in
-    let ended_so : EndsAt d start (Some at) = subst (EndsAt d start) c.in-Some-2.is c.in_ok-replay.ensures in
-    let entries = ended_so.0 in
-    let jobs = ended_so.1 in
-    let done = ended_so.2 in
+    let head = c.in_ok-head.ensures names ends (subst (AreFlags names ends) (sym c.as_mut_slice-flags.ensures.value) flags) in
+    let at : c.place-place.result ≡ now.state.place = c.place-place.ensures ∙ ap (λ (t : State). t.place) c.deref.ensures in
+    let rest = c.in-Some.rest in
+    let cut = head_here d c.args.lanes names c.args.number segment now ends c.place-place.result c.as_slice.result.now (Some rest) at c.as_slice.ensures
+    (subst (IsBehind (head_text c.args.number c.place-place.result (retirements names c.as_slice.result.now ends)) now.rest) c.in-Some.is head.0) in
+    let start = c.new.result in
+    let begun = begins d c.args.lanes names c.args.number segment now ends rest.now start c.as_slice-2.result.now c.in_ok-deeds.deeds (c.new.ensures.state ∙ c.in_ok-version.ensures) c.new.ensures.queues c.as_slice-2.ensures
+    c.in_ok-deeds.ensures.deeds c.new.ensures.rest in
+    let r = c.replay.inside in
+    let at_end : At = record { state = arc_value r.version; queues = r.deeds; last = r.last; rest = r.rest.now; owed = r.owed; sends = r.sends; job_sends = r.job_sends } in
+    let ended_so : EndsAt d start (Some at_end) = subst (λ (a : At). EndsAt d start (Some a)) (sym c.replay.view_is) (subst (EndsAt d start) c.in-Some-ran.is c.in_ok-ran.ensures) in
     let ends_now = all_retired names segment.retires ends in
-    let flags_now : AreFlags names ends_now c.retire_all.new.flags = subst (λ ns. AreFlags names (all_retired names ns ends) c.retire_all.new.flags) c.as_slice.ensures retired.1 in
-    let long : length c.retire_all.new.flags ≡ i.flags.len = retired.1.all ∙ sym flags.all ∙ sym i.flags.ok.0 in
-    let kept : (with_items i.flags c.retire_all.new.flags).items ≡ c.retire_all.new.flags = with_items_is i.flags c.retire_all.new.flags long in
-    let flags_kept : AreFlags names ends_now (with_items i.flags c.retire_all.new.flags).items = subst (AreFlags names ends_now) (sym kept) flags_now in
-    let sent = sent_now d c.args.lanes names c.args.number segment now ends head rest start at entries jobs is c.in-Some.ensures begun done in
-    let numbers : numbers_of sent ≡ c.as_slice-5.result.now =
-    sent_numbers d c.args.lanes names c.args.number segment now ends head rest start at entries jobs is c.in-Some.ensures begun done ∙ sym (c.as_slice-5.ensures ∙ c.in_ok-rest.ensures.sends) in
-    let lost = c.in_ok-lost_all.ensures names ends_now sent (subst (AreFlags names ends_now) (sym c.as_slice-4.ensures.value) flags_kept) numbers in
-    let owed = c.as_slice-6.result.now in
-    let owes : owed ≡ at.owed ++ text_of (lost_lines (lost_counts names ends_now sent)) = c.as_slice-6.ensures ∙ lost ∙ ap (λ t. t ++ text_of (lost_lines (lost_counts names ends_now sent))) c.in_ok-rest.ensures.owed in
-    let last = c.in-Some-behind.rest.now in
-    let next : Mark = record { state = arc_value c.in_ok-rest.version; left = c.in_ok-deeds.left.now; flags = (with_items i.flags c.retire_all.new.flags).items; rest = last } in
+    let new = c.behind_head.new.flags in
+    let flags_now : AreFlags names ends_now new = subst (λ ns. AreFlags names (all_retired names ns ends) new) c.as_slice.ensures head.1 in
+    let long : length new ≡ i.flags.len = as_many names ends ends_now now.flags new flags flags_now ∙ sym i.flags.ok.0 in
+    let now_kept : (with_items i.flags new).items ≡ new = with_items_is i.flags new long in
+    let flags_kept : AreFlags names ends_now (with_items i.flags new).items = subst (AreFlags names ends_now) (sym now_kept) flags_now in
+    let last = c.in-Some-tail.rest in
+    let tells : TellsTail at_end (with_items i.flags new).items (Some last) = λ ns es sent so same.
+    subst (IsBehind (at_end.owed ++ text_of (lost_lines (lost_counts ns es sent))) at_end.rest) c.in-Some-tail.is (c.in_ok-tail.ensures ns es sent (subst (AreFlags ns es) (sym c.as_slice-flags.ensures.value) so) same) in
+    let next : Mark = record { state = arc_value r.version; left = c.in_ok-deeds.left.now; flags = (with_items i.flags new).items; rest = last.now } in
     subst (λ (m : Mark). Passes d c.args.lanes names c.args.number segment m ends next) c.self.view_is
-    (passes d c.args.lanes names c.args.number segment now ends head rest start at entries jobs is c.in-Some.ensures begun done owed last next owes
-    (sym c.in_ok-rest.ensures.rest ∙ c.in-Some-behind.ensures) c.in_ok-rest.ensures.state
-    (c.in_ok-deeds.ensures.left ∙ ap (λ ls. drop (wanted_by ls) now.left) c.as_slice-3.ensures) refl flags_kept)
+    (passes d c.args.lanes names c.args.number segment now ends rest.now start at_end cut begun ended_so last next flags_kept tells refl (c.in_ok-deeds.ensures.left ∙ ap (λ (ls : List Line). drop (wanted_by ls) now.left) c.as_slice-2.ensures) refl)
+
+pub returns-clause-good : goal.returns-clause-good
+returns-clause-good g c =
+    let d = data_of c.args.setup.now in
+    let i = c.self.inside in
+    let now : Mark = record { state = arc_value i.version; left = i.left.now; flags = i.flags.items; rest = i.rest.now } in
+    let segment = c.args.segment.now in
+    let start = c.new.result in
+    let r = c.replay.inside in
+    let at_end : At = record { state = arc_value r.version; queues = r.deeds; last = r.last; rest = r.rest.now; owed = r.owed; sends = r.sends; job_sends = r.job_sends } in
+    let ended_so : EndsAt d start (Some at_end) = subst (λ (a : At). EndsAt d start (Some a)) (sym c.replay.view_is) (subst (EndsAt d start) c.in-Some-ran.is c.in_ok-ran.ensures) in
+    let next : Mark = record { state = arc_value r.version; left = c.in_ok-deeds.left.now; flags = (with_items i.flags c.behind_head.new.flags).items; rest = c.in-Some-tail.rest.now } in
+    subst (λ (m : Mark). IsGoodMark d segment m (Some next)) c.self.view_is
+    (good_mark d segment now next start at_end ended_so (c.new.ensures.state ∙ c.in_ok-version.ensures)
+    (ap commands_left c.new.ensures.queues ∙ c.in_ok-deeds.ensures.commands ∙ ap commands_in c.as_slice-2.ensures) refl (sym (with_items i.flags c.behind_head.new.flags).ok.0 ∙ i.flags.ok.0)
+    (c.in_ok-deeds.ensures.left ∙ ap (λ (ls : List Line). drop (wanted_by ls) now.left) c.as_slice-2.ensures))
