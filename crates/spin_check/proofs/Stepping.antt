@@ -1,5 +1,6 @@
 -- One entry more of a replay.
 use Rattle.std.proofs.Common.{◌≡◌, ℕ, ◌+◌, ◌<◌, ◌≤◌, true, cond, List, [], ◌∷◌, ◌++◌, map, length, drop, set, refl, sym, ap, subst, ◌∙◌, arith}
+use denote.Ref.{Bor}
 use Rattle.std.specs.Prelude.{All, Option, None, Some, MatchOption, count_by, sum_by}
 use Rattle.std.specs.Arc.{arc_value}
 use Rattle.std.proofs.lemmas.List.{length-set, length-append, append_cancel_left}
@@ -31,7 +32,7 @@ use Rattle.spin_check.specs.declared.answer.Answered.{Answered}
 use Rattle.spin_check.specs.Inner.Told.{Begins}
 use Rattle.spin_check.specs.Inner.Asks.{numbered, IsValid, asks_command, queue_of, commands_left}
 use Rattle.spin_check.specs.Inner.Answers.{IsAnswered}
-use Rattle.spin_check.specs.Inner.Replays.{At, Follows, IsNext, sent_by_jobs, queues_after, IsFresh, GoesOn, EndsAt}
+use Rattle.spin_check.specs.Inner.Replays.{At, Follows, IsNext, IsFound, sent_by_jobs, queues_after, IsFresh, GoesOn, EndsAt}
 use Rattle.spin_check.specs.Inner.Standings.{numbers_of}
 use Rattle.spin_check.proofs.Queues.{all_set}
 use Rattle.spin_check.proofs.Along.{IsAlong, along_none, along_more, along_all, along_stuck}
@@ -165,36 +166,26 @@ module _ (d : SetupData) (at : At) (few : length at.queues ≤ 10) where
         no_order none e next more h = none (subst (Follows at.last) (answer_is e next more h).0 h.order)
 
         -- the line is the report's, and all else is as it should be
-        pub goes_on : (after : At) (own : List JobSeen) (rest : List ℕ) → ask.lane < 10 → at.rest ≡ ended (entry_line answered.entry) ++ rest → Follows at.last answered.entry
-            → after.state ≡ arc_value answered.version → after.queues ≡ set at.queues lane (drop 1 (queue_of lane at.queues)) → after.last ≡ Some (moment answered.entry) → after.rest ≡ rest
-            → AreJobsFrom d (arc_value answered.version) answered.entry 0 (calls_of answered.entry.what) own → after.owed ≡ at.owed ++ text_of (map job_line own)
-            → after.sends ≡ at.sends ++ numbers_of (sends_of answered.entry.what) → after.job_sends ≡ at.job_sends ++ sent_by_jobs own → GoesOn d at (Some after)
-        goes_on after own rest low text order state queues last rest_is jobs owed sends job_sends =
+        pub found_next : (queues : List (List Ask)) (rest : Bor (List ℕ)) → ask.lane < 10 → at.rest ≡ ended (entry_line answered.entry) ++ rest.now → Follows at.last answered.entry
+            → queues ≡ set at.queues lane (drop 1 (queue_of lane at.queues)) → IsFound d at queues (Some (answered, rest))
+        found_next queues rest low text order taken =
             let e = answered.entry in
             let of_ask : e.lane ≡ ask.lane = sym (ap (λ (n : Numbered). n.lane) is.1) in
-            let same : lane ≡ e.lane = cc (told e (omega (arith, low, of_ask)) (rest, text)) in (
-              e,
-              own,
+            let same : lane ≡ e.lane = cc (told e (omega (arith, low, of_ask)) (rest.now, text)) in (
               record {
-                next = record {
-                  there = subst (λ k. k < length at.queues) same lt;
-                  asked = (ask, drop 1 (queue_of lane at.queues), ap (λ k. queue_of k at.queues) (sym same) ∙ first, is.1);
-                  answers = subst (IsNextEntry d at.state e) (sym state) is.0;
-                  order = order;
-                  text = text ∙ ap (λ r. ended (entry_line e) ++ r) (sym rest_is);
-                };
-                queues = queues ∙ ap (λ k. set at.queues k (drop 1 (queue_of k at.queues))) same;
-                last = last;
-                jobs = subst (λ s. AreJobsFrom d s e 0 (calls_of e.what) own) (sym state) jobs;
-                owed = owed;
-                sends = sends;
-                job_sends = job_sends;
+                there = subst (λ k. k < length at.queues) same lt;
+                asked = (ask, drop 1 (queue_of lane at.queues), ap (λ k. queue_of k at.queues) (sym same) ∙ first, is.1);
+                answers = is.0;
+                order = order;
+                text = text;
               },
+              taken ∙ ap (λ k. set at.queues k (drop 1 (queue_of k at.queues))) same,
+              is.2,
+              is.3,
               λ x next more h.
                   let one = answer_is x next more h in
-                  let cut : ended (entry_line e) ++ more ≡ ended (entry_line e) ++ rest = ap (λ y. ended (entry_line y) ++ more) (sym one.0) ∙ sym h.text ∙ text in
-                  (one.0, one.1 ∙ sym state, append_cancel_left (ended (entry_line e)) more rest cut ∙ sym rest_is),
-              subst (IsSound d) (sym state) is.2,
+                  let cut : ended (entry_line e) ++ more ≡ ended (entry_line e) ++ rest.now = ap (λ y. ended (entry_line y) ++ more) (sym one.0) ∙ sym h.text ∙ text in
+                  (one.0, one.1, append_cancel_left (ended (entry_line e)) more rest.now cut),
             )
 
     -- what is taken of the queue is valid, and a command finds room
@@ -209,3 +200,24 @@ module _ (d : SetupData) (at : At) (few : length at.queues ≤ 10) where
         let whole : count (queue_of lane at.queues) ≡ cond {A = ℕ} (asks_command ask) 1 0 + count (drop 1 (queue_of lane at.queues)) = ap count first ∙ sum_by-cons (λ (a : Ask). cond (asks_command a) 1 0) ask (drop 1 (queue_of lane at.queues)) in
         let one : cond {A = ℕ} (asks_command ask) 1 0 ≡ 1 = ap (λ b. cond {A = ℕ} b 1 0) is in
         omega (arith, within, whole, one, room)
+
+-- the entry that was found is written, and its jobs are done
+pub goes_on : (d : SetupData) (at after : At) (answered : Answered) (rest : Bor (List ℕ)) (own : List JobSeen) → IsFound d at after.queues (Some (answered, rest))
+    → after.state ≡ arc_value answered.version → after.last ≡ Some (moment answered.entry) → after.rest ≡ rest.now
+    → AreJobsFrom d (arc_value answered.version) answered.entry 0 (calls_of answered.entry.what) own → after.owed ≡ at.owed ++ text_of (map job_line own)
+    → after.sends ≡ at.sends ++ numbers_of (sends_of answered.entry.what) → after.job_sends ≡ at.job_sends ++ sent_by_jobs own → GoesOn d at (Some after)
+goes_on d at after answered rest own found state last rest_is jobs owed sends job_sends = (
+  answered.entry,
+  own,
+  record {
+    next = subst (λ r. IsNext d at answered.entry after.state r) (sym rest_is) (subst (λ s. IsNext d at answered.entry s rest.now) (sym state) found.0);
+    queues = found.1;
+    last = last;
+    jobs = subst (λ s. AreJobsFrom d s answered.entry 0 (calls_of answered.entry.what) own) (sym state) jobs;
+    owed = owed;
+    sends = sends;
+    job_sends = job_sends;
+  },
+  λ x next more h. let one = found.4 x next more h in (one.0, one.1 ∙ sym state, one.2 ∙ sym rest_is),
+  subst (IsSound d) (sym state) found.2,
+)

@@ -4,10 +4,13 @@ ghost use Rattle.std.specs.Prelude.{◌≡◌, ◌<◌, ◌^◌, ◌++◌, List,
 ghost use Rattle.std.specs.Arc.{arc_value};
 ghost use Rattle.spin_table.specs.SetupOf.{data_of};
 ghost use Rattle.spin_table.specs.Soundness.{IsSound};
-ghost use Rattle.spin_proto.specs.Replies.{BelongsTo};
-ghost use Rattle.spin_text.specs.Words.{text_of};
-ghost use Rattle.spin_report.specs.Lines.{JobSeen, job_line};
+ghost use Rattle.spin_proto.specs.Replies.{IsJobReply, BelongsTo};
+ghost use Rattle.spin_proto.specs.declared.reply.Reply.{Reply};
+ghost use Rattle.spin_text.specs.Words.{ended, text_of};
+ghost use Rattle.spin_report.specs.Lines.{JobSeen, job_seen, job_line};
 ghost use Rattle.spin_report.specs.Jobs.{calls_of, AreJobsFrom};
+ghost use Rattle.spin_report.specs.Runs.{sends_of_reply};
+ghost use Rattle.spin_check.specs.Inner.Standings.{numbers_of};
 ghost use Rattle.spin_check.specs.Inner.Replays.{sent_by_jobs};
 
 use crate::sends::add_of_reply;
@@ -39,6 +42,27 @@ fn into_calls(alloc: Global, what: What) -> Result<Vec<JobCall>, NoMemory>
         Reply::UnknownEvent | Reply::WrongArgs | Reply::Spent => {}
     }
     Ok(calls)
+}
+
+// Does one job, and appends its line and the numbers of the endpoints that it sends to.
+fn do_job(
+    alloc: Global,
+    setup: &Setup,
+    job: &Job,
+    out: &mut Octets,
+    sends: &mut Octets,
+) -> Result<(), NoMemory>
+    requires sincere { ⟦<Catalogue as Sincere>⟧.sincere setup.now.catalogue }
+    requires sound { IsSound (data_of setup.now) (arc_value job.now.version) }
+    requires belongs { BelongsTo (arc_value job.now.version) job.now.call }
+    ensures { OnOk result ((reply : Reply)
+        × IsJobReply (data_of setup.now) (arc_value job.now.version) job.now.call reply
+        × (out.new ≡ out.old ++ ended (job_line (job_seen job.now reply)))
+        × (sends.new ≡ sends.old ++ numbers_of (sends_of_reply reply))) }
+{
+    let reply = job_path(alloc, &job.version, setup, &job.call)?;
+    job_text(job, &reply, out)?;
+    add_of_reply(sends, &reply)
 }
 
 /// Does the jobs that an entry leaves, on the version of its place. It appends the line of each, and the numbers of the
@@ -80,9 +104,7 @@ pub(crate) fn do_jobs(
             part,
             index,
         };
-        let reply = job_path(alloc, version, setup, &job.call)?;
-        job_text(&job, &reply, out)?;
-        add_of_reply(sends, &reply)?;
+        do_job(alloc, setup, &job, out, sends)?;
         index += 1;
     }
     Ok(())

@@ -1,6 +1,6 @@
 //! The replay of a segment's entries along the report.
 
-ghost use Rattle.std.specs.Prelude.{◌≡◌, ◌≤◌, ◌+◌, All, IfOk, Decides, length};
+ghost use Rattle.std.specs.Prelude.{◌≡◌, ◌≤◌, ◌+◌, ℕ, List, All, IfOk, Decides, length};
 ghost use Rattle.std.specs.Arc.{arc_value};
 ghost use Rattle.spin_word.specs.declared.command.TheConstants.{MAX_PLACE};
 ghost use Rattle.spin_table.specs.SetupOf.{data_of};
@@ -8,7 +8,7 @@ ghost use Rattle.spin_table.specs.Soundness.{IsSound};
 ghost use Rattle.spin_text.specs.Words.{ended};
 ghost use Rattle.spin_report.specs.Lines.{entry_line};
 ghost use Rattle.spin_check.specs.Inner.Asks.{IsValid, commands_left};
-ghost use Rattle.spin_check.specs.Inner.Replays.{Follows, IsFresh, GoesOn, EndsAt};
+ghost use Rattle.spin_check.specs.Inner.Replays.{Follows, IsFresh, IsFound, GoesOn, EndsAt, at_of};
 ghost use Rattle.spin_check.specs.Inner.Fronts.{IsBehind};
 
 use crate::answer::{Answered, answer};
@@ -89,6 +89,43 @@ fn behind_entry<'a>(
     Ok(behind(report, line.as_slice()))
 }
 
+/// The one entry that may come next, the version that it leads to, and the report behind its line. What it answers is
+/// taken out of what its lane is to do.
+fn next_entry<'a>(
+    alloc: Global,
+    setup: &Setup,
+    version: &Arc<Version>,
+    deeds: &mut Deeds,
+    last: &Option<Moment>,
+    report: &'a [u8],
+) -> Result<Option<(Answered, &'a [u8])>, NoMemory>
+    requires sincere { ⟦<Catalogue as Sincere>⟧.sincere setup.now.catalogue }
+    requires sound { IsSound (data_of setup.now) (arc_value version.now) }
+    requires valid { All (λ queue. All IsValid queue) deeds.old }
+    requires lanes { length deeds.old ≤ 10 }
+    requires room { (arc_value version.now).place + commands_left deeds.old ≤ MAX_PLACE }
+    ensures { (owed sends job_sends : List ℕ) → IfOk result (IsFound (data_of setup.now)
+        (at_of (arc_value version.now) deeds.old last.now report.now owed sends job_sends) deeds.new) }
+{
+    let Some(lane) = lane_told(report) else {
+        return Ok(None);
+    };
+    let Some(ask) = deeds.take_next(lane) else {
+        return Ok(None);
+    };
+    let answered = answer(alloc, setup, version, ask, report)?;
+    let Some(answered) = answered else {
+        return Ok(None);
+    };
+    let Some(rest) = behind_entry(alloc, &answered.entry, report)? else {
+        return Ok(None);
+    };
+    if !follows(last, &answered.entry) {
+        return Ok(None);
+    }
+    Ok(Some((answered, rest)))
+}
+
 impl<'a> Replay<'a> {
     /// A replay that begins at this version and front of the report, with all of the deeds still to do.
     pub(crate) fn new(
@@ -131,22 +168,11 @@ impl<'a> Replay<'a> {
             mut sends,
             mut job_sends,
         } = self;
-        let Some(lane) = lane_told(report) else {
+        let next = next_entry(alloc, setup, &before, &mut deeds, &last, report)?;
+        let Some((answered, rest)) = next else {
             return Ok(None);
         };
-        let Some(ask) = deeds.take_next(lane) else {
-            return Ok(None);
-        };
-        let answered = answer(alloc, setup, &before, ask, report)?;
-        let Some(Answered { entry, version }) = answered else {
-            return Ok(None);
-        };
-        let Some(rest) = behind_entry(alloc, &entry, report)? else {
-            return Ok(None);
-        };
-        if !follows(&last, &entry) {
-            return Ok(None);
-        }
+        let Answered { entry, version } = answered;
         let last = Some(entry.moment());
         add_of_entry(&mut sends, &entry.what)?;
         do_jobs(alloc, setup, &version, entry, &mut owed, &mut job_sends)?;

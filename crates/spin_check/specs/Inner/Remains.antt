@@ -10,9 +10,11 @@ use Rattle.spin_report.specs.Histories.{SegmentSeen, segment_lines, end_line}
 use Rattle.spin_report.specs.Runs.{Standing, Captured, AreRun, counts_of}
 use Rattle.spin_check.specs.Inner.Segments.{Mark, standing}
 
+-- the lines of a segment of that number
 abbrev pub lines_at : ℕ × SegmentSeen → List (List ℕ)
 lines_at p = segment_lines p.0 p.1
 
+-- the text of the last line, behind the last segment
 abbrev pub end_text : Option Captured → Standing → List ℕ
 end_text capture last =
     ended (end_line last.state.place (option_map (counts_of last.left) capture))

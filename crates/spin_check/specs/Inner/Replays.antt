@@ -1,11 +1,14 @@
 -- The replay of a segment's entries.
 use Rattle.std.specs.Prelude.{◌≡◌, ◌≤◌, ◌+◌, ℕ, ◌<◌, Bool, false, List, [], ◌∷◌, ◌++◌, map, drop, length, All, Option, None, Some, ⊤, slice_set}
+use denote.Ref.{Bor}
+use Rattle.std.specs.Arc.{arc_value}
 use Rattle.std.specs.List.{flat_map}
 use Rattle.std.specs.Ordering.{is_lt}
 use Rattle.spin_table.specs.Setups.{SetupData}
 use Rattle.spin_table.specs.States.{State}
 use Rattle.spin_table.specs.Soundness.{IsSound}
 use Rattle.spin_text.specs.Words.{ended, text_of}
+use Rattle.spin_proto.specs.Replies.{BelongsTo}
 use Rattle.spin_report.specs.declared.entry.Entry.{Entry}
 use Rattle.spin_report.specs.Asked.{asked_of}
 use Rattle.spin_report.specs.Lines.{JobSeen, entry_line, job_line}
@@ -14,6 +17,7 @@ use Rattle.spin_report.specs.Jobs.{calls_of, AreJobsFrom, AreJobs}
 use Rattle.spin_report.specs.Segments.{moment, moment_cmp, of_lane, IsInOrder}
 use Rattle.spin_report.specs.Runs.{sends_of, sends_of_reply}
 use Rattle.spin_check.specs.declared.deeds.Ask.{Ask}
+use Rattle.spin_check.specs.declared.answer.Answered.{Answered}
 use Rattle.spin_check.specs.Inner.Asks.{numbered, queue_of, left_of, commands_left}
 use Rattle.spin_check.specs.Inner.Standings.{numbers_of}
 
@@ -103,6 +107,29 @@ GoesOn d at None = (e : Entry) (next : State) (more : List ℕ) → IsNext d at 
 GoesOn d at (Some after) =
     (entry : Entry) × (own : List JobSeen) × Replays d at entry own after × IsOnlyNext d at entry after
     × IsSound d after.state
+
+-- a replay that stands at this version, with this left to do and to read, and these numbers and lines collected
+abbrev pub at_of : State → List (List Ask) → Option (ℕ × Bool × ℕ × ℕ × ℕ) → List ℕ → List ℕ → List ℕ → List ℕ → At
+at_of state queues last rest owed sends job_sends = record {
+  state = state;
+  queues = queues;
+  last = last;
+  rest = rest;
+  owed = owed;
+  sends = sends;
+  job_sends = job_sends;
+}
+
+-- The entry that may come next, and what the lanes are still to do behind it; none where no entry may.
+abbrev pub IsFound : SetupData → At → List (List Ask) → Option (Answered × Bor (List ℕ)) → Type 0
+IsFound d at queues None = (e : Entry) (next : State) (more : List ℕ) → IsNext d at e next more → ⊥
+IsFound d at queues (Some found) =
+    IsNext d at found.0.entry (arc_value found.0.version) found.1.now
+    × (queues ≡ queues_after found.0.entry at.queues)
+    × IsSound d (arc_value found.0.version)
+    × All (BelongsTo (arc_value found.0.version)) (calls_of found.0.entry.what)
+    × ((e : Entry) (next : State) (more : List ℕ) → IsNext d at e next more
+    → (e ≡ found.0.entry) × (next ≡ arc_value found.0.version) × (more ≡ found.1.now))
 
 -- No entry was replayed yet.
 pub record IsFresh (at : At) : Type 0 where

@@ -1,7 +1,4 @@
-use Rattle.std.proofs.Common.{◌++◌, sym, ap, subst, ◌∙◌}
-use Rattle.spin_text.specs.Words.{text_of}
-use Rattle.spin_report.specs.Histories.{lost_lines}
-use Rattle.spin_report.specs.Runs.{lost_counts}
+use Rattle.std.proofs.Common.{sym, subst, ◌∙◌}
 use Rattle.spin_check.specs.Inner.Fronts.{IsBehind}
 use Rattle.spin_check.proofs.segment.behind_tail.Goals as goal
 
