@@ -101,14 +101,6 @@ fn no_tally(alloc: Global) -> Result<Rc<Tally>, NoMemory> {
     Ok(Rc::new(alloc, tally)?)
 }
 
-/// Adds the endpoint `dns`. There is no other, so only memory may be lacking.
-fn add_dns(alloc: Global, ends: &mut Ends, object: Box<dyn Endpoint>) -> Result<(), NoMemory> {
-    match ends.add(Text::from_bytes(alloc, b"dns")?, object) {
-        Ok(()) => Ok(()),
-        Err(_) => Err(NoMemory),
-    }
-}
-
 /// Whether the run of the script over five datagrams, two of them for other ports, came to its end.
 fn is_run_whole<R: Print + Threads + Sync>(
     rt: &R,
@@ -145,8 +137,8 @@ fn main(rt: HostRuntime) -> Result<ExitCode, NoMemory> {
     };
     let object: Box<dyn Endpoint> = Box::new(alloc, counter)?;
     let mut ends = Ends::new(alloc);
-    add_dns(alloc, &mut ends, object)?;
-    let is_whole = is_run_whole(&rt, alloc, &mut ends)?;
+    let is_added = ends.add(Text::from_bytes(alloc, b"dns")?, object).is_ok();
+    let is_whole = is_added && is_run_whole(&rt, alloc, &mut ends)?;
     let _ = println!(rt;
         "{} datagrams, {} bytes",
         tally.pieces.get(),

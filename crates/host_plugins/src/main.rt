@@ -203,24 +203,8 @@ fn both(
     }
 }
 
-/// Both versions of the plug-in, each under its name; none where memory is lacking.
-fn plugins(
-    alloc: Global,
-    first: Box<dyn Handler + Send + Sync>,
-    second: Box<dyn Handler + Send + Sync>,
-) -> Option<Natives>
-    requires first { does first ≡ record { steps = Result (Const 1) ∷ [] } }
-    requires second { does second ≡ record { steps = Result (Const 2) ∷ [] } }
-    ensures { IfSome result (λ natives. ⟦<Natives as Sincere>⟧.sincere natives) }
-{
-    let mut natives = Natives::new(alloc);
-    add(alloc, &mut natives, b"first", 1, first)?;
-    add(alloc, &mut natives, b"second", 2, second)?;
-    Some(natives)
-}
-
-/// The commands of the history that both threads made with these plug-ins, and how many raises were answered as owed;
-/// none where memory is lacking.
+/// The commands of the history that both threads made, and how many raises were answered as owed; none where memory
+/// is lacking.
 fn play<R: Threads + Sync>(rt: &R, alloc: Global, natives: Natives) -> Option<(Rows, u32)>
     requires sincere { ⟦<Natives as Sincere>⟧.sincere natives }
 {
@@ -246,13 +230,17 @@ fn tell<R: Print>(rt: &R, rows: &[Row]) {
 
 fn main(rt: HostRuntime) -> Result<ExitCode, NoMemory> {
     let alloc = rt.alloc();
+    let mut natives = Natives::new(alloc);
     let first: Box<dyn Handler + Send + Sync> = Box::new(alloc, Plugin { version: 1 })?;
     let second: Box<dyn Handler + Send + Sync> = Box::new(alloc, Plugin { version: 2 })?;
-    let natives = plugins(alloc, first, second).ok_or(NoMemory)?;
-    let (rows, right) = play(&rt, alloc, natives).ok_or(NoMemory)?;
+    let is_added = add(alloc, &mut natives, b"first", 1, first).is_some()
+        && add(alloc, &mut natives, b"second", 2, second).is_some();
+    let Some((rows, right)) = play(&rt, alloc, natives) else {
+        return Ok(ExitCode::from(7));
+    };
     tell(&rt, rows.as_slice());
     let _ = println!(rt;
         "{right} of {RAISES} raises answered by the version in force at their place"
     );
-    Ok(ExitCode::from(0))
+    Ok(ExitCode::from(if is_added { 0 } else { 1 }))
 }
