@@ -187,11 +187,13 @@ last_target version = if version == 3 then LAST_PLACE else LAST_TARGET
 
 -- what a lane may be told, in a script of this version, and what is wanted behind the word of each
 abbrev pub deeds : ℕ → Choices
-deeds version = (
-  codes "install",
-  Number 0 LAST_EVENT ∷ Number 0 LAST_MODULE ∷ Number 0 LAST_HANDLER
-      ∷ Number 0 LAST_GUARD ∷ (spot_wants version ++ Mode ∷ []),
-)
+deeds version =
+    (codes "raise", Number 0 LAST_EVENT ∷ Values MAX_PARAMS ∷ [])
+    ∷ (
+      codes "install",
+      Number 0 LAST_EVENT ∷ Number 0 LAST_MODULE ∷ Number 0 LAST_HANDLER
+          ∷ Number 0 LAST_GUARD ∷ (spot_wants version ++ Mode ∷ []),
+    )
     ∷ (
       codes "remove",
       Number 0 LAST_EVENT ∷ Number 0 LAST_MODULE ∷ Number 0 (last_target version)
@@ -204,7 +206,6 @@ deeds version = (
     )
     ∷ (codes "default", Number 0 LAST_EVENT ∷ Number 0 LAST_MODULE ∷ Number 0 LAST_HANDLER ∷ [])
     ∷ (codes "nodefault", Number 0 LAST_EVENT ∷ Number 0 LAST_MODULE ∷ [])
-    ∷ (codes "raise", Number 0 LAST_EVENT ∷ Values MAX_PARAMS ∷ [])
     ∷ (codes "later", Number 0 LAST_EVENT ∷ Values MAX_PARAMS ∷ [])
     ∷ (codes "packet", Number 0 LAST_EVENT ∷ Number 1 MAX_PACKETS ∷ [])
     ∷ []

@@ -1,4 +1,5 @@
 pub mod Words
+pub mod Lookup
 pub mod Spelling
 pub mod Grammar
 pub mod Forms

@@ -1,17 +1,19 @@
 //! The words that begin something, one by one: a table for each place says what its words stand for,
 //! and a function finds it.
 
-ghost use Rattle.std.specs.Prelude.{◌≡◌};
+ghost use Rattle.std.specs.Prelude.{◌≡◌, map};
 ghost use Rattle.spin_grammar.specs.Grammar as grammar;
 ghost use Rattle.spin_grammar.specs.Grammar.{accepts};
-ghost use Rattle.spin_grammar.specs.Inner.Heads.{looked_up, step_of, expr_next, test_next, part_next};
+ghost use Rattle.spin_grammar.specs.Inner.Heads.{known, step_of, expr_next, test_next, part_next};
 ghost use Rattle.spin_grammar.specs.Inner.Heads.{step_next, layer_next, merge_next, op_next};
 ghost use Rattle.spin_grammar.specs.Inner.Heads.{handler_next, own_next, effect_next, forced_next};
 ghost use Rattle.spin_grammar.specs.Inner.Heads.{apart_next, spot_next, place_next, mode_next};
 ghost use Rattle.spin_grammar.specs.Inner.Heads.{deed_next};
+ghost use Rattle.spin_grammar.specs.Lookup.{look_up};
 
 use crate::cause::Cause;
 use crate::limits::LAST_HANDLER;
+use crate::lookup::look_up;
 use crate::number::number_of;
 use spin_code::{Cmp, Layer};
 use spin_policy::{Forced, OpMatch};
@@ -147,14 +149,9 @@ pub enum DeedWord {
 
 /// What a word stands for, by the first row of a table that has the word.
 fn meaning<A: Copy>(word: &[u8], rows: &[(&[u8], A)]) -> Result<A, Cause>
-    ensures { result ≡ looked_up (λ row. row.0.now) (λ row. row.1) rows.now word.now }
+    ensures { result ≡ known (look_up word.now (map (λ row. (row.0.now, row.1)) rows.now)) }
 {
-    for row in rows {
-        if word == row.0 {
-            return Ok(row.1);
-        }
-    }
-    Err(Cause::Word)
+    look_up(word, rows).ok_or(Cause::Word)
 }
 
 /// The first word of an expression.
@@ -384,14 +381,14 @@ pub(crate) fn mode_word(word: &[u8]) -> Result<Mode, Cause>
     meaning(word, MODES.as_slice())
 }
 
-/// The first words of deeds.
+/// The first words of deeds. Most deeds of long scripts are raises, so their word stands first.
 const DEEDS: [(&[u8], DeedWord); 8] = [
+    (b"raise", DeedWord::Raise),
     (b"install", DeedWord::Install),
     (b"remove", DeedWord::Remove),
     (b"replace", DeedWord::Replace),
     (b"default", DeedWord::Default),
     (b"nodefault", DeedWord::NoDefault),
-    (b"raise", DeedWord::Raise),
     (b"later", DeedWord::Later),
     (b"packet", DeedWord::Packet),
 ];

@@ -8,7 +8,7 @@
 //! - [`breaks`] takes the lines off a text, [`words`] the words off a line;
 //! - [`limits`] has the limits of numbers, names and texts;
 //! - [`number`] and [`names`] read numbers, names, signatures and bytes;
-//! - [`leaves`] reads what a single word says, over [`heads`];
+//! - [`leaves`] reads what a single word says, over [`heads`], whose tables [`lookup`] looks at;
 //! - [`expression`], [`test`], [`act`], [`rule`] and [`work`] read what several words say;
 //! - [`line`] reads a whole line of a [`kind`], and [`laws`] says that its words say one thing;
 //! - [`cause`] has why a line isn't in the grammar, [`fault`] that or want of memory.
@@ -31,6 +31,7 @@ mod laws;
 mod leaves;
 mod limits;
 mod line;
+mod lookup;
 mod names;
 mod number;
 mod rule;
@@ -49,5 +50,6 @@ pub use limits::{
     MAX_PACKETS, MAX_PARTS, MAX_QUOTA, MAX_TEXT, MAX_WIDTH,
 };
 pub use line::{Said, read_line};
+pub use lookup::look_up;
 pub use number::number_of;
 pub use words::Words;

@@ -7,7 +7,8 @@ use Rattle.spin_grammar.specs.declared.cause.Cause.TheVariants as cause
 use Rattle.spin_grammar.specs.declared.kind.Kind.{Kind}
 use Rattle.spin_grammar.specs.Words.{words}
 use Rattle.spin_grammar.proofs.Signatures.{one_of}
-use Rattle.spin_script.specs.Sections.{first_words, look_up, is_out_of_order}
+use Rattle.spin_script.specs.Sections.{first_words, is_out_of_order}
+use Rattle.spin_grammar.specs.Lookup.{look_up}
 use Rattle.spin_script.specs.States.{State, start}
 use Rattle.spin_script.specs.Language.{Head, Skipped, Begins, Says, is_allowed, version_word, version_of, first_head, kind_head, words_head, head}
 use Rattle.spin_script.specs.RoundTrip.{is_version}

@@ -12,7 +12,8 @@ use Rattle.spin_grammar.specs.declared.line.Said.TheVariants as said
 use Rattle.spin_grammar.specs.Tasks.{IsValidOn}
 use Rattle.spin_grammar.specs.Lines.{Line, Stands, GivesLine, IsInRange, kind_of}
 use Rattle.spin_grammar.specs.Words.{words}
-use Rattle.spin_script.specs.Sections.{first_words, look_up, is_out_of_order}
+use Rattle.spin_script.specs.Sections.{first_words, is_out_of_order}
+use Rattle.spin_grammar.specs.Lookup.{look_up}
 use Rattle.spin_grammar.specs.Tasks.{work_of}
 use Rattle.spin_script.specs.States.{NativeData, State}
 use Rattle.spin_script.specs.Language.{Skipped, Says, is_allowed, version_of, first_head, kind_head, words_head, head}

@@ -14,7 +14,8 @@ use Rattle.spin_grammar.specs.Lines as line
 use Rattle.spin_grammar.specs.Lines.{Line, form, kind_of}
 use Rattle.spin_grammar.proofs.Respelled.{line_respelled}
 use Rattle.spin_grammar.proofs.Printed.{IsWord, decimal_word, line_words, words_back}
-use Rattle.spin_script.specs.Sections.{first_words, look_up}
+use Rattle.spin_script.specs.Sections.{first_words}
+use Rattle.spin_grammar.specs.Lookup.{look_up}
 use Rattle.spin_script.specs.States.{State, NativeData, start, after, with_handler, with_guard, with_authority}
 use Rattle.spin_script.specs.Language.{Says, Begins, version_word, head, Passes, Outcome, ended, ComesTo, IsScript}
 use Rattle.spin_script.specs.Canonical.{first_word, words_of, text_of, version_text}

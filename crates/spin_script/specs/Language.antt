@@ -10,7 +10,8 @@ use Rattle.spin_grammar.specs.Grammar.{reads}
 use Rattle.spin_grammar.specs.declared.kind.Kind.{Kind}
 use Rattle.spin_grammar.specs.Lines.{Line, Spells, wanted}
 use Rattle.spin_grammar.specs.declared.limits.TheConstants.{MAX_TEXT}
-use Rattle.spin_script.specs.Sections.{first_words, look_up, is_out_of_order}
+use Rattle.spin_script.specs.Sections.{first_words, is_out_of_order}
+use Rattle.spin_grammar.specs.Lookup.{look_up}
 use Rattle.spin_script.specs.States.{State, NativeData, ScriptData, start, after, script_in}
 use Rattle.spin_values.specs.First.{first_of}
 use Rattle.spin_script.specs.Checks.{checks}

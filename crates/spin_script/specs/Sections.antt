@@ -1,12 +1,13 @@
 -- Which words begin lines, and in which order lines stand.
-use Rattle.std.specs.Prelude.{ℕ, Bool, true, false, not, ◌&&◌, ◌||◌, ◌==◌, nat_lt, if◌then◌else◌, List, [], ◌∷◌, Option, Some, None, codes, bytes_eq}
+use Rattle.std.specs.Prelude.{ℕ, Bool, true, false, not, ◌&&◌, ◌||◌, ◌==◌, nat_lt, List, [], ◌∷◌, codes}
 use Rattle.spin_grammar.specs.declared.kind.Kind.{Kind}
 use Rattle.spin_grammar.specs.declared.kind.Kind.TheVariants as kind
 
 -- the words that begin lines, each with the kind of line that it begins
 abbrev pub first_words : List (List ℕ × Kind)
 first_words =
-    (codes "modules", kind.Modules)
+    (codes "lane", kind.Lane)
+    ∷ (codes "modules", kind.Modules)
     ∷ (codes "event", kind.Event)
     ∷ (codes "endpoint", kind.Endpoint)
     ∷ (codes "handler", kind.Handler)
@@ -14,15 +15,9 @@ first_words =
     ∷ (codes "rule", kind.Rule)
     ∷ (codes "authoriser", kind.Authoriser)
     ∷ (codes "default", kind.Default)
-    ∷ (codes "lane", kind.Lane)
     ∷ (codes "barrier", kind.Barrier)
     ∷ (codes "retire", kind.Retire)
     ∷ []
-
--- the kind of line that the word begins
-abbrev pub look_up : List ℕ → List (List ℕ × Kind) → Option Kind
-look_up w [] = None
-look_up w (entry ∷ others) = if bytes_eq w entry.0 then Some entry.1 else look_up w others
 
 -- lines stand by rising section
 abbrev pub section : Kind → ℕ

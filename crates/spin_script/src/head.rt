@@ -1,15 +1,16 @@
 //! Lines as wholes: which are skipped, which begins, and what each other one is about.
 
-ghost use Rattle.std.specs.Prelude.{◌≡◌, ◌+◌, ◌≤◌, ◌∷◌, ℕ, List, length, map};
+ghost use Rattle.std.specs.Prelude.{◌≡◌, ◌+◌, ◌≤◌, ◌∷◌, ℕ, List, length};
 ghost use Rattle.std.specs.List.{list_all};
 ghost use Rattle.spin_objects.specs.Units.{HandlerUnit, GuardUnit};
-ghost use Rattle.spin_script.specs.Sections.{look_up, first_words, section, is_retire, is_out_of_order};
+ghost use Rattle.spin_grammar.specs.Lookup.{look_up};
+ghost use Rattle.spin_script.specs.Sections.{first_words, section, is_retire, is_out_of_order};
 ghost use Rattle.spin_script.specs.Language.{head, is_allowed, version_word, version_of};
 ghost use Rattle.spin_script.specs.Inner.Drafts.{state};
 ghost use Rattle.spin_script.specs.Inner.Reader.{head_seen, HasRoom};
 
 use crate::draft::Draft;
-use spin_grammar::{Cause, Kind, Words};
+use spin_grammar::{Cause, Kind, Words, look_up};
 
 /// What a line is.
 #[derive(Drop)]
@@ -35,8 +36,9 @@ pub fn all_allowed(line: &[u8]) -> bool
     line.iter().all(|byte| is_allowed(*byte))
 }
 
-/// The words that lines begin with.
+/// The words that lines begin with. Most lines of long scripts are a lane's, so its word stands first.
 const FIRST_WORDS: [(&[u8], Kind); 11] = [
+    (b"lane", Kind::Lane),
     (b"modules", Kind::Modules),
     (b"event", Kind::Event),
     (b"endpoint", Kind::Endpoint),
@@ -45,22 +47,9 @@ const FIRST_WORDS: [(&[u8], Kind); 11] = [
     (b"rule", Kind::Rule),
     (b"authoriser", Kind::Authoriser),
     (b"default", Kind::Default),
-    (b"lane", Kind::Lane),
     (b"barrier", Kind::Barrier),
     (b"retire", Kind::Retire),
 ];
-
-/// What the first of the rows with this word says.
-fn look_up(word: &[u8], rows: &[(&[u8], Kind)]) -> Option<Kind>
-    ensures { result ≡ look_up word.now (map (λ row. (row.0.now, row.1)) rows.now) }
-{
-    for row in rows {
-        if word == row.0 {
-            return Some(row.1);
-        }
-    }
-    None
-}
 
 /// What a line with this first word is about.
 fn kind_of(word: &[u8]) -> Option<Kind>

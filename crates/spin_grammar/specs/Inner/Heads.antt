@@ -1,7 +1,6 @@
 -- What each word that begins something stands for, and what is wanted behind it.
 use Rattle.std.specs.Prelude.{ℕ, Bool, List, [], ◌∷◌, ◌++◌, codes, Option, None, Some, Result, Ok}
-use Rattle.std.specs.Prelude.{Err, if◌then◌else◌}
-use Rattle.std.specs.Str.{bytes_eq}
+use Rattle.std.specs.Prelude.{Err}
 use Rattle.spin_values.specs.declared.types.EventType.{EventType}
 use Rattle.spin_code.specs.declared.act.Layer.{Layer}
 use Rattle.spin_word.specs.declared.command.Place.{Place}
@@ -51,11 +50,10 @@ abbrev pub step_of : {A : Type 0} → (A → Next) → Result A Cause → Step
 step_of next (Err c) = Err c
 step_of next (Ok a) = Ok (next a)
 
--- what the first row of a word has
-abbrev pub looked_up : {R A : Type 0} → (R → List ℕ) → (R → A) → List R → List ℕ → Result A Cause
-looked_up word_of means [] w = Err cause.Word
-looked_up word_of means (row ∷ rows) w =
-    if bytes_eq w (word_of row) then Ok (means row) else looked_up word_of means rows w
+-- what a table has for a word, or that it doesn't have it
+abbrev pub known : {A : Type 0} → Option A → Result A Cause
+known None = Err cause.Word
+known (Some a) = Ok a
 
 abbrev pub alone : List ℕ → Next
 alone w = (Fixed w, [])

@@ -1,12 +1,12 @@
 use Rattle.std.proofs.Common.{refl}
 use Rattle.spin_grammar.specs.Grammar.{accepts}
 use Rattle.spin_grammar.specs.Inner.Heads.{deed_next}
-use Rattle.spin_grammar.proofs.Tables.{IsSpelled, looked_up_chosen}
+use Rattle.spin_grammar.proofs.Tables.{IsSpelled, look_up_chosen}
 use Rattle.spin_grammar.proofs.heads.deed_word.Goals as goal
 
 pub returns : goal.returns
 unfolding accepts
 returns c =
     let spelled : IsSpelled (deed_next c.args.version) c.as_slice.result.now = rw c.as_slice.ensures (refl, (refl, (refl, (refl, (refl, (refl, (refl, (refl, tt)))))))) in
-    let e = looked_up_chosen (deed_next c.args.version) c.as_slice.result.now c.args.word.now spelled in
+    let e = look_up_chosen (deed_next c.args.version) c.as_slice.result.now c.args.word.now spelled in
     rw (c.meaning.ensures, c.as_slice.ensures) (rw c.as_slice.ensures at e)
