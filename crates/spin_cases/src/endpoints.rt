@@ -167,7 +167,8 @@ fn sends_in_one_call(rt: HostRuntime) -> Result<(), NoMemory> {
     let names = two_names(rt.alloc())?;
     let mut ends = keeping_ends(rt.alloc())?;
     assert!(rt; sends(&mut ends, &names));
-    assert!(rt; retired(&mut ends, &names) == [true, false, false]);
+    let stood = retired(&mut ends, &names);
+    assert_eq!(rt; stood, [true, false, false]);
     Ok(())
 }
 

@@ -170,7 +170,7 @@ fn two_pens_share_a_log(rt: HostRuntime) -> Result<(), Fail> {
     publish_in_turn(&rt, &log, &mut zero, &mut one, a, b);
     meet(&rt, &log, &mut zero, &mut one);
     let rows = close_two(rt.alloc(), log, zero, one)?;
-    assert!(rt; rows.as_slice() == [a, b].as_slice());
+    assert_eq!(rt; rows.as_slice(), [a, b].as_slice());
     Ok(())
 }
 

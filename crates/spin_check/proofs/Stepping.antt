@@ -7,7 +7,7 @@ use Rattle.std.proofs.lemmas.List.{length-set, length-append, append_cancel_left
 use Rattle.std.proofs.lemmas.List.Elements.{All-head, All-tail}
 use Rattle.std.proofs.lemmas.List.Sums.{sum_by-set, sum_by-cons, get_or-le-sum_by}
 use Rattle.spin_word.specs.declared.command.Command.{Command}
-use Rattle.spin_word.specs.declared.command.TheConstants.{MAX_PLACE}
+use Rattle.spin_word.specs.declared.command.TheConstants.{MAX_LANES, MAX_PLACE}
 use Rattle.spin_table.specs.declared.refusal.Refusal.{Refusal}
 use Rattle.spin_table.specs.declared.refusal.Verdicted.{Verdicted}
 use Rattle.spin_table.specs.declared.refusal.Verdicted.TheVariants as verdicted
@@ -69,10 +69,10 @@ pub record IsOnWay (d : SetupData) (start at : At) : Type 0 where
   pub along : IsAlong d start done jobs at
   pub sound : IsSound d at.state
   pub valid : All (λ queue. All IsValid queue) at.queues
-  pub lanes : length at.queues ≤ 10
+  pub lanes : length at.queues ≤ MAX_LANES
   pub room : at.state.place + commands_left at.queues ≤ start.state.place + commands_left start.queues
 
-pub on_way_none : (d : SetupData) (start : At) → IsFresh start → IsSound d start.state → All (λ queue. All IsValid queue) start.queues → length start.queues ≤ 10 → IsOnWay d start start
+pub on_way_none : (d : SetupData) (start : At) → IsFresh start → IsSound d start.state → All (λ queue. All IsValid queue) start.queues → length start.queues ≤ MAX_LANES → IsOnWay d start start
 on_way_none d start fresh sound valid lanes = record {
   done = [];
   jobs = [];
@@ -128,7 +128,7 @@ on_way_stuck d start at left_over none way = along_stuck d start at way.done way
 
 -- ---- one step
 
-module _ (d : SetupData) (at : At) (few : length at.queues ≤ 10) where
+module _ (d : SetupData) (at : At) (few : length at.queues ≤ MAX_LANES) where
   lane_begins : (e : Entry) (next : State) (more : List ℕ) → IsNext d at e next more → (e.lane < 10) × Begins at.rest e
   lane_begins e next more h = (omega (arith, h.there, few), (more, h.text))
 

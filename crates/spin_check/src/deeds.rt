@@ -1,6 +1,7 @@
 //! What the lanes of a segment are to do.
 
 ghost use Rattle.std.specs.Prelude.{◌≡◌, ◌<◌, ◌≤◌, ◌^◌, ◌∷◌, [], Decides, All, MatchOption, IfOk, OnOk, length, drop, replicate, slice_set};
+ghost use Rattle.spin_word.specs.declared.command.TheConstants.{MAX_LANES};
 ghost use Rattle.spin_script.specs.Soundness.{IsValidWork};
 ghost use Rattle.spin_report.specs.Segments.{asked_at, asked_in, wanted_by};
 ghost use Rattle.spin_check.specs.Inner.Asks.{AreAsked, Adds, work_of, queue_of, with_ask, commands_left, commands_in, packets_at, whole_at};
@@ -102,7 +103,7 @@ impl Deeds {
         records: &[Octets],
     ) -> Result<(), NoMemory>
         requires lane { line.now.lane < length self.old }
-        requires lanes { length self.old ≤ 10 }
+        requires lanes { length self.old ≤ MAX_LANES }
         requires few { length records.now < 2 ^ 32 }
         ensures { OnOk result (Adds (packets_at line.now event 1 records.now) self.old self.new) }
     {
@@ -123,7 +124,7 @@ impl Deeds {
     /// Adds what a line asks as its one deed.
     fn add_whole(&mut self, line: &Line, asked: Asked) -> Result<(), NoMemory>
         requires lane { line.now.lane < length self.old }
-        requires lanes { length self.old ≤ 10 }
+        requires lanes { length self.old ≤ MAX_LANES }
         requires valid { IsValidWork (work_of asked) }
         ensures { OnOk result (Adds (whole_at line.now (work_of asked)) self.old self.new) }
     {
@@ -138,7 +139,7 @@ impl Deeds {
     /// Adds what a line asks with these records.
     fn add_line(&mut self, alloc: Global, line: &Line, records: &[Octets]) -> Result<(), NoMemory>
         requires lane { line.now.lane < length self.old }
-        requires lanes { length self.old ≤ 10 }
+        requires lanes { length self.old ≤ MAX_LANES }
         requires valid { IsValidWork line.now.work }
         requires few { length records.now < 2 ^ 32 }
         ensures { OnOk result (Adds (asked_at line.now records.now) self.old self.new) }
@@ -162,7 +163,7 @@ pub(crate) fn deeds_of<'a>(
     lines: &[Line],
     records: &'a [Octets],
 ) -> Result<(Deeds, &'a [Octets]), NoMemory>
-    requires few { lanes ≤ 10 }
+    requires few { lanes ≤ MAX_LANES }
     requires on_lanes { All (λ line. line.lane < lanes) lines.now }
     requires valid { All (λ line. IsValidWork line.work) lines.now }
     ensures deeds { IfOk result (λ r. AreAsked lanes (asked_in lines.now records.now) r.0) }

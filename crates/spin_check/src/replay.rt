@@ -2,7 +2,7 @@
 
 ghost use Rattle.std.specs.Prelude.{◌≡◌, ◌≤◌, ◌+◌, ℕ, List, All, IfOk, Decides, length};
 ghost use Rattle.std.specs.Arc.{arc_value};
-ghost use Rattle.spin_word.specs.declared.command.TheConstants.{MAX_PLACE};
+ghost use Rattle.spin_word.specs.declared.command.TheConstants.{MAX_LANES, MAX_PLACE};
 ghost use Rattle.spin_table.specs.SetupOf.{data_of};
 ghost use Rattle.spin_table.specs.Soundness.{IsSound};
 ghost use Rattle.spin_text.specs.Words.{ended};
@@ -102,7 +102,7 @@ fn next_entry<'a>(
     requires sincere { ⟦<Catalogue as Sincere>⟧.sincere setup.now.catalogue }
     requires sound { IsSound (data_of setup.now) (arc_value version.now) }
     requires valid { All (λ queue. All IsValid queue) deeds.old }
-    requires lanes { length deeds.old ≤ 10 }
+    requires lanes { length deeds.old ≤ MAX_LANES }
     requires room { (arc_value version.now).place + commands_left deeds.old ≤ MAX_PLACE }
     ensures { (owed sends job_sends : List ℕ) → IfOk result (IsFound (data_of setup.now)
         (at_of (arc_value version.now) deeds.old last.now report.now owed sends job_sends) deeds.new) }
@@ -155,7 +155,7 @@ impl<'a> Replay<'a> {
         requires sincere { ⟦<Catalogue as Sincere>⟧.sincere setup.now.catalogue }
         requires sound { IsSound (data_of setup.now) self.state }
         requires valid { All (λ queue. All IsValid queue) self.queues }
-        requires lanes { length self.queues ≤ 10 }
+        requires lanes { length self.queues ≤ MAX_LANES }
         requires room { self.state.place + commands_left self.queues ≤ MAX_PLACE }
         ensures { IfOk result (GoesOn (data_of setup.now) self.entry) }
     {
@@ -192,7 +192,7 @@ impl<'a> Replay<'a> {
         requires sincere { ⟦<Catalogue as Sincere>⟧.sincere setup.now.catalogue }
         requires sound { IsSound (data_of setup.now) self.state }
         requires valid { All (λ queue. All IsValid queue) self.queues }
-        requires lanes { length self.queues ≤ 10 }
+        requires lanes { length self.queues ≤ MAX_LANES }
         requires room { self.state.place + commands_left self.queues ≤ MAX_PLACE }
         requires fresh { IsFresh self }
         ensures { IfOk result (EndsAt (data_of setup.now) self.entry) }

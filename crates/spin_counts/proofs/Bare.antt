@@ -5,6 +5,7 @@ use Rattle.std.specs.Option.{option_map, option_map_or}
 use Rattle.std.proofs.lemmas.Option.{slice_get-map}
 use Rattle.std.proofs.lemmas.List.{length-map, map-set}
 use Rattle.spin_values.specs.First.{first_of, numbered}
+use Rattle.spin_objects.proofs.Numbered.{numbered-map}
 use Rattle.spin_values.specs.declared.types.EventType.{EventType}
 use Rattle.spin_code.specs.declared.act.Act.{Act}
 use Rattle.spin_code.specs.declared.act.ActStep.{ActStep}
@@ -110,23 +111,16 @@ bare_reply d s asked r (bounds, are, is) = (
 
 -- ---- refusals
 
-numbered_same : {A : Type 0} (f : A → A) (xs : List A) (n : ℕ) → numbered (map f xs) n ≡ option_map f (numbered xs n)
-numbered_same f xs n = go (n == 0)
-  where
-    go : (b : Bool) → (if b then None else slice_get (map f xs) (n - 1)) ≡ option_map f (if b then None else slice_get xs (n - 1))
-    go true = refl
-    go false = slice_get-map f xs (n - 1)
-
 handler_test_same : (handlers : List HandlerUnit) (c : Command) (p q : HandlerUnit → Bool) → ((h : HandlerUnit) → p (bare_handler h) ≡ q h) → of_handler (map bare_handler handlers) c p ≡ of_handler handlers c q
 handler_test_same handlers c p q same = go (handler_is_used c.op)
   where
     go : (b : Bool) → option_map_or p (if b then numbered (map bare_handler handlers) c.handler else None) false ≡ option_map_or q (if b then numbered handlers c.handler else None) false
-    go true = ap (λ (o : Option HandlerUnit). option_map_or p o false) (numbered_same bare_handler handlers c.handler) ∙ some_same bare_handler p q same (numbered handlers c.handler) false
+    go true = ap (λ (o : Option HandlerUnit). option_map_or p o false) (numbered-map bare_handler handlers c.handler) ∙ some_same bare_handler p q same (numbered handlers c.handler) false
     go false = refl
 
 guard_test_same : (guards : List GuardUnit) (c : Command) (p q : GuardUnit → Bool) → ((g : GuardUnit) → p (bare_guard g) ≡ q g) → of_guard (map bare_guard guards) c p ≡ of_guard guards c q
 guard_test_same guards c p q same =
-    let test = ap (λ (o : Option GuardUnit). option_map_or p o false) (numbered_same bare_guard guards c.guard) ∙ some_same bare_guard p q same (numbered guards c.guard) false in
+    let test = ap (λ (o : Option GuardUnit). option_map_or p o false) (numbered-map bare_guard guards c.guard) ∙ some_same bare_guard p q same (numbered guards c.guard) false in
     λ i. guard_is_used c.op && test i
 
 down_step : (event : ℕ) (s : ActStep) → step_raises_down event (bare_step s) ≡ step_raises_down event s

@@ -3,6 +3,7 @@ use Rattle.std.proofs.Common.{◌≡◌, ℕ, ◌<◌, List, map, refl, ap, ◌�
 use Rattle.std.specs.Prelude.{Option, None, Some, IfSome, slice_get}
 use Rattle.std.specs.Option.{option_map}
 use Rattle.std.proofs.lemmas.Option.{slice_get-map, same_Some}
+use Rattle.spin_values.specs.First.{numbered}
 use Rattle.spin_values.specs.declared.values.Value.{Value}
 use Rattle.spin_code.specs.Truth.{truth_of, holds_if}
 use Rattle.spin_objects.specs.declared.pair.NativeHandler.{NativeHandler}
@@ -11,6 +12,7 @@ use Rattle.spin_objects.specs.declared.unit.Body.{Body}
 use Rattle.spin_objects.specs.declared.unit.Body.TheVariants as body
 use Rattle.spin_objects.specs.declared.unit.Check.{Check}
 use Rattle.spin_objects.specs.declared.unit.Check.TheVariants as check
+use Rattle.spin_objects.proofs.Numbered.{numbered-map}
 use Rattle.spin_objects.specs.There.{IsBodyThere, IsCheckThere}
 use Rattle.spin_objects.specs.Units.{Named, HandlerUnit, GuardUnit, unit_of_body, unit_of_check, native_of_body, native_of_check, handler_if, guard_if, act_if, known_handler, known_guard}
 
@@ -42,12 +44,12 @@ found_act natives (Some (body.Native n)) native is_native =
     ap (λ k. (handler_if (slice_get natives k)).act) (same_Some n native (same_Some (Some n) (Some native) is_native))
 
 -- the act of a native handler, read by its number
-pub native_act : (natives : List (Named HandlerUnit)) (bodies : List Body) (k native : ℕ)
-    → slice_get (map native_of_body bodies) k ≡ Some (Some native)
-    → act_if (slice_get (map (λ (u : HandlerUnit). u.act) (map (unit_of_body natives) bodies)) k) ≡ (handler_if (slice_get natives native)).act
-native_act natives bodies k native is_native =
-    rw (slice_get-map (λ (u : HandlerUnit). u.act) (map (unit_of_body natives) bodies) k, slice_get-map (unit_of_body natives) bodies k)
-    (found_act natives (slice_get bodies k) native (rw (← slice_get-map native_of_body bodies k) is_native))
+pub native_act : (natives : List (Named HandlerUnit)) (bodies : List Body) (number native : ℕ)
+    → numbered (map native_of_body bodies) number ≡ Some (Some native)
+    → act_if (numbered (map (λ (u : HandlerUnit). u.act) (map (unit_of_body natives) bodies)) number) ≡ (handler_if (slice_get natives native)).act
+native_act natives bodies number native is_native =
+    rw (numbered-map (λ (u : HandlerUnit). u.act) (map (unit_of_body natives) bodies) number, numbered-map (unit_of_body natives) bodies number)
+    (found_act natives (numbered bodies number) native (rw (← numbered-map native_of_body bodies number) is_native))
 
 found_test : (natives : List (Named GuardUnit)) (found : Option Check) (native : ℕ) (args : List Value)
     → option_map native_of_check found ≡ Some (Some native)

@@ -1,3 +1,4 @@
 pub mod Adding
 pub mod Doings
+pub mod Numbered
 pub mod Read

@@ -1,6 +1,6 @@
 -- Reading a list that was mapped, and finding in it.
 use Rattle.std.proofs.Common.{◌≡◌, ℕ, ◌+◌, ◌-◌, ◌<◌, ◌≤◌, Bool, not, cond, List, [], ◌∷◌, map, length, refl, sym, ap, subst, ◌∙◌, arith}
-use Rattle.std.specs.Prelude.{Some, None, IsSomeAnd, All, slice_get, nat_lt, position}
+use Rattle.std.specs.Prelude.{Some, None, All, slice_get, nat_lt, position}
 use Rattle.std.specs.List.{position_or_len}
 use Rattle.std.proofs.lemmas.List.{length-map}
 use Rattle.std.proofs.lemmas.List.Elements.{All-get_or}
@@ -9,11 +9,6 @@ use Rattle.std.proofs.lemmas.Option.{slice_get-map, slice_get_within, get_or_fro
 pub read_mapped : {A B C : Type 0} (f : A → B) (g : B → C) (xs : List A) (k : ℕ) (x : A)
     → slice_get xs k ≡ Some x → slice_get (map g (map f xs)) k ≡ Some (g (f x))
 read_mapped f g xs k x there = rw (slice_get-map g (map f xs) k, slice_get-map f xs k, there) refl
-
--- what holds of what an element was mapped to
-pub read_and : {A B : Type 0} (f : A → B) (P : B → Type 0) (xs : List A) (k : ℕ) (x : A)
-    → slice_get xs k ≡ Some x → P (f x) → IsSomeAnd (slice_get (map f xs) k) P
-read_and f P xs k x there this = rw (slice_get-map f xs k, there) this
 
 -- what holds of each element holds of one that is there
 pub read_all : {A : Type 0} (P : A → Type 0) (xs : List A) (k : ℕ) (x : A) → All P xs → slice_get xs k ≡ Some x → P x

@@ -1,5 +1,6 @@
 -- The handlers and guards of a catalogue, as the acts and tests that they are known by, and the natives among them.
-use Rattle.std.specs.Prelude.{ℕ, ◌≡◌, ◌-◌, false, List, [], map, Option, Some, None, slice_get, position, bytes_eq, All}
+use Rattle.std.specs.Prelude.{ℕ, ◌≡◌, false, List, [], map, Option, Some, None, slice_get, position, bytes_eq, All}
+use Rattle.spin_values.specs.First.{numbered}
 use Rattle.spin_values.specs.declared.types.EventType.{EventType}
 use Rattle.spin_code.specs.declared.act.Act.{Act}
 use Rattle.spin_code.specs.declared.test.Test.{Test}
@@ -136,10 +137,6 @@ handler_natives c = map native_of_body c.bodies
 -- of each guard, which native it is
 abbrev pub guard_natives : {A C E : Type 0} {B : A → Type 0} {D : C → Type 0} {F : E → Type 0} → Catalogue A C E B D F → List (Option ℕ)
 guard_natives c = map native_of_check c.checks
-
--- what has this number, the first having number 1; it is asked of numbers above 0 alone
-abbrev pub numbered : {X : Type 0} → List X → ℕ → Option X
-numbered units number = slice_get units (number - 1)
 
 -- the act, or one that does nothing where there is none
 abbrev pub act_if : Option Act → Act

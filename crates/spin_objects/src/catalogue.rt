@@ -39,7 +39,8 @@ impl Sincere for Catalogue {
 }
 
 impl Catalogue {
-    ghost use Rattle.spin_objects.specs.Units.{native_handlers, native_guards, handlers_of, guards_of, acts_of, tests_of, unit_of_body, unit_of_check, native_of_body, native_of_check, handler_natives, guard_natives, numbered, act_at};
+    ghost use Rattle.spin_objects.specs.Units.{native_handlers, native_guards, handlers_of, guards_of, acts_of, tests_of, unit_of_body, unit_of_check, native_of_body, native_of_check, handler_natives, guard_natives, act_at};
+    ghost use Rattle.spin_values.specs.First.{numbered};
     ghost use Rattle.spin_objects.specs.Adding.{IsBy, handler_refusal, guard_refusal};
 
     /// No handlers and no guards, and these natives.

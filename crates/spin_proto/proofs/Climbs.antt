@@ -34,7 +34,7 @@ use Rattle.spin_table.specs.Orders.{arranged}
 use Rattle.spin_table.proofs.Arranged.{All-arranged}
 use Rattle.spin_table.proofs.ImposedFit.{no_faults, unmapped, position-fails}
 use Rattle.spin_table.proofs.Keeping.{first_two}
-use Rattle.spin_table.proofs.Numbered.{numbered-at}
+use Rattle.spin_objects.proofs.Numbered.{numbered-map, numbered-reads}
 use Rattle.spin_table.proofs.Sound.{AreSound-from, guards_there}
 use Rattle.spin_proto.specs.Whole.{ups_of}
 use Rattle.spin_proto.specs.Inner.Walks.{UpsRise}
@@ -154,8 +154,8 @@ pub record Fits (d : SetupData) (event handler : ℕ) : Type 0 where
   pub last : handler ≤ length (units_in d).acts
   pub rises : Rises (length d.events) event (steps_at (units_in d) handler)
 
-steps_read : (d : SetupData) (handler : ℕ) (h : HandlerUnit) → slice_get d.handlers (handler - 1) ≡ Some h → steps_at (units_in d) handler ≡ h.act.steps
-steps_read d handler h read = ap (λ o. (act_if o).steps) (slice_get-map (λ (h : HandlerUnit). h.act) d.handlers (handler - 1) ∙ ap (option_map (λ (h : HandlerUnit). h.act)) read)
+steps_read : (d : SetupData) (handler : ℕ) (h : HandlerUnit) → numbered d.handlers handler ≡ Some h → steps_at (units_in d) handler ≡ h.act.steps
+steps_read d handler h read = ap (λ o. (act_if o).steps) (numbered-map (λ (h : HandlerUnit). h.act) d.handlers handler ∙ ap (option_map (λ (h : HandlerUnit). h.act)) read)
 
 pub fits_from : (d : SetupData) (event : ℕ) (e : EventDef) (m : Mode) (handler : ℕ) → IsSoundSetup d → is_fit_handler d.handlers event e m handler ≡ true → Fits d event handler
 fits_from d event e m handler sound fit = choose (numbered d.handlers handler) refl fit
@@ -166,14 +166,14 @@ fits_from d event e m handler sound fit = choose (numbered d.handlers handler) r
         elim (cases_eq handler 0) [
           | inl none ↦ let nothing : numbered d.handlers handler ≡ None = ap (numbered d.handlers) none in cc
           | inr other ↦
-              let read : slice_get d.handlers (handler - 1) ≡ Some h = sym (numbered-at d.handlers handler other) ∙ is in
+              let read = numbered-reads d.handlers handler h is in
               let parts = first_two (same_signature h.sig e.sig) (not (raises_down event h.act)) (not (has_wrong_mode m h.act)) some in
               let rises = rises_from d.events event h.act.steps (opposite_true (raises_down event h.act) parts.1) (unit_fits d (handler - 1) h sound read) in
               let inside = slice_get_within d.handlers (handler - 1) h read in
               record {
                 first = omega arith;
                 last = omega (arith, length-map d.handlers (λ (h : HandlerUnit). h.act));
-                rises = subst (λ (ss : List ActStep). Rises (length d.events) event ss) (sym (steps_read d handler h read)) rises;
+                rises = subst (λ (ss : List ActStep). Rises (length d.events) event ss) (sym (steps_read d handler h is)) rises;
               }
         ]
 

@@ -17,6 +17,7 @@ use Rattle.spin_policy.specs.Imposed.{effect_guards}
 use Rattle.spin_objects.specs.Units.{HandlerUnit, GuardUnit}
 use Rattle.spin_table.specs.declared.event.EventDef.{EventDef}
 use Rattle.spin_values.specs.First.{numbered}
+use Rattle.spin_objects.proofs.Numbered.{numbered-map}
 use Rattle.spin_table.specs.Units.{step_raises_down, is_set, is_handler_for, is_fit_handler, is_fit_guard, same_parameter_kinds}
 use Rattle.spin_table.specs.Faults.{part_kind, takes_parts, takes_layer, is_step_fit, is_fit_rule}
 use Rattle.spin_grammar.specs.Bare.{bare_part, bare_step}
@@ -33,13 +34,6 @@ some_same f p q h (Some a) d = h a
 some_alike : {A B : Type 0} (p q : A → B) → ((a : A) → p a ≡ q a) → (o : Option A) (d : B) → option_map_or p o d ≡ option_map_or q o d
 some_alike p q h None d = refl
 some_alike p q h (Some a) d = h a
-
-unit_if : {A : Type 0} (f : A → A) (xs : List A) (k : ℕ) (b : Bool) → (if b then None else slice_get (map f xs) k) ≡ option_map f (if b then None else slice_get xs k)
-unit_if f xs k true = refl
-unit_if f xs k false = slice_get-map f xs k
-
-unit_map : {A : Type 0} (f : A → A) (xs : List A) (number : ℕ) → numbered (map f xs) number ≡ option_map f (numbered xs number)
-unit_map f xs number = unit_if f xs (number - 1) (number == 0)
 
 -- ---- steps behind bare events, and bare steps
 
@@ -93,11 +87,11 @@ serves_same event e m h =
 
 pub handler_same : (handlers : List HandlerUnit) (event : ℕ) (e : EventDef) (m : Mode) (handler : ℕ) → is_fit_handler (map bare_handler handlers) event (bare_event e) m handler ≡ is_fit_handler handlers event e m handler
 handler_same handlers event e m handler =
-    rw (unit_map bare_handler handlers handler) (some_same bare_handler (is_handler_for event (bare_event e) m) (is_handler_for event e m) (serves_same event e m) (numbered handlers handler) false)
+    rw (numbered-map bare_handler handlers handler) (some_same bare_handler (is_handler_for event (bare_event e) m) (is_handler_for event e m) (serves_same event e m) (numbered handlers handler) false)
 
 guard_same : (guards : List GuardUnit) (e : EventDef) (guard : ℕ) → is_fit_guard (map bare_guard guards) (bare_event e) guard ≡ is_fit_guard guards e guard
 guard_same guards e guard =
-    rw (unit_map bare_guard guards guard) (some_same bare_guard (λ (g : GuardUnit). same_parameter_kinds g.sig e.sig) (λ (g : GuardUnit). same_parameter_kinds g.sig e.sig) (λ g. refl) (numbered guards guard) false)
+    rw (numbered-map bare_guard guards guard) (some_same bare_guard (λ (g : GuardUnit). same_parameter_kinds g.sig e.sig) (λ (g : GuardUnit). same_parameter_kinds g.sig e.sig) (λ g. refl) (numbered guards guard) false)
 
 pub rule_same : (guards : List GuardUnit) (e : EventDef) (r : Rule) → is_fit_rule (map bare_guard guards) (bare_event e) r ≡ is_fit_rule guards e r
 rule_same guards e r = all_same (is_fit_guard (map bare_guard guards) (bare_event e)) (is_fit_guard guards e) (guard_same guards e) (effect_guards r.effect)

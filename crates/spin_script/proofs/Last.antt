@@ -6,7 +6,9 @@ use Rattle.std.proofs.lemmas.List.{length-append}
 use Rattle.std.proofs.lemmas.Option.{slice_get-get_or, slice_get-map}
 use Rattle.std.proofs.Math.Seq.{get_or-append_seam}
 use Rattle.spin_code.specs.declared.act.Act.{Act}
-use Rattle.spin_objects.specs.Units.{HandlerUnit, numbered}
+use Rattle.spin_values.specs.First.{numbered}
+use Rattle.spin_objects.specs.Units.{HandlerUnit}
+use Rattle.spin_objects.proofs.Numbered.{numbered-reads}
 
 some_is : (a b : Act) → Some a ≡ Some b → a ≡ b
 some_is a b e = cc
@@ -21,7 +23,7 @@ last_of units u number a e read =
     let there : slice_get (units ++ u ∷ []) (length units) ≡ Some u = slice_get-get_or (units ++ u ∷ []) (length units) u inside ∙ ap (λ (z : HandlerUnit). Some z) (get_or-append_seam units u [] u) in
     let known : slice_get (map act_in (units ++ u ∷ [])) (number - 1) ≡ Some u.act =
     ap (slice_get (map act_in (units ++ u ∷ []))) at ∙ slice_get-map act_in (units ++ u ∷ []) (length units) ∙ ap (option_map act_in) there in
-    some_is a u.act (sym read ∙ known)
+    some_is a u.act (sym (numbered-reads (map act_in (units ++ u ∷ [])) number a read) ∙ known)
 
 pub last_is : (all units : List HandlerUnit) (u : HandlerUnit) (number : ℕ) (a : Act) → all ≡ units ++ u ∷ [] → number ≡ length all → numbered (map (λ x. x.act) all) number ≡ Some a → a ≡ u.act
 last_is all units u number a is e read =

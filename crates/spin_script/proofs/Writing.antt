@@ -18,7 +18,9 @@ use Rattle.spin_objects.specs.declared.unit.Body.{Body}
 use Rattle.spin_objects.specs.declared.unit.Body.TheVariants as body
 use Rattle.spin_objects.specs.declared.unit.Check.{Check}
 use Rattle.spin_objects.specs.declared.unit.Check.TheVariants as check
-use Rattle.spin_objects.specs.Units.{HandlerUnit, GuardUnit, Named, unit_of_body, unit_of_check, native_of_body, native_of_check, numbered}
+use Rattle.spin_objects.specs.Units.{HandlerUnit, GuardUnit, Named, unit_of_body, unit_of_check, native_of_body, native_of_check}
+use Rattle.spin_values.specs.First.{numbered}
+use Rattle.spin_objects.proofs.Numbered.{numbered-reads, numbered_and-reads}
 use Rattle.spin_table.specs.declared.event.Authority.{Authority}
 use Rattle.spin_table.specs.declared.event.Authority.TheVariants as authority
 use Rattle.spin_grammar.specs.Grammar.{Numeral, Typed}
@@ -184,16 +186,16 @@ pub handler_coded : (n : NativeData) (bodies : List Body) (number : ℕ) (b : Bo
 handler_coded n bodies number b sig act at none typed acts =
     let u = unit_of_body n.handlers b in
     let there : slice_get (map (unit_of_body n.handlers) bodies) (number - 1) ≡ Some u = slice_get-map (unit_of_body n.handlers) bodies (number - 1) ∙ ap (option_map (unit_of_body n.handlers)) at in
-    let same = sig_at (λ (v : HandlerUnit). v.sig) (map (unit_of_body n.handlers) bodies) (number - 1) u sig there typed in
-    let does = made_at (λ (v : HandlerUnit). v.act) (map (unit_of_body n.handlers) bodies) (number - 1) u act there acts in
-    coded_body n number b sig act (made_at native_of_body bodies (number - 1) b None at none) same does
+    let same = sig_at (λ (v : HandlerUnit). v.sig) (map (unit_of_body n.handlers) bodies) (number - 1) u sig there (numbered_and-reads (λ (v : HandlerUnit). sig ≡ v.sig) (map (unit_of_body n.handlers) bodies) number typed) in
+    let does = made_at (λ (v : HandlerUnit). v.act) (map (unit_of_body n.handlers) bodies) (number - 1) u act there (numbered-reads (map (λ (v : HandlerUnit). v.act) (map (unit_of_body n.handlers) bodies)) number act acts) in
+    coded_body n number b sig act (made_at native_of_body bodies (number - 1) b None at (numbered-reads (map native_of_body bodies) number None none)) same does
 
 pub handler_native : (n : NativeData) (bodies : List Body) (number : ℕ) (b : Body) (native : ℕ) (name : List ℕ) → slice_get bodies (number - 1) ≡ Some b
     → numbered (map native_of_body bodies) number ≡ Some (Some native)
     → slice_get (map (λ (m : Named HandlerUnit). m.name) n.handlers) native ≡ Some name
     → handler_line n number b ≡ line.NativeHandler number name
 handler_native n bodies number b native name at some named =
-    native_body n number b native name (made_at native_of_body bodies (number - 1) b (Some native) at some) (name_is n.handlers native name named)
+    native_body n number b native name (made_at native_of_body bodies (number - 1) b (Some native) at (numbered-reads (map native_of_body bodies) number (Some native) some)) (name_is n.handlers native name named)
 
 coded_check : (n : NativeData) (number : ℕ) (c : Check) (sig : EventType) (test : Test) → native_of_check c ≡ None → sig ≡ (unit_of_check n.guards c).sig → (unit_of_check n.guards c).test ≡ test
     → guard_line n number c ≡ line.Guard number (by_value sig) test
@@ -211,21 +213,21 @@ native_check n number (check.Native k) native name some is =
 pub guard_coded : (n : NativeData) (checks : List Check) (number : ℕ) (c : Check) (sig : EventType) (test : Test) → slice_get checks (number - 1) ≡ Some c
     → numbered (map native_of_check checks) number ≡ Some None
     → IsSomeAnd (numbered (map (unit_of_check n.guards) checks) number) (λ u. sig ≡ u.sig)
-    → numbered (map (λ (u : GuardUnit). u.test) (map (unit_of_check n.guards) checks)) number ≡ Some test
+    → slice_get (map (λ (u : GuardUnit). u.test) (map (unit_of_check n.guards) checks)) (number - 1) ≡ Some test
     → guard_line n number c ≡ line.Guard number (by_value sig) test
 guard_coded n checks number c sig test at none typed tests =
     let u = unit_of_check n.guards c in
     let there : slice_get (map (unit_of_check n.guards) checks) (number - 1) ≡ Some u = slice_get-map (unit_of_check n.guards) checks (number - 1) ∙ ap (option_map (unit_of_check n.guards)) at in
-    let same = sig_at (λ (v : GuardUnit). v.sig) (map (unit_of_check n.guards) checks) (number - 1) u sig there typed in
+    let same = sig_at (λ (v : GuardUnit). v.sig) (map (unit_of_check n.guards) checks) (number - 1) u sig there (numbered_and-reads (λ (v : GuardUnit). sig ≡ v.sig) (map (unit_of_check n.guards) checks) number typed) in
     let asks = made_at (λ (v : GuardUnit). v.test) (map (unit_of_check n.guards) checks) (number - 1) u test there tests in
-    coded_check n number c sig test (made_at native_of_check checks (number - 1) c None at none) same asks
+    coded_check n number c sig test (made_at native_of_check checks (number - 1) c None at (numbered-reads (map native_of_check checks) number None none)) same asks
 
 pub guard_native : (n : NativeData) (checks : List Check) (number : ℕ) (c : Check) (native : ℕ) (name : List ℕ) → slice_get checks (number - 1) ≡ Some c
     → numbered (map native_of_check checks) number ≡ Some (Some native)
     → slice_get (map (λ (m : Named GuardUnit). m.name) n.guards) native ≡ Some name
     → guard_line n number c ≡ line.NativeGuard number name
 guard_native n checks number c native name at some named =
-    native_check n number c native name (made_at native_of_check checks (number - 1) c (Some native) at some) (name_is n.guards native name named)
+    native_check n number c native name (made_at native_of_check checks (number - 1) c (Some native) at (numbered-reads (map native_of_check checks) number (Some native) some)) (name_is n.guards native name named)
 
 -- ---- bindings that are named
 

@@ -9,6 +9,8 @@ ghost use Rattle.spin_code.specs.Size.{test_depth, is_step_deep};
 ghost use Rattle.spin_objects.specs.Units.{HandlerUnit, GuardUnit, handlers_of, guards_of, native_handlers, native_guards, unit_of_body, unit_of_check};
 ghost use Rattle.spin_objects.specs.Adding.{handler_refusal, guard_refusal};
 ghost use Rattle.spin_grammar.specs.Lines as said;
+ghost use Rattle.spin_code.specs.declared.depth.TheConstants.{MAX_DEPTH};
+ghost use Rattle.spin_grammar.specs.declared.limits.TheConstants.{LAST_HANDLER, LAST_GUARD};
 ghost use Rattle.spin_grammar.specs.Lines.{IsKept, IsWithin};
 ghost use Rattle.spin_script.specs.States.{State, NativeData, natives_seen};
 ghost use Rattle.spin_script.specs.Checks as specs;
@@ -129,7 +131,7 @@ fn next_act(
     sig: &EventType,
     steps: Option<Steplist>,
 ) -> Result<Act, Cause>
-    requires { handlers ≤ 1023 }
+    requires { handlers ≤ LAST_HANDLER }
     ensures first { (n : NativeData) (hs : List HandlerUnit) (gs : List GuardUnit) (kept : List ActStep)
         → length hs ≡ handlers → IsKept (list_any is_step_deep) steps kept
         → Judges (λ act. act.steps ≡ kept)
@@ -158,7 +160,7 @@ pub(crate) fn add_handler(
     sig: EventType,
     steps: Option<Steplist>,
 ) -> Result<(), Fault>
-    requires range { handler ≤ 1023 }
+    requires range { handler ≤ LAST_HANDLER }
     requires sincere { ⟦<Catalogue as Sincere>⟧.sincere catalogue.old }
     ensures sincere { ⟦<Catalogue as Sincere>⟧.sincere catalogue.new }
     ensures natives { catalogue.new.natives ≡ catalogue.old.natives }
@@ -192,7 +194,7 @@ pub(crate) fn add_native_handler(
     handler: u16,
     name: Text,
 ) -> Result<(), Fault>
-    requires range { handler ≤ 1023 }
+    requires range { handler ≤ LAST_HANDLER }
     requires sincere { ⟦<Catalogue as Sincere>⟧.sincere catalogue.old }
     ensures sincere { ⟦<Catalogue as Sincere>⟧.sincere catalogue.new }
     ensures natives { catalogue.new.natives ≡ catalogue.old.natives }
@@ -219,9 +221,9 @@ pub(crate) fn add_native_handler(
 
 /// The test for the next guard, or why it can't be that.
 fn next_test(guards: u16, guard: u16, sig: &EventType, test: Option<Test>) -> Result<Test, Cause>
-    requires { guards ≤ 1023 }
+    requires { guards ≤ LAST_GUARD }
     ensures first { (n : NativeData) (s : State) (kept : Test) → length s.guards ≡ guards
-        → IsWithin test_depth 8 test kept
+        → IsWithin test_depth MAX_DEPTH test kept
         → Judges (λ t. t ≡ kept) (first_of (checks n s (said.Guard guard sig.now kept))) result }
     ensures next { IfOk result (λ _. guard ≡ guards + 1) }
     ensures right { IfOk result (λ t. test_check t sig.now ≡ Ok tt) }
@@ -246,14 +248,14 @@ pub(crate) fn add_guard(
     sig: EventType,
     test: Option<Test>,
 ) -> Result<(), Fault>
-    requires range { guard ≤ 1023 }
+    requires range { guard ≤ LAST_GUARD }
     requires sincere { ⟦<Catalogue as Sincere>⟧.sincere catalogue.old }
     ensures sincere { ⟦<Catalogue as Sincere>⟧.sincere catalogue.new }
     ensures natives { catalogue.new.natives ≡ catalogue.old.natives }
-    ensures adds { (number : ℕ) (kept : Test) → IsWithin test_depth 8 test kept
+    ensures adds { (number : ℕ) (kept : Test) → IsWithin test_depth MAX_DEPTH test kept
         → Adds (natives_seen catalogue.old.natives) (so_far draft.old catalogue.old) number
         (said.Guard guard sig kept) result (so_far draft.new catalogue.new) }
-    ensures grows { (kept : Test) → IsWithin test_depth 8 test kept
+    ensures grows { (kept : Test) → IsWithin test_depth MAX_DEPTH test kept
         → Grows (natives_seen catalogue.old.natives) catalogue.old.bodies catalogue.old.checks
         (said.Guard guard sig kept) result catalogue.new.bodies catalogue.new.checks }
 {
@@ -270,7 +272,7 @@ pub(crate) fn add_native_guard(
     guard: u16,
     name: Text,
 ) -> Result<(), Fault>
-    requires range { guard ≤ 1023 }
+    requires range { guard ≤ LAST_GUARD }
     requires sincere { ⟦<Catalogue as Sincere>⟧.sincere catalogue.old }
     ensures sincere { ⟦<Catalogue as Sincere>⟧.sincere catalogue.new }
     ensures natives { catalogue.new.natives ≡ catalogue.old.natives }

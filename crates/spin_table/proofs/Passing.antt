@@ -20,7 +20,7 @@ use Rattle.spin_table.specs.declared.event.EventDef.{EventDef}
 use Rattle.spin_table.specs.Setups.{SetupData, rules_of}
 use Rattle.spin_table.specs.Units.{same_signature, same_parameter_kinds, raises_down, sets_argument, has_wrong_mode, is_handler_for, is_fit_handler, is_fit_guard, is_fit_own_guard}
 use Rattle.spin_table.specs.Refusals.{refusals_at, lacks_handler, lacks_guard, of_handler, of_guard, mode_of, forces_a_change_apart, is_full}
-use Rattle.spin_table.proofs.Numbered.{numbered-at}
+use Rattle.spin_objects.proofs.Numbered.{numbered-at}
 
 -- none of a list of conditions holds
 none_hold : {R : Type 0} (xs : List (Bool × R)) → first_of xs ≡ None → (k : ℕ) (r : R) → (get_or xs k (false, r)).0 ≡ false

@@ -26,7 +26,7 @@ use Rattle.spin_table.specs.Faults.{IsSoundSetup}
 use Rattle.spin_table.specs.Soundness.{IsSoundEvent}
 use Rattle.spin_table.proofs.Passing.{Passes, passes, fit_handler}
 use Rattle.spin_table.proofs.Keeping.{AreSound, AreSound-after, first_two}
-use Rattle.spin_table.proofs.Numbered.{numbered-at}
+use Rattle.spin_objects.proofs.Numbered.{numbered-at}
 use Rattle.spin_table.proofs.ImposedFit.{imposed_of_setup, list_all-at}
 
 -- the bindings of a sound event are sound

@@ -12,8 +12,7 @@ pub returns-then-not-raises_fit : goal.returns-then-not-raises_fit
 returns-then-not-raises_fit g c =
     let units = handlers_of c.args.catalogue.now in
     let at = c.loop-at.at in
-    let same : at + 1 - 1 ≡ at = omega arith in
-    let unit = act_unit units at _ (subst (λ k. slice_get (acts_of c.args.catalogue.now) k ≡ Some c.act_of.result.now) same c.act_of.ensures) in
+    let unit = act_unit units at _ c.act_of.ensures in
     let amiss : raises_amiss c.args.events.now unit.0 ≡ true =
     ap (λ a. not (list_all (is_step_fit c.args.events.now) a.steps)) unit.3 ∙ ap not (sym c.raises_fit.ensures ∙ c.if-not-raises_fit.true) in
     sym (position-at (raises_amiss c.args.events.now) units at unit.0 unit.1 unit.2 amiss c.loop-at.invariant)
@@ -22,8 +21,7 @@ pub loop-at-preserved : goal.loop-at-preserved
 loop-at-preserved g c =
     let units = handlers_of c.args.catalogue.now in
     let at = c.loop-at.at in
-    let same : at + 1 - 1 ≡ at = omega arith in
-    let unit = act_unit units at _ (subst (λ k. slice_get (acts_of c.args.catalogue.now) k ≡ Some c.act_of.result.now) same c.act_of.ensures) in
+    let unit = act_unit units at _ c.act_of.ensures in
     let fit : raises_amiss c.args.events.now unit.0 ≡ false =
     ap (λ a. not (list_all (is_step_fit c.args.events.now) a.steps)) unit.3 ∙ ap not (sym c.raises_fit.ensures ∙ c.if-not-raises_fit.false) in
     AllWithin-more (λ h. raises_amiss c.args.events.now h ≡ false) units 0 at c.loop-at.invariant (at_read units (λ h. raises_amiss c.args.events.now h ≡ false) at unit.0 unit.1 (sym unit.2) fit)

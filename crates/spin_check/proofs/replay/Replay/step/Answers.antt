@@ -1,7 +1,7 @@
 use Rattle.std.proofs.Common.{◌≤◌, ◌+◌, length, refl, sym, ap, subst, arith}
 use Rattle.std.specs.Prelude.{All, None, Some}
 use Rattle.std.specs.Arc.{arc_value}
-use Rattle.spin_word.specs.declared.command.TheConstants.{MAX_PLACE}
+use Rattle.spin_word.specs.declared.command.TheConstants.{MAX_LANES, MAX_PLACE}
 use Rattle.spin_table.specs.SetupOf.{data_of}
 use Rattle.spin_table.specs.Soundness.{IsSound}
 use Rattle.spin_check.specs.Inner.Asks.{IsValid, commands_left}
@@ -17,7 +17,7 @@ pub next_entry-requires-clause-valid : goal.next_entry-requires-clause-valid
 next_entry-requires-clause-valid g c = subst (λ (a : At). All (λ queue. All IsValid queue) a.queues) (sym c.self.view_is) c.requires.valid
 
 pub next_entry-requires-clause-lanes : goal.next_entry-requires-clause-lanes
-next_entry-requires-clause-lanes g c = subst (λ (a : At). length a.queues ≤ 10) (sym c.self.view_is) c.requires.lanes
+next_entry-requires-clause-lanes g c = subst (λ (a : At). length a.queues ≤ MAX_LANES) (sym c.self.view_is) c.requires.lanes
 
 pub next_entry-requires-clause-room : goal.next_entry-requires-clause-room
 next_entry-requires-clause-room g c = subst (λ (a : At). a.state.place + commands_left a.queues ≤ MAX_PLACE) (sym c.self.view_is) c.requires.room

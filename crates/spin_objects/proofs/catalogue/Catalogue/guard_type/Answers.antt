@@ -1,7 +1,7 @@
-use Rattle.std.proofs.Common.{◌≡◌, ◌-◌, ◌∙◌, length, ap, sym, subst}
+use Rattle.std.proofs.Common.{◌≡◌, ◌∙◌, length, ap, sym, subst}
 use Rattle.spin_objects.specs.There.{IsCheckThere}
 use Rattle.spin_objects.specs.Units.{GuardUnit, unit_of_check, native_guards}
-use Rattle.spin_objects.proofs.Read.{read_and}
+use Rattle.spin_objects.proofs.Numbered.{numbered_and}
 use Rattle.spin_objects.proofs.Doings.{guard_known}
 use Rattle.spin_objects.proofs.catalogue.Catalogue.guard_type.Goals as goal
 
@@ -11,12 +11,12 @@ guard-requires g c = subst (IsCheckThere (length c.args.self.now.natives.guards)
 pub returns-in-Coded : goal.returns-in-Coded
 returns-in-Coded g c =
     let natives = native_guards c.args.self.now.natives in
-    read_and (unit_of_check natives) (λ (u : GuardUnit). c.in-Coded.sig ≡ u.sig) c.args.self.now.checks (c.args.guard - 1) c.check.result.now c.check.ensures.check
+    numbered_and (unit_of_check natives) (λ (u : GuardUnit). c.in-Coded.sig ≡ u.sig) c.args.self.now.checks c.args.guard c.check.result.now c.check.ensures.check
     (ap (λ b. (unit_of_check natives b).sig) (sym c.in-Coded.is))
 
 pub returns-in-Native : goal.returns-in-Native
 returns-in-Native g c =
     let natives = native_guards c.args.self.now.natives in
-    read_and (unit_of_check natives) (λ (u : GuardUnit). c.guard.result.now.sig ≡ u.sig) c.args.self.now.checks (c.args.guard - 1) c.check.result.now c.check.ensures.check
+    numbered_and (unit_of_check natives) (λ (u : GuardUnit). c.guard.result.now.sig ≡ u.sig) c.args.self.now.checks c.args.guard c.check.result.now c.check.ensures.check
     (ap (λ (u : GuardUnit). u.sig) (sym (guard_known c.args.self.now.natives.guards c.in-Native.native c.guard.result.now c.guard.ensures))
     ∙ ap (λ b. (unit_of_check natives b).sig) (sym c.in-Native.is))

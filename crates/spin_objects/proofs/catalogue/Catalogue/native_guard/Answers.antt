@@ -1,13 +1,13 @@
-use Rattle.std.proofs.Common.{◌≡◌, ◌-◌, length, refl}
+use Rattle.std.proofs.Common.{◌≡◌, length, refl}
 use Rattle.std.proofs.lemmas.List.{length-map}
-use Rattle.std.proofs.lemmas.Option.{slice_get-map}
 use Rattle.spin_objects.specs.Units.{native_of_check, known_guard}
+use Rattle.spin_objects.proofs.Numbered.{numbered-map}
 use Rattle.spin_objects.proofs.Doings.{native_check_there}
 use Rattle.spin_objects.proofs.catalogue.Catalogue.native_guard.Goals as goal
 
 pub returns-clause-native : goal.returns-clause-native
 returns-clause-native g c =
-    rw (c.native.ensures, slice_get-map native_of_check c.args.self.now.checks (c.args.guard - 1), c.check.ensures.check) refl
+    rw (c.native.ensures, numbered-map native_of_check c.args.self.now.checks c.args.guard, c.check.ensures.check) refl
 
 pub returns-clause-there : goal.returns-clause-there
 returns-clause-there g c =

@@ -1,4 +1,4 @@
-use Rattle.std.proofs.Common.{◌≡◌, ◌-◌, ◌∙◌, sym, ap, subst}
+use Rattle.std.proofs.Common.{◌≡◌, ◌∙◌, sym, ap, subst}
 use Rattle.std.specs.Prelude.{Some, OnOk}
 use Rattle.spin_code.specs.declared.act.Act.{Act}
 use Rattle.spin_objects.specs.Doing.{IsDone}
@@ -15,4 +15,4 @@ pub returns-in-Some : goal.returns-in-Some
 returns-in-Some g c =
     let is_native = c.native_handler.ensures.native ∙ ap Some c.in-Some.is in
     subst (λ (act : Act). OnOk c.run.result (IsDone act c.args.args.now c.args.out.now c.run.new.args c.run.new.out))
-    (sym (native_act (native_handlers c.args.self.now.natives) c.args.self.now.bodies (c.args.handler - 1) c.in-Some.native is_native)) c.run.ensures
+    (sym (native_act (native_handlers c.args.self.now.natives) c.args.self.now.bodies c.args.handler c.in-Some.native is_native)) c.run.ensures

@@ -3,6 +3,7 @@ use Rattle.std.specs.Prelude.{Some}
 use Rattle.std.proofs.lemmas.List.{length-map}
 use Rattle.spin_objects.specs.There.{IsCheckThere}
 use Rattle.spin_objects.specs.Units.{guards_of, GuardUnit, unit_of_check, native_guards}
+use Rattle.spin_objects.proofs.Numbered.{numbered-reads}
 use Rattle.spin_objects.proofs.Read.{read_mapped}
 use Rattle.spin_objects.proofs.Doings.{guard_known}
 use Rattle.spin_objects.proofs.catalogue.CatalogueGuards.test_of.Goals as goal
@@ -19,12 +20,14 @@ guard-requires g c = subst (IsCheckThere (length c.args.self.now.natives.guards)
 pub returns-in-Coded : goal.returns-in-Coded
 returns-in-Coded g c =
     let natives = native_guards c.args.self.now.natives in
-    read_mapped (unit_of_check natives) (λ (u : GuardUnit). u.test) c.args.self.now.checks (c.args.guard - 1) c.check.result.now c.check.ensures.check
+    let there = numbered-reads c.args.self.now.checks c.args.guard c.check.result.now c.check.ensures.check in
+    read_mapped (unit_of_check natives) (λ (u : GuardUnit). u.test) c.args.self.now.checks (c.args.guard - 1) c.check.result.now there
     ∙ ap (λ b. Some (unit_of_check natives b).test) c.in-Coded.is
 
 pub returns-in-Native : goal.returns-in-Native
 returns-in-Native g c =
     let natives = native_guards c.args.self.now.natives in
-    read_mapped (unit_of_check natives) (λ (u : GuardUnit). u.test) c.args.self.now.checks (c.args.guard - 1) c.check.result.now c.check.ensures.check
+    let there = numbered-reads c.args.self.now.checks c.args.guard c.check.result.now c.check.ensures.check in
+    read_mapped (unit_of_check natives) (λ (u : GuardUnit). u.test) c.args.self.now.checks (c.args.guard - 1) c.check.result.now there
     ∙ ap (λ b. Some (unit_of_check natives b).test) c.in-Native.is
     ∙ ap (λ (u : GuardUnit). Some u.test) (guard_known c.args.self.now.natives.guards c.in-Native.native c.guard.result.now c.guard.ensures)
