@@ -22,7 +22,8 @@ use Rattle.spin_report.specs.Segments.{asked_in, wanted_by}
 use Rattle.spin_report.specs.Runs.{Standing, retirements, lost_counts, sends_in, sends_of, sends_of_reply}
 use Rattle.spin_report.proofs.Shows.{one_list_of_jobs}
 use Rattle.spin_check.specs.declared.deeds.Ask.{Ask}
-use Rattle.spin_check.specs.Inner.Asks.{AreAsked, commands_in, commands_left}
+use Rattle.spin_script.specs.Soundness.{commands_in}
+use Rattle.spin_check.specs.Inner.Asks.{AreAsked, commands_left}
 use Rattle.spin_check.specs.Inner.Standings.{AreFlags, numbers_of}
 use Rattle.spin_check.specs.Inner.Fronts.{IsBehind}
 use Rattle.spin_check.specs.Inner.Replays.{At, AreEntries, HasReplayed, EndsAt}

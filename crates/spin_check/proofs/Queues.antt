@@ -12,11 +12,11 @@ use Rattle.std.proofs.lemmas.List.Folds.{sum_by-replicate}
 use Rattle.spin_word.specs.declared.work.Work.{Work}
 use Rattle.spin_word.specs.declared.work.Work.TheVariants as work
 use Rattle.spin_script.specs.declared.script.Line.{Line}
-use Rattle.spin_script.specs.Soundness.{is_command_work}
+use Rattle.spin_script.specs.Soundness.{is_command_work, commands_in}
 use Rattle.spin_report.specs.Asked.{Numbered}
 use Rattle.spin_report.specs.Segments.{records_wanted, raise_with, parts_of, asked_at, asked_in, wanted_by, asked_of_lane}
 use Rattle.spin_check.specs.declared.deeds.Ask.{Ask}
-use Rattle.spin_check.specs.Inner.Asks.{numbered, IsValid, asks_command, queue_of, left_of, with_ask, commands_left, commands_asked, commands_in, AreAsked, Adds, packets_at}
+use Rattle.spin_check.specs.Inner.Asks.{numbered, IsValid, asks_command, queue_of, left_of, with_ask, commands_left, commands_asked, AreAsked, Adds, packets_at}
 
 pub adds_none : (queues : List (List Ask)) → Adds [] queues queues
 adds_none queues = record {

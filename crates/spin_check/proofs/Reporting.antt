@@ -13,12 +13,11 @@ use Rattle.spin_text.specs.Words.{ended}
 use Rattle.spin_script.specs.declared.script.Line.{Line}
 use Rattle.spin_script.specs.declared.script.Segment.{Segment}
 use Rattle.spin_script.specs.States.{ScriptData}
-use Rattle.spin_script.specs.Soundness.{is_command_work, lines_in}
+use Rattle.spin_script.specs.Soundness.{is_command_work, lines_in, commands_in}
 use Rattle.spin_script.specs.Segments.{IsOrderly}
 use Rattle.spin_report.specs.Histories.{first_line}
 use Rattle.spin_report.specs.Runs.{Captured, frames_of, start_with}
 use Rattle.spin_check.specs.RunTexts.{StandAs, IsRunText}
-use Rattle.spin_check.specs.Inner.Asks.{commands_in}
 use Rattle.spin_check.specs.Inner.Standings.{AreFlags}
 use Rattle.spin_check.specs.Inner.Segments.{Mark, standing, Goes, IsGoodMark}
 use Rattle.spin_check.specs.Inner.Remains.{end_text, Remains, AreLeft}

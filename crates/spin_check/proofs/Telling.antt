@@ -10,7 +10,7 @@ use Rattle.spin_word.specs.declared.command.Command.{Command}
 use Rattle.spin_word.specs.declared.command.Op.{Op}
 use Rattle.spin_word.specs.declared.command.Op.TheVariants as op
 use Rattle.spin_report.specs.declared.entry.Entry.{Entry}
-use Rattle.spin_report.specs.Verdicts.{op_word}
+use Rattle.spin_grammar.specs.Forms.{op_word}
 use Rattle.spin_report.specs.Lines.{line_word, what_words, entry_line}
 use Rattle.spin_report.proofs.Plain.{decimal_word}
 use Rattle.spin_report.proofs.ReportLines.{entry_are_words}

@@ -2,9 +2,9 @@
 
 ghost use Rattle.std.specs.Prelude.{◌≡◌, ◌<◌, ◌≤◌, ◌^◌, ◌∷◌, [], Decides, All, MatchOption, IfOk, OnOk, length, drop, replicate, slice_set};
 ghost use Rattle.spin_word.specs.declared.command.TheConstants.{MAX_LANES};
-ghost use Rattle.spin_script.specs.Soundness.{IsValidWork};
+ghost use Rattle.spin_script.specs.Soundness.{IsValidWork, commands_in};
 ghost use Rattle.spin_report.specs.Segments.{asked_at, asked_in, wanted_by};
-ghost use Rattle.spin_check.specs.Inner.Asks.{AreAsked, Adds, work_of, queue_of, with_ask, commands_left, commands_in, packets_at, whole_at};
+ghost use Rattle.spin_check.specs.Inner.Asks.{AreAsked, Adds, work_of, queue_of, with_ask, commands_left, packets_at, whole_at};
 
 use spin_report::split_records;
 use spin_script::{Deed, Line, Work};

@@ -1,3 +1,5 @@
+//! Numbers, in decimal and hexadecimal digits.
+
 ghost use Rattle.std.specs.Prelude.{◌≡◌, ◌<◌, ◌≤◌, length, cond, Some, None};
 ghost use Rattle.std.specs.Char.{digit_value};
 ghost use Rattle.spin_grammar.specs.Spelling.{number, numeral, within, greatest};

@@ -1,3 +1,5 @@
+//! The words of a line.
+
 ghost use Rattle.std.specs.Prelude.{◌≡◌, ◌+◌, ◌<◌, ◌≤◌, ◌==◌, ◌||◌, true, false, length};
 ghost use Rattle.std.specs.Prelude.{slice_index, List, ℕ, [], ◌∷◌, MatchOption, MatchResult};
 ghost use Rattle.spin_grammar.specs.Words.{is_blank, words};
@@ -57,6 +59,7 @@ impl<'a> Model for Words<'a> {
 }
 
 impl<'a> Words<'a> {
+    /// The words of the line, of which none is taken yet.
     #[tactic(auto, using(crate::proofs::LineEnds::words_count))]
     pub fn new(line: &'a [u8]) -> Words<'a>
         ensures words { result ≡ words line.now }

@@ -68,7 +68,7 @@ pub trait Shelf {
 }
 
 /// Takes all that is left under a file number, if that is at most `limit` bytes.
-/// `TooLarge` comes exactly where more bytes are left and no read failed, `Failed` only where the shelf's count of
+/// `TooLarge` comes only where more bytes are left, and never an `Ok` then; `Failed` only where the shelf's count of
 /// faults rose. After a refusal the bytes that it took are no longer left. It is linear in the bytes that it takes,
 /// and takes at most 4,096 bytes past the limit.
 pub fn read_up_to<F: Shelf>(

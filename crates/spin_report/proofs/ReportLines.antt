@@ -25,7 +25,8 @@ use Rattle.spin_report.specs.declared.entry.What.TheVariants as what
 use Rattle.spin_report.specs.declared.entry.Entry.{Entry}
 use Rattle.spin_report.specs.declared.text.CaptureCounts.{CaptureCounts}
 use Rattle.spin_text.specs.Words.{Word}
-use Rattle.spin_report.specs.Verdicts.{op_word, refusal_number, refusal_name, refusal_numbers, verdict_words}
+use Rattle.spin_grammar.specs.Forms.{op_word}
+use Rattle.spin_report.specs.Verdicts.{refusal_number, refusal_name, refusal_numbers, verdict_words}
 use Rattle.spin_report.specs.Replies.{answer_words, fault_word, step_words, reply_words}
 use Rattle.spin_report.specs.Lines.{what_words, line_word, entry_words, entry_line, JobSeen, job_words, job_line}
 use Rattle.spin_report.specs.Histories.{Retired, SegmentSeen, HistorySeen, retire_words, retire_line, segment_words, segment_line, lost_words, lost_line, losses, lost_lines, segment_lines, capture_words, end_words, end_line, report_lines, entries_of}

@@ -8,7 +8,8 @@ use Rattle.spin_report.specs.declared.entry.What.{What}
 use Rattle.spin_report.specs.declared.entry.What.TheVariants as what
 use Rattle.spin_report.specs.declared.entry.Entry.{Entry}
 use Rattle.spin_text.specs.Words.{Word, line_of}
-use Rattle.spin_report.specs.Verdicts.{op_word, verdict_words}
+use Rattle.spin_grammar.specs.Forms.{op_word}
+use Rattle.spin_report.specs.Verdicts.{verdict_words}
 use Rattle.spin_report.specs.Replies.{reply_words}
 
 -- a raise of a packet line, whose parts are counted from 1, has another word

@@ -1,20 +1,10 @@
 -- The words of a command and of what became of it.
 use Rattle.std.specs.Prelude.{ℕ, List, [], ◌∷◌, map, decimal, codes}
-use Rattle.spin_word.specs.declared.command.Op.{Op}
-use Rattle.spin_word.specs.declared.command.Op.TheVariants as op
 use Rattle.spin_table.specs.declared.refusal.Refusal.{Refusal}
 use Rattle.spin_table.specs.declared.refusal.Refusal.TheVariants as refusal
 use Rattle.spin_table.specs.declared.refusal.Verdicted.{Verdicted}
 use Rattle.spin_table.specs.declared.refusal.Verdicted.TheVariants as verdicted
 use Rattle.spin_text.specs.Words.{Word}
-
--- the word of what a command does
-abbrev pub op_word : Op → Word
-op_word op.Install = codes "install"
-op_word op.Remove = codes "remove"
-op_word op.Replace = codes "replace"
-op_word op.Default = codes "default"
-op_word op.NoDefault = codes "nodefault"
 
 -- the number by which a report tells a refusal, from 1 to 12
 abbrev pub refusal_number : Refusal → ℕ

@@ -7,8 +7,9 @@ ghost use Rattle.spin_report.specs.Histories.{retire_line, segment_line, lost_li
 
 use crate::entry::{Entry, What};
 use crate::reply::put_reply;
-use crate::verdict::{op_word, put_verdict};
+use crate::verdict::put_verdict;
 use spin_proto::{Job, Reply};
+use spin_script::op_word;
 use spin_text::{put_decimal, put_line, put_number, put_word};
 use spin_values::{NoMemory, Octets};
 use spin_word::Deed;

@@ -2,24 +2,11 @@
 
 ghost use Rattle.std.specs.Prelude.{◌≡◌, ◌++◌, OnOk};
 ghost use Rattle.spin_text.specs.Words.{spaced};
-ghost use Rattle.spin_report.specs.Verdicts.{op_word, refusal_number, refusal_name, refusal_words, verdict_words};
+ghost use Rattle.spin_report.specs.Verdicts.{refusal_number, refusal_name, refusal_words, verdict_words};
 
 use spin_table::{Refusal, Verdicted};
 use spin_text::{put_number, put_numbers, put_word};
 use spin_values::{NoMemory, Octets};
-use spin_word::Op;
-
-pub(crate) fn op_word(op: Op) -> &'static [u8]
-    ensures { result.now ≡ op_word op }
-{
-    match op {
-        Op::Install => b"install",
-        Op::Remove => b"remove",
-        Op::Replace => b"replace",
-        Op::Default => b"default",
-        Op::NoDefault => b"nodefault",
-    }
-}
 
 fn refusal_number(refusal: &Refusal) -> u8
     ensures { result ≡ refusal_number refusal.now }

@@ -217,19 +217,19 @@ valued version make word same ws atoms o is =
     (make event.value vs.0, n.whole ∙ ap (λ (x : List Atom). Fixed word ∷ x) (event.whole ∙ ap (λ (x : List Atom). Numeral event.value ∷ x) vs.1) ∙ same event.value vs.0)
 
 deed_of : (version k : ℕ) (ws : List (List ℕ)) (atoms : List Atom) → length ws ≤ suc k → (o : First (want.Deed version) [] ws atoms) → OneOf (want.deeds version) o.taken → IsDeed atoms
-deed_of version k ws atoms le o (inl is) =
+deed_of version k ws atoms le o (inl is) = valued version forms.Raise (codes "raise") (λ event vs. refl) ws atoms o is
+deed_of version k ws atoms le o (inr (inl is)) =
     deed_by version k (λ (p : Installed). Numeral p.0 ∷ Numeral p.1.0 ∷ Numeral p.1.1.0 ∷ Numeral p.1.1.1.0 ∷ (spot_form p.1.1.1.1.0 ++ Fixed (mode_word p.1.1.1.1.1) ∷ []))
     (λ (p : Installed). forms.Install p.0 p.1.0 p.1.1.0 p.1.1.1.0 p.1.1.1.1.0 p.1.1.1.1.1) (codes "install") _ (λ p. refl) (installed k version) ws atoms le o is
-deed_of version k ws atoms le o (inr (inl is)) =
-    deed_by version k (λ (p : ℕ × (ℕ × ℕ)). Numeral p.0 ∷ Numeral p.1.0 ∷ Numeral p.1.1 ∷ []) (λ (p : ℕ × (ℕ × ℕ)). forms.Remove p.0 p.1.0 p.1.1) (codes "remove") _ (λ p. refl) (three k 0 63 0 255 0 (want.last_target version)) ws atoms le o is
 deed_of version k ws atoms le o (inr (inr (inl is))) =
+    deed_by version k (λ (p : ℕ × (ℕ × ℕ)). Numeral p.0 ∷ Numeral p.1.0 ∷ Numeral p.1.1 ∷ []) (λ (p : ℕ × (ℕ × ℕ)). forms.Remove p.0 p.1.0 p.1.1) (codes "remove") _ (λ p. refl) (three k 0 63 0 255 0 (want.last_target version)) ws atoms le o is
+deed_of version k ws atoms le o (inr (inr (inr (inl is)))) =
     deed_by version k (λ (p : ℕ × (ℕ × (ℕ × (ℕ × ℕ)))). Numeral p.0 ∷ Numeral p.1.0 ∷ Numeral p.1.1.0 ∷ Numeral p.1.1.1.0 ∷ Numeral p.1.1.1.1 ∷ [])
     (λ (p : ℕ × (ℕ × (ℕ × (ℕ × ℕ)))). forms.Replace p.0 p.1.0 p.1.1.0 p.1.1.1.0 p.1.1.1.1) (codes "replace") _ (λ p. refl) (replaced k (want.last_target version)) ws atoms le o is
-deed_of version k ws atoms le o (inr (inr (inr (inl is)))) =
-    deed_by version k (λ (p : ℕ × (ℕ × ℕ)). Numeral p.0 ∷ Numeral p.1.0 ∷ Numeral p.1.1 ∷ []) (λ (p : ℕ × (ℕ × ℕ)). forms.Default p.0 p.1.0 p.1.1) (codes "default") _ (λ p. refl) (three k 0 63 0 255 0 1023) ws atoms le o is
 deed_of version k ws atoms le o (inr (inr (inr (inr (inl is))))) =
+    deed_by version k (λ (p : ℕ × (ℕ × ℕ)). Numeral p.0 ∷ Numeral p.1.0 ∷ Numeral p.1.1 ∷ []) (λ (p : ℕ × (ℕ × ℕ)). forms.Default p.0 p.1.0 p.1.1) (codes "default") _ (λ p. refl) (three k 0 63 0 255 0 1023) ws atoms le o is
+deed_of version k ws atoms le o (inr (inr (inr (inr (inr (inl is)))))) =
     deed_by version k (λ (p : ℕ × ℕ). Numeral p.0 ∷ Numeral p.1 ∷ []) (λ (p : ℕ × ℕ). forms.NoDefault p.0 p.1) (codes "nodefault") _ (λ p. refl) (pair k 0 63 0 255) ws atoms le o is
-deed_of version k ws atoms le o (inr (inr (inr (inr (inr (inl is)))))) = valued version forms.Raise (codes "raise") (λ event vs. refl) ws atoms o is
 deed_of version k ws atoms le o (inr (inr (inr (inr (inr (inr (inl is))))))) = valued version forms.Later (codes "later") (λ event vs. refl) ws atoms o is
 deed_of version k ws atoms le o (inr (inr (inr (inr (inr (inr (inr (inl is)))))))) =
     deed_by version k (λ (p : ℕ × ℕ). Numeral p.0 ∷ Numeral p.1 ∷ []) (λ (p : ℕ × ℕ). forms.Packet p.0 p.1) (codes "packet") _ (λ p. refl) (pair k 0 63 1 65536) ws atoms le o is

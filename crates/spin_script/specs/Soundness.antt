@@ -23,5 +23,9 @@ abbrev pub is_command_work : Work → Bool
 is_command_work (work.Command c) = true
 is_command_work w = false
 
+-- how many of the lines are commands
+abbrev pub commands_in : List Line → ℕ
+commands_in lines = count_by (λ line. is_command_work line.work) lines
+
 abbrev pub command_lines : List Segment → ℕ
-command_lines segments = count_by (λ line. is_command_work line.work) (lines_in segments)
+command_lines segments = commands_in (lines_in segments)

@@ -9,9 +9,11 @@ use Rattle.spin_objects.specs.Units.{HandlerUnit, GuardUnit, Named, native_handl
 use Rattle.spin_table.specs.declared.event.EventDef.{EventDef}
 use Rattle.spin_table.specs.declared.event.Authority.{Authority}
 use Rattle.spin_table.specs.declared.event.Authority.TheVariants as authority
+use Rattle.spin_table.specs.declared.setup.TheConstants.{MAX_LIVE}
 use Rattle.spin_table.specs.Setups.{SetupData}
 use Rattle.spin_grammar.specs.Tasks.{work_of}
 use Rattle.spin_script.specs.declared.script.Segment.{Segment}
+use Rattle.spin_script.specs.declared.read.TheConstants.{MAX_EARLY_LIVE}
 use Rattle.spin_word.specs.declared.work.Work.{Work}
 use Rattle.spin_word.specs.declared.work.Work.TheVariants as work
 use Rattle.spin_grammar.specs.Lines as line
@@ -222,7 +224,7 @@ pub record ScriptData : Type 0 where
 
 -- the greatest number of live bindings of an event
 abbrev pub most_live : ℕ → ℕ
-most_live version = if version == 3 then 64 else 32
+most_live version = if version == 3 then MAX_LIVE else MAX_EARLY_LIVE
 
 -- what the script declares; the policies are those of all native authorisers that were handed in
 abbrev pub setup_in : NativeData → State → SetupData

@@ -22,7 +22,7 @@ pub use head::all_allowed;
 pub use lanes::{MAX_DEEDS, MAX_EARLY_COMMANDS};
 pub use laws::{outcomes_are_one, outcomes_are_there};
 pub use limits::limits_are_stated;
-pub use read::read_script;
+pub use read::{MAX_EARLY_LIVE, read_script};
 pub use script::{Frames, Line, Lines, Script, ScriptFault, Segment, Segments};
 pub use spin_grammar::MAX_TEXT;
 pub use spin_word::{Deed, Work};
@@ -30,4 +30,4 @@ pub use write::law::{
     declarations_are_back, deeds_are_back, scripts_can_be_written, scripts_come_back,
     written_lines_are_read,
 };
-pub use write::write_script;
+pub use write::{op_word, write_script};

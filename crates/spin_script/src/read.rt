@@ -27,7 +27,7 @@ use crate::units::{add_guard, add_handler, add_native_guard, add_native_handler}
 use spin_code::Sincere;
 use spin_grammar::{Cause, Fault, Kind, Lines, MAX_TEXT, Said, Words, read_line};
 use spin_objects::{Catalogue, Natives};
-use spin_table::{EventList, Setup};
+use spin_table::{EventList, MAX_LIVE, Setup};
 use spin_values::NoMemory;
 use std::alloc::Global;
 
@@ -188,11 +188,19 @@ fn read_lines(
     Ok(())
 }
 
+/// The greatest number of live bindings of an event, in a script of version 1 or 2. One of version 3 may have
+/// [`MAX_LIVE`].
+pub const MAX_EARLY_LIVE: u16 = 32;
+
 /// The greatest number of live bindings of an event, in a script of this version.
 fn most_live(version: u8) -> u16
     ensures { result ≡ most_live version }
 {
-    if version == 3 { 64 } else { 32 }
+    if version == 3 {
+        MAX_LIVE
+    } else {
+        MAX_EARLY_LIVE
+    }
 }
 
 /// The script of a sound draft.
@@ -222,7 +230,7 @@ fn build(draft: Draft, catalogue: Catalogue) -> Result<Script, NoMemory>
 
 /// Reads a script, in which these natives may be named, or finds its first bad line and why it is bad.
 ///
-/// [`ScriptFault::Bad`] comes exactly where the text isn't in the language: its line is the first that can't stand
+/// Unless memory runs out, [`ScriptFault::Bad`] comes exactly where the text isn't in the language: its line is the first that can't stand
 /// behind the lines before it, counted from 1, and its cause the number of the first [`Cause`] that applies there, or 0
 /// and 1 where the text is over [`MAX_TEXT`]. Of a script each command is valid, and at most 4,096 lines are commands.
 /// It is orderly: the numbers of its lines rise; it has 1 to 8 lanes, each line is of one of them and its command of that

@@ -100,7 +100,7 @@ fn rule_cause(catalogue: &Catalogue, def: &EventDef, rule: &Rule) -> Option<Caus
     None
 }
 
-/// Adds a rule to those that were given, which are no more than 15.
+/// Adds a rule to those that were given, which are fewer than [`MAX_RULES`].
 fn add_to(def: &mut EventDef, rule: Rule) -> Result<(), Fault>
     requires guards { has_wrong_guards rule.effect ≡ false }
     requires few { length (given_rules def.old.authority) < MAX_RULES }
@@ -118,7 +118,7 @@ fn add_to(def: &mut EventDef, rule: Rule) -> Result<(), Fault>
     }
 }
 
-/// Adds a rule to those that were given for the event, which are no more than 15.
+/// Adds a rule to those that were given for the event, which are fewer than [`MAX_RULES`].
 fn push_rule(events: &mut Vec<EventDef>, event: u8, rule: Rule) -> Result<(), Fault>
     requires guards { has_wrong_guards rule.effect ≡ false }
     requires few { IfSome (slice_get events.old.items event)

@@ -16,6 +16,7 @@ ghost use Rattle.spin_script.specs.Canonical as specs;
 use crate::script::{Line, Script, Segment};
 use declared::{put_defaults, put_endpoints, put_events, put_guards, put_handlers};
 use deeds::put_work;
+pub use rules::op_word;
 use rules::put_authorities;
 use spin_text::{end_line, put_number};
 use spin_values::{NoMemory, Octets};

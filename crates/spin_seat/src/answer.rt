@@ -31,7 +31,7 @@ pub struct Judged {
 /// Why a command has no verdict. It wasn't published then.
 #[derive(Debug, Clone, Copy, PartialEq, Eq, Error)]
 pub enum SeatFault {
-    /// 1: the seat's front has as many rows as a log can have.
+    /// The seat's front has as many rows as a log can have.
     #[error("the log is full")]
     Full,
     /// There was no memory for the next version.

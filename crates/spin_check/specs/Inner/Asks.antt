@@ -51,10 +51,6 @@ pub record AreAsked (count : ℕ) (asked : List Numbered) (queues : List (List A
 abbrev pub commands_asked : List Numbered → ℕ
 commands_asked asked = count_by (λ n. is_command_work n.asked) asked
 
--- how many of the lines are commands
-abbrev pub commands_in : List Line → ℕ
-commands_in lines = count_by (λ line. is_command_work line.work) lines
-
 -- Each lane is to do its own of what is asked, behind what it was to do already.
 pub record Adds (asked : List Numbered) (before after : List (List Ask)) : Type 0 where
   pub lanes : length after ≡ length before

@@ -8,7 +8,7 @@ use Rattle.spin_script.specs.declared.script.Segment.{Segment}
 use Rattle.spin_text.specs.Words.{ended, text_of}
 use Rattle.spin_report.specs.Histories.{Retired, SegmentSeen, retire_line, segment_line, segment_lines}
 use Rattle.spin_report.specs.Runs.{Standing, IsSegmentRun}
-use Rattle.spin_check.specs.Inner.Asks.{commands_in}
+use Rattle.spin_script.specs.Soundness.{commands_in}
 use Rattle.spin_check.specs.Inner.Standings.{AreFlags}
 
 -- the text of what stands before a segment's entries

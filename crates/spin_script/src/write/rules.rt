@@ -18,8 +18,8 @@ use spin_text::{end_line, put_number, put_numbers, put_word};
 use spin_values::{NoMemory, Octets, Text};
 use spin_word::Op;
 
-/// The word of an op.
-pub(super) fn op_word(op: Op) -> &'static [u8]
+/// The word by which scripts and reports tell what a command does.
+pub fn op_word(op: Op) -> &'static [u8]
     ensures { result.now ≡ op_word op }
 {
     match op {

@@ -11,7 +11,8 @@ use Rattle.spin_script.specs.declared.script.Line.{Line}
 use Rattle.spin_report.specs.Histories.{lost_lines}
 use Rattle.spin_report.specs.Segments.{wanted_by}
 use Rattle.spin_report.specs.Runs.{retirements, lost_counts}
-use Rattle.spin_check.specs.Inner.Asks.{commands_in, commands_left}
+use Rattle.spin_script.specs.Soundness.{commands_in}
+use Rattle.spin_check.specs.Inner.Asks.{commands_left}
 use Rattle.spin_check.specs.Inner.Fronts.{IsBehind}
 use Rattle.spin_check.specs.Inner.Standings.{AreFlags}
 use Rattle.spin_check.specs.Inner.Replays.{At, EndsAt}
