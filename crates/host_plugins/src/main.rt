@@ -1,5 +1,7 @@
 //! A plug-in host: two versions of a plug-in as objects of the host's own, and two threads. One binds the first version
 //! and replaces it by the second, while the other raises the event; no thread takes a lock or waits for the other.
+//! Its status is 0 where each raise was answered by the version in force at its place, 1 where one wasn't, and 7 where
+//! there was no memory.
 #![tactic(auto)]
 
 ghost use Rattle.std.specs.Prelude.{◌≡◌, ◌∷◌, [], IfOk, IfSome, Ok};
@@ -33,6 +35,9 @@ handler 2 native second
 
 /// How often the event is raised.
 const RAISES: u32 = 2_000;
+
+/// The status where there is no memory.
+const OUT_OF_MEMORY: u8 = 7;
 
 /// A version of the plug-in: it gives its number.
 #[derive(Drop)]
@@ -77,13 +82,17 @@ fn bind(alloc: Global, hub: &Hub, mut seat: Seat) -> Result<Seat, SeatFault>
     ensures { IfOk result (λ after.
         IsSamePen seat.pen after.pen × IsSeatOf (data_of hub.now.setup) after) }
 {
-    let mut command = Command::bare(Op::Install, 0, 0, 0);
-    command.handler = 1;
-    seat.command(alloc, hub, &command)?;
-    let mut command = Command::bare(Op::Replace, 0, 0, 0);
-    command.handler = 2;
-    command.target = 1;
-    seat.command(alloc, hub, &command)?;
+    let install = Command {
+        handler: 1,
+        ..Command::bare(Op::Install, 0, 0, 0)
+    };
+    seat.command(alloc, hub, &install)?;
+    let replace = Command {
+        handler: 2,
+        target: 1,
+        ..Command::bare(Op::Replace, 0, 0, 0)
+    };
+    seat.command(alloc, hub, &replace)?;
     Ok(seat)
 }
 
@@ -235,12 +244,15 @@ fn main(rt: HostRuntime) -> Result<ExitCode, NoMemory> {
     let second: Box<dyn Handler + Send + Sync> = Box::new(alloc, Plugin { version: 2 })?;
     let is_added = add(alloc, &mut natives, b"first", 1, first).is_some()
         && add(alloc, &mut natives, b"second", 2, second).is_some();
+    if !is_added {
+        return Ok(ExitCode::from(OUT_OF_MEMORY));
+    }
     let Some((rows, right)) = play(&rt, alloc, natives) else {
-        return Ok(ExitCode::from(7));
+        return Ok(ExitCode::from(OUT_OF_MEMORY));
     };
     tell(&rt, rows.as_slice());
     let _ = println!(rt;
         "{right} of {RAISES} raises answered by the version in force at their place"
     );
-    Ok(ExitCode::from(if is_added { 0 } else { 1 }))
+    Ok(ExitCode::from(if right == RAISES { 0 } else { 1 }))
 }
