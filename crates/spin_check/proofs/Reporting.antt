@@ -7,7 +7,7 @@ use Rattle.std.proofs.lemmas.List.Elements.{All-head, All-tail, All-cons}
 use Rattle.std.proofs.lemmas.List.Sums.{sum_by-append}
 use Rattle.spin_endpoint.specs.Named.{NamedEnd}
 use Rattle.spin_endpoint.specs.Sends.{name_of}
-use Rattle.spin_table.specs.States.{State, start_of}
+use Rattle.spin_table.specs.States.{start_of}
 use Rattle.spin_table.specs.Soundness.{IsSound}
 use Rattle.spin_text.specs.Words.{ended}
 use Rattle.spin_script.specs.declared.script.Line.{Line}

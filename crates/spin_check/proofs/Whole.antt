@@ -8,7 +8,7 @@ use Rattle.spin_endpoint.specs.Named.{NamedEnd}
 use Rattle.spin_text.specs.Words.{ended, text_of}
 use Rattle.spin_script.specs.declared.script.Segment.{Segment}
 use Rattle.spin_script.specs.States.{ScriptData}
-use Rattle.spin_report.specs.Histories.{SegmentSeen, first_line, segment_lines, end_line, front_lines}
+use Rattle.spin_report.specs.Histories.{first_line, segment_lines, end_line, front_lines}
 use Rattle.spin_report.specs.Runs.{Standing, Captured, AreRun, frames_of, start_with, counts_of}
 use Rattle.spin_check.specs.RunTexts.{IsRunText}
 use Rattle.spin_check.specs.Inner.Segments.{Mark, standing, IsPart, Passes, Goes}

@@ -1,6 +1,5 @@
 -- Lines of the script that can stand behind one another.
-use Rattle.std.proofs.Common.{◌≡◌, ◌∙◌, ◌<◌, ◌≤◌, ◌+◌, ℕ, zero, suc, Bool, true, false, ◌&&◌, cond, eqb, ltb, leb, List, [], ◌∷◌, ◌++◌, length, map, Some, None, Ok, decimal, codes, refl, sym, ap, subst, arith, ◌⊎◌, inl, inr}
-use Rattle.std.specs.Prelude.{nat_lt, nat_le}
+use Rattle.std.proofs.Common.{◌≡◌, ◌<◌, ◌≤◌, ◌+◌, ℕ, suc, false, leb, List, [], ◌∷◌, ◌++◌, map, Ok, decimal, codes, refl, sym, ap, subst, arith}
 use Rattle.std.proofs.lemmas.Bool.{le-leb, le-ltb}
 use Rattle.std.proofs.lemmas.Bool.Decides.{nat_tests}
 use Rattle.spin_values.specs.declared.values.Value.TheVariants.{Word}
@@ -9,14 +8,14 @@ use Rattle.spin_word.specs.declared.command.Place.TheVariants as place
 use Rattle.spin_word.specs.declared.command.Mode.TheVariants as mode
 use Rattle.spin_word.specs.declared.work.Work.{Work}
 use Rattle.spin_grammar.specs.declared.kind.Kind.TheVariants as kind
-use Rattle.spin_grammar.specs.Spelling.{number, greatest}
+use Rattle.spin_grammar.specs.Spelling.{greatest}
 use Rattle.spin_grammar.specs.Grammar as want
 use Rattle.spin_grammar.specs.Grammar.{Atom, Fixed, Numeral, Want, Reading, accepts, reads, then_read}
 use Rattle.spin_grammar.specs.Canonical.{spell}
 use Rattle.spin_grammar.specs.Forms as task
 use Rattle.spin_grammar.specs.Forms.{Task, place_word}
 use Rattle.spin_grammar.specs.Tasks.{work_of}
-use Rattle.spin_grammar.specs.Lines.{Line, Lane, Barrier, form, wanted}
+use Rattle.spin_grammar.specs.Lines.{Line, Lane, Barrier, form}
 use Rattle.spin_grammar.proofs.Respelled.{number_back, no_bytes}
 use Rattle.spin_script.specs.States.{State, NativeData, after, command_count, deed_count}
 use Rattle.spin_script.specs.Checks.{is_full}

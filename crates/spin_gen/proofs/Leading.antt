@@ -1,8 +1,8 @@
 -- All lines of the script, one behind another.
-use Rattle.std.proofs.Common.{◌≡◌, ◌∙◌, ◌<◌, ◌≤◌, ◌+◌, ◌*◌, ◌%◌, ◌⊎◌, inl, inr, ℕ, zero, suc, Bool, true, false, eqb, List, [], ◌∷◌, ◌++◌, length, map, Ok, None, codes, decimal, refl, sym, ap, subst, arith, add-one}
+use Rattle.std.proofs.Common.{◌≡◌, ◌∙◌, ◌<◌, ◌≤◌, ◌+◌, ◌*◌, ◌%◌, ◌⊎◌, inl, inr, ℕ, zero, suc, Bool, true, false, eqb, List, [], ◌∷◌, ◌++◌, length, map, Ok, None, codes, refl, sym, ap, subst, arith}
 use Rattle.std.specs.Prelude.{if◌then◌else◌}
 use Rattle.std.specs.Fmt.{digits}
-use Rattle.std.specs.List.{flat_map, range_with_len, AllByRecursion}
+use Rattle.std.specs.List.{flat_map, range_with_len}
 use Rattle.std.proofs.Math.Nat.{le_refl}
 use Rattle.std.proofs.lemmas.List.{length-append, append_assoc}
 use Rattle.std.proofs.lemmas.List.Concat.{flat_map-append}
@@ -10,7 +10,7 @@ use Rattle.std.proofs.lemmas.Fmt.{length-decimal-le}
 use Rattle.spin_values.specs.First.{first_of}
 use Rattle.spin_word.specs.declared.command.Place.{Place}
 use Rattle.spin_word.specs.declared.command.Place.TheVariants as place
-use Rattle.spin_grammar.specs.Spelling.{number, greatest, signature, guard_signature}
+use Rattle.spin_grammar.specs.Spelling.{number, signature, guard_signature}
 use Rattle.spin_grammar.specs.Grammar.{accepts, reads}
 use Rattle.spin_grammar.specs.Canonical.{spell}
 use Rattle.spin_grammar.specs.Forms.{place_word}
@@ -21,7 +21,6 @@ use Rattle.spin_script.specs.Checks.{checks}
 use Rattle.spin_script.specs.Canonical.{line_text, text_of, version_text}
 use Rattle.spin_script.specs.RoundTrip.{Fits, LeadTo}
 use Rattle.spin_gen.specs.Numbers.{answer, state_after, drawn}
-use Rattle.spin_gen.specs.Declarations.{declarations}
 use Rattle.spin_gen.specs.Drafts.{Draft, Stated, Install, Raise, draws_of, drawn_place, line_of, lines_of, install_line, raise_line, packet_line, lane_draft, lane_drafts, segment_drafts, segments_drafts, packet_lines, head_lines, drafts}
 use Rattle.spin_gen.proofs.Fitting.{Open, Goes, install_goes, raise_goes, packet_goes, barrier_goes}
 use Rattle.spin_gen.proofs.Written.{lines_joined, stated_lines, stated_state}

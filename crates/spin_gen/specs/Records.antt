@@ -1,5 +1,5 @@
 -- The capture, as a file of version 2.4 (draft-ietf-opsawg-pcap) with the lowest byte first.
-use Rattle.std.specs.Prelude.{ℕ, List, [], ◌∷◌, ◌++◌}
+use Rattle.std.specs.Prelude.{ℕ, List, ◌++◌}
 use Rattle.std.specs.List.{flat_map, range_with_len}
 use Rattle.byteorder.specs.Endian.{big_bytes, little_bytes}
 use Rattle.spin_headers.specs.Headers.{ipv4_header, udp_datagram}

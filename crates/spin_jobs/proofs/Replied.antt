@@ -1,6 +1,6 @@
 -- A job of a list, and the reply to it.
 use Rattle.std.proofs.Common.{◌≡◌, ℕ, ◌<◌, List, [], length, get_or, sym, subst, refl, All}
-use Rattle.std.specs.Prelude.{Result, Ok, Err, Some, IfOk, IsSomeAnd, slice_get}
+use Rattle.std.specs.Prelude.{Result, Ok, Err, IfOk, IsSomeAnd}
 use Rattle.std.specs.Arc.{arc_value}
 use Rattle.std.proofs.lemmas.Option.{slice_get_read}
 use Rattle.spin_values.specs.declared.no_memory.NoMemory.{NoMemory}

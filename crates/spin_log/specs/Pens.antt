@@ -5,10 +5,9 @@ use Rattle.atomic_table.specs.Seated.{TableId}
 use Rattle.spin_word.specs.declared.command.TheConstants.{MAX_PLACE, MAX_LANES}
 use Rattle.spin_word.specs.declared.row.Row.{Row}
 use Rattle.spin_log.specs.declared.view.Hand.{Hand}
-use Rattle.spin_log.specs.Rows.{size_of, rows_of, IsCommandBelow, IsPrefix}
+use Rattle.spin_log.specs.Rows.{rows_of, IsCommandBelow, IsPrefix}
 use Rattle.spin_log.specs.History.{Moment, rows_in, pins_from}
-use Rattle.spin_log.specs.Rule.{holding, new_hand, new_hands}
-use Rattle.spin_log.specs.Steps.{Mine}
+use Rattle.spin_log.specs.Rule.{new_hand, new_hands}
 
 -- which log it is, and its number of lanes
 pub record LogValue : Type 0 where

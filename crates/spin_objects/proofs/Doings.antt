@@ -1,5 +1,5 @@
 -- What a native does is what its place in the lists says.
-use Rattle.std.proofs.Common.{◌≡◌, ℕ, ◌<◌, List, map, refl, ap, ◌∙◌}
+use Rattle.std.proofs.Common.{◌≡◌, ℕ, ◌<◌, List, map, refl, ap}
 use Rattle.std.specs.Prelude.{Option, None, Some, IfSome, slice_get}
 use Rattle.std.specs.Option.{option_map}
 use Rattle.std.proofs.lemmas.Option.{slice_get-map, same_Some}

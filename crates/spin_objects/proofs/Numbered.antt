@@ -1,6 +1,6 @@
 -- Items by their numbers, and by their places.
 use Rattle.std.proofs.Common.{◌≡◌, ℕ, ◌-◌, ◌==◌, Bool, true, false, if◌then◌else◌, List, map, Some, refl, arith}
-use Rattle.std.specs.Prelude.{Option, None, IsSomeAnd, slice_get}
+use Rattle.std.specs.Prelude.{None, IsSomeAnd, slice_get}
 use Rattle.std.specs.Option.{option_map}
 use Rattle.std.proofs.lemmas.Option.{slice_get-map}
 use Rattle.spin_values.specs.First.{numbered}

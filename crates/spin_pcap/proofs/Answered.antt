@@ -1,8 +1,7 @@
 -- A whole record at the front of the bytes that are left.
-use Rattle.std.proofs.Common.{◌≡◌, ◌≤◌, ◌<◌, ◌+◌, ℕ, List, [], ◌++◌, length, take, drop, Option, Some, None, Result, Ok, Err, refl, sym, ap, subst, ◌∙◌, arith, append_assoc, IfSome}
+use Rattle.std.proofs.Common.{◌≡◌, ◌≤◌, ◌<◌, ◌+◌, ℕ, List, [], ◌++◌, length, take, drop, Ok, refl, sym, ap, ◌∙◌, arith, IfSome}
 use Rattle.std.proofs.lemmas.List.{append-nil, length-append, length-take, length-drop, take-append-drop}
 use Rattle.std.proofs.Math.Seq.{drop-append-le}
-use Rattle.std.specs.Io.KnownBytes.{IsAtEnd}
 use Rattle.byteorder.specs.Numbers.{big_from-append, little_from-append}
 use Rattle.spin_outside.specs.Sources.{SourceSeen}
 use Rattle.spin_pcap.specs.declared.fault.PcapFault.TheVariants as fault
@@ -10,9 +9,9 @@ use Rattle.spin_pcap.specs.declared.next.Next.TheVariants as next
 use Rattle.spin_pcap.specs.declared.order.Order.{Order}
 use Rattle.spin_pcap.specs.declared.order.Order.TheVariants as order
 use Rattle.spin_pcap.specs.declared.limits.TheConstants.{MAX_RECORDS, MAX_CAPTURED}
-use Rattle.spin_pcap.specs.Captures.{number, number_at, captured, IsRecord, IsCut, IsBad}
+use Rattle.spin_pcap.specs.Captures.{number, number_at, captured}
 use Rattle.spin_pcap.specs.Passing.{Passes, left_for, IsAnswer, IsWithinRecord}
-use Rattle.spin_pcap.proofs.Passed.{before-rest, before-end, passes-then, passes-skip}
+use Rattle.spin_pcap.proofs.Passed.{before-rest, passes-then, passes-skip}
 
 pub number-front : (way : Order) (width : ℕ) (xs ys : List ℕ) → width ≤ length xs → number way width (xs ++ ys) ≡ number way width xs
 number-front order.Big width xs ys le = big_from-append width xs ys le

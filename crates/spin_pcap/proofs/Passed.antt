@@ -1,5 +1,5 @@
 -- Bytes on their way from a source.
-use Rattle.std.proofs.Common.{◌≡◌, ◌≤◌, ◌<◌, ◌+◌, ℕ, List, [], ◌++◌, length, take, drop, Option, Some, None, refl, sym, ap, subst, ◌∙◌, arith, append_assoc, IfSome, Bool, true, false, Result, Ok, Err}
+use Rattle.std.proofs.Common.{◌≡◌, ◌≤◌, ◌<◌, ◌+◌, ℕ, List, [], ◌++◌, length, take, drop, Option, Some, None, refl, sym, ap, subst, ◌∙◌, arith, append_assoc, IfSome, Bool, true, false, Ok}
 use Rattle.std.proofs.KnownBytes.{Consumes-nil, Consumes-trans}
 use Rattle.std.proofs.lemmas.List.{append-nil, length-append, length-take, length-drop, take-append-drop}
 use Rattle.std.specs.Io.KnownBytes.{Consumes, IsAtEnd}
@@ -7,7 +7,7 @@ use Rattle.spin_pcap.specs.declared.fault.PcapFault.{PcapFault}
 use Rattle.spin_pcap.specs.declared.fault.PcapFault.TheVariants as fault
 use Rattle.spin_outside.specs.Counts.{raised_by}
 use Rattle.spin_outside.specs.Sources.{SourceSeen, taken_more}
-use Rattle.spin_pcap.specs.Passing.{Passes, Takes, left_for, UnlessFailed}
+use Rattle.spin_pcap.specs.Passing.{Passes, left_for, UnlessFailed}
 use Rattle.spin_pcap.specs.Inner.Filling.{Copies}
 
 raised_twice : (x n m : ℕ) → raised_by (raised_by x n) m ≡ raised_by x (n + m)

@@ -1,5 +1,5 @@
 -- The grammar of capture files is unambiguous.
-use Rattle.std.proofs.Common.{◌≡◌, ◌≤◌, ◌<◌, ◌+◌, ◌⊎◌, inl, inr, ℕ, Bool, true, false, cond, nat_lt, List, [], ◌∷◌, ◌++◌, length, take, drop, Result, Ok, Err, refl, sym, ap, subst, ◌∙◌, arith, append_assoc}
+use Rattle.std.proofs.Common.{◌≡◌, ◌≤◌, ◌<◌, ◌+◌, inl, inr, ℕ, cond, nat_lt, List, [], ◌∷◌, ◌++◌, length, take, drop, Result, Ok, Err, refl, sym, ap, subst, ◌∙◌, arith, append_assoc}
 use Rattle.std.proofs.lemmas.Bool.{cases_lt, le-ltb, lt-ltb}
 use Rattle.std.proofs.lemmas.List.{length-append, take_at, drop_at}
 use Rattle.spin_pcap.specs.declared.fault.PcapFault.{PcapFault}
@@ -8,7 +8,7 @@ use Rattle.spin_pcap.specs.declared.next.Next.{Next}
 use Rattle.spin_pcap.specs.declared.next.Next.TheVariants as next
 use Rattle.spin_pcap.specs.declared.order.Order.{Order}
 use Rattle.spin_pcap.specs.declared.limits.TheConstants.{MAX_RECORDS, MAX_CAPTURED}
-use Rattle.spin_pcap.specs.Captures.{captured, header_of, IsRecord, IsCut, IsBad, IsRest, IsBody, IsCapture}
+use Rattle.spin_pcap.specs.Captures.{captured, header_of, IsRecord, IsRest, IsBody}
 use Rattle.spin_pcap.specs.Laws.{OneReading, OneAnswer}
 use Rattle.spin_pcap.specs.Passing.{IsWithinRecord}
 use Rattle.spin_pcap.proofs.Answered.{number_at-front}

@@ -2,7 +2,7 @@
 -- that is none.
 use Rattle.std.specs.Prelude.{◌≡◌, ℕ, ◌+◌, ◌<◌, ◌≤◌, Bool, ◌&&◌, ◌||◌, ◌==◌, not, nat_lt}
 use Rattle.std.specs.Prelude.{if◌then◌else◌, Option, Some, None, List, [], ◌∷◌, ◌++◌, length, drop}
-use Rattle.std.specs.Prelude.{Result, Ok, Err, ⊤}
+use Rattle.std.specs.Prelude.{Result, Ok, Err}
 use Rattle.byteorder.specs.Endian.{big_number, little_number}
 use Rattle.spin_pcap.specs.declared.limits.TheConstants.{MAX_RECORDS, MAX_CAPTURED}
 use Rattle.spin_pcap.specs.declared.fault.PcapFault.{PcapFault}

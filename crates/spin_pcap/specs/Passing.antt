@@ -1,7 +1,7 @@
 -- What contracts see of a reader, and what its calls do.
-use Rattle.std.specs.Prelude.{◌≡◌, ℕ, ◌+◌, ◌<◌, ◌≤◌, Bool, true, false, Option, Some, None, List}
+use Rattle.std.specs.Prelude.{◌≡◌, ℕ, ◌+◌, ◌≤◌, Option, Some, None, List}
 use Rattle.std.specs.Prelude.{[], ◌++◌, length, drop, Result, Ok, Err, ⊤}
-use Rattle.std.specs.Io.KnownBytes.{Consumes, IsAtEnd}
+use Rattle.std.specs.Io.KnownBytes.{Consumes}
 use Rattle.spin_outside.specs.Counts.{Rose}
 use Rattle.spin_outside.specs.Sources.{SourceSeen, taken_more}
 use Rattle.spin_pcap.specs.declared.fault.PcapFault.{PcapFault}

@@ -1,5 +1,5 @@
 -- Replies on the events of a sound state.
-use Rattle.std.proofs.Common.{◌≡◌, ℕ, suc, true, false, List, [], drop, sym, ap, subst, ◌∙◌}
+use Rattle.std.proofs.Common.{◌≡◌, ℕ, suc, List, [], drop, sym, ap, subst, ◌∙◌}
 use Rattle.std.specs.Prelude.{Result, Ok, Err, IfOk}
 use Rattle.std.specs.List.{All}
 use Rattle.spin_values.specs.declared.values.Value.{Value}

@@ -6,7 +6,6 @@ use Rattle.std.specs.List.{flat_map}
 use Rattle.spin_values.specs.declared.values.Value.{Value}
 use Rattle.spin_code.specs.declared.merge.Merge.{Merge}
 use Rattle.spin_objects.specs.declared.item.Item.{Item}
-use Rattle.spin_raise.specs.declared.answer.Answer.{Answer}
 use Rattle.spin_raise.specs.declared.bound.Runner.{Runner}
 use Rattle.spin_raise.specs.declared.answer.Answer.TheVariants as answer
 use Rattle.spin_raise.specs.declared.stepping.Stepped.TheVariants as stepped

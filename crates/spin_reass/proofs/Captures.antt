@@ -1,27 +1,26 @@
 -- The joined capture is a capture.
-use Rattle.std.proofs.Common.{◌≡◌, ◌≤◌, ◌<◌, ◌+◌, ◌-◌, ◌^◌, ℕ, zero, suc, Bool, true, false, cond, nat_lt, not, List, [], ◌∷◌, ◌++◌, length, take, drop, max, replicate, Option, Some, None, Result, Ok, Err, refl, sym, ap, subst, ◌∙◌, arith, append_assoc, inl, inr}
-use Rattle.std.proofs.lemmas.Bool.{cases_Bool, cases_lt, cond-true, cond-false, cond_both, le-ltb, lt-ltb, ltb-false, not-false}
+use Rattle.std.proofs.Common.{◌≡◌, ◌≤◌, ◌<◌, ◌+◌, ◌-◌, ◌^◌, ℕ, true, false, cond, nat_lt, not, List, [], ◌∷◌, ◌++◌, length, take, drop, max, replicate, Option, Some, None, Ok, refl, sym, ap, subst, ◌∙◌, arith, append_assoc, inl, inr}
+use Rattle.std.proofs.lemmas.Bool.{cases_Bool, cond-true, cond-false, cond_both, le-ltb, ltb-false, not-false}
 use Rattle.std.proofs.lemmas.List.{length-append, length-take, length-replicate}
 use Rattle.std.specs.Bool.{⊤}
 use Rattle.std.specs.List.{flat_map, list_any}
 use Rattle.byteorder.specs.Endian.{little_bytes}
-use Rattle.byteorder.specs.Numbers.{little_number-reads_back, length-bytes_low_first}
+use Rattle.byteorder.specs.Numbers.{little_number-reads_back}
 use Rattle.spin_headers.specs.Headers.{ipv4_header}
-use Rattle.spin_pcap.specs.declared.fault.PcapFault.{PcapFault}
 use Rattle.spin_pcap.specs.declared.limits.TheConstants.{MAX_RECORDS, MAX_CAPTURED}
 use Rattle.spin_pcap.specs.declared.next.Next.{Next}
 use Rattle.spin_pcap.specs.declared.next.Next.TheVariants as next
 use Rattle.spin_pcap.specs.declared.order.Order.{Order}
 use Rattle.spin_pcap.specs.declared.order.Order.TheVariants as order
-use Rattle.spin_pcap.specs.Captures.{captured, header_of, fields_of, order_of, IsRecord, IsCut, IsRest, IsBody, IsCapture}
+use Rattle.spin_pcap.specs.Captures.{captured, header_of, fields_of, order_of, IsRecord, IsRest, IsBody}
 use Rattle.spin_reass.specs.declared.piece.Key.{Key}
 use Rattle.spin_reass.specs.declared.piece.Part.{Part}
 use Rattle.spin_reass.specs.declared.piece.Piece.{Piece}
 use Rattle.spin_reass.specs.declared.limits.TheConstants.{MAX_OPEN}
 use Rattle.spin_reass.specs.Fragments.{piece_of, is_sound}
 use Rattle.spin_reass.specs.Joining.{OpenDatagram, fits, placed, are_whole, payload, first_ttl, whole_frame, has_key, with_room, opened, parts_of, with_parts, without, gathered, joined_by, joined, joined_frames}
-use Rattle.spin_reass.specs.JoinedCaptures.{file_header, record_header, record_of, cut_rest, rest_of, joined_capture}
-use Rattle.spin_reass.specs.Inner.Orderly.{are_orderly, size_of}
+use Rattle.spin_reass.specs.JoinedCaptures.{file_header, record_header, record_of, cut_rest, rest_of}
+use Rattle.spin_reass.specs.Inner.Orderly.{are_orderly}
 use Rattle.spin_reass.specs.Laws.{JoinedIsCapture}
 use Rattle.spin_reass.proofs.Orders.{sound, fits_goes, placed_orderly, small_size, payload_size}
 

@@ -1,8 +1,7 @@
 -- Frames and their headers.
-use Rattle.std.proofs.Common.{◌≡◌, ◌≤◌, ◌<◌, ℕ, List, length, nat_lt, Result, Ok, Err, cond, refl, sym, ◌∙◌, arith, inl, inr}
+use Rattle.std.proofs.Common.{◌≡◌, ◌≤◌, ℕ, List, length, nat_lt, Ok, Err, cond, inl, inr}
 use Rattle.std.proofs.lemmas.Bool.{cases_lt, lt-ltb, cond-true}
 use Rattle.spin_headers.specs.declared.ether.Ether.{Ether}
-use Rattle.spin_headers.specs.declared.fault.HeaderFault.{HeaderFault}
 use Rattle.spin_headers.specs.declared.fault.HeaderFault.TheVariants as fault
 use Rattle.spin_headers.specs.Headers.{ether_of}
 

@@ -1,20 +1,19 @@
 -- The parts of one datagram, as they come in any order.
-use Rattle.std.proofs.Common.{◌≡◌, ◌≤◌, ◌<◌, ◌+◌, ◌-◌, ◌⊎◌, inl, inr, ℕ, zero, suc, Bool, true, false, cond, nat_lt, nat_le, not, ◌==◌, ◌&&◌, ◌||◌, List, [], ◌∷◌, ◌++◌, length, take, drop, Option, Some, None, find, refl, sym, ap, subst, ◌∙◌, arith}
-use Rattle.std.proofs.lemmas.Bool.{cases_lt, cases_eq, cases_Bool, and_from, or_cases, or_left, or_right, or_from, or_parts, both_ways, false≢true, true_from_ne_false, le-leb, lt-leb, lt-ltb, le-ltb, eqb-true, eq-eqb, ne_eqb, cond-true, cond-false, cond_both, not_from_false, not-true}
+use Rattle.std.proofs.Common.{◌≡◌, ◌≤◌, ◌<◌, ◌+◌, ◌-◌, ◌⊎◌, inl, inr, ℕ, Bool, true, false, cond, nat_lt, nat_le, not, ◌==◌, ◌&&◌, ◌||◌, List, [], ◌∷◌, ◌++◌, length, take, drop, Option, Some, None, find, refl, sym, ap, subst, ◌∙◌, arith}
+use Rattle.std.proofs.lemmas.Bool.{cases_eq, cases_Bool, and_from, or_left, or_right, or_from, both_ways, false≢true, le-leb, le-ltb, eq-eqb, cond-true, cond-false, cond_both, not_from_false}
 use Rattle.std.proofs.lemmas.Bool.Decides.{Decides-below_and}
 use Rattle.std.proofs.lemmas.List.{length-drop, drop-drop, take-append-drop, take_all}
-use Rattle.std.specs.Bool.{⊤}
 use Rattle.std.specs.List.{list_any}
 use Rattle.std.specs.Option.{option_map_or}
 use Rattle.spin_headers.specs.Headers.{ipv4_header}
 use Rattle.spin_reass.specs.declared.limits.TheConstants.{MAX_OPEN}
 use Rattle.spin_reass.specs.declared.piece.Key.{Key}
 use Rattle.spin_reass.specs.declared.piece.Part.{Part}
-use Rattle.spin_reass.specs.Fragments.{piece_of, end_of, is_sound}
+use Rattle.spin_reass.specs.Fragments.{piece_of, end_of}
 use Rattle.spin_reass.specs.Joining.{OpenDatagram, opened, joined, joined_frames, fits, fits_beside, placed, last_end, has_byte, cover, cover_to, are_whole, payload, first_ttl}
 use Rattle.spin_reass.specs.Inner.Orderly.{are_orderly}
 use Rattle.spin_reass.specs.Laws.{Apart, IsPartOf, Each, AreApart, IsAmong, AreParts, Carry, WholeInAnyOrder}
-use Rattle.spin_reass.proofs.Orders.{IsFirst, first_of, sound, fits_goes, placed_orderly}
+use Rattle.spin_reass.proofs.Orders.{first_of, sound, fits_goes, placed_orderly}
 use Rattle.spin_reass.proofs.Covers.{begins, has_none, in_rest, last_is, other_is}
 use Rattle.spin_reass.proofs.Opens.{IsOpen, opened_open, opened_first, joined_other, joined_added, joined_whole}
 use Rattle.spin_reass.proofs.Positions.{none_with_room}

@@ -1,10 +1,10 @@
 -- Parts in order of start that share no byte, and one more among them.
-use Rattle.std.proofs.Common.{◌≡◌, ◌≤◌, ◌<◌, ◌+◌, ◌-◌, ◌⊎◌, inl, inr, ℕ, zero, suc, Bool, true, false, cond, nat_lt, nat_le, not, ◌==◌, ◌&&◌, ◌||◌, find, List, [], ◌∷◌, ◌++◌, length, take, drop, Option, Some, None, refl, sym, ap, subst, ◌∙◌, arith, get_or}
-use Rattle.std.proofs.lemmas.Bool.{cases_lt, cases_Bool, and_parts, and_from, and_left, and_right, or_cases, or_left, or_right, not-true, not_from_false, both_ways, false≢true, ltb-true, leb-true, lt-ltb, le-ltb, le-leb, lt-leb, ne_eqb, cond-true, cond-false}
+use Rattle.std.proofs.Common.{◌≡◌, ◌≤◌, ◌<◌, ◌+◌, ◌-◌, inl, inr, ℕ, zero, suc, Bool, true, false, cond, nat_lt, nat_le, not, ◌==◌, ◌&&◌, ◌||◌, find, List, [], ◌∷◌, ◌++◌, length, take, Option, Some, None, refl, sym, ap, subst, ◌∙◌, arith, get_or}
+use Rattle.std.proofs.lemmas.Bool.{cases_lt, cases_Bool, and_parts, and_from, and_left, and_right, not-true, not_from_false, both_ways, false≢true, ltb-true, leb-true, lt-ltb, le-ltb, le-leb, lt-leb, ne_eqb, cond-true, cond-false}
 use Rattle.std.proofs.lemmas.Bool.Decides.{nat_tests}
 use Rattle.std.proofs.lemmas.List.{length-append}
-use Rattle.std.specs.List.{insert, prefix_len, slice_get, list_all, flat_map}
-use Rattle.std.specs.Option.{is_none, option_map_or}
+use Rattle.std.specs.List.{insert, slice_get}
+use Rattle.std.specs.Option.{option_map_or}
 use Rattle.spin_headers.specs.Headers.{ipv4_header}
 use Rattle.spin_reass.specs.declared.limits.TheConstants.{MAX_PAYLOAD}
 use Rattle.spin_reass.specs.declared.piece.Key.{Key}

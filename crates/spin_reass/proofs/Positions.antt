@@ -1,11 +1,11 @@
 -- The open datagram of a key, at its place.
-use Rattle.std.proofs.Common.{◌≡◌, ◌≤◌, ◌<◌, ◌+◌, ℕ, zero, suc, Bool, true, false, cond, nat_lt, not, ◌==◌, ◌&&◌, ◌||◌, List, [], ◌∷◌, ◌++◌, length, take, drop, Option, Some, None, refl, sym, ap, ◌∙◌, arith, get_or, inl, inr}
+use Rattle.std.proofs.Common.{◌≡◌, ◌<◌, ◌+◌, ℕ, zero, suc, Bool, true, false, cond, nat_lt, not, ◌==◌, ◌&&◌, ◌||◌, List, [], ◌∷◌, ◌++◌, length, drop, Some, None, refl, sym, ap, ◌∙◌, arith, get_or, inl, inr}
 use Rattle.std.proofs.Math.ListN.{set}
-use Rattle.std.proofs.lemmas.Bool.{cases_Bool, and_parts, and_from, or_left, or_parts, both_ways, false≢true, not_from_true, not_from_false, eqb-true, eq-eqb, ltb-true, lt-ltb, cond-true, cond-false, cond_both}
+use Rattle.std.proofs.lemmas.Bool.{cases_Bool, and_parts, and_from, or_left, or_parts, both_ways, not_from_true, not_from_false, eqb-true, eq-eqb, lt-ltb, cond-true, cond-false, cond_both}
 use Rattle.std.proofs.lemmas.Bool.Decides.{nat_tests}
 use Rattle.std.proofs.lemmas.List.{length-append}
 use Rattle.std.proofs.lemmas.List.Quantifiers.{position-Some}
-use Rattle.std.specs.List.{remove, position, position_or_len, prefix_len, list_any}
+use Rattle.std.specs.List.{remove, position, position_or_len, list_any}
 use Rattle.spin_reass.specs.declared.limits.TheConstants.{MAX_OPEN}
 use Rattle.spin_reass.specs.declared.piece.Key.{Key}
 use Rattle.spin_reass.specs.declared.piece.Part.{Part}

@@ -1,7 +1,6 @@
 -- Records that are read one after another and joined.
 use Rattle.std.proofs.Common.{◌≡◌, ◌≤◌, ◌+◌, ℕ, List, [], ◌∷◌, ◌++◌, length, drop, Option, Some, None, Result, Ok, Err, refl, sym, ap, subst, ◌∙◌, IfSome, arith, append_assoc, inl, inr}
 use Rattle.std.proofs.lemmas.List.{append-nil, length-append}
-use Rattle.std.specs.Bool.{⊤}
 use Rattle.std.specs.List.{flat_map}
 use Rattle.spin_pcap.specs.declared.fault.PcapFault.{PcapFault}
 use Rattle.spin_pcap.specs.declared.fault.PcapFault.TheVariants as fault
@@ -11,12 +10,12 @@ use Rattle.spin_pcap.specs.declared.limits.TheConstants.{MAX_CAPTURED}
 use Rattle.spin_pcap.specs.declared.order.Order.{Order}
 use Rattle.spin_pcap.specs.declared.state.State.{State}
 use Rattle.spin_pcap.specs.declared.state.State.TheVariants as state
-use Rattle.spin_pcap.specs.Captures.{header_of, IsRecord, IsRest, IsBody, IsCapture}
+use Rattle.spin_pcap.specs.Captures.{header_of, IsRest, IsBody}
 use Rattle.spin_pcap.specs.Passing.{ReaderState, left_for, number, IsAnswer, IsGone, IfReading, UnlessFailed, given_after, state_after}
 use Rattle.spin_reass.specs.declared.fault.JoinFault.{JoinFault}
 use Rattle.spin_reass.specs.declared.fault.JoinFault.TheVariants as stop
 use Rattle.spin_reass.specs.Joining.{OpenDatagram, joined, joined_frames}
-use Rattle.spin_reass.specs.JoinedCaptures.{file_header, record_of, rest_of, joined_capture, IsRefused, IsJoined}
+use Rattle.spin_reass.specs.JoinedCaptures.{file_header, record_of, rest_of, IsJoined}
 use Rattle.spin_reass.specs.Inner.Reading.{stop_of, JoinsBody}
 
 -- what holds of what is told

@@ -10,7 +10,7 @@ use Rattle.spin_grammar.specs.declared.kind.Kind.TheVariants as kind
 use Rattle.spin_grammar.specs.Spelling.{number}
 use Rattle.spin_grammar.specs.Grammar.{Numeral, Number, accepts, reads}
 use Rattle.spin_grammar.specs.Lines as line
-use Rattle.spin_grammar.specs.Lines.{Line, kind_of, Spells}
+use Rattle.spin_grammar.specs.Lines.{Line}
 use Rattle.spin_script.specs.declared.script.Line as script
 use Rattle.spin_script.specs.declared.script.Segment.{Segment}
 use Rattle.spin_script.specs.Sections.{is_out_of_order}

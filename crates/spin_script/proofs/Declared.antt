@@ -14,7 +14,6 @@ use Rattle.spin_grammar.specs.Grammar as grammar
 use Rattle.spin_grammar.specs.Grammar.{Atom, Fixed, Typed, Want, Number, as_signature, accepts, reads}
 use Rattle.spin_grammar.specs.Forms.{test_form}
 use Rattle.spin_grammar.specs.Lines as line
-use Rattle.spin_grammar.specs.Lines.{Line}
 use Rattle.spin_grammar.proofs.Signatures.{IsMarked, one_of, plain_signature}
 use Rattle.spin_grammar.proofs.Respelled.{ok_same, by_signature}
 use Rattle.spin_script.specs.States.{native_at}

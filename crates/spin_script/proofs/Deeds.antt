@@ -11,7 +11,7 @@ use Rattle.spin_word.specs.declared.command.Mode.TheVariants as mode
 use Rattle.spin_word.specs.Commands.{no_number}
 use Rattle.spin_grammar.specs.Spelling.{number, within}
 use Rattle.spin_grammar.specs.Grammar as grammar
-use Rattle.spin_grammar.specs.Grammar.{Atom, Fixed, Numeral, Want, Number, Choices, chosen, as_number, as_rising, as_rise, rising, spots, places, modes, deeds, spot_wants, may_end, accepts, reads}
+use Rattle.spin_grammar.specs.Grammar.{Atom, Fixed, Numeral, Want, Number, Choices, chosen, rising, spots, places, modes, deeds, spot_wants, may_end, accepts, reads}
 use Rattle.spin_grammar.specs.Forms as forms
 use Rattle.spin_grammar.specs.Forms.{Spot, Task, padded, place_word, mode_word, counted_form, spot_form, task_form}
 use Rattle.spin_grammar.proofs.Respelled.{ok_same, by_number, by_rising, by_rise, chosen_word, went, over}

@@ -1,6 +1,6 @@
 -- A line that was read keeps the script so far sound.
 use Rattle.std.proofs.Common.{◌≡◌, ◌≤◌, ℕ, Bool, true, false, List, [], ◌∷◌, Option, Some, None, Result, Ok, Err, IfOk, refl, sym, ap, subst, ◌∙◌, arith}
-use Rattle.std.specs.Prelude.{◌==◌, if◌then◌else◌, slice_index, IsTrue}
+use Rattle.std.specs.Prelude.{◌==◌, if◌then◌else◌, slice_index}
 use Rattle.std.specs.List.{list_all}
 use Rattle.spin_word.specs.declared.work.Work.{Work}
 use Rattle.spin_word.specs.declared.work.Work.TheVariants as work
@@ -14,7 +14,6 @@ use Rattle.spin_grammar.specs.Lines.{Line, Stands, GivesLine, IsInRange, kind_of
 use Rattle.spin_grammar.specs.Words.{words}
 use Rattle.spin_script.specs.Sections.{first_words, is_out_of_order}
 use Rattle.spin_grammar.specs.Lookup.{look_up}
-use Rattle.spin_grammar.specs.Tasks.{work_of}
 use Rattle.spin_script.specs.States.{NativeData, State}
 use Rattle.spin_script.specs.Language.{Skipped, Says, is_allowed, version_of, first_head, kind_head, words_head, head}
 use Rattle.spin_script.specs.Inner.Reader.{AddsSaid}

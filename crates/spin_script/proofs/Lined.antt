@@ -1,8 +1,7 @@
 -- What holds of the lane lines and the endpoints of each script, line by line.
-use Rattle.std.proofs.Common.{◌≡◌, ◌<◌, ◌≤◌, ◌+◌, ◌⊎◌, inl, inr, ℕ, Bool, true, false, not, ◌||◌, eqb, List, [], ◌∷◌, ◌++◌, length, get_or, Option, Some, None, Result, Ok, Err, refl, sym, ap, subst, ◌∙◌, arith}
-use Rattle.std.specs.Prelude.{◌≢◌, slice_get, nat_lt, nat_le, max, sum_by, All, AllPairs, ⊤, bytes_eq, if◌then◌else◌}
-use Rattle.std.specs.Bool.{MatchBool}
-use Rattle.std.specs.List.{flat_map, list_any, list_all}
+use Rattle.std.proofs.Common.{◌≡◌, ◌<◌, ◌≤◌, ◌+◌, inl, inr, ℕ, Bool, true, false, not, ◌||◌, eqb, List, [], ◌∷◌, ◌++◌, length, get_or, Option, Some, None, Result, Ok, Err, refl, sym, ap, subst, ◌∙◌, arith}
+use Rattle.std.specs.Prelude.{◌≢◌, slice_get, nat_lt, nat_le, max, sum_by, All, AllPairs, bytes_eq, if◌then◌else◌}
+use Rattle.std.specs.List.{flat_map, list_any}
 use Rattle.std.specs.Str.Lines.{lines}
 use Rattle.std.proofs.lemmas.Bool.Decides.{nat_tests}
 use Rattle.std.proofs.lemmas.List.{append-nil, append_assoc, flat_map_more, length-append}
@@ -17,7 +16,6 @@ use Rattle.spin_code.specs.declared.check.ActFault.{ActFault}
 use Rattle.spin_code.specs.Check.{act_check}
 use Rattle.spin_objects.specs.Units.{HandlerUnit, handler_if}
 use Rattle.spin_table.specs.declared.event.EventDef.{EventDef}
-use Rattle.spin_table.specs.Faults.{is_step_fit}
 use Rattle.spin_grammar.specs.declared.cause.Cause.{Cause}
 use Rattle.spin_grammar.specs.declared.cause.Cause.TheVariants as cause
 use Rattle.spin_grammar.specs.declared.kind.Kind.{Kind}
@@ -37,7 +35,7 @@ use Rattle.spin_values.specs.First.{first_of}
 use Rattle.spin_script.specs.Checks.{checks, checked, step_checks, native_checks, names_unknown, is_full, most_commands, most_deeds}
 use Rattle.spin_script.specs.Language.{Head, Skipped, Begins, Says, head, Passes, Outcome, ended, ComesTo}
 use Rattle.spin_script.specs.Soundness.{lines_in}
-use Rattle.spin_script.specs.Segments.{NumbersRise, IsOfLane, IsOnLane, HasLanes, deeds_in, retired_in, IsSentBelow, SendsBelow, HasEndpoints, IsOrderly}
+use Rattle.spin_script.specs.Segments.{IsOfLane, IsOnLane, retired_in, IsSentBelow, SendsBelow, HasEndpoints, IsOrderly}
 use Rattle.spin_script.proofs.Deeds.{number_first}
 use Rattle.spin_script.proofs.Rewritten.{makes}
 

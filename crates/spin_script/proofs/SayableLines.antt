@@ -1,24 +1,16 @@
 -- Words that can stand behind the first of a line say such a line.
-use Rattle.std.proofs.Common.{◌≡◌, ℕ, zero, suc, ◌+◌, ◌-◌, ◌≤◌, ◌⊎◌, inl, inr, Bool, true, false, cond, eqb, leb, List, [], ◌∷◌, ◌++◌, length, map, replicate, Option, Some, None, Result, Ok, Err, Box, Global, codes, refl, sym, ap, subst, ◌∙◌, append_assoc, arith}
-use denote.RawPtr.{null_ptr}
+use Rattle.std.proofs.Common.{◌≡◌, ℕ, zero, suc, ◌+◌, ◌≤◌, ◌⊎◌, inl, inr, Bool, true, false, cond, eqb, leb, List, [], ◌∷◌, ◌++◌, length, map, Option, Ok, Err, codes, refl, sym, ap, subst, ◌∙◌, arith}
 use Rattle.std.specs.Prelude.{slice_index, drop}
 use Rattle.std.specs.Str.{bytes_eq}
-use Rattle.std.specs.List.{flat_map, list_all}
-use Rattle.std.proofs.lemmas.Slice.Eq.{bytes_eq-Decides}
 use Rattle.spin_values.specs.declared.types.EventType.{EventType}
 use Rattle.spin_values.specs.declared.values.Value.{Value}
 use Rattle.spin_values.specs.declared.values.Value.TheVariants as value
-use Rattle.spin_code.specs.declared.expr.Expr.{Expr}
 use Rattle.spin_code.specs.declared.expr.Expr.TheVariants as expr
-use Rattle.spin_code.specs.declared.test.Cmp.{Cmp}
 use Rattle.spin_code.specs.declared.test.Cmp.TheVariants as cmp
 use Rattle.spin_code.specs.declared.test.Test.{Test}
 use Rattle.spin_code.specs.declared.test.Test.TheVariants as test
-use Rattle.spin_code.specs.declared.act.Part.{Part}
 use Rattle.spin_code.specs.declared.act.Part.TheVariants as part
-use Rattle.spin_code.specs.declared.act.Layer.{Layer}
 use Rattle.spin_code.specs.declared.act.Layer.TheVariants as layer
-use Rattle.spin_code.specs.declared.act.ActStep.{ActStep}
 use Rattle.spin_code.specs.declared.act.ActStep.TheVariants as step
 use Rattle.spin_code.specs.declared.merge.Merge.{Merge}
 use Rattle.spin_code.specs.declared.merge.Merge.TheVariants as merge
@@ -38,17 +30,16 @@ use Rattle.spin_policy.specs.declared.rule.Rule.{Rule}
 use Rattle.spin_grammar.specs.declared.cause.Cause.TheVariants as cause
 use Rattle.spin_grammar.specs.declared.kind.Kind.{Kind}
 use Rattle.spin_grammar.specs.declared.kind.Kind.TheVariants as kind
-use Rattle.spin_text.specs.Digits.{begins_with_digit}
-use Rattle.spin_grammar.specs.Spelling.{number, within, greatest, is_name, signature, guard_signature, hex_bytes}
+use Rattle.spin_grammar.specs.Spelling.{number, within, greatest, signature, guard_signature, hex_bytes}
 use Rattle.spin_grammar.specs.Grammar as want
-use Rattle.spin_grammar.specs.Grammar.{Atom, Fixed, Numeral, Argument, Called, Typed, Blob, Want, Step, Choices, may_end, accepts, reads, chosen, is_argument, as_number, as_signature, as_blob, rising}
+use Rattle.spin_grammar.specs.Grammar.{Atom, Fixed, Numeral, Called, Typed, Want, accepts, reads, as_number, as_signature, as_blob}
 use Rattle.spin_grammar.specs.Forms as forms
-use Rattle.spin_grammar.specs.Forms.{expr_form, test_form, part_form, step_form, steps_form, merge_form, counted_form, effect_form, rule_form, cmp_word, layer_word, op_match_word, own_word, forced_word, apart_word, place_word, mode_word, handler_or_any, value_atom, spot_form, task_form, Task, Spot}
+use Rattle.spin_grammar.specs.Forms.{test_form, merge_form, counted_form, effect_form, rule_form, op_match_word, own_word, forced_word, apart_word, place_word, mode_word, handler_or_any, value_atom, spot_form, task_form, Task, Spot}
 use Rattle.spin_grammar.specs.Lines as line
 use Rattle.spin_grammar.specs.Lines.{Line, kind_of, form, wanted}
-use Rattle.spin_grammar.proofs.Respelled.{went, over, ok_same, by_number, by_count, by_rising, by_rise, by_signature, by_blob}
+use Rattle.spin_grammar.proofs.Respelled.{went, over, ok_same, by_number, by_signature, by_blob}
 use Rattle.spin_grammar.proofs.Signatures.{one_of}
-use Rattle.spin_script.proofs.Sayable.{Said, Says, First, first, opens, both, renamed, nothing, closed, OneOf, same_bytes, one_choice, behind, none, numeral, name, typed, pair, three, two, tested, many, counted_numbers, bindings, op_says, own_says, forced_says, apart_says, place_says, mode_says, exact_says, handler_says, steps, merged}
+use Rattle.spin_script.proofs.Sayable.{Said, Says, First, first, opens, both, renamed, nothing, closed, OneOf, same_bytes, one_choice, behind, none, numeral, name, typed, pair, three, tested, counted_numbers, bindings, op_says, own_says, forced_says, apart_says, place_says, mode_says, exact_says, handler_says, steps, merged}
 
 -- ---- rules
 

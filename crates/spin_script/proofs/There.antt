@@ -11,7 +11,7 @@ use Rattle.spin_grammar.specs.Lines.{Line, wanted, Spells}
 use Rattle.spin_script.specs.States.{State, NativeData, start, after}
 use Rattle.spin_values.specs.First.{first_of}
 use Rattle.spin_script.specs.Checks.{checks}
-use Rattle.spin_script.specs.Language.{Head, Skipped, Begins, Says, SaysWell, SaysIll, head, Passes, IsRefused, Outcome, ended, ComesTo, most_bytes}
+use Rattle.spin_script.specs.Language.{Head, Skipped, Begins, Says, head, Passes, IsRefused, Outcome, ended, ComesTo, most_bytes}
 use Rattle.spin_script.specs.Laws.{SomeOutcome}
 use Rattle.spin_script.proofs.SayableLines.{says_line}
 

@@ -1,6 +1,6 @@
 -- The first refusal of two lists, one after the other.
 use Rattle.std.proofs.Common.{◌≡◌, ℕ, ◌<◌, Bool, true, false, List, [], ◌∷◌, ◌++◌, refl, arith}
-use Rattle.std.specs.Prelude.{Option, None, Some, nat_le}
+use Rattle.std.specs.Prelude.{None, Some, nat_le}
 use Rattle.spin_values.specs.First.{first_of}
 
 first_before : {R : Type 0} (xs ys : List (Bool × R)) (r : R) → first_of xs ≡ Some r → first_of (xs ++ ys) ≡ Some r

@@ -1,4 +1,3 @@
-use Rattle.std.specs.Prelude.{◌≡◌}
 use Rattle.spin_log.specs.Pens.{IsSamePen}
 use Rattle.spin_table.specs.SetupOf.{data_of}
 use Rattle.spin_seat.specs.Seats.{IsSeatOf}

@@ -1,4 +1,4 @@
-use Rattle.std.proofs.Common.{◌≡◌, ◌<◌, ◌≤◌, ℕ, List, length, sym, ap, subst, ◌∙◌, arith}
+use Rattle.std.proofs.Common.{◌<◌, ℕ, List, length, sym, ap, subst, ◌∙◌, arith}
 use Rattle.std.specs.Prelude.{Decides, bytes_eq}
 use Rattle.std.specs.Arc.{arc_value}
 use Rattle.std.specs.List.{list_any}
@@ -8,7 +8,6 @@ use Rattle.spin_endpoint.specs.Sends.{name_of}
 use Rattle.spin_table.specs.States.{State}
 use Rattle.spin_table.specs.Soundness.{IsSound}
 use Rattle.spin_script.specs.Scripts.{script_seen}
-use Rattle.spin_report.specs.Runs.{frames_of}
 use Rattle.spin_check.specs.RunTexts.{IsRunText, capture_of}
 use Rattle.spin_check.specs.Inner.Segments.{Mark}
 use Rattle.spin_check.specs.Inner.Remains.{AreLeft}

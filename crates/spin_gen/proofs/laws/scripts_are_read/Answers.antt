@@ -1,7 +1,7 @@
-use Rattle.std.proofs.Common.{◌≡◌, ◌<◌, ◌++◌, ℕ, List, length, Ok, refl, sym, subst, arith}
+use Rattle.std.proofs.Common.{◌≡◌, ◌++◌, List, Ok, refl, sym, subst, arith}
 use Rattle.spin_grammar.specs.Lines.{Line}
 use Rattle.spin_script.specs.States.{NativeData, State, script_in}
-use Rattle.spin_script.specs.Language.{IsScript, ended}
+use Rattle.spin_script.specs.Language.{ended}
 use Rattle.spin_script.specs.Canonical.{text_of, version_text}
 use Rattle.spin_script.proofs.Reread.{lines_read}
 use Rattle.spin_gen.specs.Laws.{IsReadAsScript}

@@ -1,4 +1,4 @@
-use Rattle.std.proofs.Common.{List, ◌∷◌, sym, subst, refl}
+use Rattle.std.proofs.Common.{List, ◌∷◌, sym, subst}
 use Rattle.spin_grammar.specs.Lines.{Barrier}
 use Rattle.spin_gen.specs.Drafts.{Draft, Stated}
 use Rattle.spin_gen.specs.Inner.Writing.{Writes}

@@ -1,4 +1,4 @@
-use Rattle.std.proofs.Common.{◌≡◌, sym, subst}
+use Rattle.std.proofs.Common.{sym, subst}
 use Rattle.std.specs.Prelude.{IfOk}
 use Rattle.spin_table.specs.SetupOf.{data_of}
 use Rattle.spin_table.specs.Soundness.{IsSound}

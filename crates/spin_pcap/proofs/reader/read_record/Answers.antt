@@ -1,11 +1,11 @@
-use Rattle.std.proofs.Common.{◌≡◌, ◌≤◌, ◌<◌, ◌+◌, ◌-◌, ◌++◌, ℕ, List, [], length, take, drop, sym, ap, ◌∙◌, subst, arith, rules, Ok, Err, true, false}
+use Rattle.std.proofs.Common.{◌≡◌, ◌≤◌, ◌<◌, ◌+◌, ◌-◌, ◌++◌, ℕ, List, [], length, take, drop, sym, ap, ◌∙◌, subst, arith, true, false}
 use Rattle.std.proofs.lemmas.List.{length-append, length-take, take_rest}
 use Rattle.std.specs.Io.KnownBytes.{IsAtEnd}
 use Rattle.spin_outside.specs.Sources.{SourceSeen}
 use Rattle.spin_pcap.specs.declared.fault.PcapFault.{PcapFault}
 use Rattle.spin_pcap.specs.declared.order.Order.{Order}
 use Rattle.spin_pcap.specs.Captures.{number, captured}
-use Rattle.spin_pcap.specs.Passing.{Passes, IsAnswer, left_for}
+use Rattle.spin_pcap.specs.Passing.{Passes}
 use Rattle.spin_pcap.proofs.Passed.{copies-whole, copies-part, failed, whatever}
 use Rattle.spin_pcap.proofs.Answered.{passes-record, within_record, answers-packet}
 use Rattle.spin_pcap.proofs.reader.read_record.Goals as goal

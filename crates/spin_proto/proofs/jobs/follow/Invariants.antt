@@ -1,4 +1,4 @@
-use Rattle.std.proofs.Common.{◌≡◌, length}
+use Rattle.std.proofs.Common.{length}
 use Rattle.std.specs.List.{flat_map}
 use Rattle.spin_table.specs.SetupOf.{data_of}
 use Rattle.spin_proto.specs.Replies.{units_in}

@@ -1,4 +1,4 @@
-use Rattle.std.proofs.Common.{◌≡◌, drop, List, ℕ, Some, Ok, Err}
+use Rattle.std.proofs.Common.{drop, Ok, Err}
 use Rattle.std.proofs.lemmas.Result.{err_from_is_err_and}
 use Rattle.spin_pcap.specs.Passing.{left_for, IsStart}
 use Rattle.spin_reass.specs.Inner.Reading.{JoinsBody}

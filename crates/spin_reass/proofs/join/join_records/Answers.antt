@@ -1,4 +1,4 @@
-use Rattle.std.proofs.Common.{◌≡◌, ◌≤◌, ◌<◌, ◌^◌, length, List, ℕ, rules, sym, ap, refl, ◌∙◌, arith}
+use Rattle.std.proofs.Common.{◌≡◌, length, rules, ap, refl, ◌∙◌, arith}
 use Rattle.spin_pcap.specs.Passing.{left_for}
 use Rattle.spin_reass.proofs.Reading.{told_each, told_more, joined_none, after_packet, packet_few, next_packet, ends_joined, cuts_joined, stops_joined}
 use Rattle.spin_reass.proofs.join.join_records.Goals as goal

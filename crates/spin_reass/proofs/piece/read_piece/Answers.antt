@@ -1,4 +1,4 @@
-use Rattle.std.proofs.Common.{rules, sym, ◌∙◌, arith}
+use Rattle.std.proofs.Common.{rules, sym, ◌∙◌}
 use Rattle.spin_reass.proofs.Frames.{ether_long}
 use Rattle.spin_reass.proofs.piece.read_piece.Goals as goal
 

@@ -1,4 +1,4 @@
-use Rattle.std.proofs.Common.{◌≡◌, ◌∙◌, sym}
+use Rattle.std.proofs.Common.{◌∙◌, sym}
 use Rattle.spin_objects.specs.Units.{guards_of}
 use Rattle.spin_table.specs.Faults.{is_fit_rule}
 use Rattle.spin_table.proofs.Alls.{passes_more, passes_all, fails_at}

@@ -1,4 +1,4 @@
-use Rattle.std.proofs.Common.{◌≡◌, ◌∙◌, sym}
+use Rattle.std.proofs.Common.{◌∙◌, sym}
 use Rattle.std.proofs.lemmas.List.Folds.{list_all_at}
 use Rattle.spin_objects.specs.Units.{guards_of}
 use Rattle.spin_table.specs.Units.{is_fit_guard}

@@ -1,8 +1,7 @@
-use Rattle.std.proofs.Common.{◌≡◌, ◌+◌, ◌-◌, ◌∙◌, Some, subst, sym, ap, arith, not, true, false}
-use Rattle.std.specs.Prelude.{slice_get}
+use Rattle.std.proofs.Common.{◌≡◌, ◌-◌, ◌∙◌, sym, ap, arith, not, true, false}
 use Rattle.std.specs.List.{list_all}
 use Rattle.std.proofs.lemmas.List.Elements.{AllWithin-more, at_read}
-use Rattle.spin_objects.specs.Units.{handlers_of, acts_of}
+use Rattle.spin_objects.specs.Units.{handlers_of}
 use Rattle.spin_table.specs.Faults.{is_step_fit, raises_amiss}
 use Rattle.spin_table.proofs.Numbered.{act_unit}
 use Rattle.spin_table.proofs.Positions.{position-none, position-at}

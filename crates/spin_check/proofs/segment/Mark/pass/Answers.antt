@@ -1,4 +1,4 @@
-use Rattle.std.proofs.Common.{◌≡◌, ◌++◌, ℕ, List, length, drop, refl, sym, ap, subst, ◌∙◌}
+use Rattle.std.proofs.Common.{◌≡◌, ◌++◌, List, length, drop, refl, sym, ap, subst, ◌∙◌}
 use Rattle.std.specs.Prelude.{None, Some}
 use Rattle.std.specs.Vec.{with_items}
 use Rattle.std.specs.Arc.{arc_value}

@@ -1,4 +1,4 @@
-use Rattle.std.proofs.Common.{◌≡◌, length, refl}
+use Rattle.std.proofs.Common.{length, refl}
 use Rattle.std.proofs.lemmas.List.{length-map}
 use Rattle.spin_objects.specs.Units.{native_of_body, known_handler}
 use Rattle.spin_objects.proofs.Numbered.{numbered-map}

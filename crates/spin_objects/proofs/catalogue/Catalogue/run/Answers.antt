@@ -1,4 +1,4 @@
-use Rattle.std.proofs.Common.{◌≡◌, ◌∙◌, sym, ap, subst}
+use Rattle.std.proofs.Common.{◌∙◌, sym, ap, subst}
 use Rattle.std.specs.Prelude.{Some, OnOk}
 use Rattle.spin_code.specs.declared.act.Act.{Act}
 use Rattle.spin_objects.specs.Doing.{IsDone}

@@ -1,4 +1,4 @@
-use Rattle.std.proofs.Common.{◌≡◌, List, ◌∙◌}
+use Rattle.std.proofs.Common.{List, ◌∙◌}
 use Rattle.std.specs.Prelude.{bytes_eq}
 use Rattle.spin_policy.specs.declared.rule.Rule.{Rule}
 use Rattle.spin_objects.specs.Units.{Named, HandlerUnit, GuardUnit, known_handler, known_guard, known_authoriser}

@@ -1,4 +1,4 @@
-use Rattle.std.proofs.Common.{◌≡◌, ◌<◌, List, length, subst}
+use Rattle.std.proofs.Common.{◌<◌, List, length, subst}
 use Rattle.spin_policy.specs.declared.rule.Rule.{Rule}
 use Rattle.spin_objects.specs.Units.{names_of, Named, HandlerUnit, GuardUnit, known_handler, known_guard, known_authoriser}
 use Rattle.spin_objects.proofs.Read.{read_mapped, place_mapped_twice}

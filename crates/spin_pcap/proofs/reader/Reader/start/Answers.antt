@@ -1,5 +1,4 @@
-use Rattle.std.proofs.Common.{◌≡◌, ◌<◌, ap, sym, ◌∙◌, Ok, Err, rules, List, ℕ, length, drop, subst}
-use Rattle.std.specs.Io.KnownBytes.{IsAtEnd}
+use Rattle.std.proofs.Common.{ap, sym, ◌∙◌}
 use Rattle.spin_pcap.specs.Captures.{header_of}
 use Rattle.spin_pcap.proofs.Started.{starts, starts-refused, took-header}
 use Rattle.spin_pcap.proofs.reader.Reader.start.Goals as goal

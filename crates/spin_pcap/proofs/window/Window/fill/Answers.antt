@@ -1,4 +1,4 @@
-use Rattle.std.proofs.Common.{zero, suc, [], ◌∷◌, refl, append_assoc, ◌≡◌, ◌≤◌, ◌+◌, ◌-◌, ◌++◌, ℕ, List, length, take, drop, sym, ap, ◌∙◌, subst, arith, rules}
+use Rattle.std.proofs.Common.{zero, suc, [], ◌∷◌, refl, append_assoc, ◌≡◌, ◌≤◌, ◌+◌, ◌-◌, ◌++◌, ℕ, List, length, take, drop, sym, ap, ◌∙◌, arith, rules}
 use Rattle.std.proofs.lemmas.List.{length-take, length-drop, take-append-le, take_at}
 use Rattle.std.proofs.Math.Seq.{take-append-add}
 use Rattle.spin_outside.specs.Sources.{taken_more}

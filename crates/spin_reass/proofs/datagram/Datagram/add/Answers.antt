@@ -1,8 +1,7 @@
-use Rattle.std.proofs.Common.{◌≡◌, ◌≤◌, ◌+◌, length, true, rules, sym, ap, ◌∙◌, arith, if◌then◌else◌, Some}
+use Rattle.std.proofs.Common.{◌≡◌, true, rules, sym, ap, ◌∙◌, arith, if◌then◌else◌, Some}
 use Rattle.std.specs.List.{insert}
-use Rattle.spin_reass.specs.declared.limits.TheConstants.{MAX_PAYLOAD}
 use Rattle.spin_reass.specs.Fragments.{end_of}
-use Rattle.spin_reass.specs.Joining.{fits, are_whole}
+use Rattle.spin_reass.specs.Joining.{fits}
 use Rattle.spin_reass.specs.Inner.Orderly.{place_from}
 use Rattle.spin_reass.proofs.Orders.{IsAdded, sound, small_size, added, added_is, whole_added}
 use Rattle.spin_reass.proofs.datagram.Datagram.add.Goals as goal

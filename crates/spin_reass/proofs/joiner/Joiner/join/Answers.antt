@@ -1,4 +1,4 @@
-use Rattle.std.proofs.Common.{◌≡◌, None, Some, rules, sym, ap, ◌∙◌, ℕ, List}
+use Rattle.std.proofs.Common.{◌≡◌, None, Some, rules, ap, ◌∙◌, ℕ, List}
 use Rattle.spin_reass.specs.Fragments.{piece_of}
 use Rattle.spin_reass.specs.Joining.{OpenDatagram, joined_by}
 use Rattle.spin_reass.proofs.Gathers.{joins_piece}

@@ -1,4 +1,4 @@
-use Rattle.std.proofs.Common.{◌≡◌, true, false, rules, sym, ap, ◌∙◌, ℕ, List}
+use Rattle.std.proofs.Common.{◌≡◌, true, false, rules, ap, ◌∙◌, ℕ, List}
 use Rattle.spin_reass.specs.Fragments.{is_sound}
 use Rattle.spin_reass.specs.Joining.{OpenDatagram, opened, gathered}
 use Rattle.spin_reass.proofs.Gathers.{takes_unsound, takes_sound}

@@ -1,4 +1,4 @@
-use Rattle.std.proofs.Common.{◌≡◌, ◌+◌, ◌∙◌, sym, subst, ap}
+use Rattle.std.proofs.Common.{◌+◌, ◌∙◌, sym, subst, ap}
 use Rattle.spin_place.specs.Precedence.{HasLawfulOrder}
 use Rattle.spin_objects.specs.Units.{policies_of}
 use Rattle.spin_table.specs.States.{EventState}

@@ -1,8 +1,7 @@
-use Rattle.std.proofs.Common.{◌≡◌, ◌≤◌, ◌+◌, ◌∙◌, true, false, length, refl, sym, ap, subst, arith}
-use Rattle.std.specs.Prelude.{slice_get, Some, None, Decides}
+use Rattle.std.proofs.Common.{◌≡◌, ◌≤◌, ◌+◌, ◌∙◌, true, false, length, sym, ap, subst, arith}
+use Rattle.std.specs.Prelude.{slice_get, Some, None}
 use Rattle.spin_values.specs.First.{first_of}
 use Rattle.spin_policy.specs.Verdicts.{is_install}
-use Rattle.spin_objects.specs.Units.{policies_of}
 use Rattle.spin_table.specs.SetupOf.{data_of}
 use Rattle.spin_table.specs.States.{State, EventState}
 use Rattle.spin_table.specs.Refusals.{refusals_at}
