@@ -1,5 +1,5 @@
 -- What is sent goes to endpoints that the handlers name.
-use Rattle.std.proofs.Common.{◌≡◌, ◌<◌, ℕ, zero, suc, Bool, true, false, cond, List, [], ◌∷◌, ◌++◌, ◌+◌, ◌-◌, map, Result, Ok, Err, append_assoc, Option, Some, None, refl, sym, ap, subst, ◌∙◌}
+use Rattle.std.proofs.Common.{◌≡◌, ◌<◌, ℕ, zero, suc, Bool, true, false, cond, if◌then◌else◌, List, [], ◌∷◌, ◌++◌, ◌+◌, ◌-◌, map, Result, Ok, Err, append_assoc, Option, Some, None, refl, sym, ap, subst, ◌∙◌}
 use Rattle.std.specs.Prelude.{All, ◌&&◌, ◌==◌, nat_lt, not, drop, slice_get, ⊤}
 use Rattle.std.specs.List.{AllByRecursion, flat_map, filter_map}
 use Rattle.std.specs.Option.{option_map_or}
@@ -197,7 +197,10 @@ act_below n handlers h k = by_list handlers (recursion_from_All (SendsBelow n) h
   by_list (x ∷ hs) all (suc k) = by_list hs all.1 k
 
 units_below : (n : ℕ) (d : SetupData) → All (SendsBelow n) d.handlers → UnitsBelow n (units_in d)
-units_below n d h handler = act_below n d.handlers h (handler - 1)
+units_below n d h handler = by_number (handler == 0) where
+  by_number : (none : Bool) → StepsBelow n (act_if (if none then None else slice_get (map (λ (x : HandlerUnit). x.act) d.handlers) (handler - 1))).steps
+  by_number true = tt
+  by_number false = act_below n d.handlers h (handler - 1)
 
 deed_sent : (n : ℕ) (d : SetupData) (s : State) (asked : Deed) (r : Reply) → All (SendsBelow n) d.handlers → IsDeedReply d s asked r → ReplyBelow n r
 deed_sent n d s asked r h k = subst (ReplyBelow n) (sym k.2) (deed_below n (units_in d) k.0 (types_in d) asked (units_below n d h))
