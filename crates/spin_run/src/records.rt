@@ -7,11 +7,9 @@ ghost use Rattle.spin_run.specs.Inner.Reading.{TakesNext, TakesFrames};
 use crate::end::RunEnd;
 use spin_outside::Source;
 use spin_pcap::{Next, PcapFault, Reader};
-use spin_values::{Octets, Sequence};
+use spin_script::Frames;
+use spin_values::Octets;
 use std::alloc::Global;
-
-/// Records of a capture, one frame each.
-pub type Frames = Sequence<Octets>;
 
 /// Why reading stops at a fault of the capture's record of that number.
 fn stop_at(number: u32, fault: PcapFault) -> RunEnd
