@@ -69,7 +69,7 @@ pub(crate) trait Telling {
         ensures same { reference self.new ≡ reference self.old }
         ensures cause { TellsByCount (seen self.old).faults (seen self.new).faults result };
 
-    /// Ends, where so many commands were accepted in all, and that became of the capture.
+    /// Ends, where so many commands were accepted in all, and this became of the capture.
     fn end(
         &mut self,
         alloc: Global,
