@@ -44,9 +44,7 @@ fn run_lines<K: Sink>(
         result }
     ensures counts { OutputCounts (K.seen out.old) (K.seen out.new) result }
 {
-    let Ok(version) = last_version(alloc, script) else {
-        return Err(Stop::NoMemory);
-    };
+    let version = last_version(alloc, script)?;
     write_output(alloc, &script.setup, &version, trace.as_slice(), out)
 }
 

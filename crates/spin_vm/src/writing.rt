@@ -178,14 +178,9 @@ fn write_lines<K: Sink>(
 {
     let mut spaces = Vec::new(alloc);
     for line in trace {
-        match write_line(alloc, setup, version, &mut spaces, line, out) {
-            Ok(()) => {}
-            Err(stop) => return Err(stop),
-        }
+        write_line(alloc, setup, version, &mut spaces, line, out)?;
     }
-    let Ok(text) = end_text(alloc, mapped_pages(&spaces)) else {
-        return Err(Stop::NoMemory);
-    };
+    let text = end_text(alloc, mapped_pages(&spaces))?;
     write_text(out, text.as_slice())
 }
 
@@ -204,8 +199,6 @@ pub(crate) fn write_output<K: Sink>(
         → WroteWithin (K.seen out.old) (K.seen out.new) (output reply trace.now) result }
     ensures counts { IfOk result (λ _. (K.seen out.new).faults ≡ (K.seen out.old).faults) }
 {
-    match write_text(out, b"vm 1\n") {
-        Ok(()) => write_lines(alloc, setup, version, trace, out),
-        Err(stop) => Err(stop),
-    }
+    write_text(out, b"vm 1\n")?;
+    write_lines(alloc, setup, version, trace, out)
 }
