@@ -4,7 +4,7 @@ ghost use Rattle.std.specs.Prelude.{◌≡◌, [], Some, None, MatchOption};
 ghost use Rattle.spin_vm.specs.Forms as specs;
 
 use crate::line::{Region, Request, Said};
-use spin_grammar::{Words, number_of};
+use spin_grammar::{Words, look_up, number_of};
 
 /// The end of a line.
 fn ended(words: &mut Words) -> Option<()>
@@ -16,30 +16,24 @@ fn ended(words: &mut Words) -> Option<()>
     }
 }
 
+/// The rights of regions, and whether a region with these may be written to.
+const RIGHTS: [(&[u8], bool); 2] = [(b"r", false), (b"rw", true)];
+
 /// Whether a region with these rights may be written to.
 fn rights_of(word: &[u8]) -> Option<bool>
     ensures { result ≡ specs.rights_of word.now }
 {
-    if word == b"r".as_slice() {
-        return Some(false);
-    }
-    if word == b"rw".as_slice() {
-        return Some(true);
-    }
-    None
+    look_up(word, RIGHTS.as_slice())
 }
+
+/// The kinds of accesses, and whether an access of this kind writes.
+const KINDS: [(&[u8], bool); 2] = [(b"r", false), (b"w", true)];
 
 /// Whether an access of this kind writes.
 fn kind_of(word: &[u8]) -> Option<bool>
     ensures { result ≡ specs.kind_of word.now }
 {
-    if word == b"r".as_slice() {
-        return Some(false);
-    }
-    if word == b"w".as_slice() {
-        return Some(true);
-    }
-    None
+    look_up(word, KINDS.as_slice())
 }
 
 fn space_form(words: &mut Words) -> Option<Said>
