@@ -6,7 +6,9 @@
 //! - `fault` is why an access finds no frame, and `raises` raises faults as events;
 //! - `answering` says what each line comes to, and `writing` writes it;
 //! - `suited` says which scripts have the events of faults, and `version` applies a script's commands;
-//! - `run` runs whole traces, and `laws` has the law of isolation.
+//! - `run` runs whole traces, and `laws` has the law of isolation;
+//! - `came` is what a line comes to, `cause` why a line is bad, and `end` how a trace ends; `limits` are the limits of
+//!   traces.
 #![tactic(auto)]
 
 mod answering;
