@@ -1,14 +1,12 @@
 -- Counts of one part of a history after another.
-use Rattle.std.proofs.Common.{◌≡◌, ◌∙◌, ◌+◌, ℕ, List, [], ◌∷◌, ◌++◌, Option, Some, None, refl, sym, ap, subst, arith}
-use Rattle.std.specs.Prelude.{count_by, sum_by, length}
+use Rattle.std.proofs.Common.{◌≡◌, ◌∙◌, List, [], ◌∷◌, ◌++◌, Option, Some, None, sym, ap, subst, arith}
 use Rattle.std.specs.List.{flat_map}
 use Rattle.std.proofs.lemmas.List.{append-nil, length-append}
 use Rattle.std.proofs.lemmas.List.Concat.{flat_map-append}
 use Rattle.std.proofs.lemmas.List.Sums.{sum_by-append}
 use Rattle.spin_report.specs.declared.entry.Entry.{Entry}
 use Rattle.spin_report.specs.Histories.{SegmentSeen}
-use Rattle.spin_report.specs.Segments.{is_accepted}
-use Rattle.spin_run.specs.Summaries.{Counts, counts_in, is_refused, is_run, is_send, steps_of}
+use Rattle.spin_run.specs.Summaries.{Counts, counts_in}
 use Rattle.spin_run.specs.Inner.Tallies.{plus, TalliesOn}
 
 same_counts : (a b : Counts) → a.entries ≡ b.entries → a.accepted ≡ b.accepted → a.refused ≡ b.refused → a.runs ≡ b.runs → a.sends ≡ b.sends → a ≡ b

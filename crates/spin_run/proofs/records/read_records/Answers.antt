@@ -1,4 +1,4 @@
-use Rattle.std.proofs.Common.{◌≡◌, ◌<◌, ◌+◌, ◌++◌, ◌∷◌, [], List, ℕ, Ok, Err, length, sym, subst, ap, arith, rules, ◌∙◌, length-append}
+use Rattle.std.proofs.Common.{◌≡◌, ◌<◌, ◌++◌, ◌∷◌, [], List, ℕ, Ok, Err, length, sym, subst, ap, arith, rules, ◌∙◌, length-append}
 use Rattle.spin_pcap.specs.declared.next.Next.{Next}
 use Rattle.spin_run.specs.declared.end.RunEnd.TheVariants as end
 use Rattle.spin_run.specs.Inner.Reading.{GivesNext, HasTaken, TakesNext}
