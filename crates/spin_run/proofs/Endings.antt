@@ -27,7 +27,7 @@ use Rattle.spin_run.specs.Inner.Reading.{given_by, IsCutRest}
 use Rattle.spin_run.specs.Inner.Ending.{AreCounts, Finishes}
 use Rattle.spin_run.specs.Inner.Steps.{Moment, standing, Stands, HasToldAll, WalksBy}
 use Rattle.spin_run.specs.Summaries.{Counts, counts_in}
-use Rattle.spin_run.specs.Inner.Tallies.{TalliesOn, Tells}
+use Rattle.spin_run.specs.Inner.Tallies.{Tells}
 use Rattle.spin_run.proofs.Counted.{tallies_same}
 use Rattle.spin_run.proofs.JoinedTexts.{Appends-none}
 use Rattle.spin_run.proofs.Steps.{text_append, writes_more, writes_nothing, writes_into, reading}
@@ -191,12 +191,13 @@ walks_stopped script capture frames rest before now log_length after tally tally
 walks_stopped script capture frames rest before now log_length after tally tally' (end.Capture n reason) ends place r s h =
     ends_stopped script capture frames rest before now log_length after (end.Capture n reason) ends place r s h
 
--- telling the end stopped
-pub finishes_telling : (log_length : ℕ) (before : Option ReaderState) (sink sink' : SinkSeen) (told : Option CaptureCounts) (left : List (List ℕ)) (rest : Option (Result Next PcapFault)) (stop : RunEnd) → AreCounts (given_by before) (length left) rest told → Tells sink sink' (ended (end_line log_length told)) (Err stop) → Finishes log_length before sink sink' (Err stop) left rest
-finishes_telling log_length before sink sink' told left rest end.WriteFault counts t = (told, counts, t.0, t.1, t.2)
-finishes_telling log_length before sink sink' told left rest end.NoMemory counts t =
+-- telling the end
+pub finishes : (log_length : ℕ) (before : Option ReaderState) (sink sink' : SinkSeen) (told : Option CaptureCounts) (left : List (List ℕ)) (rest : Option (Result Next PcapFault)) (result : Result (Unit {0}) RunEnd) → AreCounts (given_by before) (length left) rest told → Tells sink sink' (ended (end_line log_length told)) result → Finishes log_length before sink sink' result left rest
+finishes log_length before sink sink' told left rest (Ok done) counts t = (told, counts, t)
+finishes log_length before sink sink' told left rest (Err end.WriteFault) counts t = (told, counts, t.0, t.1, t.2)
+finishes log_length before sink sink' told left rest (Err end.NoMemory) counts t =
     (tt, subst (λ (x : SinkSeen). Appends sink.told x.told []) (sym t) (Appends-none sink.told))
-finishes_telling log_length before sink sink' told left rest end.Whole counts t = absurd t
-finishes_telling log_length before sink sink' told left rest end.ReadFault counts t = absurd t
-finishes_telling log_length before sink sink' told left rest (end.Endpoint p) counts t = absurd t
-finishes_telling log_length before sink sink' told left rest (end.Capture n reason) counts t = absurd t
+finishes log_length before sink sink' told left rest (Err end.Whole) counts t = absurd t
+finishes log_length before sink sink' told left rest (Err end.ReadFault) counts t = absurd t
+finishes log_length before sink sink' told left rest (Err (end.Endpoint p)) counts t = absurd t
+finishes log_length before sink sink' told left rest (Err (end.Capture n reason)) counts t = absurd t

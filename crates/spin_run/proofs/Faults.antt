@@ -1,7 +1,7 @@
 -- Counts of faults of endpoints.
-use Rattle.std.proofs.Common.{◌≡◌, ◌<◌, ℕ, Bool, true, false, suc, List, [], ◌∷◌, length, map, take, Ok, Err, Result, refl, sym, ap, ap₂, subst, ◌∙◌, arith, if◌then◌else◌, ◌&&◌, ◌⊎◌, inl, inr}
+use Rattle.std.proofs.Common.{◌≡◌, ℕ, Bool, true, false, suc, List, [], ◌∷◌, length, take, Ok, Err, Result, refl, sym, ap, ap₂, subst, ◌∙◌, arith, if◌then◌else◌, ◌&&◌, ◌⊎◌, inl, inr}
 use Rattle.std.specs.Prelude.{◌||◌, All, bytes_eq}
-use Rattle.std.specs.List.{list_any, HoldsAt, slice_index_or}
+use Rattle.std.specs.List.{list_any, slice_index_or}
 use Rattle.std.proofs.lemmas.List.{length-map}
 use Rattle.spin_outside.specs.Counts.{Rose}
 use Rattle.spin_endpoint.specs.Endpoints.{gained}
@@ -135,13 +135,18 @@ counts_sending names sends end.WriteFault before after ends source sink same h =
 counts_sending names sends (end.Capture n reason) before after ends source sink same h = absurd h
 
 -- telling did
-pub counts_telling : (names : List (List ℕ)) (text : List ℕ) (stop : RunEnd) (before after : RunSeen) → after.source.faults ≡ before.source.faults → faults_of after.ends ≡ faults_of before.ends → Tells before.sink after.sink text (Err stop) → TellsByCount before.sink.faults after.sink.faults (Err stop) → CountsBy names before after stop
+counts_telling : (names : List (List ℕ)) (text : List ℕ) (stop : RunEnd) (before after : RunSeen) → after.source.faults ≡ before.source.faults → faults_of after.ends ≡ faults_of before.ends → Tells before.sink after.sink text (Err stop) → TellsByCount before.sink.faults after.sink.faults (Err stop) → CountsBy names before after stop
 counts_telling names text end.WriteFault before after source ends t h = (source, h, ends)
 counts_telling names text end.NoMemory before after source ends t h = (source, h, ends)
 counts_telling names text end.Whole before after source ends t h = absurd t
 counts_telling names text end.ReadFault before after source ends t h = absurd t
 counts_telling names text (end.Endpoint p) before after source ends t h = absurd t
 counts_telling names text (end.Capture n reason) before after source ends t h = absurd t
+
+-- the same of an answer
+pub results_telling : (names : List (List ℕ)) (text : List ℕ) (result : Result (Unit {0}) RunEnd) (before after : RunSeen) → after.source.faults ≡ before.source.faults → faults_of after.ends ≡ faults_of before.ends → Tells before.sink after.sink text result → TellsByCount before.sink.faults after.sink.faults result → ResultCounts names before after result
+results_telling names text (Ok done) before after source ends t h = (source, h, ends)
+results_telling names text (Err stop) before after source ends t h = counts_telling names text stop before after source ends t h
 
 -- from a moment on, before which no count rose
 pub counts_later : (names : List (List ℕ)) (stop : RunEnd) (a b c : RunSeen) → b.source.faults ≡ a.source.faults → b.sink.faults ≡ a.sink.faults → faults_of b.ends ≡ faults_of a.ends → CountsBy names b c stop → CountsBy names a c stop

@@ -1,6 +1,6 @@
 -- One segment, from the steps that it is made of.
 use Rattle.std.proofs.Common.{◌≡◌, ◌<◌, ◌≤◌, ◌+◌, ℕ, List, [], ◌∷◌, ◌++◌, length, take, drop, map, Option, Result, Ok, Err, get_or, refl, sym, ap, subst, ◌∙◌, inl, inr, ◌⊎◌, arith, append_assoc}
-use Rattle.std.specs.Prelude.{slice_index_or, sum_by}
+use Rattle.std.specs.Prelude.{slice_index_or, sum_by, OnOk}
 use Rattle.std.specs.List.{flat_map, enumerate_from, range_with_len}
 use Rattle.std.specs.Io.KnownBytes.{Appends}
 use Rattle.std.proofs.lemmas.List.{map-append, length-take, length-drop, take-take, drop-take, take_more}
@@ -35,7 +35,7 @@ use Rattle.spin_run.specs.Ends.{segment_text, Writes}
 use Rattle.spin_run.specs.Inner.Reading.{given_by, GivesFrames}
 use Rattle.spin_run.specs.Inner.Lining.{counts_to}
 use Rattle.spin_run.specs.Inner.Sending.{sends_made, SendsAll}
-use Rattle.spin_run.specs.Inner.Steps.{Moment, standing, Setting, RunsFrom, retired_for, HasRunOne, StopsOne, HasTold}
+use Rattle.spin_run.specs.Inner.Steps.{Moment, standing, Setting, RunsFrom, retired_for, HasRunOne, StopsOne, HasTold, OneBy}
 use Rattle.spin_run.specs.Summaries.{Counts, counts_in}
 use Rattle.spin_run.specs.Inner.Tallies.{TalliesOn, Tells}
 use Rattle.spin_run.specs.Inner.Writing.{joined}
@@ -256,7 +256,7 @@ has_run_one s number segment before after left frames rest entries jobs replies 
 }
 
 -- it was told, and its entries counted
-pub has_told : (s : Setting) (number : ℕ) (segment : Segment) (before after : Moment) (left frames : List (List ℕ)) (rest : Option (Result Next PcapFault)) (entries : List Entry) (jobs : List Job) (replies : List Reply) (lost : List ℕ) (retired lines : List (List ℕ)) (wanted : ℕ) → HasAnswered s segment before left after.state entries jobs replies frames → HasSent s segment before after entries replies lost → HasLines s number segment before entries jobs replies lost retired lines → Appends before.outside.sink.told after.outside.sink.told (joined lines) → wanted ≡ wanted_by segment.lines → GivesFrames wanted before.capture after.capture after.outside.source (Ok frames) left rest → (tally tally' : Option Counts) → TalliesOn tally tally' (counts_in entries) → HasTold s number segment before after tally tally' left rest
+has_told : (s : Setting) (number : ℕ) (segment : Segment) (before after : Moment) (left frames : List (List ℕ)) (rest : Option (Result Next PcapFault)) (entries : List Entry) (jobs : List Job) (replies : List Reply) (lost : List ℕ) (retired lines : List (List ℕ)) (wanted : ℕ) → HasAnswered s segment before left after.state entries jobs replies frames → HasSent s segment before after entries replies lost → HasLines s number segment before entries jobs replies lost retired lines → Appends before.outside.sink.told after.outside.sink.told (joined lines) → wanted ≡ wanted_by segment.lines → GivesFrames wanted before.capture after.capture after.outside.source (Ok frames) left rest → (tally tally' : Option Counts) → TalliesOn tally tally' (counts_in entries) → HasTold s number segment before after tally tally' left rest
 unfolding has_run_one
 has_told s number segment before after left frames rest entries jobs replies lost retired lines wanted h k m now sum given tally tally' counted = record {
   one = has_run_one s number segment before after left frames rest entries jobs replies lost retired lines wanted h k m now sum given;
@@ -264,7 +264,7 @@ has_told s number segment before after left frames rest entries jobs replies los
 }
 
 -- telling it stopped
-pub stops_telling : (s : Setting) (number : ℕ) (segment : Segment) (before after : Moment) (left frames : List (List ℕ)) (rest : Option (Result Next PcapFault)) (entries : List Entry) (jobs : List Job) (replies : List Reply) (lost : List ℕ) (retired lines : List (List ℕ)) (stop : RunEnd) → HasAnswered s segment before left after.state entries jobs replies frames → HasSent s segment before after entries replies lost → HasLines s number segment before entries jobs replies lost retired lines → Tells before.outside.sink after.outside.sink (joined lines) (Err stop) → StopsOne s number segment before after left rest stop
+stops_telling : (s : Setting) (number : ℕ) (segment : Segment) (before after : Moment) (left frames : List (List ℕ)) (rest : Option (Result Next PcapFault)) (entries : List Entry) (jobs : List Job) (replies : List Reply) (lost : List ℕ) (retired lines : List (List ℕ)) (stop : RunEnd) → HasAnswered s segment before left after.state entries jobs replies frames → HasSent s segment before after entries replies lost → HasLines s number segment before entries jobs replies lost retired lines → Tells before.outside.sink after.outside.sink (joined lines) (Err stop) → StopsOne s number segment before after left rest stop
 stops_telling s number segment before after left frames rest entries jobs replies lost retired lines end.WriteFault h k m t =
     stops_writing s number segment before after left frames rest entries jobs replies lost retired lines t.0 h k m t.1 t.2
 stops_telling s number segment before after left frames rest entries jobs replies lost retired lines end.NoMemory h k m t =
@@ -273,6 +273,13 @@ stops_telling s number segment before after left frames rest entries jobs replie
 stops_telling s number segment before after left frames rest entries jobs replies lost retired lines end.ReadFault h k m t = absurd t
 stops_telling s number segment before after left frames rest entries jobs replies lost retired lines (end.Endpoint p) h k m t = absurd t
 stops_telling s number segment before after left frames rest entries jobs replies lost retired lines (end.Capture n reason) h k m t = absurd t
+
+-- it was told, or telling it stopped
+pub one_told : (s : Setting) (number : ℕ) (segment : Segment) (before after : Moment) (left frames : List (List ℕ)) (rest : Option (Result Next PcapFault)) (entries : List Entry) (jobs : List Job) (replies : List Reply) (lost : List ℕ) (retired lines : List (List ℕ)) (wanted : ℕ) → HasAnswered s segment before left after.state entries jobs replies frames → HasSent s segment before after entries replies lost → HasLines s number segment before entries jobs replies lost retired lines → wanted ≡ wanted_by segment.lines → GivesFrames wanted before.capture after.capture after.outside.source (Ok frames) left rest → (tally tally' : Option Counts) (result : Result (Unit {0}) RunEnd) → Tells before.outside.sink after.outside.sink (joined lines) result → OnOk result (TalliesOn tally tally' (counts_in entries)) → OneBy s number segment before after tally tally' result left rest
+one_told s number segment before after left frames rest entries jobs replies lost retired lines wanted h k m sum given tally tally' (Ok done) t counted =
+    has_told s number segment before after left frames rest entries jobs replies lost retired lines wanted h k m t sum given tally tally' counted
+one_told s number segment before after left frames rest entries jobs replies lost retired lines wanted h k m sum given tally tally' (Err stop) t counted =
+    stops_telling s number segment before after left frames rest entries jobs replies lost retired lines stop h k m t
 
 -- the same sends, as slices have them
 pub sends_as : (names : List (List ℕ)) (es es' : List Entry) (rs rs' : List Reply) (ends ends' after : List NamedEnd) (result : Result (List ℕ) RunEnd) → es ≡ es' → rs ≡ rs' → ends ≡ ends' → SendsAll names (sends_made es rs) result ends after → SendsAll names (sends_made es' rs') result ends' after

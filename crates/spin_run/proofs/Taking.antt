@@ -1,7 +1,6 @@
 -- How many bytes are taken of a capture.
-use Rattle.std.proofs.Common.{◌≡◌, ◌<◌, ◌≤◌, ◌+◌, ◌-◌, ℕ, List, [], ◌∷◌, ◌++◌, length, take, drop, Option, Some, None, Result, Ok, Err, refl, sym, ap, subst, ◌∙◌, arith, append_assoc, inl, inr}
+use Rattle.std.proofs.Common.{◌≡◌, ◌<◌, ◌≤◌, ◌+◌, ◌-◌, ℕ, List, [], ◌∷◌, ◌++◌, length, take, drop, Option, Some, None, Result, Ok, Err, refl, sym, ap, subst, ◌∙◌, arith, append_assoc}
 use Rattle.std.proofs.Math.Seq.{take-append-add, take-append_seam}
-use Rattle.std.proofs.lemmas.Bool.{cases_lt}
 use Rattle.std.proofs.lemmas.List.{append-nil, length-append, length-take-le, take-append-drop}
 use Rattle.std.proofs.lemmas.List.Sums.{sum_by-append, sum_by-cons}
 use Rattle.std.specs.Io.KnownBytes.{Consumes}
@@ -11,7 +10,6 @@ use Rattle.spin_pcap.specs.declared.fault.PcapFault.{PcapFault}
 use Rattle.spin_pcap.specs.declared.limits.TheConstants.{MAX_HELD}
 use Rattle.spin_pcap.specs.declared.next.Next.{Next}
 use Rattle.spin_pcap.specs.declared.next.Next.TheVariants as next
-use Rattle.spin_pcap.specs.declared.order.Order.{Order}
 use Rattle.spin_pcap.specs.declared.state.State.{State}
 use Rattle.spin_pcap.specs.declared.state.State.TheVariants as state
 use Rattle.spin_pcap.specs.Captures.{IsRecord}
@@ -20,7 +18,7 @@ use Rattle.spin_pcap.proofs.Passed.{more_none, more_twice}
 use Rattle.spin_pcap.proofs.Readings.{part_fits}
 use Rattle.spin_run.specs.declared.end.RunEnd.{RunEnd}
 use Rattle.spin_run.specs.Records.{AreLeftBy, AreRecords, bytes_in, room_of, IsTakenPast}
-use Rattle.spin_run.specs.Inner.Reading.{IsOver, GivesNext, HasTaken, TakesNext}
+use Rattle.spin_run.specs.Inner.Reading.{IsOver, GivesNext, HasTaken, TakesNext, TakesFrames}
 use Rattle.spin_run.proofs.Reading.{HasRead, reads_one}
 
 abbrev size : List ℕ → ℕ
@@ -161,13 +159,18 @@ stopped_past P Q result stop is q = subst (λ r. MatchResult r (λ _. P) (λ _. 
 -- ---- a segment
 
 -- what was taken for its records is all that it takes
-pub takes_same : (before after : Option ReaderState) (s s' : SourceSeen) (left : List (List ℕ)) (wanted wanted' : ℕ) → wanted ≡ wanted' → (wanted ≤ length left → HasTaken before after s s' (take wanted left)) → wanted' ≤ length left → HasTaken before after s s' (take wanted' left)
+takes_same : (before after : Option ReaderState) (s s' : SourceSeen) (left : List (List ℕ)) (wanted wanted' : ℕ) → wanted ≡ wanted' → (wanted ≤ length left → HasTaken before after s s' (take wanted left)) → wanted' ≤ length left → HasTaken before after s s' (take wanted' left)
 takes_same before after s s' left wanted wanted' is t le =
     subst (λ (n : ℕ). HasTaken before after s s' (take n left)) is (t (omega (arith, le, is)))
 
 pub takes_before : (before after : Option ReaderState) (s s' : SourceSeen) (left : List (List ℕ)) (wanted wanted' : ℕ) → wanted ≡ wanted' → (wanted ≤ length left → HasTaken before after s s' (take wanted left)) → wanted' ≤ length left → IsTakenPast (room_of before) s s' (take wanted' left)
 takes_before before after s s' left wanted wanted' is t le =
     past_all before after s s' (take wanted' left) (takes_same before after s s' left wanted wanted' is t le)
+
+-- however it is told then
+pub takes_told : {T : Type 0} (before after : Option ReaderState) (s s' : SourceSeen) (left : List (List ℕ)) (wanted wanted' : ℕ) (result : Result T RunEnd) → wanted ≡ wanted' → (wanted ≤ length left → HasTaken before after s s' (take wanted left)) → TakesFrames wanted' before after s s' result left
+takes_told before after s s' left wanted wanted' (Ok done) is t le = takes_same before after s s' left wanted wanted' is t le
+takes_told before after s s' left wanted wanted' (Err stop) is t le = takes_before before after s s' left wanted wanted' is t le
 
 pub takes_reading : (before : Option ReaderState) (s s' : SourceSeen) (left : List (List ℕ)) (wanted wanted' : ℕ) → wanted ≡ wanted' → (wanted ≤ length left → IsTakenPast (room_of before) s s' (take wanted left)) → wanted' ≤ length left → IsTakenPast (room_of before) s s' (take wanted' left)
 takes_reading before s s' left wanted wanted' is t le =

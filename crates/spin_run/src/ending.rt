@@ -39,10 +39,7 @@ fn rest_counts<S: Source>(
         return Ok(None);
     }
     let used = taken(capture);
-    let cut = match read_rest(alloc, capture, source) {
-        Ok(cut) => cut,
-        Err(end) => return Err(end),
-    };
+    let cut = read_rest(alloc, capture, source)?;
     let records = taken(capture);
     Ok(Some(CaptureCounts { records, used, cut }))
 }
@@ -63,12 +60,6 @@ pub(crate) fn finish<S: Source, T: Telling>(
     ensures counts { ResultCounts [] (seen (S.seen source.old) (T.seen out.old) [])
         (seen (S.seen source.new) (T.seen out.new) []) result }
 {
-    let counts = match rest_counts(alloc, capture, source) {
-        Ok(counts) => counts,
-        Err(end) => return Err(end),
-    };
-    match out.end(alloc, length, counts) {
-        Ok(()) => Ok(()),
-        Err(end) => Err(end),
-    }
+    let counts = rest_counts(alloc, capture, source)?;
+    out.end(alloc, length, counts)
 }

@@ -96,25 +96,12 @@ pub(crate) fn run_one<R: Threads + Sync, S: Source, T: Telling, G: Gate>(
         (⟦<Ends as EndsSeen>⟧.all ends.new) in
         ResultCounts names.now before after result }
 {
-    let Ok(retired) = retire(alloc, ends, names, segment.retires.as_slice()) else {
-        return Err(RunEnd::NoMemory);
-    };
+    let retired = retire(alloc, ends, names, segment.retires.as_slice())?;
     let wanted = wanted_by(segment.lines.as_slice());
-    let frames = match read_records(alloc, capture, source, wanted) {
-        Ok(frames) => frames,
-        Err(end) => return Err(end),
-    };
+    let frames = read_records(alloc, capture, source, wanted)?;
     let start = lanes.place(hub);
-    let Ok(woven) = run_segment(rt, alloc, hub, lanes, segment, &frames, gate) else {
-        return Err(RunEnd::NoMemory);
-    };
+    let woven = run_segment(rt, alloc, hub, lanes, segment, &frames, gate)?;
     let entries = woven.entries.as_slice();
-    let lost = match send_all(alloc, ends, names, entries, woven.replies.as_slice()) {
-        Ok(lost) => lost,
-        Err(end) => return Err(end),
-    };
-    match out.tell(retired, number, start, &woven, &lost, names.len() as u8) {
-        Ok(()) => Ok(()),
-        Err(end) => Err(end),
-    }
+    let lost = send_all(alloc, ends, names, entries, woven.replies.as_slice())?;
+    out.tell(retired, number, start, &woven, &lost, names.len() as u8)
 }

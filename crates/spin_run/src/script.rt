@@ -70,11 +70,9 @@ fn run_each<R: Threads + Sync, S: Source, T: Telling, G: Gate>(
 {
     for number in 0..segments.len() {
         let segment = segments.get(number);
-        if let Err(end) = run_one(
+        run_one(
             rt, alloc, hub, lanes, names, number, segment, capture, source, out, ends, gate,
-        ) {
-            return Err(end);
-        }
+        )?;
     }
     Ok(lanes.place(hub))
 }
@@ -119,12 +117,8 @@ fn run_over<R: Threads + Sync, S: Source, T: Telling, G: Gate>(
     if let Err(_) = out.begin() {
         return Err(RunEnd::WriteFault);
     }
-    let Ok((hub, seats)) = Hub::new(alloc, setup, lane_count) else {
-        return Err(RunEnd::NoMemory);
-    };
-    let Ok(mut lanes) = Lanes::of_seats(alloc, &hub, seats) else {
-        return Err(RunEnd::NoMemory);
-    };
+    let (hub, seats) = Hub::new(alloc, setup, lane_count)?;
+    let mut lanes = Lanes::of_seats(alloc, &hub, seats)?;
     run_each(
         rt, alloc, &hub, &mut lanes, names, segments, capture, source, out, ends, gate,
     )

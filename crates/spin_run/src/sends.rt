@@ -98,9 +98,7 @@ pub(crate) fn send_all(
     ensures counts { SendsByCount names.now
         (⟦<Ends as EndsSeen>⟧.all ends.old) (⟦<Ends as EndsSeen>⟧.all ends.new) result }
 {
-    let Ok(sends) = sends_of_segment(alloc, entries, replies) else {
-        return Err(RunEnd::NoMemory);
-    };
+    let sends = sends_of_segment(alloc, entries, replies)?;
     match ends.deliver_all(names, sends.as_slice()) {
         Ok(lost) => Ok(lost),
         Err(endpoint) => Err(RunEnd::Endpoint(endpoint)),

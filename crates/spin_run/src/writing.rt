@@ -20,9 +20,7 @@ pub(crate) fn write_lines<K: Sink>(out: &mut K, lines: &[Octets]) -> Result<(), 
     ensures cause { FailsByCount (K.seen out.old).faults (K.seen out.new).faults result }
 {
     for line in lines {
-        if let Err(failed) = write_all(out, line.as_slice()) {
-            return Err(failed);
-        }
+        write_all(out, line.as_slice())?;
     }
     Ok(())
 }

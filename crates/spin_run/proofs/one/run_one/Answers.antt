@@ -1,5 +1,6 @@
 use Rattle.std.proofs.Common.{◌≡◌, ◌<◌, List, ◌∷◌, ◌++◌, ℕ, length, map, take, Ok, Err, refl, sym, ap, subst, ◌∙◌, ◌⊎◌, inr}
 use Rattle.std.specs.Prelude.{All}
+use Rattle.std.proofs.lemmas.Result.{err_from_is_err_and, on_ok_weaker}
 use Rattle.spin_endpoint.specs.Inner.View.{view_of}
 use Rattle.spin_endpoint.specs.Sends.{SentSeen, all_retired}
 use Rattle.spin_text.specs.Words.{ended}
@@ -15,21 +16,21 @@ use Rattle.spin_run.specs.Inner.Lining.{counts_to}
 use Rattle.spin_run.specs.Inner.Writing.{joined}
 use Rattle.spin_run.specs.Inner.Steps.{moment, setting}
 use Rattle.spin_run.proofs.Sent.{all_sent}
-use Rattle.spin_run.proofs.Faults.{counts_reading, counts_sending, counts_telling}
-use Rattle.spin_run.proofs.Taking.{past_none, takes_before, takes_reading, takes_same}
-use Rattle.spin_run.proofs.OneSegment.{HasAnswered, HasLines, sends_are, sends_as, stops_retiring, stops_reading_in, stops_sending, stops_telling, has_told}
+use Rattle.spin_run.proofs.Faults.{counts_reading, counts_sending, results_telling}
+use Rattle.spin_run.proofs.Taking.{past_none, takes_before, takes_reading, takes_told}
+use Rattle.spin_run.proofs.OneSegment.{HasAnswered, HasLines, sends_are, sends_as, stops_retiring, stops_reading_in, stops_sending, one_told}
 use Rattle.spin_run.proofs.one.run_one.Goals as goal
 
 pub send_all-requires-clause-named : goal.send_all-requires-clause-named
 send_all-requires-clause-named g c =
-    let w = c.in-Ok-run_segment.woven in
-    let woven = c.in-Ok-run_segment.ensures.woven in
-    let same = (λ i. sends_made (c.as_slice-entries.ensures i) (c.as_slice-3.ensures i)) ∙ sends_are w.entries w.jobs w.replies c.in-Ok-run_segment.ensures.replies in
+    let w = c.in_ok-woven.woven in
+    let woven = c.in_ok-woven.ensures.woven in
+    let same = (λ i. sends_made (c.as_slice-entries.ensures i) (c.as_slice-3.ensures i)) ∙ sends_are w.entries w.jobs w.replies c.in_ok-woven.ensures.replies in
     subst (λ (x : List SentSeen). All (λ (sent : SentSeen). sent.endpoint < length c.args.names.now) x) (sym same)
     (all_sent (length c.args.names.now) (data_of c.args.hub.now.setup) _ _ w.entries (jobs_seen w.jobs w.replies) c.requires.sent woven.legal woven.jobs_are)
 
-pub returns-in_default : goal.returns-in_default
-returns-in_default g c =
+pub returns-in_err-retired : goal.returns-in_err-retired
+returns-in_err-retired g c =
     let d = data_of c.args.hub.now.setup in
     let all = λ (ends : _). map (view_of (λ e. (goal.Endpoint-dyn g (e.object.vtable, e.object.value)).seen e.object.value)) ends in
     let source = g.S.Source.seen in
@@ -39,19 +40,20 @@ returns-in_default g c =
     let after = moment (state_of d c.args.lanes.now) c.args.capture.now (source c.args.source.now) (sink c.args.out.now) (all c.retire.new.ends.ends.items) in
     let ends = all c.args.ends.now.ends.items in
     let ends' = all c.retire.new.ends.ends.items in
-    let memory = subst (λ (x : List ℕ). (ends' ≡ ends) ⊎ (ends' ≡ all_retired c.args.names.now x ends)) c.as_slice.ensures c.in_default.ensures.memory in
-    record {
+    let memory = subst (λ (x : List ℕ). (ends' ≡ ends) ⊎ (ends' ≡ all_retired c.args.names.now x ends)) c.as_slice.ensures c.in_err-retired.ensures.memory in
+    let p = err_from_is_err_and c.from_residual.result c.from_residual.ensures.1 in
+    rw (p.1, p.2) (record {
       one = λ left rest r. stops_retiring s c.args.number c.args.segment.now before after left rest refl memory;
       ready = tt;
       taken = tt;
       took = λ left rest r le. past_none (room_of c.args.capture.now) (source c.args.source.now) (take (wanted_by c.args.segment.now.lines) left);
       keep = refl;
       same = refl;
-      counts = (refl, refl, c.in_default.ensures.faults);
-    }
+      counts = (refl, refl, c.in_err-retired.ensures.faults);
+    })
 
-pub returns-in-Err : goal.returns-in-Err
-returns-in-Err g c =
+pub returns-in_err-frames : goal.returns-in_err-frames
+returns-in_err-frames g c =
     let d = data_of c.args.hub.now.setup in
     let all = λ (ends : _). map (view_of (λ e. (goal.Endpoint-dyn g (e.object.vtable, e.object.value)).seen e.object.value)) ends in
     let source = g.S.Source.seen in
@@ -59,20 +61,21 @@ returns-in-Err g c =
     let s = setting d (length c.args.lanes.now) c.args.names.now in
     let before = moment (state_of d c.args.lanes.now) c.args.capture.now (source c.args.source.now) (sink c.args.out.now) (all c.args.ends.now.ends.items) in
     let after = moment (state_of d c.args.lanes.now) c.read_records.new.capture (source c.read_records.new.source) (sink c.args.out.now) (all c.retire.new.ends.ends.items) in
-    let retired : all c.retire.new.ends.ends.items ≡ all_retired c.args.names.now c.args.segment.now.retires (all c.args.ends.now.ends.items) = c.in-Ok.ensures.ends ∙ ap (λ x. all_retired c.args.names.now x (all c.args.ends.now.ends.items)) c.as_slice.ensures in
+    let retired : all c.retire.new.ends.ends.items ≡ all_retired c.args.names.now c.args.segment.now.retires (all c.args.ends.now.ends.items) = c.in_ok-retired.ensures.ends ∙ ap (λ x. all_retired c.args.names.now x (all c.args.ends.now.ends.items)) c.as_slice.ensures in
     let wanted : c.wanted_by-wanted.result ≡ wanted_by c.args.segment.now.lines = c.wanted_by-wanted.ensures ∙ ap wanted_by c.as_slice-2.ensures in
-    record {
-      one = λ left rest r. stops_reading_in s c.args.number c.args.segment.now before after left rest c.wanted_by-wanted.result c.read_records.new.capture (source c.read_records.new.source) c.in-Err.end refl retired wanted (c.in-Err.ensures.answer left rest r);
+    let p = err_from_is_err_and c.from_residual-in_err-frames.result c.from_residual-in_err-frames.ensures.1 in
+    rw (p.1, p.2) (record {
+      one = λ left rest r. stops_reading_in s c.args.number c.args.segment.now before after left rest c.wanted_by-wanted.result c.read_records.new.capture (source c.read_records.new.source) c.in_err-frames.field-0.0 refl retired wanted (c.in_err-frames.ensures.answer left rest r);
       ready = tt;
       taken = tt;
-      took = λ left rest r. takes_reading c.args.capture.now (source c.args.source.now) (source c.read_records.new.source) left c.wanted_by-wanted.result (wanted_by c.args.segment.now.lines) wanted (c.in-Err.ensures.took left rest r);
-      keep = c.in-Err.ensures.keep;
+      took = λ left rest r. takes_reading c.args.capture.now (source c.args.source.now) (source c.read_records.new.source) left c.wanted_by-wanted.result (wanted_by c.args.segment.now.lines) wanted (c.in_err-frames.ensures.took left rest r);
+      keep = c.in_err-frames.ensures.keep;
       same = refl;
-      counts = counts_reading c.args.names.now c.in-Err.end before.outside after.outside c.in-Err.ensures.cause refl c.in-Ok.ensures.faults;
-    }
+      counts = counts_reading c.args.names.now c.in_err-frames.field-0.0 before.outside after.outside c.in_err-frames.ensures.cause refl c.in_ok-retired.ensures.faults;
+    })
 
-pub returns-in_default-run_segment : goal.returns-in_default-run_segment
-returns-in_default-run_segment g c =
+pub returns-in_err-woven : goal.returns-in_err-woven
+returns-in_err-woven g c =
     let d = data_of c.args.hub.now.setup in
     let all = λ (ends : _). map (view_of (λ e. (goal.Endpoint-dyn g (e.object.vtable, e.object.value)).seen e.object.value)) ends in
     let source = g.S.Source.seen in
@@ -80,20 +83,21 @@ returns-in_default-run_segment g c =
     let s = setting d (length c.args.lanes.now) c.args.names.now in
     let before = moment (state_of d c.args.lanes.now) c.args.capture.now (source c.args.source.now) (sink c.args.out.now) (all c.args.ends.now.ends.items) in
     let after = moment (state_of d c.run_segment.new.lanes) c.read_records.new.capture (source c.read_records.new.source) (sink c.args.out.now) (all c.retire.new.ends.ends.items) in
-    let retired : all c.retire.new.ends.ends.items ≡ all_retired c.args.names.now c.args.segment.now.retires (all c.args.ends.now.ends.items) = c.in-Ok.ensures.ends ∙ ap (λ x. all_retired c.args.names.now x (all c.args.ends.now.ends.items)) c.as_slice.ensures in
+    let retired : all c.retire.new.ends.ends.items ≡ all_retired c.args.names.now c.args.segment.now.retires (all c.args.ends.now.ends.items) = c.in_ok-retired.ensures.ends ∙ ap (λ x. all_retired c.args.names.now x (all c.args.ends.now.ends.items)) c.as_slice.ensures in
     let wanted : c.wanted_by-wanted.result ≡ wanted_by c.args.segment.now.lines = c.wanted_by-wanted.ensures ∙ ap wanted_by c.as_slice-2.ensures in
-    record {
+    let p = err_from_is_err_and c.from_residual-in_err-woven.result c.from_residual-in_err-woven.ensures.1 in
+    rw (p.1, p.2) (record {
       one = λ left rest r. stops_retiring s c.args.number c.args.segment.now before after left rest refl (inr retired);
       ready = tt;
       taken = tt;
-      took = λ left rest r. takes_before c.args.capture.now c.read_records.new.capture (source c.args.source.now) (source c.read_records.new.source) left c.wanted_by-wanted.result (wanted_by c.args.segment.now.lines) wanted (c.in-Ok-read_records.ensures.took left rest r);
-      keep = c.in-Ok-read_records.ensures.keep;
+      took = λ left rest r. takes_before c.args.capture.now c.read_records.new.capture (source c.args.source.now) (source c.read_records.new.source) left c.wanted_by-wanted.result (wanted_by c.args.segment.now.lines) wanted (c.in_ok-frames.ensures.took left rest r);
+      keep = c.in_ok-frames.ensures.keep;
       same = refl;
-      counts = (c.in-Ok-read_records.ensures.cause, refl, c.in-Ok.ensures.faults);
-    }
+      counts = (c.in_ok-frames.ensures.cause, refl, c.in_ok-retired.ensures.faults);
+    })
 
-pub returns-in-Err-send_all : goal.returns-in-Err-send_all
-returns-in-Err-send_all g c =
+pub returns-in_err-lost : goal.returns-in_err-lost
+returns-in_err-lost g c =
     let d = data_of c.args.hub.now.setup in
     let all = λ (ends : _). map (view_of (λ e. (goal.Endpoint-dyn g (e.object.vtable, e.object.value)).seen e.object.value)) ends in
     let source = g.S.Source.seen in
@@ -101,65 +105,28 @@ returns-in-Err-send_all g c =
     let s = setting d (length c.args.lanes.now) c.args.names.now in
     let before = moment (state_of d c.args.lanes.now) c.args.capture.now (source c.args.source.now) (sink c.args.out.now) (all c.args.ends.now.ends.items) in
     let after = moment (state_of d c.run_segment.new.lanes) c.read_records.new.capture (source c.read_records.new.source) (sink c.args.out.now) (all c.send_all.new.ends.ends.items) in
-    let retired : all c.retire.new.ends.ends.items ≡ all_retired c.args.names.now c.args.segment.now.retires (all c.args.ends.now.ends.items) = c.in-Ok.ensures.ends ∙ ap (λ x. all_retired c.args.names.now x (all c.args.ends.now.ends.items)) c.as_slice.ensures in
+    let retired : all c.retire.new.ends.ends.items ≡ all_retired c.args.names.now c.args.segment.now.retires (all c.args.ends.now.ends.items) = c.in_ok-retired.ensures.ends ∙ ap (λ x. all_retired c.args.names.now x (all c.args.ends.now.ends.items)) c.as_slice.ensures in
     let wanted : c.wanted_by-wanted.result ≡ wanted_by c.args.segment.now.lines = c.wanted_by-wanted.ensures ∙ ap wanted_by c.as_slice-2.ensures in
-    let w = c.in-Ok-run_segment.woven in
+    let w = c.in_ok-woven.woven in
     let sends = sends_made c.as_slice-entries.result.now c.as_slice-3.result.now in
-    let sent = sends_as c.args.names.now _ w.entries _ w.replies _ _ (all c.send_all.new.ends.ends.items) (Err c.in-Err-send_all.end) c.as_slice-entries.ensures c.as_slice-3.ensures retired c.in-Err-send_all.ensures.sends in
-    record {
+    let sent = sends_as c.args.names.now _ w.entries _ w.replies _ _ (all c.send_all.new.ends.ends.items) (Err c.in_err-lost.field-0.0) c.as_slice-entries.ensures c.as_slice-3.ensures retired c.in_err-lost.ensures.sends in
+    let p = err_from_is_err_and c.from_residual-in_err-lost.result c.from_residual-in_err-lost.ensures.1 in
+    rw (p.1, p.2) (record {
       one = λ left rest r.
-          let given = c.in-Ok-read_records.ensures.answer left rest r in
-          let answered : HasAnswered s c.args.segment.now before left (state_of d c.run_segment.new.lanes) w.entries w.jobs w.replies c.in-Ok-read_records.frames = record {
+          let given = c.in_ok-frames.ensures.answer left rest r in
+          let answered : HasAnswered s c.args.segment.now before left (state_of d c.run_segment.new.lanes) w.entries w.jobs w.replies c.in_ok-frames.frames = record {
             read = given.0 ∙ ap (λ n. take n left) wanted;
-            woven = c.in-Ok-run_segment.ensures.woven;
-            replies_are = c.in-Ok-run_segment.ensures.replies;
+            woven = c.in_ok-woven.ensures.woven;
+            replies_are = c.in_ok-woven.ensures.replies;
           } in
-          stops_sending s c.args.number c.args.segment.now before after left c.in-Ok-read_records.frames rest (state_of d c.run_segment.new.lanes) w.entries w.jobs w.replies c.in-Err-send_all.end refl answered sent;
+          stops_sending s c.args.number c.args.segment.now before after left c.in_ok-frames.frames rest (state_of d c.run_segment.new.lanes) w.entries w.jobs w.replies c.in_err-lost.field-0.0 refl answered sent;
       ready = tt;
       taken = tt;
-      took = λ left rest r. takes_before c.args.capture.now c.read_records.new.capture (source c.args.source.now) (source c.read_records.new.source) left c.wanted_by-wanted.result (wanted_by c.args.segment.now.lines) wanted (c.in-Ok-read_records.ensures.took left rest r);
-      keep = c.in-Ok-read_records.ensures.keep;
+      took = λ left rest r. takes_before c.args.capture.now c.read_records.new.capture (source c.args.source.now) (source c.read_records.new.source) left c.wanted_by-wanted.result (wanted_by c.args.segment.now.lines) wanted (c.in_ok-frames.ensures.took left rest r);
+      keep = c.in_ok-frames.ensures.keep;
       same = refl;
-      counts = counts_sending c.args.names.now sends c.in-Err-send_all.end before.outside after.outside (all c.retire.new.ends.ends.items) c.in-Ok-read_records.ensures.cause refl c.in-Ok.ensures.faults c.in-Err-send_all.ensures.sends;
-    }
-
-pub returns-in-Ok-tell : goal.returns-in-Ok-tell
-returns-in-Ok-tell g c =
-    let d = data_of c.args.hub.now.setup in
-    let all = λ (ends : _). map (view_of (λ e. (goal.Endpoint-dyn g (e.object.vtable, e.object.value)).seen e.object.value)) ends in
-    let source = g.S.Source.seen in
-    let sink = g.T.Telling.seen in
-    let s = setting d (length c.args.lanes.now) c.args.names.now in
-    let before = moment (state_of d c.args.lanes.now) c.args.capture.now (source c.args.source.now) (sink c.args.out.now) (all c.args.ends.now.ends.items) in
-    let after = moment (state_of d c.run_segment.new.lanes) c.read_records.new.capture (source c.read_records.new.source) (sink c.tell.new.self) (all c.send_all.new.ends.ends.items) in
-    let retired : all c.retire.new.ends.ends.items ≡ all_retired c.args.names.now c.args.segment.now.retires (all c.args.ends.now.ends.items) = c.in-Ok.ensures.ends ∙ ap (λ x. all_retired c.args.names.now x (all c.args.ends.now.ends.items)) c.as_slice.ensures in
-    let wanted : c.wanted_by-wanted.result ≡ wanted_by c.args.segment.now.lines = c.wanted_by-wanted.ensures ∙ ap wanted_by c.as_slice-2.ensures in
-    let w = c.in-Ok-run_segment.woven in
-    let sent = sends_as c.args.names.now _ w.entries _ w.replies _ _ (all c.send_all.new.ends.ends.items) (Ok c.in-Ok-send_all.lost) c.as_slice-entries.ensures c.as_slice-3.ensures retired c.in-Ok-send_all.ensures.sends in
-    let lines_told = c.in-Ok.retired ++ map ended (segment_line c.args.number c.place-start.result ∷ map entry_line w.entries ++ map job_line (jobs_seen w.jobs w.replies) ++ lost_lines (counts_to c.in-Ok-send_all.lost (length c.args.names.now))) in
-    let made : HasLines s c.args.number c.args.segment.now before w.entries w.jobs w.replies c.in-Ok-send_all.lost c.in-Ok.retired lines_told = record {
-      few = c.requires.few;
-      retired_are = c.in-Ok.ensures.lines ∙ ap (λ x. map ended (map retire_line (retirements c.args.names.now x (all c.args.ends.now.ends.items)))) c.as_slice.ensures;
-      start = c.place-start.result;
-      start_is = c.place-start.ensures;
-      lines_are = refl;
-    } in
-    record {
-      one = λ left rest r.
-          let given = c.in-Ok-read_records.ensures.answer left rest r in
-          let answered : HasAnswered s c.args.segment.now before left (state_of d c.run_segment.new.lanes) w.entries w.jobs w.replies c.in-Ok-read_records.frames = record {
-            read = given.0 ∙ ap (λ n. take n left) wanted;
-            woven = c.in-Ok-run_segment.ensures.woven;
-            replies_are = c.in-Ok-run_segment.ensures.replies;
-          } in
-          has_told s c.args.number c.args.segment.now before after left c.in-Ok-read_records.frames rest w.entries w.jobs w.replies c.in-Ok-send_all.lost c.in-Ok.retired lines_told c.wanted_by-wanted.result answered (record { sent = sent }) made c.in-Ok-tell.ensures.told wanted given _ _ c.in-Ok-tell.ensures.counts;
-      ready = c.in-Ok-run_segment.ensures.ready;
-      taken = c.in-Ok-run_segment.ensures.taken;
-      took = λ left rest r. takes_same c.args.capture.now c.read_records.new.capture (source c.args.source.now) (source c.read_records.new.source) left c.wanted_by-wanted.result (wanted_by c.args.segment.now.lines) wanted (c.in-Ok-read_records.ensures.took left rest r);
-      keep = c.in-Ok-read_records.ensures.keep;
-      same = c.in-Ok-tell.ensures.same;
-      counts = (c.in-Ok-read_records.ensures.cause, c.in-Ok-tell.ensures.cause, c.in-Ok-send_all.ensures.counts ∙ c.in-Ok.ensures.faults);
-    }
+      counts = counts_sending c.args.names.now sends c.in_err-lost.field-0.0 before.outside after.outside (all c.retire.new.ends.ends.items) c.in_ok-frames.ensures.cause refl c.in_ok-retired.ensures.faults c.in_err-lost.ensures.sends;
+    })
 
 pub returns : goal.returns
 returns g c =
@@ -170,31 +137,31 @@ returns g c =
     let s = setting d (length c.args.lanes.now) c.args.names.now in
     let before = moment (state_of d c.args.lanes.now) c.args.capture.now (source c.args.source.now) (sink c.args.out.now) (all c.args.ends.now.ends.items) in
     let after = moment (state_of d c.run_segment.new.lanes) c.read_records.new.capture (source c.read_records.new.source) (sink c.tell.new.self) (all c.send_all.new.ends.ends.items) in
-    let retired : all c.retire.new.ends.ends.items ≡ all_retired c.args.names.now c.args.segment.now.retires (all c.args.ends.now.ends.items) = c.in-Ok.ensures.ends ∙ ap (λ x. all_retired c.args.names.now x (all c.args.ends.now.ends.items)) c.as_slice.ensures in
+    let retired : all c.retire.new.ends.ends.items ≡ all_retired c.args.names.now c.args.segment.now.retires (all c.args.ends.now.ends.items) = c.in_ok-retired.ensures.ends ∙ ap (λ x. all_retired c.args.names.now x (all c.args.ends.now.ends.items)) c.as_slice.ensures in
     let wanted : c.wanted_by-wanted.result ≡ wanted_by c.args.segment.now.lines = c.wanted_by-wanted.ensures ∙ ap wanted_by c.as_slice-2.ensures in
-    let w = c.in-Ok-run_segment.woven in
-    let sent = sends_as c.args.names.now _ w.entries _ w.replies _ _ (all c.send_all.new.ends.ends.items) (Ok c.in-Ok-send_all.lost) c.as_slice-entries.ensures c.as_slice-3.ensures retired c.in-Ok-send_all.ensures.sends in
-    let lines_told = c.in-Ok.retired ++ map ended (segment_line c.args.number c.place-start.result ∷ map entry_line w.entries ++ map job_line (jobs_seen w.jobs w.replies) ++ lost_lines (counts_to c.in-Ok-send_all.lost (length c.args.names.now))) in
-    let made : HasLines s c.args.number c.args.segment.now before w.entries w.jobs w.replies c.in-Ok-send_all.lost c.in-Ok.retired lines_told = record {
+    let w = c.in_ok-woven.woven in
+    let sent = sends_as c.args.names.now _ w.entries _ w.replies _ _ (all c.send_all.new.ends.ends.items) (Ok c.in_ok-lost.lost) c.as_slice-entries.ensures c.as_slice-3.ensures retired c.in_ok-lost.ensures.sends in
+    let lines_told = c.in_ok-retired.retired ++ map ended (segment_line c.args.number c.place-start.result ∷ map entry_line w.entries ++ map job_line (jobs_seen w.jobs w.replies) ++ lost_lines (counts_to c.in_ok-lost.lost (length c.args.names.now))) in
+    let made : HasLines s c.args.number c.args.segment.now before w.entries w.jobs w.replies c.in_ok-lost.lost c.in_ok-retired.retired lines_told = record {
       few = c.requires.few;
-      retired_are = c.in-Ok.ensures.lines ∙ ap (λ x. map ended (map retire_line (retirements c.args.names.now x (all c.args.ends.now.ends.items)))) c.as_slice.ensures;
+      retired_are = c.in_ok-retired.ensures.lines ∙ ap (λ x. map ended (map retire_line (retirements c.args.names.now x (all c.args.ends.now.ends.items)))) c.as_slice.ensures;
       start = c.place-start.result;
       start_is = c.place-start.ensures;
       lines_are = refl;
     } in
     record {
       one = λ left rest r.
-          let given = c.in-Ok-read_records.ensures.answer left rest r in
-          let answered : HasAnswered s c.args.segment.now before left (state_of d c.run_segment.new.lanes) w.entries w.jobs w.replies c.in-Ok-read_records.frames = record {
+          let given = c.in_ok-frames.ensures.answer left rest r in
+          let answered : HasAnswered s c.args.segment.now before left (state_of d c.run_segment.new.lanes) w.entries w.jobs w.replies c.in_ok-frames.frames = record {
             read = given.0 ∙ ap (λ n. take n left) wanted;
-            woven = c.in-Ok-run_segment.ensures.woven;
-            replies_are = c.in-Ok-run_segment.ensures.replies;
+            woven = c.in_ok-woven.ensures.woven;
+            replies_are = c.in_ok-woven.ensures.replies;
           } in
-          stops_telling s c.args.number c.args.segment.now before after left c.in-Ok-read_records.frames rest w.entries w.jobs w.replies c.in-Ok-send_all.lost c.in-Ok.retired lines_told c.in-Err-tell.end answered (record { sent = sent }) made c.in-Err-tell.ensures.told;
-      ready = tt;
-      taken = tt;
-      took = λ left rest r. takes_before c.args.capture.now c.read_records.new.capture (source c.args.source.now) (source c.read_records.new.source) left c.wanted_by-wanted.result (wanted_by c.args.segment.now.lines) wanted (c.in-Ok-read_records.ensures.took left rest r);
-      keep = c.in-Ok-read_records.ensures.keep;
-      same = c.in-Err-tell.ensures.same;
-      counts = counts_telling c.args.names.now (joined lines_told) c.in-Err-tell.end before.outside after.outside c.in-Ok-read_records.ensures.cause (c.in-Ok-send_all.ensures.counts ∙ c.in-Ok.ensures.faults) c.in-Err-tell.ensures.told c.in-Err-tell.ensures.cause;
+          one_told s c.args.number c.args.segment.now before after left c.in_ok-frames.frames rest w.entries w.jobs w.replies c.in_ok-lost.lost c.in_ok-retired.retired lines_told c.wanted_by-wanted.result answered (record { sent = sent }) made wanted given _ _ c.tell.result c.tell.ensures.told c.tell.ensures.counts;
+      ready = on_ok_weaker c.tell.result (λ _. c.in_ok-woven.ensures.ready) c.tell.ensures.counts;
+      taken = on_ok_weaker c.tell.result (λ _. c.in_ok-woven.ensures.taken) c.tell.ensures.counts;
+      took = λ left rest r. takes_told c.args.capture.now c.read_records.new.capture (source c.args.source.now) (source c.read_records.new.source) left c.wanted_by-wanted.result (wanted_by c.args.segment.now.lines) c.tell.result wanted (c.in_ok-frames.ensures.took left rest r);
+      keep = c.in_ok-frames.ensures.keep;
+      same = c.tell.ensures.same;
+      counts = results_telling c.args.names.now (joined lines_told) c.tell.result before.outside after.outside c.in_ok-frames.ensures.cause (c.in_ok-lost.ensures.counts ∙ c.in_ok-retired.ensures.faults) c.tell.ensures.told c.tell.ensures.cause;
     }

@@ -1,4 +1,5 @@
 use Rattle.std.proofs.Common.{◌≡◌, ℕ, map, length, refl, sym, ap, subst, ◌∙◌, arith}
+use Rattle.std.proofs.lemmas.Result.{err_from_is_err_and}
 use Rattle.spin_endpoint.specs.Inner.View.{view_of}
 use Rattle.spin_table.specs.SetupOf.{data_of}
 use Rattle.spin_run.specs.Ends.{seen}
@@ -48,8 +49,8 @@ run_one-requires-clause-retired g c κs lives =
 pub run_one-requires-clause-sent : goal.run_one-requires-clause-sent
 run_one-requires-clause-sent g c κs lives = c.requires.orderly.endpoints.sent
 
-pub returns-in-Err : goal.returns-in-Err
-returns-in-Err g c =
+pub returns-in_err-run_one : goal.returns-in_err-run_one
+returns-in_err-run_one g c =
     let all = λ (ends : _). map (view_of (λ e. (goal.Endpoint-dyn g (e.object.vtable, e.object.value)).seen e.object.value)) ends in
     let source = g.S.Source.seen in
     let sink = g.T.Telling.seen in
@@ -62,17 +63,18 @@ returns-in-Err g c =
     let now = moment (state_of d c.loop-number.lanes) c.loop-number.capture (source c.loop-number.source) (sink c.loop-number.out) (all c.loop-number.ends.ends.items) in
     let next = moment (state_of d c.run_one.new.lanes) c.run_one.new.capture (source c.run_one.new.source) (sink c.run_one.new.out) (all c.run_one.new.ends.ends.items) in
     let lanes_are : length c.loop-number.lanes ≡ length c.args.lanes.now = c.loop-number.invariant.ready.all ∙ sym c.requires.ready.all in
-    let stop = c.in-Err.end in
-    record {
+    let stop = c.in_err-run_one.field-0.0 in
+    let p = err_from_is_err_and c.from_residual.result c.from_residual.ensures.1 in
+    rw (p.1, p.2) (record {
       end = λ version reader start tally frames rest told.
           let t = (c.loop-number.invariant.stands version reader start tally frames rest told).stands in
-          let one = subst (λ (n : ℕ). StopsOne (setting d n names) number segment now next t.left rest stop) lanes_are (c.in-Err.ensures.one t.left rest t.records) in
+          let one = subst (λ (n : ℕ). StopsOne (setting d n names) number segment now next t.left rest stop) lanes_are (c.in_err-run_one.ensures.one t.left rest t.records) in
           one_walks (script_in s c.args.segments.now version) (room_of reader) frames rest start next.outside tally (g.T.Telling.counts c.run_one.new.out) s number segment now next t.left stop one
-          (one_ends (script_in s c.args.segments.now version) reader frames rest start number segment now next stop c.get-segment.ensures t one (c.in-Err.ensures.took t.left rest t.records));
-      keep = c.in-Err.ensures.keep ∙ c.loop-number.invariant.keep;
-      same = c.in-Err.ensures.same ∙ c.loop-number.invariant.same;
-      counts = counts_later names stop before now.outside next.outside c.loop-number.invariant.reads c.loop-number.invariant.writes c.loop-number.invariant.faults c.in-Err.ensures.counts;
-    }
+          (one_ends (script_in s c.args.segments.now version) reader frames rest start number segment now next stop c.get-segment.ensures t one (c.in_err-run_one.ensures.took t.left rest t.records));
+      keep = c.in_err-run_one.ensures.keep ∙ c.loop-number.invariant.keep;
+      same = c.in_err-run_one.ensures.same ∙ c.loop-number.invariant.same;
+      counts = counts_later names stop before now.outside next.outside c.loop-number.invariant.reads c.loop-number.invariant.writes c.loop-number.invariant.faults c.in_err-run_one.ensures.counts;
+    })
 
 pub loop-number-preserved : goal.loop-number-preserved
 loop-number-preserved g c =
@@ -93,15 +95,15 @@ loop-number-preserved g c =
     record {
       stands = λ version reader start tally frames rest told.
           let t = c.loop-number.invariant.stands version reader start tally frames rest told in
-          let one = subst (λ (n : ℕ). HasTold (setting d n names) number segment now next counted counted' t.stands.left rest) lanes_are (c.in_default.ensures.one t.stands.left rest t.stands.records) in
-          told_next (script_in s c.args.segments.now version) reader frames rest start number segment now next tally counted counted' c.get-segment.ensures t one (c.in_default.ensures.took t.stands.left rest t.stands.records);
-      ready = c.in_default.ensures.ready;
-      room = omega (arith, c.in_default.ensures.taken, c.loop-number.invariant.room, more.0);
-      keep = c.in_default.ensures.keep ∙ c.loop-number.invariant.keep;
-      same = c.in_default.ensures.same ∙ c.loop-number.invariant.same;
-      reads = c.in_default.ensures.counts.0 ∙ c.loop-number.invariant.reads;
-      writes = c.in_default.ensures.counts.1 ∙ c.loop-number.invariant.writes;
-      faults = c.in_default.ensures.counts.2 ∙ c.loop-number.invariant.faults;
+          let one = subst (λ (n : ℕ). HasTold (setting d n names) number segment now next counted counted' t.stands.left rest) lanes_are (c.in_ok-run_one.ensures.one t.stands.left rest t.stands.records) in
+          told_next (script_in s c.args.segments.now version) reader frames rest start number segment now next tally counted counted' c.get-segment.ensures t one (c.in_ok-run_one.ensures.took t.stands.left rest t.stands.records);
+      ready = c.in_ok-run_one.ensures.ready;
+      room = omega (arith, c.in_ok-run_one.ensures.taken, c.loop-number.invariant.room, more.0);
+      keep = c.in_ok-run_one.ensures.keep ∙ c.loop-number.invariant.keep;
+      same = c.in_ok-run_one.ensures.same ∙ c.loop-number.invariant.same;
+      reads = c.in_ok-run_one.ensures.counts.0 ∙ c.loop-number.invariant.reads;
+      writes = c.in_ok-run_one.ensures.counts.1 ∙ c.loop-number.invariant.writes;
+      faults = c.in_ok-run_one.ensures.counts.2 ∙ c.loop-number.invariant.faults;
     }
 
 pub place-requires : goal.place-requires

@@ -1,5 +1,6 @@
 use Rattle.std.proofs.Common.{◌≡◌, length, map, refl, sym, ap, subst, ◌∙◌}
 use Rattle.std.specs.Prelude.{All}
+use Rattle.std.proofs.lemmas.Result.{err_from_is_err_and}
 use Rattle.spin_endpoint.specs.Inner.View.{view_of}
 use Rattle.spin_table.specs.States.{start_of}
 use Rattle.spin_table.specs.SetupOf.{data_of}
@@ -28,48 +29,50 @@ returns-in-Err g c =
       counts = (refl, c.in-Err.ensures.cause, refl);
     }
 
-pub returns-in_default-new : goal.returns-in_default-new
-returns-in_default-new g c =
+pub returns-in_err-hub : goal.returns-in_err-hub
+returns-in_err-hub g c =
     let all = λ (ends : _). map (view_of (λ e. (goal.Endpoint-dyn g (e.object.vtable, e.object.value)).seen e.object.value)) ends in
     let source = g.S.Source.seen c.args.source.now in
     let ends = all c.args.ends.now.ends.items in
     let before = seen source (g.T.Telling.seen c.args.out.now) ends in
     let after = seen source (g.T.Telling.seen c.begin.new.self) ends in
     let s = setting (data_of c.args.setup) c.args.lane_count c.args.names.now in
-    record {
+    let p = err_from_is_err_and c.from_residual.result c.from_residual.ensures.1 in
+    rw (p.1, p.2) (record {
       end = λ version frames rest r. ends_empty (script_in s c.args.segments.now version) c.args.capture.now frames rest before after refl refl c.in_default.ensures.told;
       keep = refl;
       same = c.in_default.ensures.same;
       counts = (refl, c.in_default.ensures.cause, refl);
-    }
+    })
 
-pub returns-in_default-of_seats : goal.returns-in_default-of_seats
-returns-in_default-of_seats g c =
+pub returns-in_err-lanes : goal.returns-in_err-lanes
+returns-in_err-lanes g c =
     let all = λ (ends : _). map (view_of (λ e. (goal.Endpoint-dyn g (e.object.vtable, e.object.value)).seen e.object.value)) ends in
     let source = g.S.Source.seen c.args.source.now in
     let ends = all c.args.ends.now.ends.items in
     let before = seen source (g.T.Telling.seen c.args.out.now) ends in
     let after = seen source (g.T.Telling.seen c.begin.new.self) ends in
     let s = setting (data_of c.args.setup) c.args.lane_count c.args.names.now in
-    record {
+    let p = err_from_is_err_and c.from_residual-in_err-lanes.result c.from_residual-in_err-lanes.ensures.1 in
+    rw (p.1, p.2) (record {
       end = λ version frames rest r. ends_empty (script_in s c.args.segments.now version) c.args.capture.now frames rest before after refl refl c.in_default.ensures.told;
       keep = refl;
       same = c.in_default.ensures.same;
       counts = (refl, c.in_default.ensures.cause, refl);
-    }
+    })
 
 pub of_seats-requires-clause-seats : goal.of_seats-requires-clause-seats
 of_seats-requires-clause-seats g c =
-    subst (λ st. All (IsSeatOf (data_of st)) c.in-Ok.seats) (sym c.in-Ok.ensures.setup) c.in-Ok.ensures.seats
+    subst (λ st. All (IsSeatOf (data_of st)) c.in_ok-hub.seats) (sym c.in_ok-hub.ensures.setup) c.in_ok-hub.ensures.seats
 
 pub run_each-requires-clause-sincere : goal.run_each-requires-clause-sincere
-run_each-requires-clause-sincere g c κs lives = rw c.in-Ok.ensures.setup c.requires.sincere
+run_each-requires-clause-sincere g c κs lives = rw c.in_ok-hub.ensures.setup c.requires.sincere
 
 pub run_each-requires-clause-ready : goal.run_each-requires-clause-ready
-run_each-requires-clause-ready g c κs lives = c.in-Ok-of_seats.ensures.ready
+run_each-requires-clause-ready g c κs lives = c.in_ok-lanes.ensures.ready
 
 pub run_each-requires-clause-front : goal.run_each-requires-clause-front
-run_each-requires-clause-front g c κs lives = c.in-Ok-of_seats.ensures.front
+run_each-requires-clause-front g c κs lives = c.in_ok-lanes.ensures.front
 
 pub run_each-requires-clause-valid : goal.run_each-requires-clause-valid
 run_each-requires-clause-valid g c κs lives = c.requires.valid
@@ -79,9 +82,9 @@ run_each-requires-clause-commands g c κs lives = c.requires.commands
 
 pub run_each-requires-clause-orderly : goal.run_each-requires-clause-orderly
 run_each-requires-clause-orderly g c κs lives =
-    let lanes_are : length c.in-Ok-of_seats.lanes ≡ c.args.lane_count = c.in-Ok-of_seats.ensures.ready.all ∙ c.in-Ok.ensures.lanes in
-    orderly_in (script_in (setting (data_of c.args.setup) c.args.lane_count c.args.names.now) c.args.segments.now 0) (setting (data_of c.in-Ok.hub.setup) (length c.in-Ok-of_seats.lanes) c.args.names.now)
-    (λ i. setting (data_of (c.in-Ok.ensures.setup i)) (lanes_are i) c.args.names.now) c.requires.orderly
+    let lanes_are : length c.in_ok-lanes.lanes ≡ c.args.lane_count = c.in_ok-lanes.ensures.ready.all ∙ c.in_ok-hub.ensures.lanes in
+    orderly_in (script_in (setting (data_of c.args.setup) c.args.lane_count c.args.names.now) c.args.segments.now 0) (setting (data_of c.in_ok-hub.hub.setup) (length c.in_ok-lanes.lanes) c.args.names.now)
+    (λ i. setting (data_of (c.in_ok-hub.ensures.setup i)) (lanes_are i) c.args.names.now) c.requires.orderly
 
 pub returns : goal.returns
 returns g c =
@@ -89,15 +92,15 @@ returns g c =
     let source = g.S.Source.seen in
     let sink = g.T.Telling.seen in
     let counts = g.T.Telling.counts in
-    let lanes = c.in-Ok-of_seats.lanes in
+    let lanes = c.in_ok-lanes.lanes in
     let s = setting (data_of c.args.setup) c.args.lane_count c.args.names.now in
-    let made = setting (data_of c.in-Ok.hub.setup) (length lanes) c.args.names.now in
+    let made = setting (data_of c.in_ok-hub.hub.setup) (length lanes) c.args.names.now in
     let before = seen (source c.args.source.now) (sink c.args.out.now) (all c.args.ends.now.ends.items) in
-    let now = moment (state_of (data_of c.in-Ok.hub.setup) lanes) c.args.capture.now (source c.args.source.now) (sink c.begin.new.self) (all c.args.ends.now.ends.items) in
+    let now = moment (state_of (data_of c.in_ok-hub.hub.setup) lanes) c.args.capture.now (source c.args.source.now) (sink c.begin.new.self) (all c.args.ends.now.ends.items) in
     let after = seen (source c.run_each.new.source) (sink c.run_each.new.out) (all c.run_each.new.ends.ends.items) in
-    let lanes_are : length lanes ≡ c.args.lane_count = c.in-Ok-of_seats.ensures.ready.all ∙ c.in-Ok.ensures.lanes in
-    let same : made ≡ s = λ i. setting (data_of (c.in-Ok.ensures.setup i)) (lanes_are i) c.args.names.now in
-    let start : state_of (data_of c.in-Ok.hub.setup) lanes ≡ start_of (data_of c.args.setup) = c.in-Ok-of_seats.ensures.start ∙ ap (λ (st : _). start_of (data_of st)) c.in-Ok.ensures.setup in
+    let lanes_are : length lanes ≡ c.args.lane_count = c.in_ok-lanes.ensures.ready.all ∙ c.in_ok-hub.ensures.lanes in
+    let same : made ≡ s = λ i. setting (data_of (c.in_ok-hub.ensures.setup i)) (lanes_are i) c.args.names.now in
+    let start : state_of (data_of c.in_ok-hub.hub.setup) lanes ≡ start_of (data_of c.args.setup) = c.in_ok-lanes.ensures.start ∙ ap (λ (st : _). start_of (data_of st)) c.in_ok-hub.ensures.setup in
     record {
       end = λ version frames rest r.
           let script = script_in s c.args.segments.now version in
