@@ -257,10 +257,13 @@ round_ends d before after k le r = record {
 
 -- ---- both rounds
 
-pub settled_read : (d : SetupData) (log : TableId) (before after : List Lane) → All (IsOfHub d log) before → SettledFirst d before after → (i : ℕ) (l : Lane) → i < length before → HasRead d (lane_at before i l) (lane_at after i l)
+settled_read : (d : SetupData) (log : TableId) (before after : List Lane) → All (IsOfHub d log) before → SettledFirst d before after → (i : ℕ) (l : Lane) → i < length before → HasRead d (lane_at before i l) (lane_at after i l)
 settled_read d log before after own s i l lt =
     which i 0 (λ e. subst (λ j. HasRead d (lane_at before j l) (lane_at after j l)) (sym e) (s.first l).0) (λ e. subst (λ j. HasRead d (lane_at before j l) (lane_at after j l)) (sym e) (s.first l).0)
     (λ a b. subst (λ (x : Lane). HasRead d (lane_at before i l) x) (sym (s.others i l a)) (has_read_nothing d (lane_at before i l) (own i l lt).1))
+
+pub settled_hubs : (d : SetupData) (log : TableId) (before after : List Lane) → All (IsOfHub d log) before → SettledFirst d before after → All (IsOfHub d log) after
+settled_hubs d log before after own s = still_of_hubs d log before after s.len own (settled_read d log before after own s)
 
 front_first : (lanes : List Lane) (l : Lane) → 0 < length lanes → front_of lanes ≡ front_at lanes 0 l
 front_first [] l lt = absurd (omega arith)
@@ -294,7 +297,3 @@ have_met d log before settled once twice some own s a b = (
         state_is = one_state d (lane_at twice k l) (lane_at twice 0 l) read_2.seat (b.read 0 l first_once).seat (b.settled k l in_once) (b.settled 0 l first_once) same ∙ sym (state_first d twice l first_twice);
       },
 )
-
-pub on_ok : {X E P Q : Type 0} (r : Result X E) → (P → Q) → OnOk r P → OnOk r Q
-on_ok (Ok x) f p = f p
-on_ok (Err e) f p = tt

@@ -12,53 +12,38 @@ use Rattle.spin_run.specs.Segments.{commands_in, front_of, state_of, jobs_seen}
 use Rattle.spin_run.proofs.Segmenting.{Facts, Wove, some_lane, known, trails_lanes, trails_order, jobs_lanes, jobs_order, few_jobs, jobs_can_run, woven_made, front_after, state_after, ready_again, room_taken}
 use Rattle.spin_run.proofs.segment.run_segment.Goals as goal
 
-pub weave-requires-clause-trails : goal.weave-requires-clause-trails
-weave-requires-clause-trails g c =
-    trails_lanes _ _ _ _ _ _ _ _ _ (known _ _ _ _ _ _ _ _ c.requires.ready c.requires.lines c.requires.room c.run_lanes.ensures (c.lacked_memory.ensures.had c.if-lacked_memory.false) c.in_ok-meet.ensures)
-
-pub weave-requires-clause-trails_order : goal.weave-requires-clause-trails_order
-weave-requires-clause-trails_order g c =
-    trails_order _ _ _ _ _ _ _ _ _ (known _ _ _ _ _ _ _ _ c.requires.ready c.requires.lines c.requires.room c.run_lanes.ensures (c.lacked_memory.ensures.had c.if-lacked_memory.false) c.in_ok-meet.ensures)
-
-pub weave-requires-clause-jobs : goal.weave-requires-clause-jobs
-weave-requires-clause-jobs g c =
-    jobs_lanes _ _ _ _ _ _ _ _ _ (known _ _ _ _ _ _ _ _ c.requires.ready c.requires.lines c.requires.room c.run_lanes.ensures (c.lacked_memory.ensures.had c.if-lacked_memory.false) c.in_ok-meet.ensures)
-
-pub weave-requires-clause-jobs_order : goal.weave-requires-clause-jobs_order
-weave-requires-clause-jobs_order g c =
-    jobs_order _ _ _ _ _ _ _ _ _ (known _ _ _ _ _ _ _ _ c.requires.ready c.requires.lines c.requires.room c.run_lanes.ensures (c.lacked_memory.ensures.had c.if-lacked_memory.false) c.in_ok-meet.ensures)
+pub weave-requires : goal.weave-requires
+weave-requires g c =
+    let facts : Facts (data_of c.args.hub.now.setup) c.args.hub.now.log.id c.args.hub.now.log.lanes c.args.segment.now.lines c.args.frames.now c.args.lanes.now c.run_lanes.new.lanes c.meet.new.self (some_lane c.args.lanes.now c.requires.ready.some) = known _ _ _ _ _ _ _ _ c.requires.ready c.requires.lines c.requires.room c.run_lanes.ensures (c.lacked_memory.ensures.had c.if-lacked_memory.false) c.in_ok-meet.ensures in
+    record {
+      trails = trails_lanes _ _ _ _ _ _ _ _ _ facts;
+      trails_order = trails_order _ _ _ _ _ _ _ _ _ facts;
+      jobs = jobs_lanes _ _ _ _ _ _ _ _ _ facts;
+      jobs_order = jobs_order _ _ _ _ _ _ _ _ _ facts;
+    }
 
 pub run_all-requires-clause-few : goal.run_all-requires-clause-few
 run_all-requires-clause-few g c κs within =
-    let facts : Facts (data_of c.args.hub.now.setup) c.args.hub.now.log.id c.args.hub.now.log.lanes c.args.segment.now.lines c.args.frames.now c.args.lanes.now c.run_lanes.new.lanes c.meet.new.self (some_lane c.args.lanes.now c.requires.ready.some) = (known _ _ _ _ _ _ _ _ c.requires.ready c.requires.lines c.requires.room c.run_lanes.ensures (c.lacked_memory.ensures.had c.if-lacked_memory.false) c.in_ok-meet.ensures) in
+    let facts : Facts (data_of c.args.hub.now.setup) c.args.hub.now.log.id c.args.hub.now.log.lanes c.args.segment.now.lines c.args.frames.now c.args.lanes.now c.run_lanes.new.lanes c.meet.new.self (some_lane c.args.lanes.now c.requires.ready.some) = known _ _ _ _ _ _ _ _ c.requires.ready c.requires.lines c.requires.room c.run_lanes.ensures (c.lacked_memory.ensures.had c.if-lacked_memory.false) c.in_ok-meet.ensures in
     let wove : Wove _ _ _ _ _ _ _ _ _ facts c.in_ok-entries.entries c.in_ok-entries.jobs = record { entries_are = c.in_ok-entries.ensures.entries; order = c.in_ok-entries.ensures.entries_order; jobs_are = c.in_ok-entries.ensures.jobs; jobs_rise = c.in_ok-entries.ensures.jobs_order } in
     few_jobs _ _ _ _ _ _ _ _ _ facts _ _ wove
 
 pub run_all-requires-clause-jobs : goal.run_all-requires-clause-jobs
 run_all-requires-clause-jobs g c κs within =
-    let facts : Facts (data_of c.args.hub.now.setup) c.args.hub.now.log.id c.args.hub.now.log.lanes c.args.segment.now.lines c.args.frames.now c.args.lanes.now c.run_lanes.new.lanes c.meet.new.self (some_lane c.args.lanes.now c.requires.ready.some) = (known _ _ _ _ _ _ _ _ c.requires.ready c.requires.lines c.requires.room c.run_lanes.ensures (c.lacked_memory.ensures.had c.if-lacked_memory.false) c.in_ok-meet.ensures) in
+    let facts : Facts (data_of c.args.hub.now.setup) c.args.hub.now.log.id c.args.hub.now.log.lanes c.args.segment.now.lines c.args.frames.now c.args.lanes.now c.run_lanes.new.lanes c.meet.new.self (some_lane c.args.lanes.now c.requires.ready.some) = known _ _ _ _ _ _ _ _ c.requires.ready c.requires.lines c.requires.room c.run_lanes.ensures (c.lacked_memory.ensures.had c.if-lacked_memory.false) c.in_ok-meet.ensures in
     let wove : Wove _ _ _ _ _ _ _ _ _ facts c.in_ok-entries.entries c.in_ok-entries.jobs = record { entries_are = c.in_ok-entries.ensures.entries; order = c.in_ok-entries.ensures.entries_order; jobs_are = c.in_ok-entries.ensures.jobs; jobs_rise = c.in_ok-entries.ensures.jobs_order } in
     subst (λ (d : SetupData). All (CanRun d) c.in_ok-entries.jobs) (ap (λ setup. data_of setup) (sym c.setup.ensures)) (jobs_can_run _ _ _ _ _ _ _ _ _ facts _ _ wove)
 
-pub returns-clause-woven : goal.returns-clause-woven
-returns-clause-woven g c =
-    let facts : Facts (data_of c.args.hub.now.setup) c.args.hub.now.log.id c.args.hub.now.log.lanes c.args.segment.now.lines c.args.frames.now c.args.lanes.now c.run_lanes.new.lanes c.meet.new.self (some_lane c.args.lanes.now c.requires.ready.some) = (known _ _ _ _ _ _ _ _ c.requires.ready c.requires.lines c.requires.room c.run_lanes.ensures (c.lacked_memory.ensures.had c.if-lacked_memory.false) c.in_ok-meet.ensures) in
+pub returns : goal.returns
+returns g c =
+    let facts : Facts (data_of c.args.hub.now.setup) c.args.hub.now.log.id c.args.hub.now.log.lanes c.args.segment.now.lines c.args.frames.now c.args.lanes.now c.run_lanes.new.lanes c.meet.new.self (some_lane c.args.lanes.now c.requires.ready.some) = known _ _ _ _ _ _ _ _ c.requires.ready c.requires.lines c.requires.room c.run_lanes.ensures (c.lacked_memory.ensures.had c.if-lacked_memory.false) c.in_ok-meet.ensures in
     let wove : Wove _ _ _ _ _ _ _ _ _ facts c.in_ok-entries.entries c.in_ok-entries.jobs = record { entries_are = c.in_ok-entries.ensures.entries; order = c.in_ok-entries.ensures.entries_order; jobs_are = c.in_ok-entries.ensures.jobs; jobs_rise = c.in_ok-entries.ensures.jobs_order } in
-    subst (λ (after : State). IsWoven (data_of c.args.hub.now.setup) (length c.args.lanes.now) (asked_in c.args.segment.now.lines c.args.frames.now) (state_of (data_of c.args.hub.now.setup) c.args.lanes.now) after c.in_ok-entries.entries (jobs_seen c.in_ok-entries.jobs c.in_ok-replies.replies))
-    (sym (state_after _ _ _ _ _ _ _ _ _ facts c.weave.new.self c.in_ok-entries.ensures.seats c.in_ok-entries.ensures.stops))
-    (woven_made _ _ _ _ _ _ _ _ _ facts _ _ wove c.in_ok-replies.replies (subst (λ (d : SetupData). AllZip (IsReplyTo d) c.in_ok-entries.jobs c.in_ok-replies.replies) (ap (λ setup. data_of setup) c.setup.ensures) c.in_ok-replies.ensures))
-
-pub returns-clause-replies : goal.returns-clause-replies
-returns-clause-replies g c =
-    AllZip-long (IsReplyTo (data_of c.setup.result.now)) c.in_ok-entries.jobs c.in_ok-replies.replies c.in_ok-replies.ensures
-
-pub returns-clause-ready : goal.returns-clause-ready
-returns-clause-ready g c =
-    let facts : Facts (data_of c.args.hub.now.setup) c.args.hub.now.log.id c.args.hub.now.log.lanes c.args.segment.now.lines c.args.frames.now c.args.lanes.now c.run_lanes.new.lanes c.meet.new.self (some_lane c.args.lanes.now c.requires.ready.some) = (known _ _ _ _ _ _ _ _ c.requires.ready c.requires.lines c.requires.room c.run_lanes.ensures (c.lacked_memory.ensures.had c.if-lacked_memory.false) c.in_ok-meet.ensures) in
-    ready_again _ _ _ _ _ _ _ _ _ facts c.weave.new.self c.in_ok-entries.ensures.seats c.in_ok-entries.ensures.stops c.in_ok-entries.ensures.emptied
-
-pub returns-clause-taken : goal.returns-clause-taken
-returns-clause-taken g c =
-    let facts : Facts (data_of c.args.hub.now.setup) c.args.hub.now.log.id c.args.hub.now.log.lanes c.args.segment.now.lines c.args.frames.now c.args.lanes.now c.run_lanes.new.lanes c.meet.new.self (some_lane c.args.lanes.now c.requires.ready.some) = (known _ _ _ _ _ _ _ _ c.requires.ready c.requires.lines c.requires.room c.run_lanes.ensures (c.lacked_memory.ensures.had c.if-lacked_memory.false) c.in_ok-meet.ensures) in
-    subst (λ (front : List Row). length front ≤ length (front_of c.args.lanes.now) + commands_in c.args.segment.now.lines)
-    (sym (front_after _ _ _ _ _ _ _ _ _ facts c.weave.new.self c.in_ok-entries.ensures.seats c.in_ok-entries.ensures.stops)) (room_taken _ _ _ _ _ _ _ _ _ facts)
+    record {
+      woven = subst (λ (after : State). IsWoven (data_of c.args.hub.now.setup) (length c.args.lanes.now) (asked_in c.args.segment.now.lines c.args.frames.now) (state_of (data_of c.args.hub.now.setup) c.args.lanes.now) after c.in_ok-entries.entries (jobs_seen c.in_ok-entries.jobs c.in_ok-replies.replies))
+          (sym (state_after _ _ _ _ _ _ _ _ _ facts c.weave.new.self c.in_ok-entries.ensures.seats c.in_ok-entries.ensures.stops))
+          (woven_made _ _ _ _ _ _ _ _ _ facts _ _ wove c.in_ok-replies.replies (subst (λ (d : SetupData). AllZip (IsReplyTo d) c.in_ok-entries.jobs c.in_ok-replies.replies) (ap (λ setup. data_of setup) c.setup.ensures) c.in_ok-replies.ensures));
+      replies = AllZip-long (IsReplyTo (data_of c.setup.result.now)) c.in_ok-entries.jobs c.in_ok-replies.replies c.in_ok-replies.ensures;
+      ready = ready_again _ _ _ _ _ _ _ _ _ facts c.weave.new.self c.in_ok-entries.ensures.seats c.in_ok-entries.ensures.stops c.in_ok-entries.ensures.emptied;
+      taken = subst (λ (front : List Row). length front ≤ length (front_of c.args.lanes.now) + commands_in c.args.segment.now.lines)
+          (sym (front_after _ _ _ _ _ _ _ _ _ facts c.weave.new.self c.in_ok-entries.ensures.seats c.in_ok-entries.ensures.stops)) (room_taken _ _ _ _ _ _ _ _ _ facts);
+    }
