@@ -1,5 +1,5 @@
 -- The end of a run whose history is summed up.
-use Rattle.std.proofs.Common.{◌≡◌, ◌<◌, ◌+◌, ℕ, List, [], ◌∷◌, ◌++◌, length, take, Option, Some, None, Result, Ok, Err, refl, sym, ap, subst, ◌∙◌, inl, inr, arith}
+use Rattle.std.proofs.Common.{◌≡◌, ℕ, List, [], length, take, Option, Some, None, Result, Ok, Err, refl, sym, ap, subst, ◌∙◌, inl, arith}
 use Rattle.std.specs.Io.KnownBytes.{Appends}
 use Rattle.std.proofs.lemmas.List.{take_all}
 use Rattle.spin_outside.specs.Counts.{Rose}
@@ -9,7 +9,6 @@ use Rattle.spin_pcap.specs.declared.fault.PcapFault.{PcapFault}
 use Rattle.spin_pcap.specs.declared.next.Next.{Next}
 use Rattle.spin_pcap.specs.declared.next.Next.TheVariants as next
 use Rattle.spin_pcap.specs.Passing.{ReaderState}
-use Rattle.spin_endpoint.specs.Named.{NamedEnd}
 use Rattle.spin_text.specs.Words.{text_of}
 use Rattle.spin_script.specs.declared.script.Segment.{Segment}
 use Rattle.spin_script.specs.States.{ScriptData}
@@ -19,7 +18,7 @@ use Rattle.spin_report.specs.Runs.{Captured, AreRun, start_with, frames_of}
 use Rattle.spin_run.specs.declared.end.RunEnd.{RunEnd}
 use Rattle.spin_run.specs.declared.end.RunEnd.TheVariants as end
 use Rattle.spin_run.specs.Records.{AreRecords}
-use Rattle.spin_run.specs.Ends.{RunSeen, IsReadWhole, IsWhole, Writes, WritesInto, EndsBy, CountsBy, faults_of}
+use Rattle.spin_run.specs.Ends.{RunSeen, IsReadWhole, IsWhole, Writes, WritesInto, EndsBy, CountsBy}
 use Rattle.spin_run.specs.Summaries.{Counts, counts_in, summary_lines, untold, SumsUpBy}
 use Rattle.spin_run.specs.Inner.Tallies.{plus, TalliesOn, Tells, TellsByCount}
 use Rattle.spin_run.specs.Inner.Steps.{WalksBy}
