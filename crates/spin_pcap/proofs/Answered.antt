@@ -4,7 +4,6 @@ use Rattle.std.proofs.lemmas.List.{append-nil, length-append, length-take, lengt
 use Rattle.std.proofs.Math.Seq.{drop-append-le}
 use Rattle.byteorder.specs.Numbers.{big_from-append, little_from-append}
 use Rattle.spin_outside.specs.Sources.{SourceSeen}
-use Rattle.spin_pcap.specs.declared.fault.PcapFault.TheVariants as fault
 use Rattle.spin_pcap.specs.declared.next.Next.TheVariants as next
 use Rattle.spin_pcap.specs.declared.order.Order.{Order}
 use Rattle.spin_pcap.specs.declared.order.Order.TheVariants as order

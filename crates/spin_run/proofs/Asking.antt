@@ -8,11 +8,10 @@ use Rattle.std.proofs.lemmas.List.Elements.{All-head, All-tail, All-cons, All-ni
 use Rattle.spin_word.specs.declared.work.Work.{Work}
 use Rattle.spin_word.specs.declared.work.Work.TheVariants as work
 use Rattle.spin_script.specs.declared.script.Line.{Line}
-use Rattle.spin_script.specs.Soundness.{is_command_work}
+use Rattle.spin_script.specs.Soundness.{is_command_work, commands_in}
 use Rattle.spin_report.specs.Asked.{Numbered}
 use Rattle.spin_report.specs.Segments.{records_wanted, raise_with, parts_of, asked_at, asked_in, asked_of_lane}
 use Rattle.spin_seat.proofs.Counts.{count-cons, count_none}
-use Rattle.spin_run.specs.Segments.{commands_in}
 use Rattle.spin_run.proofs.Moments.{IsLater}
 
 -- a part of a line as it is asked

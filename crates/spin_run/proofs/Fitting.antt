@@ -8,9 +8,9 @@ use Rattle.std.proofs.lemmas.List.Sums.{sum_by-append}
 use Rattle.spin_script.specs.declared.script.Line.{Line}
 use Rattle.spin_script.specs.declared.script.Segment.{Segment}
 use Rattle.spin_script.specs.States.{ScriptData, deed_count}
-use Rattle.spin_script.specs.Soundness.{lines_in, AreValid, IsValidWork, command_lines, is_command_work}
+use Rattle.spin_script.specs.Soundness.{lines_in, AreValid, IsValidWork, command_lines, is_command_work, commands_in}
 use Rattle.spin_script.specs.Segments.{IsOrderly, IsOnLane}
-use Rattle.spin_run.specs.Segments.{IsFitSegment, commands_in}
+use Rattle.spin_run.specs.Segments.{IsFitSegment}
 use Rattle.spin_run.specs.Inner.Steps.{Setting, setting_of, script_in}
 use Rattle.spin_run.proofs.Steps.{take_next}
 

@@ -27,13 +27,14 @@ use Rattle.spin_seat.proofs.Counts.{by_lane}
 use Rattle.spin_seat.proofs.Keeping.{all_applied, all_unmap, clean_by_lanes, of_lanes_at, are_of_lanes}
 use Rattle.spin_script.specs.declared.script.Line.{Line}
 use Rattle.spin_script.specs.Segments.{IsOnLane}
+use Rattle.spin_script.specs.Soundness.{commands_in}
 use Rattle.spin_report.specs.declared.entry.Entry.{Entry}
 use Rattle.spin_report.specs.Asked.{Numbered, asked_of}
 use Rattle.spin_report.specs.Legal.{IsLegal}
 use Rattle.spin_report.specs.Segments.{asked_in, asked_of_lane, of_lane, IsInOrder, IsWoven}
 use Rattle.spin_run.specs.declared.lane.Lane.{Lane}
 use Rattle.spin_run.specs.Lanes.{answer_of, job_asked, jobs_of, RanLane, HadMemory}
-use Rattle.spin_run.specs.Segments.{front_of, state_of, IsReady, AreReady, commands_in, IsFitSegment, HaveRun, jobs_seen}
+use Rattle.spin_run.specs.Segments.{front_of, state_of, IsReady, AreReady, IsFitSegment, HaveRun, jobs_seen}
 use Rattle.spin_run.specs.Meetings.{IsOfHub, HasMet, HaveMet}
 use Rattle.spin_run.specs.Inner.Weaves.{AreOfTheirLanes, IsInterleaving, AreJobsInOrder, IsEmptied, trails_of, jobs_by_lane}
 use Rattle.spin_run.proofs.Moments.{trail_in_order}

@@ -29,7 +29,7 @@ use Rattle.spin_proto.specs.declared.reply.Step.TheVariants as step
 use Rattle.spin_proto.specs.declared.reply.Reply.{Reply}
 use Rattle.spin_proto.specs.declared.reply.Reply.TheVariants as reply
 use Rattle.spin_proto.specs.Whole as whole
-use Rattle.spin_proto.specs.Whole.{Mark, Plain, Queued, step_of, Raised, marks_at, up_of, ups_of, marks_up, marks_of, raised_with, raised, raised_after, reply_of, job_of, starts}
+use Rattle.spin_proto.specs.Whole.{Mark, Plain, Queued, step_of, Raised, marks_at, ups_of, marks_up, marks_of, raised_with, raised, raised_after, reply_of, job_of, starts}
 use Rattle.spin_proto.specs.Replies.{reply_if_fit, deed_reply, job_reply, handler_at, units_in, types_in, are_fit, IsDeedReply, IsJobReply}
 use Rattle.spin_endpoint.specs.Sends.{SentSeen}
 use Rattle.spin_script.specs.Segments.{IsSentBelow, SendsBelow}

@@ -24,6 +24,12 @@ use Rattle.spin_report.specs.Asked.{Numbered, asked_of}
 use Rattle.spin_report.specs.Segments.{asked_of_lane}
 use Rattle.spin_run.specs.declared.lane.Lane.{Lane}
 
+-- ---- new lanes
+
+-- nothing was answered yet
+abbrev pub IsFresh : Lane → Type 0
+IsFresh lane = (lane.trail ≡ []) × (lane.jobs ≡ []) × (lane.stop ≡ None)
+
 -- ---- an entry as the answer of a seat
 
 abbrev pub said_of : What → seat.Said

@@ -35,6 +35,13 @@ AreRecords (Some reader) source frames rest =
     (ending : Result Next PcapFault) × (rest ≡ Some ending)
     × AreLeftBy reader.state reader source.left frames ending
 
+-- P holds of the records that are left, and of how the rest is answered, by any reading.
+abbrev pub ForRecords : Option ReaderState → SourceSeen
+    → (List (List ℕ) → Option (Result Next PcapFault) → Type 0) → Type 0
+ForRecords capture source P =
+    (frames : List (List ℕ)) (rest : Option (Result Next PcapFault))
+    → AreRecords capture source frames rest → P frames rest
+
 -- ---- how many bytes were taken
 
 -- how many bytes records with these captured bytes have, each with its header of 16

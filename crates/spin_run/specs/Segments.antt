@@ -1,5 +1,5 @@
 -- All lanes of a segment: how they must stand, and how they stand afterwards.
-use Rattle.std.specs.Prelude.{◌≡◌, ℕ, ◌<◌, ◌≤◌, List, [], ◌∷◌, map, length, All, AllPairs, None, sum_by, count_by, zip, slice_index_or}
+use Rattle.std.specs.Prelude.{◌≡◌, ℕ, ◌<◌, ◌≤◌, List, [], ◌∷◌, map, length, All, AllPairs, None, sum_by, zip, slice_index_or}
 use Rattle.atomic_table.specs.Seated.{TableId}
 use Rattle.spin_word.specs.declared.row.Row.{Row}
 use Rattle.spin_log.specs.Pens.{IsPen}
@@ -10,7 +10,7 @@ use Rattle.spin_proto.specs.declared.reply.Reply.{Reply}
 use Rattle.spin_seat.specs.Seats.{IsSeatOf, AreOfLanes}
 use Rattle.spin_script.specs.declared.script.Line.{Line}
 use Rattle.spin_script.specs.States.{deed_count}
-use Rattle.spin_script.specs.Soundness.{IsValidWork, is_command_work}
+use Rattle.spin_script.specs.Soundness.{IsValidWork}
 use Rattle.spin_script.specs.Segments.{IsOnLane}
 use Rattle.spin_script.specs.Checks.{most_deeds}
 use Rattle.spin_report.specs.Asked.{Numbered}
@@ -46,10 +46,6 @@ pub record AreReady (d : SetupData) (log : TableId) (count : ℕ) (lanes : List 
   pub all : length lanes ≡ count
   pub order : AreOfLanes 0 (map (λ lane. lane.seat) lanes)
   pub each : All (IsReady d log count (front_of lanes)) lanes
-
--- how many of the lines are commands
-abbrev pub commands_in : List Line → ℕ
-commands_in lines = count_by (λ line. is_command_work line.work) lines
 
 -- What is needed of a segment's lines, for so many lanes: their numbers rise, each is of one of the lanes, commands are
 -- valid and of their line's lane, and the deeds are at most 65,536, a packet line counting each of its records.

@@ -2,10 +2,11 @@
 
 ghost use Rattle.std.specs.Prelude.{◌≡◌, List, ℕ, [], Option, Result, OnOk};
 ghost use Rattle.std.specs.Option.{option_map};
-ghost use Rattle.spin_run.specs.Inner.Reading.{ForRecords, given_by, ReadsByCount};
+ghost use Rattle.spin_run.specs.Inner.Reading.{given_by, ReadsByCount};
 ghost use Rattle.spin_run.specs.Inner.Ending.{GivesCounts, Finishes};
 ghost use Rattle.spin_run.specs.Inner.Steps.{ResultCounts};
 ghost use Rattle.spin_run.specs.Ends.{seen};
+ghost use Rattle.spin_run.specs.Records.{ForRecords};
 
 use crate::end::RunEnd;
 use crate::records::read_rest;

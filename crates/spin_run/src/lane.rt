@@ -10,9 +10,9 @@ ghost use Rattle.spin_script.specs.Soundness.{IsValidWork};
 ghost use Rattle.spin_script.specs.Segments.{IsOfLane};
 ghost use Rattle.spin_script.specs.declared.lanes.TheConstants.{MAX_DEEDS};
 ghost use Rattle.spin_report.specs.Segments.{raise_with, parts_of, asked_at, asked_in, asked_of_lane};
-ghost use Rattle.spin_run.specs.Lanes.{HasRun};
+ghost use Rattle.spin_run.specs.Lanes.{HasRun, IsFresh};
 ghost use Rattle.spin_run.specs.Segments.{IsReady, IsFitSegment};
-ghost use Rattle.spin_run.specs.Inner.Answering.{IsFresh, Answers, Comes, Stays, asked_alone, asked_packets};
+ghost use Rattle.spin_run.specs.Inner.Answering.{Answers, Comes, Stays, asked_alone, asked_packets};
 
 use crate::jobs_left::leave_jobs;
 use spin_code::Sincere;

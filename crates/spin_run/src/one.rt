@@ -9,13 +9,15 @@ ghost use Rattle.spin_script.specs.Segments.{SendsBelow};
 ghost use Rattle.spin_report.specs.Lines.{entry_line, job_line};
 ghost use Rattle.spin_report.specs.Histories.{segment_line, lost_lines};
 ghost use Rattle.spin_report.specs.Segments as specs;
-ghost use Rattle.spin_run.specs.Segments.{AreReady, IsFitSegment, commands_in, front_of, state_of, jobs_seen};
+ghost use Rattle.spin_run.specs.Segments.{AreReady, IsFitSegment, front_of, state_of, jobs_seen};
 ghost use Rattle.spin_script.specs.States.{ScriptData, deed_count};
 ghost use Rattle.spin_script.specs.Checks.{most_deeds};
+ghost use Rattle.spin_script.specs.Soundness.{commands_in};
 ghost use Rattle.spin_run.specs.Inner.Lining.{counts_to};
-ghost use Rattle.spin_run.specs.Inner.Reading.{ForRecords, TakesFrames};
+ghost use Rattle.spin_run.specs.Inner.Reading.{TakesFrames};
 ghost use Rattle.spin_run.specs.Ends.{seen};
 ghost use Rattle.spin_run.specs.Inner.Steps.{moment, setting, OneBy, ResultCounts};
+ghost use Rattle.spin_run.specs.Records.{ForRecords};
 
 use crate::end::RunEnd;
 use crate::lanes::Lanes;

@@ -1,8 +1,9 @@
 //! The records of a capture: those that the packet lines of a segment take, and the rest.
 
 ghost use Rattle.std.specs.Prelude.{◌≡◌, List, ℕ, Option, Result, Ok};
-ghost use Rattle.spin_run.specs.Inner.Reading.{ForRecords, stop_of, CountsOn, GivesNext, GivesFrames, GivesRest, ReadsByCount};
+ghost use Rattle.spin_run.specs.Inner.Reading.{stop_of, CountsOn, GivesNext, GivesFrames, GivesRest, ReadsByCount};
 ghost use Rattle.spin_run.specs.Inner.Reading.{TakesNext, TakesFrames};
+ghost use Rattle.spin_run.specs.Records.{ForRecords};
 
 use crate::end::RunEnd;
 use spin_outside::Source;

@@ -6,7 +6,8 @@ ghost use Rattle.spin_table.specs.SetupOf.{data_of};
 ghost use Rattle.spin_seat.specs.declared.answer.SeatFault.TheVariants as fault;
 ghost use Rattle.spin_report.specs.Segments.{asked_in, IsWoven};
 ghost use Rattle.spin_run.specs.Lanes.{HadMemory};
-ghost use Rattle.spin_run.specs.Segments.{AreReady, IsFitSegment, commands_in, front_of, state_of, jobs_seen};
+ghost use Rattle.spin_run.specs.Segments.{AreReady, IsFitSegment, front_of, state_of, jobs_seen};
+ghost use Rattle.spin_script.specs.Soundness.{commands_in};
 
 use crate::lanes::{Lanes, run_lanes};
 use spin_code::Sincere;

@@ -8,9 +8,8 @@ ghost use Rattle.spin_script.specs.Scripts.{script_seen};
 ghost use Rattle.spin_script.specs.Segments.{IsOrderly};
 ghost use Rattle.spin_script.specs.Soundness.{AreValid, command_lines};
 ghost use Rattle.spin_run.specs.Ends.{seen, CountsBy};
-ghost use Rattle.spin_run.specs.Records.{room_of};
+ghost use Rattle.spin_run.specs.Records.{room_of, ForRecords};
 ghost use Rattle.spin_run.specs.Summaries.{SumsUpBy, summary_lines};
-ghost use Rattle.spin_run.specs.Inner.Reading.{ForRecords};
 ghost use Rattle.spin_run.specs.Inner.Tallies.{Tells, TellsByCount};
 
 use crate::end::RunEnd;

@@ -31,16 +31,12 @@ use Rattle.spin_policy.specs.declared.rule.OpMatch.{OpMatch}
 use Rattle.spin_policy.specs.declared.rule.OpMatch.TheVariants as op_match
 use Rattle.spin_policy.specs.declared.rule.Forced.{Forced}
 use Rattle.spin_policy.specs.declared.rule.Forced.TheVariants as forced
-use Rattle.spin_policy.specs.declared.rule.Effect.TheVariants as effect
 use Rattle.spin_grammar.specs.declared.cause.Cause.TheVariants as cause
-use Rattle.spin_grammar.specs.declared.kind.Kind.TheVariants as kind
 use Rattle.spin_text.specs.Digits.{begins_with_digit}
 use Rattle.spin_grammar.specs.Spelling.{number, within, greatest, is_name, signature}
 use Rattle.spin_grammar.specs.Grammar as want
 use Rattle.spin_grammar.specs.Grammar.{Atom, Fixed, Numeral, Argument, Called, Typed, Want, Choices, may_end, accepts, reads, chosen, is_argument, as_number, rising}
-use Rattle.spin_grammar.specs.Forms as forms
 use Rattle.spin_grammar.specs.Forms.{expr_form, test_form, part_form, step_form, steps_form, merge_form, counted_form, cmp_word, layer_word, op_match_word, own_word, forced_word, apart_word, place_word, mode_word, handler_or_any}
-use Rattle.spin_grammar.specs.Lines as line
 use Rattle.spin_grammar.proofs.Respelled.{went, over, ok_same, by_number, by_count, by_rising, by_rise, by_signature}
 use Rattle.spin_grammar.proofs.Signatures.{one_of}
 

@@ -5,25 +5,15 @@ use Rattle.std.specs.Str.{bytes_eq}
 use Rattle.spin_values.specs.declared.types.EventType.{EventType}
 use Rattle.spin_values.specs.declared.values.Value.{Value}
 use Rattle.spin_values.specs.declared.values.Value.TheVariants as value
-use Rattle.spin_code.specs.declared.expr.Expr.TheVariants as expr
-use Rattle.spin_code.specs.declared.test.Cmp.TheVariants as cmp
 use Rattle.spin_code.specs.declared.test.Test.{Test}
-use Rattle.spin_code.specs.declared.test.Test.TheVariants as test
-use Rattle.spin_code.specs.declared.act.Part.TheVariants as part
-use Rattle.spin_code.specs.declared.act.Layer.TheVariants as layer
-use Rattle.spin_code.specs.declared.act.ActStep.TheVariants as step
 use Rattle.spin_code.specs.declared.merge.Merge.{Merge}
-use Rattle.spin_code.specs.declared.merge.Merge.TheVariants as merge
 use Rattle.spin_word.specs.declared.command.Op.{Op}
 use Rattle.spin_word.specs.declared.command.Op.TheVariants as op
 use Rattle.spin_word.specs.declared.command.Place.{Place}
 use Rattle.spin_word.specs.declared.command.Place.TheVariants as place
 use Rattle.spin_word.specs.declared.command.Mode.{Mode}
-use Rattle.spin_word.specs.declared.command.Mode.TheVariants as mode
 use Rattle.spin_policy.specs.declared.rule.OpMatch.{OpMatch}
-use Rattle.spin_policy.specs.declared.rule.OpMatch.TheVariants as op_match
 use Rattle.spin_policy.specs.declared.rule.Forced.{Forced}
-use Rattle.spin_policy.specs.declared.rule.Forced.TheVariants as forced
 use Rattle.spin_policy.specs.declared.rule.Effect.{Effect}
 use Rattle.spin_policy.specs.declared.rule.Effect.TheVariants as effect
 use Rattle.spin_policy.specs.declared.rule.Rule.{Rule}

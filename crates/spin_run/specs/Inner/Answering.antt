@@ -1,5 +1,5 @@
 -- What the steps of a lane's run say.
-use Rattle.std.specs.Prelude.{◌≡◌, ℕ, List, [], ◌∷◌, ◌++◌, map, length, All, Result, Ok, Err, None, ⊤}
+use Rattle.std.specs.Prelude.{◌≡◌, ℕ, List, [], ◌∷◌, ◌++◌, map, length, All, Result, Ok, Err, ⊤}
 use Rattle.std.specs.List.{enumerate_from}
 use Rattle.std.specs.Arc.{arc_value}
 use Rattle.spin_word.specs.declared.command.TheConstants.{MAX_PLACE}
@@ -18,7 +18,7 @@ use Rattle.spin_word.specs.declared.work.Work.{Work}
 use Rattle.spin_report.specs.Asked.{Numbered, asked_of}
 use Rattle.spin_report.specs.Segments.{raise_with}
 use Rattle.spin_run.specs.declared.lane.Lane.{Lane}
-use Rattle.spin_run.specs.Lanes.{answer_of, job_asked, jobs_from, AreJobsOf, BeginsWithCommand}
+use Rattle.spin_run.specs.Lanes.{answer_of, job_asked, jobs_from, AreJobsOf, BeginsWithCommand, IsFresh}
 
 -- Since its pen had that value, the lane has given the entries of its trail and left their jobs.
 pub record HasAnswered (d : SetupData) (before : PenValue) (lane : Lane) : Type 0 where
@@ -79,10 +79,6 @@ asked_packets lane line event from records =
     (map (λ (part : ℕ × List ℕ). (part.0, raise_with event part.1)) (enumerate_from from records))
 
 -- ---- new lanes
-
--- nothing was answered yet
-abbrev pub IsFresh : Lane → Type 0
-IsFresh lane = (lane.trail ≡ []) × (lane.jobs ≡ []) × (lane.stop ≡ None)
 
 abbrev pub AreFresh : List Lane → Type 0
 AreFresh lanes = All IsFresh lanes

@@ -13,13 +13,6 @@ use Rattle.spin_run.specs.declared.end.RunEnd.{RunEnd}
 use Rattle.spin_run.specs.declared.end.RunEnd.TheVariants as end
 use Rattle.spin_run.specs.Records.{AreRecords, bytes_in, room_of, IsTakenPast}
 
--- P holds of the records that are left, and of how the rest is answered, by any reading.
-abbrev pub ForRecords : Option ReaderState → SourceSeen
-    → (List (List ℕ) → Option (Result Next PcapFault) → Type 0) → Type 0
-ForRecords capture source P =
-    (frames : List (List ℕ)) (rest : Option (Result Next PcapFault))
-    → AreRecords capture source frames rest → P frames rest
-
 -- how many records the reader gave
 abbrev pub given_by : Option ReaderState → ℕ
 given_by None = 0

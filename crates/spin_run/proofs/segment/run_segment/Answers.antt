@@ -8,9 +8,10 @@ use Rattle.spin_table.specs.SetupOf.{data_of}
 use Rattle.spin_table.specs.States.{State}
 use Rattle.spin_jobs.specs.Jobs.{CanRun, IsReplyTo}
 use Rattle.spin_report.specs.Segments.{asked_in, IsWoven}
-use Rattle.spin_run.specs.Segments.{commands_in, front_of, state_of, jobs_seen}
+use Rattle.spin_run.specs.Segments.{front_of, state_of, jobs_seen}
 use Rattle.spin_run.proofs.Segmenting.{Facts, Wove, some_lane, known, trails_lanes, trails_order, jobs_lanes, jobs_order, few_jobs, jobs_can_run, woven_made, front_after, state_after, ready_again, room_taken}
 use Rattle.spin_run.proofs.segment.run_segment.Goals as goal
+use Rattle.spin_script.specs.Soundness.{commands_in}
 
 pub weave-requires : goal.weave-requires
 weave-requires g c =
