@@ -86,10 +86,10 @@ fn choose<R: Threads + Sync, F: Shelf, K: Sink, G: Gate>(
 ///
 /// The words are those of one command, `run SCRIPT`, `run SCRIPT PACKETS`, `gen NUMBER`, `check SCRIPT REPORT`,
 /// `check SCRIPT REPORT PACKETS`, `join SCRIPT PACKETS` or `vm SCRIPT TRACE`; each is UTF-8, isn't empty, and doesn't
-/// begin with `-`. But under `gen` the script is found, read and checked, and may name the natives that are handed in.
-/// Then the capture, if one is named, is found and its header read; under `join` it is read whole, and its joined capture
-/// takes its place, in memory. Then the script is run over it by [`run_script`](spin_run::run_script), its lanes on
-/// threads, which writes the report and delivers what is sent to the endpoints. A stop ends the call at once, so the
+/// begin with `-`. Except under `gen`, the script is found, read and checked, and may name the natives that are handed
+/// in. Then the capture, if one is named, is found and its header read; under `join` it is read whole, and its joined
+/// capture takes its place, in memory. Then the script is run over it by [`run_script`](spin_run::run_script), its lanes
+/// on threads, which writes the report and delivers what is sent to the endpoints. A stop ends the call at once, so the
 /// status is that of the first that is met.
 ///
 /// Under `check`, when the script is checked, the capture, if one is named, is read whole; then the report is found and
@@ -114,8 +114,8 @@ fn choose<R: Threads + Sync, F: Shelf, K: Sink, G: Gate>(
 /// | 6 | only where the shelf's count of absences rose | `stop 6` and `script`, `packets`, `report` or `trace` |
 /// | 7 | want of memory | `stop 7 memory` |
 /// | 8 | only where the count of endpoint P rose | `stop 8 endpoint P` |
-/// | 9 | under `check`, exactly where the report is that of no history; `no` was written | none |
-/// | 10 | under `check`, exactly where the report has more than 67,108,864 bytes | `stop 10 report` |
+/// | 9 | under `check`, exactly where the report is read and is that of no history; `no` was written | none |
+/// | 10 | under `check`, exactly where the report is read and has more than 67,108,864 bytes | `stop 10 report` |
 /// | 11 | under `vm`, exactly where the script is suited and the trace is read and is refused at line N for cause C | `stop 11 line N cause C` |
 /// | 12 | under `vm`, exactly where the script is read and isn't suited | `stop 12 script` |
 ///
