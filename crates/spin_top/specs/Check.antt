@@ -9,6 +9,7 @@ use Rattle.spin_script.specs.Language.{IsScript}
 use Rattle.spin_script.specs.States.{NativeData, ScriptData}
 use Rattle.spin_report.specs.Runs.{Captured}
 use Rattle.spin_check.specs.RunTexts.{IsRunText}
+use Rattle.spin_top.specs.declared.commands.check.TheConstants.{REPORT_LIMIT}
 use Rattle.spin_top.specs.declared.end.End.{End}
 use Rattle.spin_top.specs.declared.end.End.TheVariants.{Whole, Refused, Capture, Unread, WriteFault, Absent, NoMemory, NoHistory, LongReport}
 use Rattle.spin_top.specs.declared.end.Input.TheVariants.{Script, Packets, Report}
@@ -24,7 +25,7 @@ use Rattle.spin_top.specs.Shelves.{ShelfStood, ShelfFailed, ShelfLacked}
 
 -- the most bytes that a report may have
 abbrev pub max_report : ℕ
-max_report = 67108864
+max_report = REPORT_LIMIT
 
 -- Why the report wasn't read.
 abbrev pub NoReportBy : ShelfSeen → ShelfSeen → List ℕ → End → Type 0

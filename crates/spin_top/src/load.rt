@@ -12,6 +12,7 @@ ghost use Rattle.spin_top.specs.Shelves.{ShelfStood, ReadsOnly};
 
 use crate::end::{End, Input};
 use spin_code::Sincere;
+use spin_grammar::Cause;
 use spin_objects::{Catalogue, Natives};
 use spin_outside::{FindFault, Shelf, TakeFault, read_up_to};
 use spin_script::{MAX_TEXT, Script, ScriptFault, read_script};
@@ -68,8 +69,8 @@ pub fn load<F: Shelf>(
     }
 }
 
-/// The most bytes that a script may have.
-const SCRIPT_LIMIT: u32 = MAX_TEXT as u32;
+/// The most bytes that a script or a trace may have.
+pub const TEXT_LIMIT: u32 = MAX_TEXT as u32;
 
 /// The end of a script that isn't read.
 fn end_by(fault: ScriptFault) -> End
@@ -101,11 +102,16 @@ pub fn script_of<F: Shelf>(
     ensures refused { IfErr result
         (NoScriptBy (natives_seen natives) (F.seen shelf.old) (F.seen shelf.new) name.now) }
 {
-    let text = match load(alloc, shelf, name, SCRIPT_LIMIT) {
+    let text = match load(alloc, shelf, name, TEXT_LIMIT) {
         Ok(text) => text,
         Err(LoadFault::Absent) => return Err(End::Absent(Input::Script)),
         Err(LoadFault::Failed) => return Err(End::Unread(Input::Script)),
-        Err(LoadFault::TooLarge) => return Err(End::Refused { line: 0, cause: 1 }),
+        Err(LoadFault::TooLarge) => {
+            return Err(End::Refused {
+                line: 0,
+                cause: Cause::TooLarge as u8,
+            });
+        }
         Err(LoadFault::NoMemory) => return Err(End::NoMemory),
     };
     match read_script(alloc, text.as_slice(), natives) {

@@ -27,7 +27,7 @@ use spin_values::{NoMemory, Octets, Text, Texts};
 use std::alloc::Global;
 
 /// The most bytes that a report may have.
-const REPORT_LIMIT: u32 = 67_108_864;
+pub const REPORT_LIMIT: u32 = 67_108_864;
 
 /// The text of the report of that name.
 fn report_of<F: Shelf>(alloc: Global, shelf: &mut F, name: &Text) -> Result<Octets, End>

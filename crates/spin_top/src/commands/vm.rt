@@ -1,8 +1,7 @@
 //! The command `vm`: a trace of memory accesses, over a script whose events are translation faults.
 
-ghost use Rattle.std.specs.Prelude.{◌≡◌, ◌≤◌, List, IfOk, IfErr, length};
+ghost use Rattle.std.specs.Prelude.{◌≡◌, List, IfOk, IfErr};
 ghost use Rattle.spin_endpoint.specs.Named.{NamedEnd};
-ghost use Rattle.spin_grammar.specs.declared.limits.TheConstants.{MAX_TEXT};
 ghost use Rattle.spin_script.specs.States.{natives_seen};
 ghost use Rattle.spin_top.specs.Loading.{IsContent};
 ghost use Rattle.spin_top.specs.Outside.{outside};
@@ -10,17 +9,13 @@ ghost use Rattle.spin_top.specs.Shelves.{ShelfStood};
 ghost use Rattle.spin_top.specs.Vm.{vm_end, NoTraceBy, IsVmStatus};
 
 use crate::end::{End, Input, stop};
-use crate::load::{LoadFault, load, script_of};
+use crate::load::{LoadFault, TEXT_LIMIT, load, script_of};
 use spin_code::Sincere;
 use spin_objects::Natives;
 use spin_outside::{Shelf, Sink};
-use spin_script::MAX_TEXT;
 use spin_values::{Octets, Text};
 use spin_vm::{TraceCause, VmEnd, is_suited, run_trace};
 use std::alloc::Global;
-
-/// The most bytes that a trace may have.
-const TRACE_LIMIT: u32 = MAX_TEXT as u32;
 
 /// The text of the trace of that name. One that is too large is no trace.
 fn trace_of<F: Shelf>(alloc: Global, shelf: &mut F, name: &Text) -> Result<Octets, End>
@@ -28,7 +23,7 @@ fn trace_of<F: Shelf>(alloc: Global, shelf: &mut F, name: &Text) -> Result<Octet
     ensures read { IfOk result (λ text. IsContent (F.seen shelf.old).files name.now text) }
     ensures refused { IfErr result (NoTraceBy (F.seen shelf.old) (F.seen shelf.new) name.now) }
 {
-    match load(alloc, shelf, name, TRACE_LIMIT) {
+    match load(alloc, shelf, name, TEXT_LIMIT) {
         Ok(text) => Ok(text),
         Err(LoadFault::Absent) => Err(End::Absent(Input::Trace)),
         Err(LoadFault::Failed) => Err(End::Unread(Input::Trace)),
