@@ -1,9 +1,9 @@
 //! The ends of a call: their statuses, and the lines that are written at them.
 
-ghost use Rattle.std.specs.Prelude.{◌≡◌, ◌≤◌, ◌+◌, ◌++◌, [], length, decimal, codes};
+ghost use Rattle.std.specs.Prelude.{◌≡◌, ◌<◌, ◌≤◌, ◌+◌, ◌++◌, length, decimal};
 ghost use Rattle.arrayvec.specs.ArrayVec.{array_vec_len};
 ghost use Rattle.spin_text.specs.Words.{ended};
-ghost use Rattle.spin_top.specs.Ends.{number, stop_line, usage, input_word, Tells};
+ghost use Rattle.spin_top.specs.Ends.{number, stop_line, input_word, Tells};
 
 use arrayvec::ArrayVec;
 use itoa::Buffer;
@@ -68,8 +68,17 @@ pub enum End {
     Unsuited,
 }
 
+/// The most bytes of a stop line. The longest is the usage.
+const LINE_ROOM: usize = 192;
+
+/// The most bytes of a number in a stop line.
+const NUMBER_ROOM: usize = 40;
+
+/// The most bytes of the word for a file.
+const WORD_ROOM: usize = 8;
+
 /// A stop line. It takes no memory.
-type StopLine = ArrayVec<u8, 192>;
+type StopLine = ArrayVec<u8, LINE_ROOM>;
 
 /// The exit status of an end.
 pub fn status_of(end: End) -> u8
@@ -93,7 +102,7 @@ pub fn status_of(end: End) -> u8
 }
 
 fn put(line: &mut StopLine, bytes: &[u8])
-    requires { array_vec_len line.old + length bytes.now ≤ 192 }
+    requires { array_vec_len line.old + length bytes.now ≤ LINE_ROOM }
     ensures bytes { line.new.items ≡ line.old.items ++ bytes.now }
     ensures len { array_vec_len line.new ≡ array_vec_len line.old + length bytes.now }
 {
@@ -103,32 +112,18 @@ fn put(line: &mut StopLine, bytes: &[u8])
 }
 
 fn put_number(line: &mut StopLine, number: u64)
-    requires { array_vec_len line.old + 40 ≤ 192 }
+    requires { array_vec_len line.old + NUMBER_ROOM ≤ LINE_ROOM }
     ensures bytes { line.new.items ≡ line.old.items ++ decimal number }
-    ensures len { array_vec_len line.new ≤ array_vec_len line.old + 40 }
+    ensures len { array_vec_len line.new ≤ array_vec_len line.old + NUMBER_ROOM }
 {
     let mut buffer = Buffer::new();
     put(line, buffer.format(number).as_bytes());
 }
 
-/// The words of every command.
-fn usage_line() -> StopLine
-    ensures { result.items ≡ ended usage }
-{
-    let mut line = StopLine::new();
-    put(&mut line, b"usage: spin run SCRIPT [PACKETS]");
-    put(&mut line, b" | spin gen NUMBER");
-    put(&mut line, b" | spin check SCRIPT REPORT [PACKETS]");
-    put(&mut line, b" | spin join SCRIPT PACKETS");
-    put(&mut line, b" | spin vm SCRIPT TRACE");
-    put(&mut line, b"\n");
-    line
-}
-
 /// The word for a file in a stop line.
 fn word_of(input: Input) -> &'static [u8]
     ensures word { result.now ≡ input_word input }
-    ensures few { length result.now ≤ 8 }
+    ensures few { length result.now ≤ WORD_ROOM }
 {
     match input {
         Input::Script => b"script",
@@ -138,117 +133,76 @@ fn word_of(input: Input) -> &'static [u8]
     }
 }
 
-fn read_line(input: Input) -> StopLine
-    ensures { result.items ≡ ended (codes "stop 4 read " ++ input_word input) }
+/// A line of this text.
+fn fixed(text: &[u8]) -> StopLine
+    requires { length text.now < LINE_ROOM }
+    ensures { result.items ≡ ended text.now }
 {
     let mut line = StopLine::new();
-    put(&mut line, b"stop 4 read ");
+    put(&mut line, text);
+    put(&mut line, b"\n");
+    line
+}
+
+/// A line of this text and the word for a file.
+fn with_file(front: &[u8], input: Input) -> StopLine
+    requires { length front.now + WORD_ROOM < LINE_ROOM }
+    ensures { result.items ≡ ended (front.now ++ input_word input) }
+{
+    let mut line = StopLine::new();
+    put(&mut line, front);
     put(&mut line, word_of(input));
     put(&mut line, b"\n");
     line
 }
 
-fn absence_line(input: Input) -> StopLine
-    ensures { result.items ≡ ended (codes "stop 6 " ++ input_word input) }
+/// A line of this text and a number.
+fn with_number(front: &[u8], number: u8) -> StopLine
+    requires { length front.now + NUMBER_ROOM < LINE_ROOM }
+    ensures { result.items ≡ ended (front.now ++ decimal number) }
 {
     let mut line = StopLine::new();
-    put(&mut line, b"stop 6 ");
-    put(&mut line, word_of(input));
+    put(&mut line, front);
+    put_number(&mut line, u64::from(number));
     put(&mut line, b"\n");
     line
 }
 
-fn refusal_line(number: u32, cause: u8) -> StopLine
+/// A line of these texts, with a number behind each.
+fn with_two(front: &[u8], first: u32, middle: &[u8], second: u8) -> StopLine
+    requires { length front.now + NUMBER_ROOM + length middle.now + NUMBER_ROOM < LINE_ROOM }
     ensures { result.items
-        ≡ ended (codes "stop 2 line " ++ decimal number ++ codes " cause " ++ decimal cause) }
+        ≡ ended (front.now ++ decimal first ++ middle.now ++ decimal second) }
 {
     let mut line = StopLine::new();
-    put(&mut line, b"stop 2 line ");
-    put_number(&mut line, u64::from(number));
-    put(&mut line, b" cause ");
-    put_number(&mut line, u64::from(cause));
+    put(&mut line, front);
+    put_number(&mut line, u64::from(first));
+    put(&mut line, middle);
+    put_number(&mut line, u64::from(second));
     put(&mut line, b"\n");
     line
 }
 
-fn capture_line(number: u32, fault: u8) -> StopLine
-    ensures { result.items
-        ≡ ended (codes "stop 3 record " ++ decimal number ++ codes " fault " ++ decimal fault) }
-{
-    let mut line = StopLine::new();
-    put(&mut line, b"stop 3 record ");
-    put_number(&mut line, u64::from(number));
-    put(&mut line, b" fault ");
-    put_number(&mut line, u64::from(fault));
-    put(&mut line, b"\n");
-    line
-}
-
-fn memory_line() -> StopLine
-    ensures { result.items ≡ ended (codes "stop 7 memory") }
-{
-    let mut line = StopLine::new();
-    put(&mut line, b"stop 7 memory\n");
-    line
-}
-
-fn endpoint_line(number: u8) -> StopLine
-    ensures { result.items ≡ ended (codes "stop 8 endpoint " ++ decimal number) }
-{
-    let mut line = StopLine::new();
-    put(&mut line, b"stop 8 endpoint ");
-    put_number(&mut line, u64::from(number));
-    put(&mut line, b"\n");
-    line
-}
-
-fn long_report_line() -> StopLine
-    ensures { result.items ≡ ended (codes "stop 10 report") }
-{
-    let mut line = StopLine::new();
-    put(&mut line, b"stop 10 report\n");
-    line
-}
-
-fn trace_line(number: u32, cause: u8) -> StopLine
-    ensures { result.items
-        ≡ ended (codes "stop 11 line " ++ decimal number ++ codes " cause " ++ decimal cause) }
-{
-    let mut line = StopLine::new();
-    put(&mut line, b"stop 11 line ");
-    put_number(&mut line, u64::from(number));
-    put(&mut line, b" cause ");
-    put_number(&mut line, u64::from(cause));
-    put(&mut line, b"\n");
-    line
-}
-
-fn unsuited_line() -> StopLine
-    ensures { result.items ≡ ended (codes "stop 12 script") }
-{
-    let mut line = StopLine::new();
-    put(&mut line, b"stop 12 script\n");
-    line
-}
+/// The words of every command.
+const USAGE: &[u8] = b"usage: spin run SCRIPT [PACKETS] | spin gen NUMBER \
+    | spin check SCRIPT REPORT [PACKETS] | spin join SCRIPT PACKETS | spin vm SCRIPT TRACE";
 
 /// The line of an end, with its line feed; some have none.
 fn line_of(end: End) -> StopLine
     ensures { result.items ≡ stop_line end }
 {
     match end {
-        End::Whole => StopLine::new(),
-        End::Usage => usage_line(),
-        End::Refused { line, cause } => refusal_line(line, cause),
-        End::Capture { number, fault } => capture_line(number, fault),
-        End::Unread(input) => read_line(input),
-        End::WriteFault => StopLine::new(),
-        End::Absent(input) => absence_line(input),
-        End::NoMemory => memory_line(),
-        End::Endpoint(number) => endpoint_line(number),
-        End::NoHistory => StopLine::new(),
-        End::LongReport => long_report_line(),
-        End::Trace { line, cause } => trace_line(line, cause),
-        End::Unsuited => unsuited_line(),
+        End::Whole | End::WriteFault | End::NoHistory => StopLine::new(),
+        End::Usage => fixed(USAGE),
+        End::Refused { line, cause } => with_two(b"stop 2 line ", line, b" cause ", cause),
+        End::Capture { number, fault } => with_two(b"stop 3 record ", number, b" fault ", fault),
+        End::Unread(input) => with_file(b"stop 4 read ", input),
+        End::Absent(input) => with_file(b"stop 6 ", input),
+        End::NoMemory => fixed(b"stop 7 memory"),
+        End::Endpoint(number) => with_number(b"stop 8 endpoint ", number),
+        End::LongReport => fixed(b"stop 10 report"),
+        End::Trace { line, cause } => with_two(b"stop 11 line ", line, b" cause ", cause),
+        End::Unsuited => fixed(b"stop 12 script"),
     }
 }
 
