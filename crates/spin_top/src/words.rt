@@ -1,14 +1,14 @@
 //! The words of the command line.
 
-ghost use Rattle.std.specs.Prelude.{◌≡◌, ◌<◌, ◌≤◌, List, ℕ, Some, ◌∷◌, IfOk, IfSome, IfNone, IsTrue, map, length, codes, option_map};
+ghost use Rattle.std.specs.Prelude.{◌≡◌, ◌<◌, ◌≤◌, Some, ◌∷◌, IfOk, IfSome, IfNone, map, length, codes, option_map};
 ghost use Rattle.std.specs.List.{All};
 ghost use Rattle.clap.specs.Words.{app_of, raw_values, matched_of, found_of};
-ghost use Rattle.spin_top.specs.Inner.Parsing.{app};
+ghost use Rattle.spin_top.specs.Inner.Parsing.{app, spelling, BeginsNone};
 ghost use Rattle.spin_top.specs.Words.{IsPlain, IsAsked, IsSpelled};
 
 use clap::error::ErrorKind;
 use clap::{Arg, ArgMatches, Command};
-use spin_grammar::number_of;
+use spin_grammar::{look_up, number_of};
 use spin_values::{NoMemory, Text};
 use std::alloc::Global;
 
@@ -102,10 +102,7 @@ fn parse<'a>(alloc: Global, words: &'a [&'a str]) -> Result<Option<ArgMatches<'a
     ensures none { IfOk result (λ parsed. IfNone parsed
         (0 < length words.now → length words.now ≤ 4 → ⊥)) }
 {
-    let command = match command(alloc) {
-        Ok(command) => command,
-        Err(NoMemory) => return Err(NoMemory),
-    };
+    let command = command(alloc)?;
     match command.try_get_matches_from(words) {
         Ok(matches) => Ok(Some(matches)),
         Err(error) => match error.kind() {
@@ -115,11 +112,36 @@ fn parse<'a>(alloc: Global, words: &'a [&'a str]) -> Result<Option<ArgMatches<'a
     }
 }
 
-fn is_run(word: &str) -> bool
-    ensures yes { IsTrue result → word.now ≡ codes "run" }
-    ensures no { word.now ≡ codes "run" → IsTrue result }
+/// The first word of a command.
+#[derive(Clone, Copy)]
+pub enum Name {
+    /// `run`.
+    Run,
+    /// `gen`.
+    Gen,
+    /// `check`.
+    Check,
+    /// `join`.
+    Join,
+    /// `vm`.
+    Vm,
+}
+
+/// The words that commands begin with.
+const COMMANDS: [(&[u8], Name); 5] = [
+    (b"run", Name::Run),
+    (b"gen", Name::Gen),
+    (b"check", Name::Check),
+    (b"join", Name::Join),
+    (b"vm", Name::Vm),
+];
+
+/// The command that begins with this word.
+fn name_of(word: &str) -> Option<Name>
+    ensures found { IfSome result (λ name. word.now ≡ spelling name) }
+    ensures none { IfNone result (BeginsNone word.now) }
 {
-    word == "run"
+    look_up(word.as_bytes(), COMMANDS.as_slice())
 }
 
 /// The words after `run`.
@@ -142,13 +164,6 @@ fn run_form(alloc: Global, names: &[&str]) -> Result<Option<Asked>, NoMemory>
     }
 }
 
-fn is_gen(word: &str) -> bool
-    ensures yes { IsTrue result → word.now ≡ codes "gen" }
-    ensures no { word.now ≡ codes "gen" → IsTrue result }
-{
-    word == "gen"
-}
-
 /// The words after `gen`: one, which is a number as scripts have them.
 fn gen_form(names: &[&str]) -> Option<Asked>
     ensures found { IfSome result
@@ -163,13 +178,6 @@ fn gen_form(names: &[&str]) -> Option<Asked>
         Some(number) => Some(Asked::Gen { number }),
         None => None,
     }
-}
-
-fn is_check(word: &str) -> bool
-    ensures yes { IsTrue result → word.now ≡ codes "check" }
-    ensures no { word.now ≡ codes "check" → IsTrue result }
-{
-    word == "check"
 }
 
 /// The words after `check`.
@@ -194,13 +202,6 @@ fn check_form(alloc: Global, names: &[&str]) -> Result<Option<Asked>, NoMemory>
     }
 }
 
-fn is_join(word: &str) -> bool
-    ensures yes { IsTrue result → word.now ≡ codes "join" }
-    ensures no { word.now ≡ codes "join" → IsTrue result }
-{
-    word == "join"
-}
-
 /// The words after `join`.
 fn join_form(alloc: Global, names: &[&str]) -> Result<Option<Asked>, NoMemory>
     ensures found { IfOk result (λ form. IfSome form
@@ -215,13 +216,6 @@ fn join_form(alloc: Global, names: &[&str]) -> Result<Option<Asked>, NoMemory>
         })),
         _ => Ok(None),
     }
-}
-
-fn is_vm(word: &str) -> bool
-    ensures yes { IsTrue result → word.now ≡ codes "vm" }
-    ensures no { word.now ≡ codes "vm" → IsTrue result }
-{
-    word == "vm"
 }
 
 /// The words after `vm`.
@@ -250,22 +244,14 @@ fn form_of(alloc: Global, words: &[&str]) -> Result<Option<Asked>, NoMemory>
     if words.is_empty() {
         return Ok(None);
     }
-    if is_run(words[0]) {
-        return run_form(alloc, &words[1..]);
+    match name_of(words[0]) {
+        Some(Name::Run) => run_form(alloc, &words[1..]),
+        Some(Name::Gen) => Ok(gen_form(&words[1..])),
+        Some(Name::Check) => check_form(alloc, &words[1..]),
+        Some(Name::Join) => join_form(alloc, &words[1..]),
+        Some(Name::Vm) => vm_form(alloc, &words[1..]),
+        None => Ok(None),
     }
-    if is_gen(words[0]) {
-        return Ok(gen_form(&words[1..]));
-    }
-    if is_check(words[0]) {
-        return check_form(alloc, &words[1..]);
-    }
-    if is_join(words[0]) {
-        return join_form(alloc, &words[1..]);
-    }
-    if is_vm(words[0]) {
-        return vm_form(alloc, &words[1..]);
-    }
-    Ok(None)
 }
 
 /// What the words ask for, or none exactly where they have none of the forms.
@@ -274,15 +260,11 @@ pub fn read_words(alloc: Global, words: &[Text]) -> Result<Option<Asked>, NoMemo
     ensures none { IfOk result (λ form. IfNone form
         ((asked : Asked) → IsAsked words.now asked → ⊥)) }
 {
-    let plain = match plain_words(alloc, words) {
-        Ok(Some(plain)) => plain,
-        Ok(None) => return Ok(None),
-        Err(NoMemory) => return Err(NoMemory),
+    let Some(plain) = plain_words(alloc, words)? else {
+        return Ok(None);
     };
-    let matches = match parse(alloc, plain.as_slice()) {
-        Ok(Some(matches)) => matches,
-        Ok(None) => return Ok(None),
-        Err(NoMemory) => return Err(NoMemory),
+    let Some(matches) = parse(alloc, plain.as_slice())? else {
+        return Ok(None);
     };
     match matches.get_strs("words") {
         Some(words) => form_of(alloc, words),

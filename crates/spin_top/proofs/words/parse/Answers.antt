@@ -5,13 +5,13 @@ use Rattle.clap.proofs.WalkLemmas.{raw_values-rows}
 use Rattle.spin_top.proofs.Parsing.{id, simple, simple_and_free, words_taken, words_are, some_given}
 use Rattle.spin_top.proofs.words.parse.Goals as goal
 
-pub returns-in-Ok-try_get_matches_from-clause-found : goal.returns-in-Ok-try_get_matches_from-clause-found
-returns-in-Ok-try_get_matches_from-clause-found c =
-    let app_is = c.in-Ok.ensures in
-    let none = c.in-Ok-try_get_matches_from.ensures.kinds (ap is_simple_and_free app_is ∙ simple_and_free) in
+pub returns-in-Ok-clause-found : goal.returns-in-Ok-clause-found
+returns-in-Ok-clause-found c =
+    let app_is = c.in_ok-command.ensures in
+    let none = c.in-Ok.ensures.kinds (ap is_simple_and_free app_is ∙ simple_and_free) in
     let some = some_given _ (ap (λ (a : App). fault_of a (map (λ t. t.now) c.args.words.now)) (sym app_is) ∙ none) in
-    let rows = (c.in-Ok-try_get_matches_from.ensures.matches (ap is_simple app_is ∙ simple)).0 in
-    raw_values-rows (found_of c.in-Ok-try_get_matches_from.matches) id ∙ ap (all_of id) (rows ∙ ap (λ (a : App). matches_of a (map (λ t. t.now) c.args.words.now)) app_is) ∙ words_are _ c.requires.plain some
+    let rows = (c.in-Ok.ensures.matches (ap is_simple app_is ∙ simple)).0 in
+    raw_values-rows (found_of c.in-Ok.matches) id ∙ ap (all_of id) (rows ∙ ap (λ (a : App). matches_of a (map (λ t. t.now) c.args.words.now)) app_is) ∙ words_are _ c.requires.plain some
 
 pub returns : goal.returns
 returns c =
@@ -20,5 +20,5 @@ returns c =
       found = tt;
       none = λ some few.
           let taken = words_taken (map (λ t. t.now) c.args.words.now) c.requires.plain (omega (arith, same, some)) (omega (arith, same, few)) in
-          c.in_default.not-OutOfMemory (c.kind.ensures ∙ c.in-Err-try_get_matches_from.ensures.passes (ap (λ (a : App). takes a (map (λ t. t.now) c.args.words.now)) c.in-Ok.ensures ∙ taken));
+          c.in_default.not-OutOfMemory (c.kind.ensures ∙ c.in-Err.ensures.passes (ap (λ (a : App). takes a (map (λ t. t.now) c.args.words.now)) c.in_ok-command.ensures ∙ taken));
     }
