@@ -1,16 +1,15 @@
 -- What the end of a summary rests on, and which status it always comes to.
-use Rattle.std.proofs.Common.{◌≡◌, ◌+◌, ℕ, Option, Some, None, List, drop, refl, sym, subst, ◌∙◌, arith, inl, inr}
+use Rattle.std.proofs.Common.{◌≡◌, ◌+◌, ℕ, Option, Some, None, List, refl, sym, subst, ◌∙◌, inl, inr}
 use Rattle.std.specs.Prelude.{Result, Ok, Err}
 use Rattle.spin_outside.specs.Counts.{Rose}
 use Rattle.spin_outside.specs.Seen.{SinkSeen}
 use Rattle.spin_endpoint.specs.Named.{NamedEnd}
-use Rattle.spin_pcap.specs.Captures.{IsBody, IsCapture, header_of}
+use Rattle.spin_pcap.specs.Captures.{header_of}
 use Rattle.spin_pcap.specs.Passing.{ReaderState}
 use Rattle.spin_pcap.specs.declared.fault.PcapFault.{PcapFault}
 use Rattle.spin_pcap.specs.declared.limits.TheConstants.{MAX_HELD}
 use Rattle.spin_pcap.specs.declared.next.Next.{Next}
 use Rattle.spin_pcap.specs.declared.next.Next.TheVariants as next
-use Rattle.spin_pcap.specs.declared.order.Order.{Order}
 use Rattle.spin_pcap.specs.declared.order.Order.TheVariants as order
 use Rattle.spin_script.proofs.Single.{one_outcome}
 use Rattle.spin_script.specs.Language.{IsScript}
@@ -22,17 +21,19 @@ use Rattle.spin_gen.specs.Texts.{packets_of, script_of}
 use Rattle.spin_run.specs.declared.end.RunEnd.{RunEnd}
 use Rattle.spin_run.specs.declared.end.RunEnd.TheVariants as run
 use Rattle.spin_run.specs.Ends.{RunSeen, seen, CountsBy}
-use Rattle.spin_run.specs.Records.{AreLeftBy, AreRecords, IsTakenPast, room_of}
+use Rattle.spin_run.specs.Records.{AreRecords, IsTakenPast, room_of}
 use Rattle.spin_run.specs.Summaries.{SumsUpBy, untold}
 use Rattle.spin_top.specs.declared.end.End.{End}
-use Rattle.spin_top.specs.declared.end.End.TheVariants.{Whole, WriteFault, NoMemory, Endpoint}
+use Rattle.spin_top.specs.declared.end.End.TheVariants.{Whole, Capture, WriteFault, NoMemory, Endpoint}
 use Rattle.spin_top.specs.Ends as ends
 use Rattle.spin_top.specs.Ends.{Tells, stop_line}
 use Rattle.spin_top.specs.Gen.{GenHasCause, GenKnows, RanMade}
 use Rattle.spin_top.specs.Held.{held_seen}
-use Rattle.spin_top.specs.Inner.Making.{IsBehind, RunsMade}
-use Rattle.spin_top.specs.Outside.{Outside}
+use Rattle.spin_top.specs.Inner.Holding.{HeaderRefuses, IsBehind}
+use Rattle.spin_top.specs.Inner.Making.{RunsMade}
+use Rattle.spin_top.specs.Outside.{OnlyStops, Outside}
 use Rattle.spin_top.specs.Run.{end_of}
+use Rattle.spin_top.proofs.Holding.{good_not_bad, never, records_left}
 use Rattle.spin_top.proofs.RunCauses.{ends_moved, none_taken, tells_nothing}
 
 -- ---- what is made
@@ -41,23 +42,16 @@ use Rattle.spin_top.proofs.RunCauses.{ends_moved, none_taken, tells_nothing}
 pub never_refused : (natives : NativeData) (text : List ℕ) (line cause : ℕ) → IsReadAsScript natives text → IsBad natives text (fault.Bad line cause) → ⊥
 never_refused natives text line cause made bad = one_outcome natives text (Ok made.script) (Err (line, bad.0)) made.read bad.1
 
+-- and only want of memory keeps the header of a capture that was made from being read
+pub not_behind : (natives : NativeData) (before after : Outside) (number : ℕ) (end : End) → after.shelf ≡ before.shelf → IsReadAsCapture (packets_of number) → HeaderRefuses (packets_of number) end → OnlyStops before after end → GenHasCause natives before after number end
+not_behind natives before after number (Capture at fault) same made refused only =
+    absurd (good_not_bad order.Little refused.1 (header_of (packets_of number)) made.capture.header refused.3)
+not_behind natives before after number NoMemory same made refused only = (same, inl only)
+not_behind natives before after number other same made refused only = absurd refused
+
 -- ---- the run
 
-one_order : (x y : Order) (r : Result Order PcapFault) → r ≡ Ok x → r ≡ Ok y → x ≡ y
-one_order x y r a b = cc
-
--- the records behind the header are left for the reader
-records_left : (bytes left : List ℕ) (reader : ReaderState) (frames : List (List ℕ)) → IsBehind bytes left reader → IsCapture bytes order.Little frames (Ok next.End) → AreRecords (Some reader) (held_seen left) frames (Some (Ok next.End))
-records_left bytes left reader frames behind capture =
-    let way : order.Little ≡ reader.order = one_order order.Little reader.order (header_of bytes) capture.header behind.header in
-    let body : IsBody reader.order reader.given (drop 24 bytes) frames (Ok next.End) = subst (λ given. IsBody reader.order given (drop 24 bytes) frames (Ok next.End)) (sym behind.fresh.0) (subst (λ w. IsBody w 0 (drop 24 bytes) frames (Ok next.End)) way capture.body) in
-    (Ok next.End, refl, subst (λ s. AreLeftBy s reader (Some left) frames (Ok next.End)) (sym behind.fresh.1) (record { bytes = drop 24 bytes; told = behind.behind; body = body }))
-
--- a source that never fails has no read that failed
-never : Rose 0 0 → ⊥
-never rose = omega (arith, rose)
-
--- and the capture that was made has no bad record
+-- the capture that was made has no bad record
 never_bad : (wrong : PcapFault) (r : Option (Result Next PcapFault)) → r ≡ Some (Ok next.End) → r ≡ Some (Err wrong) → ⊥
 never_bad wrong r good bad = cc
 
@@ -92,7 +86,7 @@ pub was_made : (natives : NativeData) (before after : Outside) (number : ℕ) (s
 was_made natives before after number sink script left reader ended same read made behind over line =
     let from = held_seen left in
     let to = held_seen over.left' in
-    let sums = over.ended_so made.frames (Some (Ok next.End)) (records_left (packets_of number) left reader made.frames behind made.capture) in
+    let sums = over.ended_so made.frames (Some (Ok next.End)) (records_left (packets_of number) left reader made.frames (Some (Ok next.End)) behind (Ok next.End, refl, order.Little, made.capture)) in
     let ran : RanMade natives before after number ended = record {
       script = script;
       read = read;

@@ -1,16 +1,15 @@
 -- What the end of a run over a joined capture rests on.
-use Rattle.std.proofs.Common.{◌≡◌, ◌+◌, ℕ, Option, Some, None, List, [], arith, refl, sym, subst, ◌∙◌, inl, inr, IfSome}
-use Rattle.std.specs.Prelude.{Result, Ok, Err, drop}
+use Rattle.std.proofs.Common.{◌≡◌, ◌+◌, ℕ, Option, Some, None, List, [], refl, sym, subst, ◌∙◌, inl, inr, IfSome}
+use Rattle.std.specs.Prelude.{Result, Ok, Err}
 use Rattle.spin_outside.specs.Counts.{Rose}
 use Rattle.spin_outside.specs.Files.{File, IsLacking}
 use Rattle.spin_outside.specs.Seen.{ShelfSeen, SinkSeen}
 use Rattle.spin_endpoint.specs.Named.{NamedEnd}
-use Rattle.spin_pcap.specs.Captures.{IsBody, IsCapture, header_of}
+use Rattle.spin_pcap.specs.Captures.{IsCapture, header_of}
 use Rattle.spin_pcap.specs.Passing.{ReaderState}
 use Rattle.spin_pcap.specs.declared.fault.PcapFault.{PcapFault}
 use Rattle.spin_pcap.specs.declared.limits.TheConstants.{MAX_HELD}
 use Rattle.spin_pcap.specs.declared.next.Next.{Next}
-use Rattle.spin_pcap.specs.declared.order.Order.{Order}
 use Rattle.spin_pcap.specs.declared.order.Order.TheVariants as order
 use Rattle.spin_reass.proofs.Captures.{joined_is_capture}
 use Rattle.spin_reass.specs.Joining.{joined_frames}
@@ -18,19 +17,21 @@ use Rattle.spin_script.specs.States.{NativeData, ScriptData}
 use Rattle.spin_run.specs.declared.end.RunEnd.{RunEnd}
 use Rattle.spin_run.specs.declared.end.RunEnd.TheVariants as run
 use Rattle.spin_run.specs.Ends.{seen, EndsBy, CountsBy}
-use Rattle.spin_run.specs.Records.{AreLeftBy, AreRecords, room_of}
+use Rattle.spin_run.specs.Records.{AreRecords, room_of}
 use Rattle.spin_top.specs.declared.end.End.{End}
 use Rattle.spin_top.specs.declared.end.End.TheVariants.{Refused, Capture, Unread, Absent, NoMemory}
 use Rattle.spin_top.specs.declared.end.Input.TheVariants.{Script, Packets}
 use Rattle.spin_top.specs.Captures.{IsBadAt, NoWholeBy}
 use Rattle.spin_top.specs.Ends.{Tells, stop_line}
 use Rattle.spin_top.specs.Held.{held_seen}
-use Rattle.spin_top.specs.Inner.Joining.{HeaderRefuses, IsBehind, RunsJoined}
-use Rattle.spin_top.specs.Join.{AreRecordsIn, IsJoinedBy, IsJoinedFile, JoinHasCause, RanJoined}
+use Rattle.spin_top.specs.Inner.Holding.{HeaderRefuses, IsBehind}
+use Rattle.spin_top.specs.Inner.Joining.{RunsJoined}
+use Rattle.spin_top.specs.Join.{IsJoinedBy, IsJoinedFile, JoinHasCause, RanJoined}
 use Rattle.spin_top.specs.Loading.{IsLoaded, NoScriptBy}
 use Rattle.spin_top.specs.Outside.{OnlyStops, Outside}
 use Rattle.spin_top.specs.Run.{end_of}
 use Rattle.spin_top.specs.Shelves.{ShelfStood}
+use Rattle.spin_top.proofs.Holding.{good_not_bad, never, records_left}
 use Rattle.spin_top.proofs.RunCauses.{ends_moved, none_taken, tells_nothing}
 use Rattle.spin_top.proofs.Shelf.{if_some, stood_failed, stood_lacked, stood_stood}
 
@@ -58,9 +59,6 @@ pub joined_good : (held : List File) (name bytes : List ℕ) (is : IsJoinedFile 
 joined_good held name bytes is =
     subst (λ b. IsCapture b order.Little (joined_frames [] is.frames) (Ok is.last)) (sym is.bytes_are) (joined_is_capture is.file.bytes is.file.order is.frames is.last is.file.capture)
 
-good_not_bad : (x : Order) (wrong : PcapFault) (r : Result Order PcapFault) → r ≡ Ok x → r ≡ Err wrong → ⊥
-good_not_bad x wrong r good bad = cc
-
 joined_at : (mid shelf : ShelfSeen) (files : Option (List File)) (packets bytes : List ℕ) → mid.files ≡ files → IsJoinedBy mid shelf packets bytes → IfSome files (λ held. IsJoinedFile held packets bytes)
 joined_at mid shelf files packets bytes same by = subst (λ f. IfSome f (λ held. IsJoinedFile held packets bytes)) same by.1
 
@@ -76,20 +74,6 @@ not_behind natives before after mid name packets bytes script NoMemory stood loa
 not_behind natives before after mid name packets bytes script other stood loaded joined refused only = absurd refused
 
 -- ---- the run
-
-one_order : (x y : Order) (r : Result Order PcapFault) → r ≡ Ok x → r ≡ Ok y → x ≡ y
-one_order x y r a b = cc
-
--- the records behind the header are left for the reader
-records_left : (bytes left : List ℕ) (reader : ReaderState) (frames : List (List ℕ)) (rest : Option (Result Next PcapFault)) → IsBehind bytes left reader → AreRecordsIn bytes frames rest → AreRecords (Some reader) (held_seen left) frames rest
-records_left bytes left reader frames rest behind are =
-    let order : are.2 ≡ reader.order = one_order are.2 reader.order (header_of bytes) are.3.header behind.header in
-    let body : IsBody reader.order reader.given (drop 24 bytes) frames are.0 = subst (λ given. IsBody reader.order given (drop 24 bytes) frames are.0) (sym behind.fresh.0) (subst (λ way. IsBody way 0 (drop 24 bytes) frames are.0) order are.3.body) in
-    (are.0, are.1, subst (λ s. AreLeftBy s reader (Some left) frames are.0) (sym behind.fresh.1) (record { bytes = drop 24 bytes; told = behind.behind; body = body }))
-
--- a source that never fails has no read that failed
-never : Rose 0 0 → ⊥
-never rose = omega (arith, rose)
 
 by_end : (natives : NativeData) (names : List (List ℕ)) (before after : Outside) (sink : SinkSeen) (name packets bytes left left' : List ℕ) (ended : RunEnd) → ShelfStood before.shelf after.shelf → CountsBy names (seen (held_seen left) before.sink before.ends) (seen (held_seen left') sink after.ends) ended → Tells sink after.sink (stop_line (end_of ended)) → ((number fault : ℕ) → ended ≡ run.Capture number fault → before.shelf.files ≡ None) → RanJoined natives before after name packets ended → JoinHasCause natives before after name packets (end_of ended)
 by_end natives names before after sink name packets bytes left left' run.Whole stood counts line untold ran =

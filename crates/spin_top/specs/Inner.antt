@@ -1,4 +1,5 @@
 -- What the contracts of private functions cite alone.
+pub mod Holding
 pub mod Joining
 pub mod Making
 pub mod Parsing

@@ -1,14 +1,18 @@
-//! A source over bytes that are held in memory.
+//! A source over bytes that are held in memory, and a capture among them.
 
-ghost use Rattle.std.specs.Prelude.{◌≡◌, ◌<◌, length, Some};
+ghost use Rattle.std.specs.Prelude.{◌≡◌, ◌<◌, length, Some, IfOk, IfErr};
 ghost use Rattle.std.specs.Io.{ReadsAtMost};
 ghost use Rattle.std.specs.Io.KnownBytes.{ReadConsumes};
 ghost use Rattle.spin_outside.specs.Counts.{FailsByCount};
 ghost use Rattle.spin_outside.specs.Sources.{TakesMore};
 ghost use Rattle.spin_top.specs.Held.{held_seen};
+ghost use Rattle.spin_top.specs.Inner.Holding.{HeaderRefuses, IsBehind};
 
+use crate::end::End;
 use spin_outside::{Failed, Source};
+use spin_pcap::{PcapFault, Reader};
 use spin_values::Octets;
+use std::alloc::Global;
 use std::marker::Model;
 
 /// A source that has these bytes left, and never fails.
@@ -53,5 +57,30 @@ impl Source for HeldSource {
         buf[..count].copy_from_slice(&left[..count]);
         self.position += count;
         Ok(count)
+    }
+}
+
+/// A capture in memory whose header was read.
+#[derive(Drop)]
+pub struct HeldCapture {
+    /// The bytes that are left.
+    pub source: HeldSource,
+    /// What reads its records.
+    pub reader: Reader,
+}
+
+/// Reads the header of a capture in memory.
+pub fn behind_header(alloc: Global, bytes: Octets) -> Result<HeldCapture, End>
+    ensures behind { IfOk result (λ capture. IsBehind bytes capture.source capture.reader) }
+    ensures refused { IfErr result (HeaderRefuses bytes) }
+{
+    let mut source = HeldSource::new(bytes);
+    match Reader::start(alloc, &mut source) {
+        Ok(reader) => Ok(HeldCapture { source, reader }),
+        Err(PcapFault::NoMemory) => Err(End::NoMemory),
+        Err(fault) => Err(End::Capture {
+            number: 0,
+            fault: fault.number(),
+        }),
     }
 }

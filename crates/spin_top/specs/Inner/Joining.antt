@@ -1,31 +1,15 @@
--- A joined capture in memory: its header, and a run over its records.
-use Rattle.std.specs.Prelude.{◌≡◌, ℕ, List, Option, Some, Result, Ok, Err, drop, ⊤}
+-- A run over the records of a joined capture in memory.
+use Rattle.std.specs.Prelude.{ℕ, List, Option, Some, Result}
 use Rattle.spin_outside.specs.Seen.{SinkSeen}
 use Rattle.spin_pcap.specs.declared.fault.PcapFault.{PcapFault}
 use Rattle.spin_pcap.specs.declared.next.Next.{Next}
-use Rattle.spin_pcap.specs.Captures.{header_of}
-use Rattle.spin_pcap.specs.Passing.{ReaderState, IsFresh, left_for, number}
+use Rattle.spin_pcap.specs.Passing.{ReaderState}
 use Rattle.spin_endpoint.specs.Named.{NamedEnd}
 use Rattle.spin_script.specs.States.{ScriptData}
 use Rattle.spin_run.specs.declared.end.RunEnd.{RunEnd}
 use Rattle.spin_run.specs.Ends.{seen, EndsBy, CountsBy}
 use Rattle.spin_run.specs.Records.{AreRecords, room_of}
-use Rattle.spin_top.specs.declared.end.End.{End}
-use Rattle.spin_top.specs.declared.end.End.TheVariants.{Capture, NoMemory}
 use Rattle.spin_top.specs.Held.{held_seen}
-
--- A fresh reader stands behind the header of these bytes, of which those are left.
-pub record IsBehind (bytes left : List ℕ) (reader : ReaderState) : Type 0 where
-  pub fresh : IsFresh reader
-  pub header : header_of bytes ≡ Ok reader.order
-  pub behind : left_for reader.held (Some left) ≡ Some (drop 24 bytes)
-
--- The header of these bytes is refused, or memory ran out.
-abbrev pub HeaderRefuses : List ℕ → End → Type 0
-HeaderRefuses bytes (Capture at fault) =
-    (at ≡ 0) × (wrong : PcapFault) × (fault ≡ number wrong) × (header_of bytes ≡ Err wrong)
-HeaderRefuses bytes NoMemory = ⊤
-HeaderRefuses bytes other = ⊥
 
 -- The run over the records that are left for the reader ended so.
 pub record RunsJoined (script : ScriptData) (left : List ℕ) (reader : ReaderState)

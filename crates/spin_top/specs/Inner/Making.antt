@@ -1,10 +1,9 @@
--- A capture that was made: its header, and a run over its records that is summed up.
-use Rattle.std.specs.Prelude.{◌≡◌, ℕ, List, Option, Some, Result, Ok, drop}
+-- A run over the records of a capture that was made, which is summed up.
+use Rattle.std.specs.Prelude.{ℕ, List, Option, Some, Result}
 use Rattle.spin_outside.specs.Seen.{SinkSeen}
 use Rattle.spin_pcap.specs.declared.fault.PcapFault.{PcapFault}
 use Rattle.spin_pcap.specs.declared.next.Next.{Next}
-use Rattle.spin_pcap.specs.Captures.{header_of}
-use Rattle.spin_pcap.specs.Passing.{ReaderState, IsFresh, left_for}
+use Rattle.spin_pcap.specs.Passing.{ReaderState}
 use Rattle.spin_endpoint.specs.Named.{NamedEnd}
 use Rattle.spin_script.specs.States.{ScriptData}
 use Rattle.spin_run.specs.declared.end.RunEnd.{RunEnd}
@@ -12,12 +11,6 @@ use Rattle.spin_run.specs.Ends.{seen, CountsBy}
 use Rattle.spin_run.specs.Records.{AreRecords, room_of}
 use Rattle.spin_run.specs.Summaries.{SumsUpBy}
 use Rattle.spin_top.specs.Held.{held_seen}
-
--- A fresh reader stands behind the header of these bytes, of which those are left.
-pub record IsBehind (bytes left : List ℕ) (reader : ReaderState) : Type 0 where
-  pub fresh : IsFresh reader
-  pub header : header_of bytes ≡ Ok reader.order
-  pub behind : left_for reader.held (Some left) ≡ Some (drop 24 bytes)
 
 -- The run over the records that are left for the reader ended so.
 pub record RunsMade (script : ScriptData) (number : ℕ) (left : List ℕ) (reader : ReaderState)

@@ -1,6 +1,6 @@
 //! The command `gen`: the script of a number, over the capture of that number, summed up.
 
-ghost use Rattle.std.specs.Prelude.{◌≡◌, ◌≤◌, IfOk, Ok};
+ghost use Rattle.std.specs.Prelude.{◌≤◌, IfOk, Ok};
 ghost use Rattle.spin_outside.specs.Seen.{ShelfSeen};
 ghost use Rattle.spin_word.specs.declared.command.TheConstants.{MAX_PLACE};
 ghost use Rattle.spin_pcap.specs.Passing.{IsFresh};
@@ -9,23 +9,22 @@ ghost use Rattle.spin_script.specs.Language.{IsScript};
 ghost use Rattle.spin_script.specs.Scripts.{script_seen};
 ghost use Rattle.spin_script.specs.Segments.{IsOrderly};
 ghost use Rattle.spin_script.specs.Soundness.{AreValid, command_lines};
-ghost use Rattle.spin_gen.specs.Laws.{IsReadAsScript, IsReadAsCapture};
+ghost use Rattle.spin_gen.specs.Laws.{IsReadAsScript};
 ghost use Rattle.spin_top.specs.Gen.{IsGenStatus};
-ghost use Rattle.spin_top.specs.Inner.Making.{IsBehind, RunsMade};
+ghost use Rattle.spin_top.specs.Inner.Making.{RunsMade};
 ghost use Rattle.spin_top.specs.Outside.{outside};
 
 use crate::commands::run::end_of;
 use crate::end::{End, stop};
-use crate::held::HeldSource;
+use crate::held::{HeldCapture, behind_header};
 use spin_code::Sincere;
 use spin_endpoint::{Ends, EndsSeen};
 use spin_gen::{captures_are_read, generate, scripts_are_read};
 use spin_objects::{Catalogue, Natives};
 use spin_outside::{Gate, Sink};
-use spin_pcap::{PcapFault, Reader};
 use spin_run::{RunEnd, run_summary};
 use spin_script::{Script, ScriptFault, read_script};
-use spin_values::{NoMemory, Octets};
+use spin_values::NoMemory;
 use std::alloc::Global;
 use std::thread::Threads;
 
@@ -48,32 +47,12 @@ fn made_script(alloc: Global, text: &[u8], natives: Natives) -> Result<Script, N
     }
 }
 
-/// A capture in memory whose header was read.
-#[derive(Drop)]
-struct MadeCapture {
-    source: HeldSource,
-    reader: Reader,
-}
-
-/// Reads the header of a capture that was made, which is good.
-fn made_capture(alloc: Global, bytes: Octets) -> Result<MadeCapture, NoMemory>
-    requires made { IsReadAsCapture bytes }
-    ensures behind { IfOk result (λ made. IsBehind bytes made.source made.reader) }
-{
-    let mut source = HeldSource::new(bytes);
-    match Reader::start(alloc, &mut source) {
-        Ok(reader) => Ok(MadeCapture { source, reader }),
-        Err(PcapFault::NoMemory) => Err(NoMemory),
-        Err(_) => unreachable!(),
-    }
-}
-
 /// Runs the script over the records of the capture, and writes the summary with that number.
 fn run_over<R: Threads + Sync, K: Sink, G: Gate>(
     rt: &R,
     alloc: Global,
     script: Script,
-    capture: MadeCapture,
+    capture: HeldCapture,
     number: u64,
     out: &mut K,
     ends: &mut Ends,
@@ -88,7 +67,7 @@ fn run_over<R: Threads + Sync, K: Sink, G: Gate>(
         (K.seen out.old) (⟦<Ends as EndsSeen>⟧.all ends.old)
         (K.seen out.new) (⟦<Ends as EndsSeen>⟧.all ends.new) result }
 {
-    let MadeCapture { mut source, reader } = capture;
+    let HeldCapture { mut source, reader } = capture;
     run_summary(
         rt,
         alloc,
@@ -130,9 +109,9 @@ pub fn gen_command<R: Threads + Sync, K: Sink, G: Gate>(
         Ok(script) => script,
         Err(NoMemory) => return stop(out, End::NoMemory),
     };
-    let capture = match made_capture(alloc, made.capture) {
+    let capture = match behind_header(alloc, made.capture) {
         Ok(capture) => capture,
-        Err(NoMemory) => return stop(out, End::NoMemory),
+        Err(end) => return stop(out, end),
     };
     let ended = run_over(rt, alloc, script, capture, number, out, ends, gate);
     stop(out, end_of(ended))

@@ -1,6 +1,6 @@
 //! The command `join`: a script, over a capture in which fragmented datagrams are made whole.
 
-ghost use Rattle.std.specs.Prelude.{◌≡◌, ◌≤◌, ℕ, IfOk, IfErr, Some, drop};
+ghost use Rattle.std.specs.Prelude.{◌≤◌, IfOk, IfErr, Some};
 ghost use Rattle.spin_word.specs.declared.command.TheConstants.{MAX_PLACE};
 ghost use Rattle.spin_pcap.specs.Passing.{IsFresh};
 ghost use Rattle.spin_script.specs.States.{natives_seen};
@@ -8,19 +8,18 @@ ghost use Rattle.spin_script.specs.Scripts.{script_seen};
 ghost use Rattle.spin_script.specs.Segments.{IsOrderly};
 ghost use Rattle.spin_script.specs.Soundness.{AreValid, command_lines};
 ghost use Rattle.spin_top.specs.Captures.{NoWholeBy};
-ghost use Rattle.spin_top.specs.Inner.Joining.{HeaderRefuses, IsBehind, RunsJoined};
+ghost use Rattle.spin_top.specs.Inner.Joining.{RunsJoined};
 ghost use Rattle.spin_top.specs.Join.{IsJoinedBy, IsJoinStatus};
 ghost use Rattle.spin_top.specs.Outside.{outside};
 
 use crate::commands::run::end_of;
 use crate::end::{End, Input, stop};
-use crate::held::HeldSource;
+use crate::held::{HeldCapture, behind_header};
 use crate::load::script_of;
 use spin_code::Sincere;
 use spin_endpoint::{Ends, EndsSeen};
 use spin_objects::{Catalogue, Natives};
 use spin_outside::{FindFault, Gate, Shelf, ShelfSource, Sink};
-use spin_pcap::{PcapFault, Reader};
 use spin_reass::{JoinFault, join_capture};
 use spin_run::{RunEnd, run_script};
 use spin_script::Script;
@@ -48,35 +47,12 @@ fn joined_of<F: Shelf>(alloc: Global, shelf: &mut F, name: &Text) -> Result<Octe
     }
 }
 
-/// A joined capture whose header was read.
-#[derive(Drop)]
-struct Joined {
-    source: HeldSource,
-    reader: Reader,
-}
-
-/// Reads the header of a joined capture.
-fn behind_header(alloc: Global, bytes: Octets) -> Result<Joined, End>
-    ensures behind { IfOk result (λ joined. IsBehind bytes joined.source joined.reader) }
-    ensures refused { IfErr result (HeaderRefuses bytes) }
-{
-    let mut source = HeldSource::new(bytes);
-    match Reader::start(alloc, &mut source) {
-        Ok(reader) => Ok(Joined { source, reader }),
-        Err(PcapFault::NoMemory) => Err(End::NoMemory),
-        Err(fault) => Err(End::Capture {
-            number: 0,
-            fault: fault.number(),
-        }),
-    }
-}
-
 /// Runs the script over the records of a joined capture.
 fn run_over<R: Threads + Sync, K: Sink, G: Gate>(
     rt: &R,
     alloc: Global,
     script: Script,
-    joined: Joined,
+    joined: HeldCapture,
     out: &mut K,
     ends: &mut Ends,
     gate: &G,
@@ -90,7 +66,7 @@ fn run_over<R: Threads + Sync, K: Sink, G: Gate>(
         (K.seen out.old) (⟦<Ends as EndsSeen>⟧.all ends.old)
         (K.seen out.new) (⟦<Ends as EndsSeen>⟧.all ends.new) result }
 {
-    let Joined { mut source, reader } = joined;
+    let HeldCapture { mut source, reader } = joined;
     run_script(
         rt,
         alloc,
