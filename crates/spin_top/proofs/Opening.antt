@@ -8,6 +8,7 @@ use Rattle.spin_outside.specs.Sources.{file_seen, kept_reads, reads_beside, take
 use Rattle.spin_pcap.specs.Captures.{header_of}
 use Rattle.spin_pcap.specs.Passing.{ReaderState, IsFresh, left_for}
 use Rattle.spin_top.specs.Captures.{IsBehindHeader, IsOpened}
+use Rattle.spin_top.specs.Shelves.{ShelfStood}
 use Rattle.spin_top.proofs.Shelf.{if_some}
 
 same_name : (own name : List ℕ) → bytes_eq own name ≡ true → own ≡ name
@@ -40,26 +41,25 @@ opened_at : (before found after : ShelfSeen) (name : List ℕ) (file ref ref' : 
     → IsWholeFile before.files name (found.left file)
     → IfSome before.files (λ _. (found.found_as file ≡ Some name) × OthersKeep before.found_as found.found_as file)
     → IfSome before.files (λ _. AllKeep before.reads found.reads)
-    → found.files ≡ before.files
-    → (found.faults ≡ before.faults) × (found.absences ≡ before.absences)
+    → ShelfStood before found
     → IfSome (found.left file) (λ bytes. (header_of bytes ≡ Ok reader.order) × (left_for reader.held (after.left file) ≡ Some (drop 24 bytes)))
     → IsFresh reader
     → (file_seen after file ref').taken ≡ taken_more (file_seen found file ref).taken (24 + length reader.held)
     → (file_seen after file ref').keep ≡ (file_seen found file ref).keep
     → after.faults ≡ found.faults
     → IsOpened before after name file reader
-opened_at before found after name file ref ref' reader whole named under files counts header fresh taken kept faults =
+opened_at before found after name file ref ref' reader whole named under stood header fresh taken kept faults =
     record {
-      stood = record { files = ap (λ k. k.files) kept ∙ files; faults = faults ∙ counts.0; absences = ap (λ k. k.absences) kept ∙ counts.1 };
+      stood = record { files = ap (λ k. k.files) kept ∙ stood.files; faults = faults ∙ stood.faults; absences = ap (λ k. k.absences) kept ∙ stood.absences };
       fresh = fresh;
       behind = if_some before.files (λ held. IsBehindHeader held before after name file reader) (λ held told.
           let at_held = subst (λ f. IsWholeFile f name (found.left file)) told whole in
           let as_name = (subst (λ f. IfSome f (λ _. (found.found_as file ≡ Some name) × OthersKeep before.found_as found.found_as file)) told named).0 in
           let reads = subst (λ f. IfSome f (λ _. AllKeep before.reads found.reads)) told under in
           let parts = subst (λ o. IfSome o (λ bytes. (header_of bytes ≡ Ok reader.order) × (left_for reader.held (after.left file) ≡ Some (drop 24 bytes)))) at_held.2 header in
-          let now_named = still_named found after held name file ref ref' (files ∙ told) as_name kept in
-          let after_is : told_reads after.files (after.found_as file) after.reads ≡ Some (after.reads name) = ap (λ f. told_reads f (after.found_as file) after.reads) (ap (λ k. k.files) kept ∙ files ∙ told) ∙ ap (λ o. told_reads (Some held) o after.reads) now_named in
-          let found_is : told_reads found.files (found.found_as file) found.reads ≡ Some (before.reads name) = ap (λ f. told_reads f (found.found_as file) found.reads) (files ∙ told) ∙ ap (λ o. told_reads (Some held) o found.reads) as_name ∙ ap Some (reads name) in
+          let now_named = still_named found after held name file ref ref' (stood.files ∙ told) as_name kept in
+          let after_is : told_reads after.files (after.found_as file) after.reads ≡ Some (after.reads name) = ap (λ f. told_reads f (after.found_as file) after.reads) (ap (λ k. k.files) kept ∙ stood.files ∙ told) ∙ ap (λ o. told_reads (Some held) o after.reads) now_named in
+          let found_is : told_reads found.files (found.found_as file) found.reads ≡ Some (before.reads name) = ap (λ f. told_reads f (found.found_as file) found.reads) (stood.files ∙ told) ∙ ap (λ o. told_reads (Some held) o found.reads) as_name ∙ ap Some (reads name) in
           record {
             bytes = at_held.0;
             found = at_held.1;
@@ -75,17 +75,16 @@ pub opened : (before found after : ShelfSeen) (name : List ℕ) (file file' ref 
     → IsWholeFile before.files name (found.left file)
     → IfSome before.files (λ _. (found.found_as file ≡ Some name) × OthersKeep before.found_as found.found_as file)
     → IfSome before.files (λ _. AllKeep before.reads found.reads)
-    → found.files ≡ before.files
-    → (found.faults ≡ before.faults) × (found.absences ≡ before.absences)
+    → ShelfStood before found
     → IfSome (found.left file) (λ bytes. (header_of bytes ≡ Ok reader.order) × (left_for reader.held (after.left file') ≡ Some (drop 24 bytes)))
     → IsFresh reader
     → (file_seen after file' ref').taken ≡ taken_more (file_seen found file ref).taken (24 + length reader.held)
     → (file_seen after file' ref').keep ≡ (file_seen found file ref).keep
     → after.faults ≡ found.faults
     → IsOpened before after name file reader
-opened before found after name file file' ref ref' reader whole named under files counts header fresh taken kept faults =
+opened before found after name file file' ref ref' reader whole named under stood header fresh taken kept faults =
     let same : file' ≡ file = ap (λ k. k.file) kept in
-    opened_at before found after name file ref ref' reader whole named under files counts
+    opened_at before found after name file ref ref' reader whole named under stood
     (subst (λ f. IfSome (found.left file) (λ bytes. (header_of bytes ≡ Ok reader.order) × (left_for reader.held (after.left f) ≡ Some (drop 24 bytes)))) same header)
     fresh
     (subst (λ f. (file_seen after f ref').taken ≡ taken_more (file_seen found file ref).taken (24 + length reader.held)) same taken)

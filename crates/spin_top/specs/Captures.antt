@@ -12,8 +12,6 @@ use Rattle.spin_pcap.specs.Captures.{header_of, IsCapture}
 use Rattle.spin_pcap.specs.Passing.{ReaderState, IsFresh, left_for, number}
 use Rattle.spin_reass.specs.JoinedCaptures as joined
 use Rattle.spin_report.specs.Runs.{Captured}
-use Rattle.spin_top.specs.declared.capture.OpenFault.{OpenFault}
-use Rattle.spin_top.specs.declared.capture.OpenFault.TheVariants as cause
 use Rattle.spin_top.specs.declared.end.End.{End}
 use Rattle.spin_top.specs.declared.end.End.TheVariants.{Capture, Unread, Absent, NoMemory}
 use Rattle.spin_top.specs.declared.end.Input.TheVariants.{Packets}
@@ -108,15 +106,6 @@ pub record IsOpened (before after : ShelfSeen) (name : List ℕ) (file : ℕ) (r
   pub stood : ShelfStood before after
   pub fresh : IsFresh reader
   pub behind : IfSome before.files (λ held. IsBehindHeader held before after name file reader)
-
--- Why the file of that name wasn't opened.
-abbrev pub NotOpenedBy : ShelfSeen → ShelfSeen → List ℕ → OpenFault → Type 0
-NotOpenedBy before after name cause.Absent =
-    ShelfLacked before after × IsLacking before.files name
-NotOpenedBy before after name cause.Failed = ShelfFailed before after
-NotOpenedBy before after name (cause.Bad fault) =
-    ShelfStood before after × IfSome before.files (λ held. IsBadHeader held name fault)
-NotOpenedBy before after name cause.NoMemory = ShelfStood before after
 
 -- Why there is no open capture.
 abbrev pub NoCaptureBy : ShelfSeen → ShelfSeen → Option (List ℕ) → End → Type 0

@@ -1,30 +1,15 @@
-//! A capture on the shelf, opened.
+//! A capture on the shelf, found and opened.
 
-ghost use Rattle.std.specs.Prelude.{◌≡◌, IfOk, IfErr};
-ghost use Rattle.spin_top.specs.Captures.{IsOpened, NotOpenedBy};
+ghost use Rattle.std.specs.Prelude.{◌≡◌, IfOk, IfErr, IfSome, Some};
+ghost use Rattle.spin_outside.specs.Files.{AllKeep, IsWholeFile, OthersKeep};
+ghost use Rattle.spin_top.specs.Captures.{IsOpened, NoCaptureBy, NoWholeBy};
+ghost use Rattle.spin_top.specs.Shelves.{ShelfStood};
 
+use crate::end::{End, Input};
 use spin_outside::{FindFault, Shelf, ShelfSource};
 use spin_pcap::{PcapFault, Reader};
 use spin_values::Text;
 use std::alloc::Global;
-use thiserror::Error;
-
-/// Why a capture wasn't opened.
-#[derive(Clone, Copy, Debug, PartialEq, Eq, Error)]
-pub enum OpenFault {
-    /// The shelf has no file of that name.
-    #[error("there is no such file")]
-    Absent,
-    /// The shelf failed.
-    #[error("the shelf failed")]
-    Failed,
-    /// The header is refused by the fault of that number.
-    #[error("no capture: fault {0}")]
-    Bad(u8),
-    /// There was no memory for the reader.
-    #[error("out of memory")]
-    NoMemory,
-}
 
 /// A capture whose header was read.
 #[derive(Drop)]
@@ -35,23 +20,45 @@ pub struct Capture {
     pub reader: Reader,
 }
 
+/// Finds the capture of that name, and answers the number of its file.
+pub fn find_packets<F: Shelf>(shelf: &mut F, name: &Text) -> Result<u32, End>
+    ensures found { IfOk result (λ file.
+        IsWholeFile (F.seen shelf.old).files name.now ((F.seen shelf.new).left file)) }
+    ensures named { IfOk result (λ file. IfSome (F.seen shelf.old).files
+        (λ _. ((F.seen shelf.new).found_as file ≡ Some name.now)
+        × OthersKeep (F.seen shelf.old).found_as (F.seen shelf.new).found_as file)) }
+    ensures under { IfSome (F.seen shelf.old).files
+        (λ _. AllKeep (F.seen shelf.old).reads (F.seen shelf.new).reads) }
+    ensures stood { IfOk result (λ _. ShelfStood (F.seen shelf.old) (F.seen shelf.new)) }
+    ensures not_opened { IfErr result
+        (NoCaptureBy (F.seen shelf.old) (F.seen shelf.new) (Some name.now)) }
+    ensures not_whole { IfErr result
+        (NoWholeBy (F.seen shelf.old) (F.seen shelf.new) (Some name.now)) }
+{
+    match shelf.find(name) {
+        Ok(file) => Ok(file),
+        Err(FindFault::Absent) => Err(End::Absent(Input::Packets)),
+        Err(FindFault::Failed) => Err(End::Unread(Input::Packets)),
+        Err(FindFault::NoMemory) => Err(End::NoMemory),
+    }
+}
+
 /// Finds the capture of that name and reads its header. It takes at most 65,536 bytes past that.
-pub fn open<F: Shelf>(alloc: Global, shelf: &mut F, name: &Text) -> Result<Capture, OpenFault>
+pub fn open<F: Shelf>(alloc: Global, shelf: &mut F, name: &Text) -> Result<Capture, End>
     ensures opened { IfOk result (λ capture.
         IsOpened (F.seen shelf.old) (F.seen shelf.new) name.now capture.file capture.reader) }
-    ensures fault { IfErr result (NotOpenedBy (F.seen shelf.old) (F.seen shelf.new) name.now) }
+    ensures refused { IfErr result
+        (NoCaptureBy (F.seen shelf.old) (F.seen shelf.new) (Some name.now)) }
 {
-    let file = match shelf.find(name) {
-        Ok(file) => file,
-        Err(FindFault::Absent) => return Err(OpenFault::Absent),
-        Err(FindFault::Failed) => return Err(OpenFault::Failed),
-        Err(FindFault::NoMemory) => return Err(OpenFault::NoMemory),
-    };
+    let file = find_packets(shelf, name)?;
     let mut source = ShelfSource { shelf, file };
     match Reader::start(alloc, &mut source) {
         Ok(reader) => Ok(Capture { file, reader }),
-        Err(PcapFault::ReadFault) => Err(OpenFault::Failed),
-        Err(PcapFault::NoMemory) => Err(OpenFault::NoMemory),
-        Err(fault) => Err(OpenFault::Bad(fault.number())),
+        Err(PcapFault::ReadFault) => Err(End::Unread(Input::Packets)),
+        Err(PcapFault::NoMemory) => Err(End::NoMemory),
+        Err(fault) => Err(End::Capture {
+            number: 0,
+            fault: fault.number(),
+        }),
     }
 }

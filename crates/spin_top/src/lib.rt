@@ -4,7 +4,7 @@
 //! - [`top`] has the call, [`spin`], which chooses the command;
 //! - [`words`] says what the words ask for;
 //! - [`commands`] has a module for each command;
-//! - [`load`] reads a file and the script whole, [`capture`] opens a capture, [`records`] reads one whole;
+//! - [`load`] reads a file and the script whole, [`capture`] finds and opens a capture, [`records`] reads one whole;
 //! - [`held`] is a source over bytes in memory, and reads the header of a capture there;
 //! - [`end`] has the ends of a call, their statuses and lines.
 #![tactic(auto)]

@@ -8,9 +8,10 @@ ghost use Rattle.spin_top.specs.Captures.{IsCaptured, NoWholeBy};
 ghost use Rattle.spin_top.specs.Inner.Recording.{end_at, EndsByCount, ReadsBody, ReadsFile};
 ghost use Rattle.spin_top.specs.Shelves.{ShelfStood};
 
+use crate::capture::find_packets;
 use crate::end::{End, Input};
 use spin_check::Captured;
-use spin_outside::{FindFault, Shelf, ShelfSource, Source};
+use spin_outside::{Shelf, ShelfSource, Source};
 use spin_pcap::{Next, PcapFault, Reader};
 use spin_script::Frames;
 use spin_values::{NoMemory, Octets, Text};
@@ -90,12 +91,7 @@ pub fn captured_of<F: Shelf>(
     let Some(name) = packets else {
         return Ok(None);
     };
-    let file = match shelf.find(&name) {
-        Ok(file) => file,
-        Err(FindFault::Absent) => return Err(End::Absent(Input::Packets)),
-        Err(FindFault::Failed) => return Err(End::Unread(Input::Packets)),
-        Err(FindFault::NoMemory) => return Err(End::NoMemory),
-    };
+    let file = find_packets(shelf, &name)?;
     let mut source = ShelfSource { shelf, file };
     match read_capture(alloc, &mut source) {
         Ok(capture) => Ok(Some(capture)),

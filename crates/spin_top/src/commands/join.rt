@@ -12,6 +12,7 @@ ghost use Rattle.spin_top.specs.Inner.Joining.{RunsJoined};
 ghost use Rattle.spin_top.specs.Join.{IsJoinedBy, IsJoinStatus};
 ghost use Rattle.spin_top.specs.Outside.{outside};
 
+use crate::capture::find_packets;
 use crate::commands::run::end_of;
 use crate::end::{End, Input, stop};
 use crate::held::{HeldCapture, behind_header};
@@ -19,7 +20,7 @@ use crate::load::script_of;
 use spin_code::Sincere;
 use spin_endpoint::{Ends, EndsSeen};
 use spin_objects::{Catalogue, Natives};
-use spin_outside::{FindFault, Gate, Shelf, ShelfSource, Sink};
+use spin_outside::{Gate, Shelf, ShelfSource, Sink};
 use spin_reass::{JoinFault, join_capture};
 use spin_run::{RunEnd, run_script};
 use spin_script::Script;
@@ -32,12 +33,7 @@ fn joined_of<F: Shelf>(alloc: Global, shelf: &mut F, name: &Text) -> Result<Octe
     ensures joined { IfOk result (IsJoinedBy (F.seen shelf.old) (F.seen shelf.new) name.now) }
     ensures refused { IfErr result (NoWholeBy (F.seen shelf.old) (F.seen shelf.new) (Some name.now)) }
 {
-    let file = match shelf.find(name) {
-        Ok(file) => file,
-        Err(FindFault::Absent) => return Err(End::Absent(Input::Packets)),
-        Err(FindFault::Failed) => return Err(End::Unread(Input::Packets)),
-        Err(FindFault::NoMemory) => return Err(End::NoMemory),
-    };
+    let file = find_packets(shelf, name)?;
     let mut source = ShelfSource { shelf, file };
     match join_capture(alloc, &mut source) {
         Ok(bytes) => Ok(bytes),

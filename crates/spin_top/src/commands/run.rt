@@ -12,7 +12,7 @@ ghost use Rattle.spin_top.specs.Inner.Running.{RunsOver};
 ghost use Rattle.spin_top.specs.Outside.{outside};
 ghost use Rattle.spin_top.specs.Run.{end_of, IsRunStatus};
 
-use crate::capture::{Capture, OpenFault, open};
+use crate::capture::{Capture, open};
 use crate::end::{End, Input, stop};
 use crate::load::script_of;
 use spin_code::Sincere;
@@ -54,13 +54,8 @@ fn capture_of<F: Shelf>(
     let Some(name) = packets else {
         return Ok((0, None));
     };
-    match open(alloc, shelf, &name) {
-        Ok(Capture { file, reader }) => Ok((file, Some(reader))),
-        Err(OpenFault::Absent) => Err(End::Absent(Input::Packets)),
-        Err(OpenFault::Failed) => Err(End::Unread(Input::Packets)),
-        Err(OpenFault::Bad(fault)) => Err(End::Capture { number: 0, fault }),
-        Err(OpenFault::NoMemory) => Err(End::NoMemory),
-    }
+    let Capture { file, reader } = open(alloc, shelf, &name)?;
+    Ok((file, Some(reader)))
 }
 
 /// Runs the script over the records that the reader finds in the file. Without a reader no file is read.
