@@ -9,7 +9,6 @@ ghost use Rattle.spin_later.specs.declared.queue.TheConstants.{MAX_CAPACITY};
 ghost use Rattle.spin_later.specs.Batches.{CanDo};
 ghost use Rattle.spin_later.specs.Parties.{IsPartyOf, IsSameParty};
 
-use crate::replies::step;
 use spin_code::Sincere;
 use spin_later::{
     Batch, BatchReplies, Batches, Call, Parties, Party, Queue, Tasks, run_background,
@@ -20,11 +19,9 @@ use spin_raise::Answer;
 use spin_script::read_script;
 use spin_table::{Setup, Version};
 use spin_values::{Args, NoMemory, Value};
-use spin_word::{Command, Op};
+use spin_word::{Command, Op, is_valid};
 use std::alloc::Global;
-use std::marker::Brand;
 use std::process::Abort;
-use std::sync::ledger::Blank;
 use std::sync::{Arc, Wait};
 use std::test::Fail;
 use std::thread::Threads;
@@ -212,7 +209,7 @@ const TEAMS: [(u8, u32, u32); 4] = [
 ];
 
 /// The version on which the handler is bound.
-fn bound<R: Abort>(rt: &R, alloc: Global, setup: &Setup) -> Result<Arc<Version>, NoMemory>
+fn bound<R: Abort>(rt: &R, alloc: Global, setup: &Setup) -> Result<Arc<Version>, Fail>
     requires { ⟦<Catalogue as Sincere>⟧.sincere setup.now.catalogue }
     ensures { IfOk result (λ version. IsSound (data_of setup.now) (arc_value version)) }
 {
@@ -221,7 +218,9 @@ fn bound<R: Abort>(rt: &R, alloc: Global, setup: &Setup) -> Result<Arc<Version>,
         handler: 1,
         ..Command::bare(Op::Install, 0, 0, 0)
     };
-    let (version, _) = step::<Brand>(rt, alloc, setup, start, &command, Blank::new(1))?;
+    assert!(rt; is_valid(&command));
+    assert!(rt; start.place() < 4096);
+    let version = start.next(alloc, setup, &command)?;
     Ok(Arc::new(alloc, version)?)
 }
 
@@ -287,7 +286,7 @@ fn replies_in<R: Threads + Wait + Sync + Abort>(
     count: u8,
     calls: u32,
     capacity: u32,
-) -> Result<BatchReplies, NoMemory>
+) -> Result<BatchReplies, Fail>
     requires sincere { ⟦<Catalogue as Sincere>⟧.sincere setup.now.catalogue }
     requires parties { (1 ≤ count) × (count ≤ 8) }
     requires room { (1 ≤ capacity) × (capacity ≤ MAX_CAPACITY) }
@@ -295,7 +294,7 @@ fn replies_in<R: Threads + Wait + Sync + Abort>(
     assert!(rt; setup.events() > 0);
     let version = bound(rt, alloc, setup)?;
     let batches = batches_of(alloc, setup, &version, count, calls)?;
-    run_background(rt, rt, alloc, setup, &batches, capacity)
+    Ok(run_background(rt, rt, alloc, setup, &batches, capacity)?)
 }
 
 /// The replies to so many batches of so many such calls.
@@ -310,7 +309,7 @@ fn replies_to<R: Threads + Wait + Sync + Abort>(
     requires room { (1 ≤ capacity) × (capacity ≤ MAX_CAPACITY) }
 {
     let script = read_script(alloc, ONE_HANDLER, Natives::new(alloc))?;
-    Ok(replies_in(rt, alloc, &script.setup, count, calls, capacity)?)
+    replies_in(rt, alloc, &script.setup, count, calls, capacity)
 }
 
 /// Whether the reply is that the handler gave 1.

@@ -13,6 +13,8 @@ mod captures;
 #[cfg(test)]
 mod endpoints;
 #[cfg(test)]
+mod entries;
+#[cfg(test)]
 mod executor;
 #[cfg(test)]
 mod expressions;
@@ -38,8 +40,6 @@ mod outside;
 mod plans;
 #[cfg(test)]
 mod reassembly;
-#[cfg(test)]
-mod replies;
 #[cfg(test)]
 mod reports;
 #[cfg(test)]

@@ -3,16 +3,17 @@
 ghost use Rattle.std.specs.Prelude.{◌≡◌, [], IfOk};
 ghost use Rattle.spin_code.specs.declared.test.Test.TheVariants as test;
 
-use crate::replies::told;
+use crate::top::run_with;
 use spin_code::{Act, Sincere, Steplist, Test};
 use spin_objects::{Guard, Handler, NativeFault, Natives, Outcome};
+use spin_outside::MemSink;
 use spin_policy::{Authoriser, Policy, Request, Verdict};
-use spin_script::read_script;
 use spin_values::{Args, EventType, NoMemory, Params, Text};
 use std::alloc::Global;
 use std::sync::Arc;
 use std::sync::atomic::{AtomicU64, Ordering};
 use std::test::Fail;
+use std::thread::Threads;
 
 /// How often objects were asked and dropped, each time counted by the worth of the object.
 #[derive(Drop)]
@@ -118,33 +119,44 @@ fn three_natives(alloc: Global, counts: &Arc<Counts>) -> Result<Natives, Fail>
     natives_of(alloc, handler, guard, authoriser)
 }
 
-#[test]
-fn each_native_is_asked_and_dropped_once(rt: HostRuntime) -> Result<(), Fail> {
-    let alloc = rt.alloc();
-    let counts = no_counts(alloc)?;
-    let natives = three_natives(alloc, &counts)?;
-    let lines = told(
-        &rt,
-        alloc,
-        b"spin 1\nmodules 2\nevent 0 0 - last\nevent 1 0 - last\nhandler 1 native own\nguard 1 native own\nauthoriser 1 own\nlane 0 install 0 0 1 1 free plain\nlane 0 raise 0\nlane 0 install 1 1 1 0 free plain\n",
-        natives,
-    )?;
-    assert_eq!(rt;
-        lines.as_slice(),
-        b"1 0 8 install ok\n1 0 9 raise run 0 1 = done\n1 0 10 install refused 9 denied 0\n".as_slice()
-    );
-    assert_eq!(rt; counts.asked.load(Ordering::SeqCst), 111);
-    assert_eq!(rt; counts.drops.load(Ordering::SeqCst), 111);
-    Ok(())
+/// A run of the script with the three natives: its status, and what was written.
+fn run_counted<R: Threads + Sync>(
+    rt: &R,
+    alloc: Global,
+    script: &[u8],
+    counts: &Arc<Counts>,
+) -> Result<(u8, MemSink), Fail> {
+    let natives = three_natives(alloc, counts)?;
+    Ok(run_with(rt, alloc, script, natives)?)
 }
 
+/// Scripts, the status of a run of each, what it writes, and what the natives that it asks count.
+const RUNS: [(&[u8], u8, &[u8], u64); 3] = [
+    (
+        b"spin 1\nmodules 2\nevent 0 0 - last\nevent 1 0 - last\nhandler 1 native own\nguard 1 native own\nauthoriser 1 own\nlane 0 install 0 0 1 1 free plain\nlane 0 raise 0\nlane 0 install 1 1 1 0 free plain\n",
+        0,
+        b"report 1\nsegment 0 at 0\n1 0 8 install ok\n1 0 9 raise run 0 1 = done\n1 0 10 install refused 9 denied 0\nend 1\n",
+        111,
+    ),
+    (b"spin 9\n", 2, b"stop 2 line 1 cause 3\n", 0),
+    (
+        b"spin 1\nhandler 1 native other\n",
+        2,
+        b"stop 2 line 2 cause 22\n",
+        0,
+    ),
+];
+
 #[test]
-fn natives_of_a_refused_script_are_dropped(rt: HostRuntime) -> Result<(), Fail> {
-    let alloc = rt.alloc();
-    let counts = no_counts(alloc)?;
-    let natives = three_natives(alloc, &counts)?;
-    assert!(rt; read_script(alloc, b"spin 9\n", natives).is_err());
-    assert_eq!(rt; counts.drops.load(Ordering::SeqCst), 111);
+fn each_native_is_asked_and_dropped_once(rt: HostRuntime) -> Result<(), Fail> {
+    for (script, wanted, written, asked) in RUNS {
+        let counts = no_counts(rt.alloc())?;
+        let (status, out) = run_counted(&rt, rt.alloc(), script, &counts)?;
+        assert_eq!(rt; status, wanted);
+        assert_eq!(rt; out.bytes(), written);
+        assert_eq!(rt; counts.asked.load(Ordering::SeqCst), asked);
+        assert_eq!(rt; counts.drops.load(Ordering::SeqCst), 111);
+    }
     Ok(())
 }
 
