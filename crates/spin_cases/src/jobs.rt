@@ -7,6 +7,7 @@ ghost use Rattle.spin_table.specs.SetupOf.{data_of};
 ghost use Rattle.spin_table.specs.Soundness.{IsSound};
 ghost use Rattle.spin_jobs.specs.Jobs.{CanRun};
 
+use crate::gates::{Hold, worker};
 use spin_code::Sincere;
 use spin_jobs::{Job, Jobs, MAX_WORKERS, Replies, run_all};
 use spin_objects::{Catalogue, Natives};
@@ -16,61 +17,40 @@ use spin_script::read_script;
 use spin_table::{Setup, Version};
 use spin_values::{Args, NoMemory, Value};
 use std::alloc::Global;
-use std::hint;
 use std::process::Abort;
 use std::sync::Arc;
-use std::sync::atomic::{AtomicBool, AtomicU64, Ordering};
+use std::sync::atomic::{AtomicU64, Ordering};
 use std::test::Fail;
 use std::thread::Threads;
-
-/// The most turns for which a gate holds a worker.
-const TURNS: u64 = 100_000_000;
 
 /// One event, whose default gives the word that it is raised with.
 const ECHO: &[u8] = b"spin 1\nevent 0 0 w:w last\nhandler 1 w:w result a0\ndefault 0 1\n";
 
-/// Holds job 0 until job 1 has passed, and notes whether that took too long. Counts the passes, and those of numbers
-/// that are no worker's.
+/// Holds job 0 until job 1 has passed. Counts the passes, and those of numbers that are no worker's.
 #[derive(Drop)]
-struct Hold {
-    passed: AtomicBool,
-    late: AtomicBool,
+struct Counting {
+    hold: Hold,
     passes: AtomicU64,
     strangers: AtomicU64,
 }
 
-impl Hold {
-    fn new() -> Hold {
-        Hold {
-            passed: AtomicBool::new(false),
-            late: AtomicBool::new(false),
+impl Counting {
+    fn new() -> Counting {
+        Counting {
+            hold: Hold::new(worker(0), worker(1)),
             passes: AtomicU64::new(0),
             strangers: AtomicU64::new(0),
         }
     }
-
-    fn wait(&self) {
-        for _ in 0..TURNS {
-            if self.passed.load(Ordering::SeqCst) {
-                return;
-            }
-            hint::spin_loop();
-        }
-        self.late.store(true, Ordering::SeqCst);
-    }
 }
 
-impl Gate for Hold {
+impl Gate for Counting {
     fn pass(&self, lane: u8, deed: u32) {
         self.passes.fetch_add(1, Ordering::SeqCst);
         if lane < 8 || lane > 15 {
             self.strangers.fetch_add(1, Ordering::SeqCst);
         }
-        match deed {
-            0 => self.wait(),
-            1 => self.passed.store(true, Ordering::SeqCst),
-            _ => {}
-        }
+        self.hold.pass(lane, deed);
     }
 }
 
@@ -175,13 +155,13 @@ const CASES: [(u32, u8); 3] = [
 #[test]
 fn jobs_are_done_at_once_and_answered_in_order(rt: HostRuntime) -> Result<(), Fail> {
     for (count, workers) in CASES {
-        let gate = Hold::new();
+        let gate = Counting::new();
         let replies = replies_of(&rt, rt.alloc(), count, workers, &gate)?;
         assert_eq!(rt; replies.len(), count as usize);
         assert!(rt; are_in_order(replies.as_slice()));
         assert_eq!(rt; gate.passes.load(Ordering::SeqCst), u64::from(count));
         assert_eq!(rt; gate.strangers.load(Ordering::SeqCst), 0);
-        assert!(rt; !gate.late.load(Ordering::SeqCst));
+        assert!(rt; gate.hold.is_in_time());
     }
     Ok(())
 }

@@ -23,6 +23,8 @@ mod faults;
 #[cfg(test)]
 mod filter;
 #[cfg(test)]
+mod gates;
+#[cfg(test)]
 mod generated;
 #[cfg(test)]
 mod headers;

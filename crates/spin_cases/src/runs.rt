@@ -1,5 +1,6 @@
 //! Whole runs whose lanes and workers are held up at gates.
 
+use crate::gates::{Hold, lane, worker};
 use crate::texts::{LANE_0_FIRST, LANE_1_FIRST, QUOTA_OF_ONE, TWO_RAISED, TWO_RAISES};
 use spin_endpoint::Ends;
 use spin_objects::Natives;
@@ -8,106 +9,15 @@ use spin_run::{RunEnd, run_script};
 use spin_script::read_script;
 use spin_values::Octets;
 use std::alloc::Global;
-use std::hint;
 use std::process::Abort;
-use std::sync::atomic::{AtomicBool, Ordering};
 use std::test::Fail;
 use std::thread::Threads;
-
-/// The most turns for which a gate holds a lane or a worker.
-const TURNS: u64 = 100_000_000;
 
 /// Room for each of the reports.
 const ROOM: u32 = 1000;
 
 /// How often two lanes compete.
 const ROUNDS: u32 = 20;
-
-/// A pass of the gate: the number of the deed or job, and whose it may be.
-#[derive(Clone, Copy)]
-struct Pass {
-    first: u8,
-    last: u8,
-    deed: u32,
-}
-
-/// A lane's pass before its deed.
-const fn lane(number: u8, deed: u32) -> Pass {
-    Pass {
-        first: number,
-        last: number,
-        deed,
-    }
-}
-
-/// Any worker's pass before the job.
-const fn worker(job: u32) -> Pass {
-    Pass {
-        first: 8,
-        last: 15,
-        deed: job,
-    }
-}
-
-impl Pass {
-    fn is(self, lane: u8, deed: u32) -> bool {
-        self.first <= lane && lane <= self.last && self.deed == deed
-    }
-}
-
-/// Holds a pass until another was called for, and notes whether that took too long.
-#[derive(Drop)]
-struct Hold {
-    held: Pass,
-    until: Pass,
-    passed: AtomicBool,
-    late: AtomicBool,
-}
-
-impl Hold {
-    fn new(held: Pass, until: Pass) -> Hold {
-        Hold {
-            held,
-            until,
-            passed: AtomicBool::new(false),
-            late: AtomicBool::new(false),
-        }
-    }
-
-    fn note(&self, lane: u8, deed: u32) {
-        if self.until.is(lane, deed) {
-            self.passed.store(true, Ordering::SeqCst);
-        }
-    }
-
-    fn wait(&self) {
-        for _ in 0..TURNS {
-            if self.passed.load(Ordering::SeqCst) {
-                return;
-            }
-            hint::spin_loop();
-        }
-        self.late.store(true, Ordering::SeqCst);
-    }
-
-    fn hold(&self, lane: u8, deed: u32) {
-        if self.held.is(lane, deed) {
-            self.wait();
-        }
-    }
-
-    /// Whether the pass was let through in time, or never came.
-    fn is_in_time(&self) -> bool {
-        !self.late.load(Ordering::SeqCst)
-    }
-}
-
-impl Gate for Hold {
-    fn pass(&self, lane: u8, deed: u32) {
-        self.note(lane, deed);
-        self.hold(lane, deed);
-    }
-}
 
 /// Both holds at one gate.
 #[derive(Drop)]
