@@ -6,6 +6,7 @@ use spin_outside::{MemSource, NoMemory, Octets};
 use spin_pcap::{Next, PcapFault, Reader};
 use std::alloc::Global;
 use std::process::Abort;
+use std::test::Fail;
 
 /// The header of a file whose writer put the lowest byte first, with times in microseconds.
 pub(crate) const LITTLE: [u8; 24] = [
@@ -25,12 +26,12 @@ const ARP: &[u8] =
 const TCP: &[u8] =
     b"\x02\x00\x00\x00\x00\x02\x02\x00\x00\x00\x00\x01\x08\x00\x45\x00\x00\x3c\x1c\x46\x40\x00\x40\x06\xb1\xe6\xac\x10\x0a\x63\xac\x10\x0a\x0c\0\0\0\0\0\0\0\0\0\0\0\0\0\0\0\0\0\0\0\0\0\0\0\0\0\0\0\0\0\0\0\0\0\0\0\0\0\0\0\0";
 
-/// A question of the domain name system over UDP.
-const QUERY: &[u8] =
+/// A question of the domain name system over UDP, with a payload of 19 bytes.
+pub(crate) const QUERY: &[u8] =
     b"\x02\x00\x00\x00\x00\x02\x02\x00\x00\x00\x00\x01\x08\x00\x45\x00\x00\x2f\x00\x02\x40\x00\x40\x11\x26\xba\x0a\x00\x00\x01\x0a\x00\x00\x02\xc0\x00\x00\x35\x00\x1b\x14\xea\x12\x34\x01\x00\x00\x01\x00\x00\x00\x00\x00\x00\x01a\x00\x00\x01\x00\x01";
 
-/// Its answer.
-const ANSWER: &[u8] =
+/// Its answer, with a payload of 35 bytes.
+pub(crate) const ANSWER: &[u8] =
     b"\x02\x00\x00\x00\x00\x01\x02\x00\x00\x00\x00\x02\x08\x00\x45\x00\x00\x3f\x00\x03\x40\x00\x40\x11\x26\xa9\x0a\x00\x00\x02\x0a\x00\x00\x01\x00\x35\xc0\x00\x00\x2b\x42\x7e\x12\x34\x81\x80\x00\x01\x00\x01\x00\x00\x00\x00\x01a\x00\x00\x01\x00\x01\xc0\x0c\x00\x01\x00\x01\x00\x00\x00\x3c\x00\x04\x0a\x00\x00\x03";
 
 /// The frame of the record of that number, counted from 1.
@@ -51,17 +52,21 @@ pub(crate) fn record(seconds: u32, captured: u32, original: u32) -> [u8; 16] {
     [a, b, c, d, 0, 0, 0, 0, e, f, g, h, i, j, k, l]
 }
 
-/// Adds the record of that number, counted from 1.
-fn push_record(file: &mut Octets, number: u32) -> Result<(), NoMemory> {
-    let frame = frame_of(number);
+/// Adds the record of a frame.
+pub(crate) fn push_frame(file: &mut Octets, seconds: u32, frame: &[u8]) -> Result<(), NoMemory> {
     let len = u32::try_from(frame.len()).unwrap_or(0);
-    let seconds = number.saturating_add(1_700_000_000);
     file.extend_from_slice(&record(seconds, len, len))?;
     file.extend_from_slice(frame)
 }
 
+/// Adds the record of that number, counted from 1.
+pub(crate) fn push_record(file: &mut Octets, number: u32) -> Result<(), NoMemory> {
+    let seconds = number.saturating_add(1_700_000_000);
+    push_frame(file, seconds, frame_of(number))
+}
+
 /// A capture of so many frames of the house's four kinds in turn.
-fn capture(alloc: Global, records: u32) -> Result<Octets, NoMemory> {
+pub(crate) fn capture(alloc: Global, records: u32) -> Result<Octets, NoMemory> {
     let mut file = Octets::from_bytes(alloc, &LITTLE)?;
     for number in 1..=records {
         push_record(&mut file, number)?;
@@ -77,7 +82,7 @@ fn read_records(
     reader: &mut Reader,
     source: &mut MemSource,
     frame: &mut Octets,
-) -> Result<End, NoMemory> {
+) -> Result<End, Fail> {
     for number in 1..=100u32 {
         let answer = reader.next(source, frame);
         if answer != Ok(Next::Packet) {
@@ -85,18 +90,18 @@ fn read_records(
             return if is_right {
                 Ok((answer, number - 1))
             } else {
-                Err(NoMemory)
+                Err(Fail::new("a frame is left, or the records are counted otherwise"))
             };
         }
         if frame.as_slice() != frame_of(number) {
-            return Err(NoMemory);
+            return Err(Fail::new("a record has another frame"));
         }
     }
-    Err(NoMemory)
+    Err(Fail::new("there are too many records"))
 }
 
 /// The first answer that isn't a whole record, or the refusal of the header.
-fn read_all(alloc: Global, source: &mut MemSource) -> Result<End, NoMemory> {
+fn read_all(alloc: Global, source: &mut MemSource) -> Result<End, Fail> {
     let mut frame = Octets::from_bytes(alloc, b"from before")?;
     match Reader::start(alloc, source) {
         Ok(mut reader) => read_records(&mut reader, source, &mut frame),
@@ -105,13 +110,13 @@ fn read_all(alloc: Global, source: &mut MemSource) -> Result<End, NoMemory> {
 }
 
 /// The same of a file in one piece.
-fn read_file(alloc: Global, bytes: &[u8]) -> Result<End, NoMemory> {
+fn read_file(alloc: Global, bytes: &[u8]) -> Result<End, Fail> {
     let mut source = MemSource::new(Octets::from_bytes(alloc, bytes)?);
     read_all(alloc, &mut source)
 }
 
 /// The same of a file that comes in pieces of at most this size.
-fn read_pieces(alloc: Global, bytes: &[u8], size: u32) -> Result<End, NoMemory>
+fn read_pieces(alloc: Global, bytes: &[u8], size: u32) -> Result<End, Fail>
     requires { 0 < size }
 {
     let mut source = MemSource::new(Octets::from_bytes(alloc, bytes)?);
@@ -120,7 +125,7 @@ fn read_pieces(alloc: Global, bytes: &[u8], size: u32) -> Result<End, NoMemory>
 }
 
 /// The same of a file that comes in pieces of 50 bytes, where this read fails.
-fn read_failing(alloc: Global, bytes: &[u8], call: u32) -> Result<End, NoMemory> {
+fn read_failing(alloc: Global, bytes: &[u8], call: u32) -> Result<End, Fail> {
     let mut source = MemSource::new(Octets::from_bytes(alloc, bytes)?);
     source.in_pieces(50);
     source.fail_at(call)?;
@@ -128,7 +133,7 @@ fn read_failing(alloc: Global, bytes: &[u8], call: u32) -> Result<End, NoMemory>
 }
 
 /// The file has 40 records, in whatever pieces it comes.
-fn has_40_in_pieces(rt: &impl Abort, alloc: Global, file: &[u8]) -> Result<(), NoMemory> {
+fn has_40_in_pieces(rt: &impl Abort, alloc: Global, file: &[u8]) -> Result<(), Fail> {
     assert_eq!(rt; file.len(), 24 + 3_180);
     for size in [1u32, 7, 65_536] {
         let end = read_pieces(alloc, file, size)?;
@@ -138,7 +143,7 @@ fn has_40_in_pieces(rt: &impl Abort, alloc: Global, file: &[u8]) -> Result<(), N
 }
 
 #[test]
-fn whole_capture_in_pieces(rt: HostRuntime) -> Result<(), NoMemory> {
+fn whole_capture_in_pieces(rt: HostRuntime) -> Result<(), Fail> {
     has_40_in_pieces(&rt, rt.alloc(), capture(rt.alloc(), 40)?.as_slice())
 }
 
@@ -162,7 +167,7 @@ fn prefix(file: &[u8], len: u32) -> &[u8] {
 }
 
 #[test]
-fn every_prefix(rt: HostRuntime) -> Result<(), NoMemory> {
+fn every_prefix(rt: HostRuntime) -> Result<(), Fail> {
     let file = capture(rt.alloc(), 3)?;
     assert_eq!(rt; file.len(), 249);
     for len in 0..250u32 {
@@ -210,7 +215,7 @@ const HEADERS: [(&[u8], Result<Next, PcapFault>); 9] = [
 ];
 
 #[test]
-fn headers(rt: HostRuntime) -> Result<(), NoMemory> {
+fn headers(rt: HostRuntime) -> Result<(), Fail> {
     for (header, end) in HEADERS {
         assert_eq!(rt; read_file(rt.alloc(), header)?, (end, 0));
     }
@@ -268,7 +273,7 @@ fn captured_lengths(rt: HostRuntime) -> Result<(), NoMemory> {
 }
 
 #[test]
-fn each_read_fails_in_turn(rt: HostRuntime) -> Result<(), NoMemory> {
+fn each_read_fails_in_turn(rt: HostRuntime) -> Result<(), Fail> {
     let file = capture(rt.alloc(), 2)?;
     for call in 0..10u32 {
         let (answer, records) = read_failing(rt.alloc(), file.as_slice(), call)?;

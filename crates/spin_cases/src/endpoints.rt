@@ -1,92 +1,17 @@
-//! Endpoints that keep, that fail, and that note what they are asked.
+//! Endpoints that keep, that fail, and that note what they are asked; and what is answered for several of them.
 
-ghost use Rattle.std.specs.Prelude.{None};
-
+use crate::noting::{DROPPED, NEVER, ends_of, fresh_notes, noted, noting_ends};
 use spin_endpoint::{DeliverFault, Endpoint, Ends, EndsFault, Failed, KeepEnd, Sent, Unknown};
 use spin_values::{NoMemory, Text};
 use std::alloc::Global;
-use std::cell::RefCell;
 use std::process::Abort;
-use std::rc::Rc;
-
-/// What an endpoint was asked.
-#[derive(Drop)]
-struct Notes {
-    bytes: u64,
-    pieces: u32,
-    finishes: u32,
-    drops: u32,
-}
-
-/// Notes what it is asked, and tells nothing.
-struct Noting {
-    notes: Rc<RefCell<Notes>>,
-    finishes: u64,
-}
-
-impl Drop for Noting {
-    fn drop(self) {
-        let Noting { notes, finishes: _ } = self;
-        if let Ok(mut notes) = notes.try_borrow_mut() {
-            notes.drops = notes.drops.wrapping_add(1);
-        }
-    }
-}
-
-impl Endpoint for Noting {
-    ghost seen = { λ n. record { pieces = None; finishes = n.finishes; faults = 0 } };
-
-    fn take(&mut self, bytes: &[u8]) -> Result<(), Failed> {
-        if let Ok(mut notes) = self.notes.try_borrow_mut() {
-            notes.pieces = notes.pieces.wrapping_add(1);
-            notes.bytes = notes.bytes.wrapping_add(bytes.len() as u64);
-        }
-        Ok(())
-    }
-
-    fn finish(&mut self) {
-        if let Ok(mut notes) = self.notes.try_borrow_mut() {
-            notes.finishes = notes.finishes.wrapping_add(1);
-        }
-        self.finishes = self.finishes.saturating_add(1);
-    }
-}
-
-fn text(alloc: Global, name: &[u8]) -> Result<Text, NoMemory> {
-    Text::from_bytes(alloc, name)
-}
+use std::test::Fail;
 
 /// An endpoint with room for one piece of three bytes, whose call of that number fails.
 fn keep(alloc: Global, failing: u32) -> Result<KeepEnd, NoMemory> {
     let mut keep = KeepEnd::new(alloc, 1, 3)?;
     keep.fail_at(failing)?;
     Ok(keep)
-}
-
-fn fresh() -> Notes {
-    Notes {
-        bytes: 0,
-        pieces: 0,
-        finishes: 0,
-        drops: 0,
-    }
-}
-
-/// The pieces, their bytes, the finishes and the drops that were noted.
-fn noted(notes: &Rc<RefCell<Notes>>) -> Option<(u32, u64, u32, u32)> {
-    match notes.try_borrow() {
-        Ok(seen) => Some((seen.pieces, seen.bytes, seen.finishes, seen.drops)),
-        Err(_) => None,
-    }
-}
-
-/// The endpoints of which this is the only one.
-fn ends_of(alloc: Global, name: &[u8], end: Box<dyn Endpoint>) -> Result<Ends, NoMemory> {
-    let mut ends = Ends::new(alloc);
-    match ends.add(text(alloc, name)?, end) {
-        Ok(()) => Ok(ends),
-        Err(_) => Err(NoMemory),
-    }
 }
 
 /// Pieces, and what an endpoint with room for one of three bytes answers, whose second call fails.
@@ -107,15 +32,6 @@ fn keeps_what_fits(rt: HostRuntime) -> Result<(), NoMemory> {
     Ok(())
 }
 
-/// The endpoints of one that notes here.
-fn noting_ends(alloc: Global, notes: &Rc<RefCell<Notes>>) -> Result<Ends, NoMemory> {
-    let noting = Noting {
-        notes: notes.clone()?,
-        finishes: 0,
-    };
-    ends_of(alloc, b"out0", Box::new(alloc, noting)?)
-}
-
 /// The answers to a piece, two retirements and another piece.
 fn answers(ends: &mut Ends, name: &Text) -> bool {
     ends.deliver(name, b"ab") == Ok(())
@@ -125,20 +41,20 @@ fn answers(ends: &mut Ends, name: &Text) -> bool {
 }
 
 #[test]
-fn is_finished_once_and_dropped_with_the_others(rt: HostRuntime) -> Result<(), NoMemory> {
-    let notes = Rc::new(rt.alloc(), RefCell::new(fresh()))?;
-    let name = text(rt.alloc(), b"out0")?;
-    let mut ends = noting_ends(rt.alloc(), &notes)?;
+fn is_finished_once_and_dropped_with_the_others(rt: HostRuntime) -> Result<(), Fail> {
+    let notes = fresh_notes(rt.alloc())?;
+    let name = Text::from_bytes(rt.alloc(), b"out0")?;
+    let mut ends = noting_ends(rt.alloc(), &notes, NEVER)?;
     assert!(rt; answers(&mut ends, &name));
-    assert_eq!(rt; noted(&notes), Some((1, 2, 1, 0)));
+    assert!(rt; noted(&notes, b"ab,.,", b""));
     drop(ends);
-    assert_eq!(rt; noted(&notes), Some((1, 2, 1, 1)));
+    assert!(rt; noted(&notes, b"ab,.,", DROPPED));
     Ok(())
 }
 
 fn two_names(alloc: Global) -> Result<[Text; 2], NoMemory> {
-    let gone = text(alloc, b"gone")?;
-    Ok([gone, text(alloc, b"kept")?])
+    let gone = Text::from_bytes(alloc, b"gone")?;
+    Ok([gone, Text::from_bytes(alloc, b"kept")?])
 }
 
 /// What the endpoints answer to three sends, of which two are lost.
@@ -151,7 +67,7 @@ fn sends(ends: &mut Ends, names: &[Text; 2]) -> bool {
 }
 
 /// The endpoint of the second name alone.
-fn keeping_ends(alloc: Global) -> Result<Ends, NoMemory> {
+fn keeping_ends(alloc: Global) -> Result<Ends, Fail> {
     ends_of(alloc, b"kept", Box::new(alloc, keep(alloc, 0)?)?)
 }
 
@@ -163,7 +79,7 @@ fn retired(ends: &mut Ends, names: &[Text; 2]) -> [bool; 3] {
 }
 
 #[test]
-fn sends_in_one_call(rt: HostRuntime) -> Result<(), NoMemory> {
+fn sends_in_one_call(rt: HostRuntime) -> Result<(), Fail> {
     let names = two_names(rt.alloc())?;
     let mut ends = keeping_ends(rt.alloc())?;
     assert!(rt; sends(&mut ends, &names));
@@ -175,7 +91,7 @@ fn sends_in_one_call(rt: HostRuntime) -> Result<(), NoMemory> {
 /// Why no endpoint is added under the name.
 fn added(alloc: Global, ends: &mut Ends, name: &[u8]) -> Result<Option<EndsFault>, NoMemory> {
     let end: Box<dyn Endpoint> = Box::new(alloc, keep(alloc, 0)?)?;
-    match ends.add(text(alloc, name)?, end) {
+    match ends.add(Text::from_bytes(alloc, name)?, end) {
         Ok(()) => Ok(None),
         Err(refused) => Ok(Some(refused.0)),
     }
@@ -183,7 +99,7 @@ fn added(alloc: Global, ends: &mut Ends, name: &[u8]) -> Result<Option<EndsFault
 
 /// What a retirement is answered.
 fn retire(alloc: Global, ends: &mut Ends, name: &[u8]) -> Result<Result<(), Unknown>, NoMemory> {
-    Ok(ends.retire(&text(alloc, name)?))
+    Ok(ends.retire(&Text::from_bytes(alloc, name)?))
 }
 
 /// Endpoints are added up to the 64th, one of which is retired, and none under a name that another has.

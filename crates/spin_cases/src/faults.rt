@@ -2,9 +2,9 @@
 
 ghost use Rattle.std.specs.Prelude.{◌<◌};
 
+use crate::captures::capture;
 use crate::filter;
-use crate::noting::{Notes, fresh_notes, noted, noting_ends};
-use crate::texts::{RETIRED, RETIRING};
+use crate::noting::{DROPPED, NEVER, Notes, are_both, fresh_notes, noted, noting_ends};
 use crate::top::{put, shelf_with, status_with};
 use spin_objects::Natives;
 use spin_outside::{MemShelf, MemSink, MemSource};
@@ -14,6 +14,32 @@ use std::alloc::Global;
 use std::process::Abort;
 use std::test::Fail;
 use std::thread::Threads;
+
+/// A script whose endpoint is retired between two sends, each from the second byte on.
+const RETIRING: &[u8] = b"\
+spin 1
+event 0 0 b last
+endpoint 0 out0
+handler 1 b send 0 0 1
+lane 0 install 0 0 1 0 free plain
+lane 0 raise 0 x2d6162
+barrier
+retire 0
+lane 0 raise 0 x2d63
+";
+
+/// Its report where the endpoint is there.
+const RETIRED: &[u8] = b"\
+report 1
+segment 0 at 0
+1 0 5 install ok
+1 0 6 raise run 0 1 send 0 2 = done
+retire 0 ok
+segment 1 at 1
+1 0 9 raise run 0 1 send 0 1 = done
+lost 0 1
+end 1
+";
 
 /// What is run.
 #[derive(Clone, Copy)]
@@ -37,7 +63,7 @@ impl Row {
     /// The bytes of the capture; none where there is no capture.
     fn capture(self, alloc: Global) -> Result<Octets, NoMemory> {
         match self {
-            Row::Filter => filter::first_records(alloc, 40),
+            Row::Filter => capture(alloc, 40),
             Row::Cut => cut_capture(alloc),
             Row::Retiring => Ok(Octets::new(alloc)),
         }
@@ -71,7 +97,7 @@ impl Row {
 }
 
 fn cut_capture(alloc: Global) -> Result<Octets, NoMemory> {
-    let mut file = filter::first_records(alloc, 2)?;
+    let mut file = capture(alloc, 2)?;
     file.extend_from_slice(&[0; 5])?;
     Ok(file)
 }
@@ -134,7 +160,7 @@ fn sink_of(alloc: Global, failing: Failing, size: u32) -> Result<MemSink, NoMemo
 fn failing_delivery(failing: Failing) -> u32 {
     match failing.kind {
         Kind::Delivery => failing.call,
-        Kind::Find | Kind::Read | Kind::Write => u32::MAX,
+        Kind::Find | Kind::Read | Kind::Write => NEVER,
     }
 }
 
@@ -153,7 +179,7 @@ fn run<R: Threads + Sync>(
     row: Row,
     failing: Failing,
     size: u32,
-) -> Result<Outcome, NoMemory>
+) -> Result<Outcome, Fail>
     requires { 0 < size }
 {
     let notes = fresh_notes(alloc)?;
@@ -207,13 +233,6 @@ fn front(bytes: &[u8], mark: u8, parts: u32) -> &[u8] {
         }
     }
     &bytes[..len.min(bytes.len())]
-}
-
-/// Whether the bytes are both in turn.
-fn are_both(bytes: &[u8], first: &[u8], last: &[u8]) -> bool {
-    bytes.starts_with(first)
-        && bytes.ends_with(last)
-        && bytes.len() == first.len().wrapping_add(last.len())
 }
 
 /// How much of what a whole run writes, or delivers: so many lines or notes, or as many as the failing call's number.
@@ -276,7 +295,7 @@ impl Outcome {
         let notes = front(whole.notes.as_slice(), b',', notes.of(call));
         self.status == end.status()
             && are_both(self.report.bytes(), lines, end.line())
-            && noted(&self.notes, notes)
+            && noted(&self.notes, notes, DROPPED)
     }
 }
 
@@ -291,7 +310,7 @@ fn first_wrong<R: Threads + Sync>(
     rt: &R,
     alloc: Global,
     stops: Stops,
-) -> Result<Option<u32>, NoMemory> {
+) -> Result<Option<u32>, Fail> {
     let (row, kind, from, to, wanted) = stops;
     let whole = Whole::of(alloc, row)?;
     for call in from..to {
@@ -406,7 +425,7 @@ const STOPS: [Stops; 23] = [
 ];
 
 #[test]
-fn each_call_fails_in_turn(rt: HostRuntime) -> Result<(), NoMemory> {
+fn each_call_fails_in_turn(rt: HostRuntime) -> Result<(), Fail> {
     for stops in STOPS {
         assert_eq!(rt; first_wrong(&rt, rt.alloc(), stops)?, None);
     }
@@ -424,7 +443,7 @@ const PIECES: [(Row, u32); 6] = [
 ];
 
 #[test]
-fn runs_in_pieces(rt: HostRuntime) -> Result<(), NoMemory> {
+fn runs_in_pieces(rt: HostRuntime) -> Result<(), Fail> {
     for (row, size) in PIECES {
         let outcome = run(&rt, rt.alloc(), row, NONE_FAILS, size)?;
         let whole = Whole::of(rt.alloc(), row)?;

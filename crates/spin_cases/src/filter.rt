@@ -1,12 +1,14 @@
 //! A filter of packets over a capture of ARP, TCP and DNS: its whole report, and endpoints that fail.
 
-use spin_endpoint::{Endpoint, Ends, KeepEnd};
+use crate::captures::{ANSWER, QUERY, capture, push_record};
+use crate::noting::ends_of;
+use spin_endpoint::{Ends, KeepEnd};
 use spin_objects::Natives;
 use spin_outside::{MemSink, MemSource, OpenGate};
 use spin_pcap::{MAX_HELD, Reader};
 use spin_run::{RunEnd, run_script};
 use spin_script::read_script;
-use spin_values::{NoMemory, Octets, Text};
+use spin_values::{NoMemory, Octets};
 use std::alloc::Global;
 use std::test::Fail;
 use std::thread::Threads;
@@ -50,74 +52,14 @@ const TOLD: [&[u8]; 4] = [
     b"run 0 1 up 1 run 1 2 up 2 run 2 3 send 0 19 back done back done = done\n",
 ];
 
-/// The header of a capture whose writer put the lowest byte first, with times in microseconds.
-const HEADER: [u8; 24] = [
-    0xd4, 0xc3, 0xb2, 0xa1, 2, 0, 4, 0, 0, 0, 0, 0, 0, 0, 0, 0, 0, 0, 4, 0, 1, 0, 0, 0,
-];
-
-/// An ARP request.
-const ARP: [u8; 42] = [
-    255, 255, 255, 255, 255, 255, 2, 0, 0, 0, 0, 1, 8, 6, 0, 1, 8, 0, 6, 4, 0, 1, 2, 0, 0, 0, 0, 1,
-    10, 0, 0, 1, 0, 0, 0, 0, 0, 0, 10, 0, 0, 2,
-];
-
-/// A TCP segment.
-const TCP: [u8; 74] = [
-    2, 0, 0, 0, 0, 2, 2, 0, 0, 0, 0, 1, 8, 0, 69, 0, 0, 60, 28, 70, 64, 0, 64, 6, 177, 230, 172,
-    16, 10, 99, 172, 16, 10, 12, 0, 0, 0, 0, 0, 0, 0, 0, 0, 0, 0, 0, 0, 0, 0, 0, 0, 0, 0, 0, 0, 0,
-    0, 0, 0, 0, 0, 0, 0, 0, 0, 0, 0, 0, 0, 0, 0, 0, 0, 0,
-];
-
-/// A DNS query, with a payload of 19 bytes.
-const QUERY: [u8; 61] = [
-    2, 0, 0, 0, 0, 2, 2, 0, 0, 0, 0, 1, 8, 0, 69, 0, 0, 47, 0, 2, 64, 0, 64, 17, 38, 186, 10, 0, 0,
-    1, 10, 0, 0, 2, 192, 0, 0, 53, 0, 27, 20, 234, 18, 52, 1, 0, 0, 1, 0, 0, 0, 0, 0, 0, 1, 97, 0,
-    0, 1, 0, 1,
-];
-
-/// Its answer, with a payload of 35 bytes.
-const ANSWER: [u8; 77] = [
-    2, 0, 0, 0, 0, 1, 2, 0, 0, 0, 0, 2, 8, 0, 69, 0, 0, 63, 0, 3, 64, 0, 64, 17, 38, 169, 10, 0, 0,
-    2, 10, 0, 0, 1, 0, 53, 192, 0, 0, 43, 66, 126, 18, 52, 129, 128, 0, 1, 0, 1, 0, 0, 0, 0, 1, 97,
-    0, 0, 1, 0, 1, 192, 12, 0, 1, 0, 1, 0, 0, 0, 60, 0, 4, 10, 0, 0, 3,
-];
-
 /// How many bytes the 40 records have.
 const RECORDS: u64 = 3180;
 
-/// The frame of that number.
-fn frame(number: u8) -> &'static [u8] {
-    match number % 4 {
-        0 => &ANSWER,
-        1 => &ARP,
-        2 => &TCP,
-        _ => &QUERY,
-    }
-}
-
-/// Adds a record of fewer than 256 bytes.
-fn put_record(file: &mut Octets, frame: &[u8]) -> Result<(), NoMemory> {
-    let length = [(frame.len() % 256) as u8, 0, 0, 0];
-    file.extend_from_slice(&[0; 8])?;
-    file.extend_from_slice(&length)?;
-    file.extend_from_slice(&length)?;
-    file.extend_from_slice(frame)
-}
-
-/// The header, and so many records in turn.
-pub(crate) fn first_records(alloc: Global, count: u8) -> Result<Octets, NoMemory> {
-    let mut file = Octets::from_bytes(alloc, &HEADER)?;
-    for number in 1..=count {
-        put_record(&mut file, frame(number))?;
-    }
-    Ok(file)
-}
-
 /// The 40 records in turn, and so many copies of the first one behind them.
-fn capture(alloc: Global, copies: u32) -> Result<Octets, NoMemory> {
-    let mut file = first_records(alloc, 40)?;
+fn capture_and_copies(alloc: Global, copies: u32) -> Result<Octets, NoMemory> {
+    let mut file = capture(alloc, 40)?;
     for _ in 0..copies {
-        put_record(&mut file, &ARP)?;
+        push_record(&mut file, 1)?;
     }
     Ok(file)
 }
@@ -163,11 +105,11 @@ pub(crate) fn payloads(alloc: Global, queries: u8) -> Result<Octets, NoMemory> {
 
 /// An endpoint `out0` that has room for so many pieces, and so many bytes of them.
 fn kept(alloc: Global, pieces: u32, bytes: u32) -> Result<Ends, Fail> {
-    let mut ends = Ends::new(alloc);
-    let name = Text::from_bytes(alloc, b"out0")?;
-    let object: Box<dyn Endpoint> = Box::new(alloc, KeepEnd::new(alloc, pieces, bytes)?)?;
-    let _ = ends.add(name, object);
-    Ok(ends)
+    ends_of(
+        alloc,
+        b"out0",
+        Box::new(alloc, KeepEnd::new(alloc, pieces, bytes)?)?,
+    )
 }
 
 /// Runs the filter over the capture, with an endpoint that has room for so many pieces, and so many bytes of them.
@@ -204,7 +146,7 @@ fn filtered_to<R: Threads + Sync>(
     copies: u32,
 ) -> Result<(RunEnd, MemSink, u64), Fail> {
     let mut report = MemSink::new(alloc, 4000)?;
-    let mut source = MemSource::new(capture(alloc, copies)?);
+    let mut source = MemSource::new(capture_and_copies(alloc, copies)?);
     let end = filtered(rt, alloc, &mut source, &mut report, pieces, bytes)?;
     Ok((end, report, source.taken()))
 }

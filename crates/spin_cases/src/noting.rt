@@ -1,4 +1,4 @@
-//! An endpoint that notes what it is asked, and of which a call may fail.
+//! An endpoint that notes what it is asked, and of which a call may fail; and endpoints of which there is one.
 
 ghost use Rattle.std.specs.Prelude.{None};
 
@@ -7,13 +7,20 @@ use spin_values::{NoMemory, Octets, Text};
 use std::alloc::Global;
 use std::cell::RefCell;
 use std::rc::Rc;
+use std::test::Fail;
 
-/// What an endpoint notes: each piece that it takes, and a full stop for each finish, with a comma behind each.
+/// What an endpoint notes: each piece that it takes, a full stop for each finish, and that it is dropped, with a comma
+/// behind each.
 pub(crate) type Notes = Rc<RefCell<Octets>>;
 
+/// The note of a drop.
+pub(crate) const DROPPED: &[u8] = b"dropped,";
+
+/// A take's number that no test comes to.
+pub(crate) const NEVER: u32 = u32::MAX;
+
 /// Notes what it is asked, and tells nothing. Its take of that number fails, counted from 0, and isn't noted.
-#[derive(Drop)]
-struct Noting {
+pub(crate) struct Noting {
     notes: Notes,
     takes: u32,
     failing: u32,
@@ -21,12 +28,24 @@ struct Noting {
     faults: u64,
 }
 
-impl Noting {
-    fn note(&self, bytes: &[u8]) {
-        if let Ok(mut notes) = self.notes.try_borrow_mut() {
-            let _ = notes.extend_from_slice(bytes);
-            let _ = notes.push(b',');
-        }
+impl Drop for Noting {
+    fn drop(self) {
+        let Noting {
+            notes,
+            takes: _,
+            failing: _,
+            finishes: _,
+            faults: _,
+        } = self;
+        note(&notes, b"dropped");
+    }
+}
+
+/// Adds a note.
+fn note(notes: &Notes, bytes: &[u8]) {
+    if let Ok(mut notes) = notes.try_borrow_mut() {
+        let _ = notes.extend_from_slice(bytes);
+        let _ = notes.push(b',');
     }
 }
 
@@ -40,12 +59,12 @@ impl Endpoint for Noting {
             self.faults = self.faults.saturating_add(1);
             return Err(Failed);
         }
-        self.note(bytes);
+        note(&self.notes, bytes);
         Ok(())
     }
 
     fn finish(&mut self) {
-        self.note(b".");
+        note(&self.notes, b".");
         self.finishes = self.finishes.saturating_add(1);
     }
 }
@@ -56,33 +75,42 @@ pub(crate) fn fresh_notes(alloc: Global) -> Result<Notes, NoMemory> {
 }
 
 /// An endpoint that notes here, and of which the take of that number fails.
-fn noting_end(alloc: Global, notes: &Notes, failing: u32) -> Result<Box<dyn Endpoint>, NoMemory> {
-    let noting = Noting {
+pub(crate) fn noting_end(notes: &Notes, failing: u32) -> Result<Noting, NoMemory> {
+    Ok(Noting {
         notes: notes.clone()?,
         takes: 0,
         failing,
         finishes: 0,
         faults: 0,
-    };
-    Ok(Box::new(alloc, noting)?)
+    })
 }
 
-/// The endpoint out0 alone, which notes here, and of which the take of that number fails.
-pub(crate) fn noting_ends(alloc: Global, notes: &Notes, failing: u32) -> Result<Ends, NoMemory> {
+/// The endpoint of that name alone.
+pub(crate) fn ends_of(alloc: Global, name: &[u8], end: Box<dyn Endpoint>) -> Result<Ends, Fail> {
     let mut ends = Ends::new(alloc);
-    match ends.add(
-        Text::from_bytes(alloc, b"out0")?,
-        noting_end(alloc, notes, failing)?,
-    ) {
+    match ends.add(Text::from_bytes(alloc, name)?, end) {
         Ok(()) => Ok(ends),
-        Err(_) => Err(NoMemory),
+        Err(_) => Err(Fail::new("an endpoint isn't added")),
     }
 }
 
-/// Whether just this was noted.
-pub(crate) fn noted(notes: &Notes, bytes: &[u8]) -> bool {
+/// The endpoint out0 alone, which notes here, and of which the take of that number fails.
+pub(crate) fn noting_ends(alloc: Global, notes: &Notes, failing: u32) -> Result<Ends, Fail> {
+    let end = Box::new(alloc, noting_end(notes, failing)?)?;
+    ends_of(alloc, b"out0", end)
+}
+
+/// Whether the bytes are both in turn.
+pub(crate) fn are_both(bytes: &[u8], first: &[u8], last: &[u8]) -> bool {
+    bytes.starts_with(first)
+        && bytes.ends_with(last)
+        && bytes.len() == first.len().wrapping_add(last.len())
+}
+
+/// Whether just these two parts were noted in turn.
+pub(crate) fn noted(notes: &Notes, first: &[u8], last: &[u8]) -> bool {
     match notes.try_borrow() {
-        Ok(notes) => notes.as_slice() == bytes,
+        Ok(notes) => are_both(notes.as_slice(), first, last),
         Err(_) => false,
     }
 }

@@ -1,16 +1,16 @@
 //! Fragments joined in captures, and replies to echo requests.
 
-ghost use Rattle.std.specs.Prelude.{◌≤◌, None, length};
+ghost use Rattle.std.specs.Prelude.{◌≤◌, length};
 
-use crate::captures::{LITTLE, record};
-use spin_endpoint::{Endpoint, Failed};
+use crate::captures::{LITTLE, push_frame, record};
+use crate::noting::{NEVER, Notes, Noting, fresh_notes, noted, noting_end};
+use spin_endpoint::Endpoint;
 use spin_headers::{HeaderFault, checksum, read_fragment, read_ipv4, write_ipv4};
 use spin_outside::{MemSource, NoMemory, Octets};
 use spin_reass::{EchoEnd, EchoFault, JoinFault, echo_reply, join_capture};
 use std::alloc::Global;
-use std::cell::RefCell;
 use std::process::Abort;
-use std::rc::Rc;
+use std::test::Fail;
 
 const SOURCE: u32 = 0x0a00_0001;
 
@@ -64,13 +64,6 @@ fn whole_frame(alloc: Global, ttl: u8) -> Result<Octets, NoMemory> {
     framed(alloc, &header, PAYLOAD)
 }
 
-/// Adds the record of a frame.
-fn push_record(file: &mut Octets, frame: &[u8]) -> Result<(), NoMemory> {
-    let len = u32::try_from(frame.len()).unwrap_or(0);
-    file.extend_from_slice(&record(0, len, len))?;
-    file.extend_from_slice(frame)
-}
-
 /// Adds the record of a fragment.
 fn push_fragment(
     alloc: Global,
@@ -79,13 +72,13 @@ fn push_fragment(
     fragment: Fragment,
 ) -> Result<(), NoMemory> {
     let frame = frame_of(alloc, ident, fragment)?;
-    push_record(file, frame.as_slice())
+    push_frame(file, 0, frame.as_slice())
 }
 
 /// Adds the record of the whole datagram.
 fn push_whole(alloc: Global, file: &mut Octets, ttl: u8) -> Result<(), NoMemory> {
     let frame = whole_frame(alloc, ttl)?;
-    push_record(file, frame.as_slice())
+    push_frame(file, 0, frame.as_slice())
 }
 
 /// The joined capture of these bytes, which come in pieces.
@@ -257,28 +250,34 @@ fn bad_captures_are_refused(rt: HostRuntime) -> Result<(), NoMemory> {
     Ok(())
 }
 
+/// The packet of a fragment's frame is read as that fragment, and as a packet of its own where it is a whole one.
+fn is_read(rt: &impl Abort, alloc: Global, fragment: Fragment) -> Result<(), Fail> {
+    let frame = frame_of(alloc, 1, fragment)?;
+    let (offset, more, _, _) = fragment;
+    let packet = frame.as_slice().get(14..).unwrap_or(b"");
+    let Ok(read) = read_fragment(packet) else {
+        return Err(Fail::new("a fragment is refused"));
+    };
+    assert_eq!(rt; (read.offset, read.more), (offset, more));
+    let whole = !more && offset == 0;
+    let answer = if whole {
+        Ok(read.header)
+    } else {
+        Err(HeaderFault::Fragment)
+    };
+    assert_eq!(rt; read_ipv4(packet), answer);
+    Ok(())
+}
+
 #[test]
-fn fragments_are_read(rt: HostRuntime) -> Result<(), NoMemory> {
+fn fragments_are_read(rt: HostRuntime) -> Result<(), Fail> {
     for fragment in [
         FRONT,
         BACK,
         (0, false, 64, b"whole"),
         (8_191, true, 64, b""),
     ] {
-        let frame = frame_of(rt.alloc(), 1, fragment)?;
-        let (offset, more, _, _) = fragment;
-        let packet = frame.as_slice().get(14..).unwrap_or(b"");
-        let Ok(read) = read_fragment(packet) else {
-            return Err(NoMemory);
-        };
-        assert_eq!(rt; (read.offset, read.more), (offset, more));
-        let whole = !more && offset == 0;
-        let answer = if whole {
-            Ok(read.header)
-        } else {
-            Err(HeaderFault::Fragment)
-        };
-        assert_eq!(rt; read_ipv4(packet), answer);
+        is_read(&rt, rt.alloc(), fragment)?;
     }
     Ok(())
 }
@@ -311,42 +310,9 @@ fn requests_are_answered(rt: HostRuntime) {
     }
 }
 
-/// Keeps the bytes that it takes, and tells nothing.
-#[derive(Drop)]
-struct Noting {
-    bytes: Rc<RefCell<Octets>>,
-    finishes: u64,
-    faults: u64,
-}
-
-impl Endpoint for Noting {
-    ghost seen = { λ n. record { pieces = None; finishes = n.finishes; faults = n.faults } };
-
-    fn take(&mut self, bytes: &[u8]) -> Result<(), Failed> {
-        let kept = match self.bytes.try_borrow_mut() {
-            Ok(mut kept) => kept.extend_from_slice(bytes).is_ok(),
-            Err(_) => false,
-        };
-        if kept {
-            return Ok(());
-        }
-        self.faults = self.faults.saturating_add(1);
-        Err(Failed)
-    }
-
-    fn finish(&mut self) {
-        self.finishes = self.finishes.saturating_add(1);
-    }
-}
-
-/// An endpoint that answers, and keeps the replies here.
-fn echo_end(alloc: Global, bytes: &Rc<RefCell<Octets>>) -> Result<EchoEnd<Noting>, NoMemory> {
-    let inner = Noting {
-        bytes: bytes.clone()?,
-        finishes: 0,
-        faults: 0,
-    };
-    EchoEnd::new(alloc, inner)
+/// An endpoint that answers, and notes the replies here.
+fn echo_end(alloc: Global, notes: &Notes) -> Result<EchoEnd<Noting>, NoMemory> {
+    EchoEnd::new(alloc, noting_end(notes, NEVER)?)
 }
 
 /// The endpoint takes a request and three pieces that are none, and is finished.
@@ -362,18 +328,10 @@ fn takes_each<E: Endpoint>(rt: &impl Abort, end: &mut E) {
     end.finish();
 }
 
-/// Whether just this was kept.
-fn kept(bytes: &Rc<RefCell<Octets>>, wanted: &[u8]) -> bool {
-    match bytes.try_borrow() {
-        Ok(kept) => kept.as_slice() == wanted,
-        Err(_) => false,
-    }
-}
-
 #[test]
 fn replies_alone_are_handed_on(rt: HostRuntime) -> Result<(), NoMemory> {
-    let bytes = Rc::new(rt.alloc(), RefCell::new(Octets::new(rt.alloc())))?;
-    takes_each(&rt, &mut echo_end(rt.alloc(), &bytes)?);
-    assert!(rt; kept(&bytes, REPLY));
+    let notes = fresh_notes(rt.alloc())?;
+    takes_each(&rt, &mut echo_end(rt.alloc(), &notes)?);
+    assert!(rt; noted(&notes, REPLY, b",.,dropped,"));
     Ok(())
 }

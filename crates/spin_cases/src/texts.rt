@@ -29,32 +29,6 @@ segment 0 at 0
 end 1
 ";
 
-/// A script whose endpoint is retired between two sends.
-pub(crate) const RETIRING: &[u8] = b"\
-spin 1
-event 0 0 b last
-endpoint 0 out0
-handler 1 b send 0 0 0
-lane 0 install 0 0 1 0 free plain
-lane 0 raise 0 x6162
-barrier
-retire 0
-lane 0 raise 0 x63
-";
-
-/// Its report where the endpoint is there.
-pub(crate) const RETIRED: &[u8] = b"\
-report 1
-segment 0 at 0
-1 0 5 install ok
-1 0 6 raise run 0 1 send 0 2 = done
-retire 0 ok
-segment 1 at 1
-1 0 9 raise run 0 1 send 0 1 = done
-lost 0 1
-end 1
-";
-
 /// Raises of two lanes at one place.
 pub(crate) const TWO_RAISES: &[u8] = b"\
 spin 1
