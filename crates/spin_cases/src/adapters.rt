@@ -9,6 +9,7 @@ use std::fs;
 use std::io::{self, ErrorKind, Write};
 use std::process::Abort;
 use std::rt::Files;
+use std::test::Fail;
 
 /// A writer that takes so many bytes of a piece at most, and fails at the calls from one on.
 #[derive(Drop)]
@@ -46,20 +47,16 @@ impl Write for Narrow {
     }
 }
 
-fn text(alloc: Global, name: &[u8]) -> Result<Text, NoMemory> {
-    Text::from_bytes(alloc, name)
-}
-
 /// Whether the file comes to have this text.
 fn put(files: &impl Files, name: &str, text: &str) -> bool {
     fs::write(files, name, text).is_ok()
 }
 
 /// The number under which a file is found.
-fn found<F: Shelf>(alloc: Global, shelf: &mut F, name: &[u8]) -> Result<u32, NoMemory> {
-    match shelf.find(&text(alloc, name)?) {
+fn found<F: Shelf>(alloc: Global, shelf: &mut F, name: &[u8]) -> Result<u32, Fail> {
+    match shelf.find(&Text::from_bytes(alloc, name)?) {
         Ok(file) => Ok(file),
-        Err(_) => Err(NoMemory),
+        Err(_) => Err(Fail::new("a file isn't found")),
     }
 }
 
@@ -80,7 +77,7 @@ fn bytes_of<R: Files + AllocGlobal>(
 }
 
 /// The numbers of two files, and of the first once more.
-fn three_found<F: Shelf>(alloc: Global, shelf: &mut F) -> Result<[u32; 3], NoMemory> {
+fn three_found<F: Shelf>(alloc: Global, shelf: &mut F) -> Result<[u32; 3], Fail> {
     let a = found(alloc, shelf, b"turns_a.txt")?;
     let b = found(alloc, shelf, b"turns_b.txt")?;
     Ok([a, b, found(alloc, shelf, b"turns_a.txt")?])
@@ -110,7 +107,7 @@ const TURNS: [(u32, &[u8]); 10] = [
 ];
 
 /// Three files are found, and each read gives what it should.
-fn read_in_turns<F: Shelf>(rt: &impl Abort, alloc: Global, shelf: &mut F) -> Result<(), NoMemory> {
+fn read_in_turns<F: Shelf>(rt: &impl Abort, alloc: Global, shelf: &mut F) -> Result<(), Fail> {
     assert_eq!(rt; three_found(alloc, shelf)?, [0, 1, 2]);
     for (file, bytes) in TURNS {
         assert!(rt; gives(shelf, file, bytes), "file {file}");
@@ -119,7 +116,7 @@ fn read_in_turns<F: Shelf>(rt: &impl Abort, alloc: Global, shelf: &mut F) -> Res
 }
 
 #[test]
-fn files_of_a_folder_are_read_in_turns(rt: HostRuntime) -> Result<(), NoMemory> {
+fn files_of_a_folder_are_read_in_turns(rt: HostRuntime) -> Result<(), Fail> {
     assert!(rt; put(&rt, "turns_a.txt", "abcdef"));
     assert!(rt; put(&rt, "turns_b.txt", "ABCD"));
     read_in_turns(&rt, rt.alloc(), &mut FolderShelf::new(rt.alloc(), &rt))
@@ -127,7 +124,7 @@ fn files_of_a_folder_are_read_in_turns(rt: HostRuntime) -> Result<(), NoMemory> 
 
 /// Whether the shelf has no such file.
 fn is_absent<F: Shelf>(alloc: Global, shelf: &mut F, name: &[u8]) -> Result<bool, NoMemory> {
-    Ok(shelf.find(&text(alloc, name)?) == Err(FindFault::Absent))
+    Ok(shelf.find(&Text::from_bytes(alloc, name)?) == Err(FindFault::Absent))
 }
 
 /// Names that are no file's are absent.
@@ -145,7 +142,7 @@ fn what_a_folder_lacks(rt: HostRuntime) -> Result<(), NoMemory> {
 
 /// A folder is opened as a file is, and each read of it fails.
 #[test]
-fn a_folder_is_no_file(rt: HostRuntime) -> Result<(), NoMemory> {
+fn a_folder_is_no_file(rt: HostRuntime) -> Result<(), Fail> {
     let mut shelf = FolderShelf::new(rt.alloc(), &rt);
     let folder = found(rt.alloc(), &mut shelf, b".")?;
     let mut buf = [0u8; 3];
@@ -162,7 +159,7 @@ fn taken<F: Shelf>(
     shelf: &mut F,
     name: &[u8],
     limit: u32,
-) -> Result<Option<usize>, NoMemory> {
+) -> Result<Option<usize>, Fail> {
     let file = found(alloc, shelf, name)?;
     match read_up_to(alloc, shelf, file, limit) {
         Ok(bytes) => Ok(Some(bytes.len())),
@@ -179,7 +176,7 @@ const LIMITS: [(&[u8], u32, Option<usize>); 4] = [
 ];
 
 /// Of each file as many bytes are taken as should be.
-fn are_taken<F: Shelf>(rt: &impl Abort, alloc: Global, shelf: &mut F) -> Result<(), NoMemory> {
+fn are_taken<F: Shelf>(rt: &impl Abort, alloc: Global, shelf: &mut F) -> Result<(), Fail> {
     for (name, limit, length) in LIMITS {
         assert_eq!(rt; taken(alloc, shelf, name, limit)?, length);
     }
@@ -187,7 +184,7 @@ fn are_taken<F: Shelf>(rt: &impl Abort, alloc: Global, shelf: &mut F) -> Result<
 }
 
 #[test]
-fn files_of_a_folder_are_taken_up_to_a_limit(rt: HostRuntime) -> Result<(), NoMemory> {
+fn files_of_a_folder_are_taken_up_to_a_limit(rt: HostRuntime) -> Result<(), Fail> {
     assert!(rt; put(&rt, "limit.txt", "abcdef"));
     assert!(rt; put(&rt, "empty.txt", ""));
     are_taken(&rt, rt.alloc(), &mut FolderShelf::new(rt.alloc(), &rt))
@@ -254,7 +251,7 @@ fn an_endpoint_appends_to_a_file(rt: HostRuntime) -> Result<(), NoMemory> {
     assert!(rt; fs::write(&rt, "stood.bin", "stood").is_ok());
     let _ = fs::remove_file(&rt, "fresh.bin");
     for (name, path, bytes) in ROUNDS {
-        let mut end = FileEnd::new(rt.clone()?, text(alloc, name)?);
+        let mut end = FileEnd::new(rt.clone()?, Text::from_bytes(alloc, name)?);
         assert!(rt; takes_two(&mut end));
         assert_eq!(rt; bytes_of(&rt, alloc, path)?.as_slice(), bytes);
     }
@@ -264,7 +261,7 @@ fn an_endpoint_appends_to_a_file(rt: HostRuntime) -> Result<(), NoMemory> {
 #[test]
 fn an_endpoint_that_opens_no_file(rt: HostRuntime) -> Result<(), NoMemory> {
     for name in [b"no folder/out.bin".as_slice(), b".", b"\xff.bin"] {
-        let mut end = FileEnd::new(rt.clone()?, text(rt.alloc(), name)?);
+        let mut end = FileEnd::new(rt.clone()?, Text::from_bytes(rt.alloc(), name)?);
         assert!(rt; fails_twice(&mut end));
     }
     Ok(())
@@ -274,7 +271,7 @@ fn an_endpoint_that_opens_no_file(rt: HostRuntime) -> Result<(), NoMemory> {
 #[test]
 fn an_endpoint_that_takes_nothing(rt: HostRuntime) -> Result<(), NoMemory> {
     let _ = fs::remove_file(&rt, "unused.bin");
-    let mut end = FileEnd::new(rt.clone()?, text(rt.alloc(), b"unused.bin")?);
+    let mut end = FileEnd::new(rt.clone()?, Text::from_bytes(rt.alloc(), b"unused.bin")?);
     end.finish();
     assert!(rt; fs::read(&rt, "unused.bin").is_err());
     Ok(())

@@ -6,17 +6,14 @@ use spin_outside::{
 };
 use std::alloc::Global;
 use std::process::Abort;
-
-fn named(alloc: Global, name: &[u8]) -> Result<Text, NoMemory> {
-    Text::from_bytes(alloc, name)
-}
+use std::test::Fail;
 
 /// The files of a shelf, of which one is put twice.
 const FILES: [(&[u8], &[u8]); 3] = [(b"a", b"old"), (b"b", b"xyz"), (b"a", b"first")];
 
 fn put(alloc: Global, shelf: &mut MemShelf, name: &[u8], bytes: &[u8]) -> Result<(), NoMemory> {
     let bytes = Octets::from_bytes(alloc, bytes)?;
-    shelf.put(named(alloc, name)?, bytes)
+    shelf.put(Text::from_bytes(alloc, name)?, bytes)
 }
 
 fn shelf_of_two(alloc: Global) -> Result<MemShelf, NoMemory> {
@@ -57,7 +54,7 @@ fn found(
     shelf: &mut MemShelf,
     name: &[u8],
 ) -> Result<Result<u32, FindFault>, NoMemory> {
-    Ok(shelf.find(&named(alloc, name)?))
+    Ok(shelf.find(&Text::from_bytes(alloc, name)?))
 }
 
 /// Names, and why they aren't found.
@@ -82,10 +79,10 @@ fn files_of_a_shelf_are_found(rt: HostRuntime) -> Result<(), NoMemory> {
 }
 
 /// The number of file a.
-fn first_file(alloc: Global, shelf: &mut MemShelf) -> Result<u32, NoMemory> {
+fn first_file(alloc: Global, shelf: &mut MemShelf) -> Result<u32, Fail> {
     match found(alloc, shelf, b"a")? {
         Ok(file) => Ok(file),
-        Err(_) => Err(NoMemory),
+        Err(_) => Err(Fail::new("file a isn't found")),
     }
 }
 
@@ -96,7 +93,7 @@ fn taken(alloc: Global, shelf: &mut MemShelf, file: u32, limit: u32) -> Result<b
 }
 
 /// File a is taken whole; of the file that is found again a read fails, and then it is too large.
-fn are_taken(rt: &impl Abort, alloc: Global, shelf: &mut MemShelf) -> Result<(), NoMemory> {
+fn are_taken(rt: &impl Abort, alloc: Global, shelf: &mut MemShelf) -> Result<(), Fail> {
     shelf.fail_read(2)?;
     let file = first_file(alloc, shelf)?;
     assert_eq!(rt; taken(alloc, shelf, file, 5), Ok(true));
@@ -108,15 +105,12 @@ fn are_taken(rt: &impl Abort, alloc: Global, shelf: &mut MemShelf) -> Result<(),
 }
 
 #[test]
-fn files_of_a_shelf_are_taken(rt: HostRuntime) -> Result<(), NoMemory> {
+fn files_of_a_shelf_are_taken(rt: HostRuntime) -> Result<(), Fail> {
     are_taken(&rt, rt.alloc(), &mut shelf_of_two(rt.alloc())?)
 }
 
 /// Reads to the end, and over failed calls; answers what was read and the numbers of the calls that failed.
-fn read_over_faults<S: Source>(
-    alloc: Global,
-    source: &mut S,
-) -> Result<(Octets, Vec<u32>), NoMemory> {
+fn read_over_faults<S: Source>(alloc: Global, source: &mut S) -> Result<(Octets, Vec<u32>), Fail> {
     let mut bytes = Octets::new(alloc);
     let mut failed = Vec::new(alloc);
     let mut buf = [0u8; 4];
@@ -127,7 +121,7 @@ fn read_over_faults<S: Source>(
             Err(Failed) => failed.push(call)?,
         }
     }
-    Err(NoMemory)
+    Err(Fail::new("a source doesn't end"))
 }
 
 /// Whether these bytes are read, over failed calls of these numbers.
@@ -136,7 +130,7 @@ fn are_read<S: Source>(
     source: &mut S,
     bytes: &[u8],
     calls: &[u32],
-) -> Result<bool, NoMemory> {
+) -> Result<bool, Fail> {
     let (read, failed) = read_over_faults(alloc, source)?;
     Ok(read.as_slice() == bytes && failed.as_slice() == calls)
 }
@@ -150,7 +144,7 @@ fn source_of_ten(alloc: Global) -> Result<MemSource, NoMemory> {
 }
 
 /// Four bytes are read, and then the others in pieces and over two faults.
-fn is_read(rt: &impl Abort, alloc: Global, source: &mut MemSource) -> Result<(), NoMemory> {
+fn is_read(rt: &impl Abort, alloc: Global, source: &mut MemSource) -> Result<(), Fail> {
     let mut buf = [0u8; 4];
     assert_eq!(rt; source.read(&mut buf), Ok(4));
     assert_eq!(rt; buf, *b"abcd");
@@ -161,12 +155,12 @@ fn is_read(rt: &impl Abort, alloc: Global, source: &mut MemSource) -> Result<(),
 }
 
 #[test]
-fn source_in_memory(rt: HostRuntime) -> Result<(), NoMemory> {
+fn source_in_memory(rt: HostRuntime) -> Result<(), Fail> {
     is_read(&rt, rt.alloc(), &mut source_of_ten(rt.alloc())?)
 }
 
 /// Whether file a is read, and over a fault.
-fn first_is_read(alloc: Global, shelf: &mut MemShelf) -> Result<bool, NoMemory> {
+fn first_is_read(alloc: Global, shelf: &mut MemShelf) -> Result<bool, Fail> {
     shelf.fail_read(1)?;
     let file = first_file(alloc, shelf)?;
     let mut source = ShelfSource { shelf, file };
@@ -174,7 +168,7 @@ fn first_is_read(alloc: Global, shelf: &mut MemShelf) -> Result<bool, NoMemory> 
 }
 
 #[test]
-fn file_of_a_shelf_as_a_source(rt: HostRuntime) -> Result<(), NoMemory> {
+fn file_of_a_shelf_as_a_source(rt: HostRuntime) -> Result<(), Fail> {
     let is_read = first_is_read(rt.alloc(), &mut shelf_of_two(rt.alloc())?)?;
     assert!(rt; is_read);
     Ok(())
