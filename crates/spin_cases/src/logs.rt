@@ -8,7 +8,7 @@ ghost use Rattle.spin_log.specs.Pens.{IsSamePen};
 
 use spin_log::{Log, Look, MAX_PLACE, Pen, Pens, Publish, Rows};
 use spin_values::NoMemory;
-use spin_word::{Command, Mode, NO_BINDINGS, Op, Place, Row, pack, unpack};
+use spin_word::{Command, Op, Row, pack, unpack};
 use std::alloc::Global;
 use std::process::Abort;
 use std::test::Fail;
@@ -22,17 +22,8 @@ fn default_of(lane: u8, handler: u16) -> Command
     ensures { IsTrue (is_command result) × (result.lane ≡ lane) }
 {
     Command {
-        op: Op::Default,
-        event: 0,
-        lane,
-        requester: 0,
         handler,
-        guard: 0,
-        place: Place::Free,
-        before: NO_BINDINGS,
-        after: NO_BINDINGS,
-        target: 0,
-        mode: Mode::Plain,
+        ..Command::bare(Op::Default, lane, 0, 0)
     }
 }
 
