@@ -4,6 +4,14 @@
 //! here or by the program on a worked case.
 //!
 //! There is no code here but tests. The definitions that say what the calls mean are those of the crates below.
+//!
+//! - of plain data: [`values`], [`rows`], [`expressions`], [`headers`], and [`plans`] of bindings;
+//! - of scripts and reports: [`scripts`], [`setups`], [`reports`], [`entries`], [`generated`];
+//! - of logs and seats: [`logs`], [`seats`];
+//! - of jobs and tasks, and of whole runs that are held up: [`jobs`], [`executor`], [`runs`];
+//! - of the outside: [`outside`], [`adapters`], [`captures`], [`reassembly`], [`endpoints`], [`natives`];
+//! - of runs over it: [`filter`], [`faults`], [`top`];
+//! - what several of these use: [`texts`], [`noting`] with an endpoint, [`gates`] with a gate.
 #![tactic(auto)]
 
 #[cfg(test)]
