@@ -4,6 +4,7 @@ use Rattle.std.specs.Prelude.{◌==◌, if◌then◌else◌, slice_get, Option, 
 use Rattle.std.specs.Option.{option_map}
 use Rattle.std.specs.List.{list_all, flat_map}
 use Rattle.std.proofs.lemmas.Option.{slice_get-map}
+use Rattle.spin_values.specs.First.{numbered}
 use Rattle.spin_values.specs.declared.values.Value.{Value}
 use Rattle.spin_values.specs.declared.values.Value.TheVariants as value
 use Rattle.spin_code.specs.declared.expr.Expr.{Expr}
@@ -22,6 +23,7 @@ use Rattle.spin_code.specs.Truth.{truth_of, compares, holds_if}
 use Rattle.spin_objects.specs.declared.item.Item.TheVariants as item
 use Rattle.spin_objects.specs.Doing.{part_of, step_args, step_items, args_after, items_of}
 use Rattle.spin_objects.specs.Units.{act_if}
+use Rattle.spin_objects.proofs.Numbered.{numbered-map}
 use Rattle.spin_place.specs.declared.binding.Binding.{Binding}
 use Rattle.spin_plan.specs.Next.{guard_holds, guards_hold}
 use Rattle.spin_raise.specs.declared.bound.Runner.{Runner}
@@ -89,7 +91,7 @@ abbrev pub bare_units : Units → Units
 bare_units u = record { acts = map bare_act u.acts; tests = map bare_test u.tests }
 
 steps_at_same : (u : Units) (handler : ℕ) → steps_at (bare_units u) handler ≡ map bare_step (steps_at u handler)
-steps_at_same u handler = ap (λ (o : Option Act). (act_if o).steps) (slice_get-map bare_act u.acts (handler - 1)) ∙ go (slice_get u.acts (handler - 1))
+steps_at_same u handler = ap (λ (o : Option Act). (act_if o).steps) (numbered-map bare_act u.acts handler) ∙ go (numbered u.acts handler)
   where
     go : (o : Option Act) → (act_if (option_map bare_act o)).steps ≡ map bare_step (act_if o).steps
     go None = refl

@@ -13,6 +13,7 @@ use Rattle.spin_place.specs.Orders.{AreDistinct}
 use Rattle.spin_place.specs.Precedence.{numbers_of}
 use Rattle.spin_plan.specs.Next.{guard_holds}
 use Rattle.spin_objects.specs.Units.{HandlerUnit, act_if}
+use Rattle.spin_objects.proofs.Numbered.{numbered-map}
 use Rattle.spin_table.specs.declared.event.EventDef.{EventDef}
 use Rattle.spin_table.specs.Setups.{SetupData, tests_in}
 use Rattle.spin_table.specs.States.{State, EventState}
@@ -55,7 +56,7 @@ guards_at s event = map (λ b. b.own_guard) (bindings_at s event)
 -- a handler of words gives a result
 pub gives_result : (d : SetupData) (handler : ℕ) (h : IsWordHandler d handler) → steps_at (units_in d) handler ≡ h.unit.act.steps
 gives_result d handler h =
-    ap (λ (o : Option Act). (act_if o).steps) (slice_get-map (λ (u : HandlerUnit). u.act) d.handlers (handler - 1) ∙ ap (λ (o : Option HandlerUnit). option_map (λ (u : HandlerUnit). u.act) o) h.there)
+    ap (λ (o : Option Act). (act_if o).steps) (numbered-map (λ (u : HandlerUnit). u.act) d.handlers handler ∙ ap (λ (o : Option HandlerUnit). option_map (λ (u : HandlerUnit). u.act) o) h.there)
 
 count_mapped : {A B : Type 0} (p : B → Bool) (f : A → B) (xs : List A) → count_by p (map f xs) ≡ count_by (λ x. p (f x)) xs
 count_mapped p f [] = refl

@@ -1,6 +1,7 @@
 -- Setups with eight events of words, as the generated script has them.
 use Rattle.std.proofs.Common.{◌≡◌, ◌<◌, ◌≤◌, ◌-◌, ℕ, [], ◌∷◌}
 use Rattle.std.specs.Prelude.{slice_get, Some}
+use Rattle.spin_values.specs.First.{numbered}
 use Rattle.spin_code.specs.declared.expr.Expr.{Expr}
 use Rattle.spin_code.specs.declared.act.ActStep.TheVariants as step
 use Rattle.spin_objects.specs.Units.{HandlerUnit, GuardUnit}
@@ -19,7 +20,7 @@ pub record IsWordEvent (d : SetupData) (event : ℕ) : Type 0 where
 -- a handler of words, whose act is one result
 pub record IsWordHandler (d : SetupData) (handler : ℕ) : Type 0 where
   pub unit : HandlerUnit
-  pub there : slice_get d.handlers (handler - 1) ≡ Some unit
+  pub there : numbered d.handlers handler ≡ Some unit
   pub sig : unit.sig ≡ word_to_word
   pub result : Expr
   pub steps : unit.act.steps ≡ step.Result result ∷ []

@@ -15,6 +15,7 @@ use Rattle.spin_word.specs.declared.command.Command.{Command}
 use Rattle.spin_word.specs.declared.work.Work.{Work}
 use Rattle.spin_word.specs.declared.work.Work.TheVariants as work
 use Rattle.spin_objects.specs.Units.{HandlerUnit, GuardUnit}
+use Rattle.spin_objects.proofs.Numbered.{numbered-at}
 use Rattle.spin_table.specs.declared.event.EventDef.{EventDef}
 use Rattle.spin_table.specs.Setups.{SetupData}
 use Rattle.spin_grammar.specs.Bare.{bare_step}
@@ -164,7 +165,7 @@ module _ (n : NativeData) (d : SetupData) (t : State) (same : bare_setup d ≡ b
       let handlers : map bare_handler d.handlers ≡ map bare_handler (head_state n).handlers = ap (λ (x : SetupData). x.handlers) same ∙ ap (map bare_handler) keeps.handlers in
       let h = mapped_at bare_handler d.handlers (head_state n).handlers (handler - 1) (adds handler) handlers (head_handlers n handler first last) in
       let steps = result_steps h.0.act.steps (plus (expr.Arg 0) (expr.Const handler)) (ap (λ (x : HandlerUnit). x.act.steps) h.2) in
-      record { unit = h.0; there = h.1; sig = ap (λ (x : HandlerUnit). x.sig) h.2; result = steps.0; steps = steps.1 }
+      record { unit = h.0; there = numbered-at d.handlers handler (λ none. omega (arith, none, first)) ∙ h.1; sig = ap (λ (x : HandlerUnit). x.sig) h.2; result = steps.0; steps = steps.1 }
 
   has_guard : (guard : ℕ) → 0 < guard → guard ≤ 4 → IsWordGuard d guard
   has_guard guard first last =

@@ -5,6 +5,7 @@ use Rattle.std.specs.Option.{option_map_or}
 use Rattle.std.proofs.lemmas.Bool.Decides.{nat_tests}
 use Rattle.std.proofs.lemmas.Option.{slice_get_within}
 use Rattle.spin_values.specs.First.{first_of, numbered}
+use Rattle.spin_objects.proofs.Numbered.{numbered-reads}
 use Rattle.spin_code.specs.declared.act.ActStep.{ActStep}
 use Rattle.spin_word.specs.declared.command.Op.TheVariants as op
 use Rattle.spin_word.specs.declared.command.Place.{Place}
@@ -81,18 +82,15 @@ module _ (d : SetupData) (s : State) (t : EventState) (event handler guard : ℕ
   abbrev pub c : Command
   c = install_of event handler guard p
 
-  not_first : (handler == 0) ≡ false
-  not_first = grind (arith, nat_tests, first)
-
   found : numbered d.handlers handler ≡ Some h.unit
-  found = rw not_first h.there
+  found = h.there
 
   one_module : nat_le d.modules 0 ≡ false
   one_module = ap (λ (n : ℕ). nat_le n 0) fit.modules
 
   handler_there : lacks_handler d.handlers c ≡ false
   handler_there =
-      let inside = slice_get_within d.handlers (handler - 1) h.unit h.there in
+      let inside = slice_get_within d.handlers (handler - 1) h.unit (numbered-reads d.handlers handler h.unit h.there) in
       grind (arith, nat_tests, inside, first)
 
   guard_there : lacks_guard d.guards c ≡ false

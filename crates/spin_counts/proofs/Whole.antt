@@ -6,6 +6,7 @@ use Rattle.std.specs.List.{flat_map, enumerate_from, AllByRecursion}
 use Rattle.std.proofs.lemmas.Option.{slice_get-map}
 use Rattle.std.proofs.lemmas.List.Elements.{All-nil, All-cons, All-append, All-map}
 use Rattle.spin_word.specs.declared.work.Work.{Work}
+use Rattle.spin_objects.proofs.Numbered.{numbered-map}
 use Rattle.spin_table.specs.Setups.{SetupData}
 use Rattle.spin_table.specs.States.{State, EventState, start_of}
 use Rattle.spin_grammar.specs.Bare.{bare_expr, bare_step}
@@ -172,7 +173,7 @@ bare_words d fit = record {
       let h = fit.handlers handler first last in
       record {
         unit = bare_handler h.unit;
-        there = slice_get-map bare_handler d.handlers (handler - 1) ∙ ap (option_map bare_handler) h.there;
+        there = numbered-map bare_handler d.handlers handler ∙ ap (option_map bare_handler) h.there;
         sig = h.sig;
         result = bare_expr h.result;
         steps = ap (map bare_step) h.steps;
