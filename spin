@@ -17,7 +17,7 @@ sys.path.insert(0, str(TOP))
 from wrapper import program
 
 # The wrapper's own commands and their modules; every other word is the program's.
-COMMANDS = {"build": "build"}
+COMMANDS = {"build": "build", "picture": "picture"}
 
 
 def main(words):

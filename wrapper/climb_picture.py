@@ -1,0 +1,196 @@
+"""All packets of a run as one icicle: how they climb through layers and guards, where they are dropped, what is sent.
+
+Each bar stands below the one from which its packets came, and is as wide as they are many. The report is read line by
+line, and what is kept is a tree of the ways that packets take, whose size is bounded.
+"""
+
+from dataclasses import dataclass, field
+
+from wrapper.bindings import Bindings
+from wrapper.reading import COMMANDS, number, read_reply
+from wrapper.svg import LINE, Sheet, legend, marks, width_of, wrapped
+from wrapper.told import refusal_words
+
+WIDTH, HIGH, EDGE = 1180, 26, 10
+DEEPEST = 60          # a way is followed over so many bars
+MOST_NODES = 20_000   # further ways are counted together
+NARROWEST = 4         # bars of fewer pixels are drawn as one
+OTHER = "other ways"
+
+
+@dataclass
+class Node:
+    """A bar: its kind of box, how many packets came there, what its title adds, and the bars below it."""
+
+    kind: str
+    count: int = 0
+    more: str = ""
+    found: dict = field(default_factory=dict)
+    below: dict = field(default_factory=dict)
+
+
+class Climb:
+    """The tree of the ways that the packets of a report take."""
+
+    def __init__(self, script):
+        self.script, self.bindings = script, Bindings(script)
+        self.root, self.nodes, self.replies = Node("packet"), 0, {}
+
+    def take(self, line):
+        """Takes a line of the report: an accepted command is followed, and a packet is counted."""
+        if line.kind != "entry":
+            return
+        if line.words[0] in COMMANDS and line.words[1] == "ok":
+            self.bindings.take(line.place, self.script.deeds[line.line].words)
+            self.replies.clear()
+        elif line.words[0] == "packet":
+            self.packet(line)
+
+    def packet(self, line):
+        """Counts a packet along its way; packets of one reply since the last command take one way."""
+        known = line.line, *line.words
+        way = self.replies.get(known)
+        if way is None:
+            way = self.way(line)
+            if len(self.replies) < MOST_NODES:
+                self.replies[known] = way
+        self.root.count += 1
+        node = self.root
+        for label, kind, more, found in way:
+            node = self.below(node, label, kind, more, found)
+            node.count += 1
+
+    def below(self, node, label, kind, more, found):
+        """The bar of that label below another one; where there is no room for it, the one for other ways."""
+        if label not in node.below:
+            if self.nodes >= MOST_NODES:
+                label, kind, more, found = OTHER, "plain", "", {}
+            self.nodes += label not in node.below
+            node.below.setdefault(label, Node(kind, 0, more, found))
+        return node.below[label]
+
+    def way(self, line):
+        """The bars of one packet, from the first: label, kind, what the title adds, and events and bindings."""
+        deed = self.script.deeds[line.line].words
+        event = number(deed[1])
+        way = [(f"event {event}", "packet", "", {"event": {event}})]
+        if line.is_refused:
+            words = line.words[line.words.index("refused") + 1:]
+            return [*way, (f"✗ {refusal_words(self.script, deed, words)}", "refused", "", {"event": {event}})]
+        steps, _ = read_reply(line.words[1:])
+        if not steps:
+            return [*way, self.stopped(event)]
+        self.follow(line.place, steps, way)
+        if len(way) > DEEPEST:
+            way = way[:DEEPEST] + [("and so on", "plain", "", {})]
+        return way
+
+    @staticmethod
+    def stopped(event):
+        """The bar of packets for which no guard of an event holds."""
+        return f"no guard of event {event} holds", "plain", "", {"event": {event}}
+
+    def follow(self, place, steps, way):
+        """Adds the bars of these steps to a way; results, which differ from packet to packet, are left out."""
+        for step in steps:
+            if step.kind in ("run", "job"):
+                way.append(self.run(place, step))
+            elif step.kind == "up":
+                event = int(step.words[0])
+                way.append((f"↑ event {event}", "packet", "", {"event": {event}}))
+                if not step.inner:
+                    way.append(self.stopped(event))
+                self.follow(place, step.inner, way)
+            elif step.kind == "send":
+                name = " ".join(self.script.endpoints.get(int(step.words[0]), []))
+                way.append((f"sends to endpoint {step.words[0]} {name}".rstrip(), "send", "", {}))
+            elif step.kind == "drop":
+                way.append((f"✗ drops it: {step.words[0].replace('_', ' ')}", "refused", "", {}))
+
+    def run(self, place, step):
+        """The bar of a handler that runs or is left to a job, with its guards."""
+        event, which = map(int, step.words)
+        if not which:
+            return f"the default of event {event}", "ok", "", {"event": {event}}
+        one = self.bindings.at(place, which)
+        act = self.script.handlers[one.handler]
+        layer = f" {act[act.index('layer') + 1]}" if "layer" in act else ""
+        guards = "".join(f", guard {guard}" for guard in one.guards)
+        label = f"#{which} handler {one.handler}{layer}{guards}" + (": left to a job" if step.kind == "job" else "")
+        rows = [f"handler {one.handler} {' '.join(act)}"]
+        rows += [f"guard {guard} {' '.join(self.script.guards[guard])}" for guard in one.guards]
+        kind = "later" if step.kind == "job" else "ok"
+        return label, kind, "\n".join(rows), {"event": {event}, "binding": {which}}
+
+
+class ClimbPicture:
+    """The drawing of the tree."""
+
+    def __init__(self, climb):
+        self.climb, self.sheet = climb, Sheet(WIDTH)
+        self.total = max(1, climb.root.count)
+        self.found, self.listed = [], []
+        self.values = {"event": set(), "binding": set()}
+
+    def draw(self):
+        """The picture's text."""
+        count = self.climb.root.count
+        self.sheet.text(EDGE, 20, f"{count:,} packets as they climb; each bar is as wide as its packets are many", "h")
+        kinds = {"packet": "an event is raised", "ok": "a handler runs: its guards hold", "send": "sends"}
+        kinds |= {"later": "left to a job", "refused": "✗ dropped or refused"}
+        top = legend(self.sheet, EDGE, 42, kinds) + 6
+        self.bars(self.climb.root, EDGE, top)
+        self.found.sort(key=lambda bar: bar[:2])
+        for bar in self.found:
+            self.bar(*bar)
+        y = max((bar[0] for bar in self.found), default=top) + HIGH + 22
+        if self.listed:
+            self.sheet.text(EDGE, y, "bars that are too narrow for their words, from left to right in each row:", "faint")
+            y = self.list(y + 17)
+        return self.sheet.write(y, f"{count} packets as they climb")
+
+    def bars(self, node, x, y):
+        """Finds the bars below one bar, the widest first."""
+        rest, scale = 0, (WIDTH - 2 * EDGE) / self.total
+        for label, one in sorted(node.below.items(), key=lambda item: (-item[1].count, item[0])):
+            if one.count * scale < NARROWEST:
+                rest += one.count
+                continue
+            self.found.append((y, x, one.count * scale, label, one))
+            self.bars(one, x, y + HIGH)
+            x += one.count * scale
+        if rest:
+            self.found.append((y, x, max(rest * scale, 1), "ways too narrow to be drawn", Node("plain", rest)))
+
+    def bar(self, y, x, wide, label, one):
+        """Draws one bar with its label, or with a number under which it is listed."""
+        name = f"{label} · {one.count:,}"
+        share = f"{name} of {self.total:,} packets, {100 * one.count / self.total:.3g} %"
+        for of, found in one.found.items():
+            self.values[of] |= found
+        self.sheet.begin("item bar", f"{share}\n{one.more}".rstrip(), marks(one.found))
+        self.sheet.box(x, y, max(wide - 1, 0.5), HIGH - 2, f"{one.kind} fill" if one.kind != "plain" else "plain")
+        room = 8
+        if width_of(name) + room > wide:
+            self.listed.append(share)
+            name, room = str(len(self.listed)), 4
+        if width_of(name) + room <= wide:
+            self.sheet.text(x + room / 2, y + 16, name)
+        self.sheet.end()
+
+    def list(self, y):
+        """The list of the narrow bars; answers where it ends."""
+        for key, share in enumerate(self.listed, 1):
+            for text in wrapped(f"{key}  {share}", WIDTH - 2 * EDGE):
+                self.sheet.text(EDGE, y, text)
+                y += LINE
+        return y
+
+
+def draw(script, lines):
+    """The picture of all packets of a report's lines, which are read one by one, and the values of its filter."""
+    climb = Climb(script)
+    for line in lines:
+        climb.take(line)
+    picture = ClimbPicture(climb)
+    return picture.draw(), picture.values

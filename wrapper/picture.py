@@ -1,0 +1,124 @@
+"""picture run SCRIPT REPORT [PACKETS]: a run as one picture; picture climb SCRIPT REPORT PACKETS: all packets as one.
+
+The report is judged first by the program's `check`; one that is no run's isn't drawn. What draws is no part of what is
+proved. The picture is SVG; with `--html` it stands in a page that lets lanes, events and bindings stand out.
+"""
+
+import contextlib
+import os
+import shutil
+import subprocess
+import sys
+import tempfile
+from pathlib import Path
+
+from wrapper import climb_picture, program, run_picture
+from wrapper.reading import read_report, read_script
+from wrapper.svg import TooLarge, page
+
+USAGE = (
+    "usage: spin picture run SCRIPT REPORT [PACKETS] [--html] [--out FILE]"
+    " | spin picture climb SCRIPT REPORT PACKETS [--html] [--out FILE]"
+)
+KINDS = {"run": (run_picture, (2, 3)), "climb": (climb_picture, (3,))}
+# The statuses of the wrapper's own ends are those that the program has for the like.
+WRONG_WORDS, NOT_READ, NOT_WRITTEN, ABSENT, NO_RUN = 1, 4, 5, 6, 9
+
+
+class Refused(Exception):
+    """Why nothing is drawn, and the exit status."""
+
+    def __init__(self, why, status):
+        super().__init__(why)
+        self.status = status
+
+
+def read_words(words):
+    """The kind of picture, its files, whether it stands in a page, and the file to write, None for standard output."""
+    files, out, is_page = [], None, False
+    rest = list(words[1:])
+    while rest:
+        word = rest.pop(0)
+        if word == "--html":
+            is_page = True
+        elif word == "--out" and rest:
+            out = rest.pop(0)
+        elif word.startswith("--"):
+            raise Refused(USAGE, WRONG_WORDS)
+        else:
+            files.append(word)
+    if not words or words[0] not in KINDS or len(files) not in KINDS[words[0]][1]:
+        raise Refused(USAGE, WRONG_WORDS)
+    return words[0], files, is_page, out
+
+
+def copied(files, folder):
+    """Copies script and report, so that what is judged is what is drawn, also where they are pipes."""
+    for name, file in zip(("script", "report"), files):
+        try:
+            with open(file, "rb") as source, open(Path(folder) / name, "wb") as target:
+                shutil.copyfileobj(source, target)
+        except OSError as error:
+            status = ABSENT if isinstance(error, FileNotFoundError) else NOT_READ
+            raise Refused(f"the {name} {file} can't be read: {error.strerror}", status)
+
+
+def tells_of_records(folder):
+    """Whether the copied report's last line tells of a capture."""
+    with open(Path(folder) / "report", "rb") as stream:
+        stream.seek(max(0, os.path.getsize(stream.name) - 200))
+        return b" records " in stream.read()
+
+
+def judged(folder, packets):
+    """Lets the program judge the copied report, and refuses one that isn't a run's."""
+    more = [os.path.abspath(file) for file in packets]
+    ran = program.run(["check", "script", "report", *more], cwd=folder, stdout=subprocess.PIPE)
+    if ran.returncode == NO_RUN:
+        hint = "; it is one of a run over a capture, which isn't named" if tells_of_records(folder) and not packets else ""
+        raise Refused(f"the report is that of no run of the script, so it isn't drawn{hint}", NO_RUN)
+    if ran.returncode:
+        said = ran.stdout.decode("ascii", "replace").strip() or "the program said nothing"
+        raise Refused(f"the report can't be judged, so it isn't drawn: {said}", ran.returncode)
+
+
+def drawn(kind, folder, title, is_page):
+    """The picture of the copied script and report."""
+    script = read_script((Path(folder) / "script").read_text("ascii"))
+    with open(Path(folder) / "report", encoding="ascii") as stream:
+        try:
+            picture, values = KINDS[kind][0].draw(script, read_report(stream))
+        except TooLarge:
+            raise Refused("the run is too long for one picture; `picture climb` draws any number of packets", program.NOT_RUN)
+    return page(picture, title, values) if is_page else picture
+
+
+def write(text, out):
+    """Writes the picture into the file, or on standard output."""
+    try:
+        if out is not None:
+            Path(out).write_text(text, encoding="utf-8")
+            return
+        sys.stdout.buffer.write(text.encode())
+        sys.stdout.flush()
+    except OSError as error:
+        if out is None:
+            # nothing more is to be written at the end
+            with contextlib.suppress(OSError):
+                os.dup2(os.open(os.devnull, os.O_WRONLY), sys.stdout.fileno())
+        raise Refused(f"the picture can't be written: {error.strerror}", NOT_WRITTEN)
+
+
+def main(words):
+    """Draws the picture that the words ask for, and answers the exit status."""
+    try:
+        kind, files, is_page, out = read_words(words)
+        with tempfile.TemporaryDirectory() as folder:
+            copied(files, folder)
+            judged(folder, files[2:])
+            text = drawn(kind, folder, f"{kind} of {files[0]}", is_page)
+        write(text, out)
+    except Refused as refused:
+        program.tell(str(refused))
+        return refused.status
+    return 0

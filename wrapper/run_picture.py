@@ -1,0 +1,345 @@
+"""A run as one picture: lanes side by side, time downwards, a band for each segment and place, bindings in their order.
+
+It draws what the report says, and needs a report that was judged a run's.
+"""
+
+from wrapper.bindings import Bindings
+from wrapper.reading import COMMANDS, all_steps, number, reply_of
+from wrapper.svg import CHAR, KINDS, LINE, PAD, Sheet, legend, marks, width_of, wrapped
+from wrapper.told import Teller
+
+GUTTER, SIDE, TRACK, TRACKS = 58, 430, 5, 6
+STEP = 9            # how far each level of a reply stands to the right
+REPEAT = 900        # so many pixels below the last ones the lanes' names stand again
+WHOLE_CHIPS = 12    # of more bindings only the changed one is written out, and the others tell theirs as titles
+DECLARED_MOST = 80
+MARKS = {"plain": "", "filter": " filter", "async": " async"}
+
+
+def constraints(one):
+    """Where a binding wants to stand, in words."""
+    words = [] if one.place == "free" else [one.place]
+    for name, numbers in (("before", one.before), ("after", one.after)):
+        words += [name, *map(str, numbers)] if numbers else []
+    return " ".join(words)
+
+
+def chip_text(one):
+    """A binding as its chip says it."""
+    guards = [f"guard {one.guard}"] if one.guard else []
+    guards += [f"imposed {which}" for which in one.imposed]
+    return " ".join([f"#{one.number} handler {one.handler}{MARKS[one.mode]}", *guards, constraints(one)]).strip()
+
+
+def short_chip(one):
+    """A binding among many."""
+    return f"#{one.number}" + {"plain": "", "filter": "f", "async": "a"}[one.mode] + ("g" if one.guards else "")
+
+
+class RunPicture:
+    """The drawing of one run."""
+
+    def __init__(self, script, lines):
+        self.script, self.lines = script, lines
+        self.bindings = Bindings(script)
+        self.teller = Teller(script, self.bindings)
+        self.lanes = sorted({line.lane for line in lines if line.kind in ("entry", "job")}) or [0]
+        self.each = {1: 430, 2: 400, 3: 340, 4: 320}.get(len(self.lanes), 290)
+        self.side = GUTTER + self.each * len(self.lanes)
+        self.sheet = Sheet(self.side + SIDE)
+        self.y, self.named = 0, 0
+        self.items, self.left, self.tracks = {}, {}, {}
+        self.values = {"lane": set(), "event": set(), "binding": set()}
+
+    def at(self, lane):
+        """Where the column of a lane begins."""
+        return GUTTER + self.each * self.lanes.index(lane)
+
+    def draw(self):
+        """Draws all, and answers the picture's text."""
+        self.heading()
+        segment, notes = [], []
+        for line in self.lines:
+            if line.kind == "segment":
+                self.segment(segment)
+                segment = []
+                self.segment_head(line, notes)
+                notes = []
+            elif line.kind == "retire":
+                notes.append(line)
+            elif line.kind == "end":
+                self.segment(segment)
+                self.foot(line)
+            elif line.kind != "report":
+                segment.append(line)
+        return self.sheet.write(self.y, "a run of the dispatcher, lane by lane, time downwards")
+
+    # ---- what stands at the top
+
+    def declared(self):
+        """What the script declares, in its own words."""
+        script = self.script
+        rows = [f"event {which} {' '.join(words)}" for which, words in script.events.items()]
+        rows += [f"endpoint {which} {' '.join(words)}" for which, words in script.endpoints.items()]
+        rows += [f"handler {which} {' '.join(words)}" for which, words in script.handlers.items()]
+        rows += [f"guard {which} {' '.join(words)}" for which, words in script.guards.items()]
+        for event, rules in script.rules.items():
+            rows += [f"rule {at} of event {event}: {' '.join(words)}" for at, words in enumerate(rules, 1)]
+        rows += [f"authoriser of event {event}: {name}" for event, name in script.authorisers.items()]
+        rows += [f"default of event {event}: handler {which}" for event, which in script.defaults.items()]
+        if len(rows) > DECLARED_MOST:
+            rows = rows[:DECLARED_MOST] + [f"and {len(rows) - DECLARED_MOST} more lines"]
+        return rows
+
+    def heading(self):
+        """The legend, and what the script declares in two columns."""
+        kinds = {self.kind_of(line) for line in self.lines if line.kind in ("entry", "job")}
+        kinds |= {"send"} if any(self.sends(line) for line in self.lines) else set()
+        kinds |= {"retire"} if any(line.kind == "retire" for line in self.lines) else set()
+        self.y = legend(self.sheet, 8, 18, {kind: of[2] for kind, of in KINDS.items() if kind in kinds}) + 12
+        half = self.sheet.width / 2 - 8
+        rows = [wrapped(text, half - 16) for text in self.declared()]
+        middle = (sum(map(len, rows)) + 1) // 2
+        x, y, done = 8, self.y, 0
+        for shown in rows:
+            if x == 8 and done >= middle:
+                x, y = half + 8, self.y
+            for at, text in enumerate(shown):
+                self.sheet.text(x + (12 if at else 0), y, text, "faint")
+                y += LINE
+            done += len(shown)
+        self.y += middle_height(rows, middle) + 2
+
+    def lane_names(self):
+        """The names of the columns."""
+        self.sheet.text(8, self.y + 12, "place", "faint")
+        for lane in self.lanes:
+            self.sheet.text(self.at(lane) + TRACK * TRACKS + 6, self.y + 12, f"lane {lane}", "b")
+        self.sheet.text(self.side + 8, self.y + 12, "the event's bindings as they run; the changed one is filled", "b")
+        self.y += 18
+        self.named = self.y
+
+    def segment_head(self, line, notes):
+        """The band of a segment, its retirements in it."""
+        self.sheet.box(0, self.y, self.sheet.width, 22, "band")
+        x = 8
+        text = f"segment {line.index} at place {line.place}"
+        self.sheet.text(x, self.y + 15, text, "h")
+        x += len(text) * 8 + 20
+        for note in notes:
+            name = self.teller.endpoint(note.index)
+            text = f"{name} is retired" if note.words == ["ok"] else f"{name}: none stands to be retired"
+            if x + width_of(text) + 14 > self.sheet.width:
+                self.y, x = self.y + 22, 8
+                self.sheet.box(0, self.y, self.sheet.width, 22, "band")
+            self.sheet.box(x, self.y + 3, width_of(text) + 10, 16, "retire fill", note.text)
+            self.sheet.text(x + 5, self.y + 15, text)
+            x += width_of(text) + 18
+        self.y += 26
+        self.lane_names()
+
+    # ---- a segment
+
+    def segment(self, lines):
+        """The bands of a segment's places, of its jobs and of its deliveries."""
+        self.left, self.tracks = {}, dict.fromkeys(self.lanes, 0)
+        entries = [line for line in lines if line.kind == "entry"]
+        jobs = [line for line in lines if line.kind == "job"]
+        sources = {(line.lane, line.source) for line in jobs}
+        at = 0
+        while at < len(entries):
+            end = at
+            while end < len(entries) and entries[end].place == entries[at].place:
+                end += 1
+            self.band(entries[at].place, entries[at:end], sources)
+            at = end
+        if jobs:
+            self.band("jobs", jobs, ())
+        self.deliveries(lines)
+
+    def band(self, label, lines, sources):
+        """The boxes of one place, or of the jobs, and the bindings beside them."""
+        if self.y - self.named > REPEAT:
+            self.lane_names()
+        top = self.y
+        self.sheet.path(f"M0 {top:.7g}H{self.sheet.width:.0f}", "rule")
+        self.sheet.text(8, top + 15, str(label), "b")
+        ends = dict.fromkeys(self.lanes, top + 3)
+        right = top + 3
+        for line in lines:
+            if self.is_accepted(line):
+                event = self.bindings.take(line.place, self.script.deeds[line.line].words)
+                right = self.order(event, line.place, right)
+            y = ends[line.lane]
+            ends[line.lane] += self.entry(line, self.at(line.lane), y, (line.lane, line.source) in sources)
+        self.y = max(right, *ends.values()) + 3
+
+    @staticmethod
+    def is_accepted(line):
+        """Whether the line is an accepted command's."""
+        return line.kind == "entry" and line.words[0] in COMMANDS and line.words[1] == "ok"
+
+    @staticmethod
+    def kind_of(line):
+        """Which kind of box a line has."""
+        if line.is_refused:
+            return "refused"
+        if line.kind == "job":
+            return "later"
+        return "ok" if line.words[0] in COMMANDS else line.words[0]
+
+    def found(self, line):
+        """The events and bindings that a line speaks of."""
+        deed = self.script.deeds[line.line].words
+        events, bindings = {number(deed[1])}, set()
+        if self.is_accepted(line) and deed[0] == "install":
+            bindings.add(line.place)
+        elif deed[0] in ("remove", "replace"):
+            bindings.add(number(deed[3]))
+        for step in all_steps((reply_of(line) or ([],))[0]):
+            if step.kind in ("run", "job"):
+                events.add(int(step.words[0]))
+                bindings |= {int(step.words[1])} - {0}
+            elif step.kind == "up":
+                events.add(int(step.words[0]))
+        return {"lane": {line.lane}, "event": events, "binding": bindings}
+
+    def entry(self, line, x, y, leaves):
+        """The box of an entry or a job; answers its height with the room below it."""
+        found = self.found(line)
+        for name, of in found.items():
+            self.values[name] |= of
+        x, wide = x + TRACK * TRACKS + 4, self.each - TRACK * TRACKS - 12
+        rows = []
+        lead = "" if line.kind == "job" else f"{line.source} "
+        for row in self.teller.entry(line):
+            indent = row.depth * STEP + (width_of(lead) if not row.depth else 0)
+            for at, text in enumerate(wrapped(row.text, wide - 2 * PAD - indent - 2 * CHAR)):
+                rows.append((indent + (2 * CHAR if at else 0), text, row))
+        high = LINE * len(rows) + PAD
+        self.sheet.begin(f"item {line.kind}", line.text, marks(found))
+        self.sheet.box(x, y, wide, high, f"{self.kind_of(line)} fill")
+        if lead:
+            self.sheet.text(x + PAD, y + LINE - 1, line.source, "faint")
+        for at, (indent, text, row) in enumerate(rows):
+            self.sheet.text(x + PAD + indent, y + LINE * (at + 1) - 1, text, row.look)
+        self.sheet.end()
+        if leaves:
+            self.leave(line, x, y)
+        if line.kind == "job":
+            self.join(line, x, y + high / 2)
+        return high + 4
+
+    def leave(self, line, x, y):
+        """Keeps where an entry stands that has left jobs, and by which track they are joined to it."""
+        track = self.tracks[line.lane]
+        self.tracks[line.lane] = (track + 1) % TRACKS
+        self.left[line.lane, line.source] = x, y + 8, x - 4 - TRACK * (track + 1)
+
+    def join(self, line, x, y):
+        """Joins a job to the entry that left it."""
+        there, above, track = self.left[line.lane, line.source]
+        shape = f"M{there:.5g} {above:.7g}H{track:.5g}V{y:.7g}H{x:.5g}m-5 -3l5 3l-5 3"
+        self.sheet.path(shape, "later item join", f"line {line.source} left this job", marks(self.found(line)))
+
+    # ---- bindings and deliveries
+
+    def order(self, event, changed, y):
+        """The bindings of an event in their order, as chips; answers where they end."""
+        order = self.bindings.order(event)
+        is_short = len(order) > WHOLE_CHIPS
+        left = self.side + 8
+        self.sheet.text(left, y + 13, f"event {event}", "faint")
+        x = first = left + 62
+        most = self.sheet.width - 8
+        high = 19
+        chips = [(one, short_chip(one) if is_short and one.number != changed else chip_text(one)) for one in order]
+        for one, text in chips:
+            shown = wrapped(text, most - first - 12)
+            wide = max(map(width_of, shown)) + 10
+            if x > first and x + wide > most:
+                x, y, high = first, y + high + 3, 19
+            high = max(high, LINE * len(shown) + 4)
+            is_new = self.bindings.past[one.number][-1][0] == changed
+            self.sheet.box(x, y, wide, LINE * len(shown) + 4, "ok solid" if is_new else "plain", self.chip_title(one))
+            for at, line in enumerate(shown):
+                self.sheet.text(x + 5, y + 13 + LINE * at, line)
+            x += wide + 4
+        return self.default_chip(event, x, y, high, bool(order))
+
+    def default_chip(self, event, x, y, high, has_bindings):
+        """The event's default behind its bindings, and a word where it has neither; answers where they end."""
+        default = self.bindings.events[event].default
+        text = f"default: handler {default}" if default else "" if has_bindings else "no binding, no default"
+        if text:
+            if x + width_of(text) + 10 > self.sheet.width - 8:
+                x, y, high = self.side + 70, y + high + 3, 19
+            self.sheet.text(x + 5, y + 13, text, "faint")
+        return y + high + 3
+
+    def chip_title(self, one):
+        """What a chip tells: the binding in full, with its handler and guards as the script has them."""
+        rows = [f"binding {one.number} of event {one.event}, asked for by module {one.module}: {chip_text(one)}"]
+        rows.append(f"handler {one.handler} {' '.join(self.script.handlers[one.handler])}")
+        rows += [f"guard {which} {' '.join(self.script.guards[which])}" for which in one.guards]
+        return "\n".join(rows)
+
+    @staticmethod
+    def sends(line):
+        """The sends of a line: endpoints and lengths."""
+        if line.kind not in ("entry", "job"):
+            return []
+        steps = all_steps((reply_of(line) or ([],))[0])
+        return [tuple(map(int, step.words)) for step in steps if step.kind == "send"]
+
+    def deliveries(self, lines):
+        """What a segment's sends come to, endpoint by endpoint."""
+        sent, lost = {}, {line.index: line for line in lines if line.kind == "lost"}
+        for line in lines:
+            for endpoint, length in self.sends(line):
+                count, total = sent.get(endpoint, (0, 0))
+                sent[endpoint] = count + 1, total + length
+        if not sent:
+            return
+        self.sheet.path(f"M0 {self.y:.7g}H{self.sheet.width:.0f}", "rule")
+        self.sheet.text(8, self.y + 15, "sent", "b")
+        x, y = GUTTER, self.y + 3
+        for endpoint, (count, total) in sorted(sent.items()):
+            text = f"{self.teller.endpoint(endpoint)} ← {count} piece{'s' * (count > 1)}, {total} bytes"
+            note = lost.get(endpoint)
+            if note:
+                text += f"; {'all' if int(note.words[0]) == count else note.words[0]} lost"
+            wide = width_of(text) + 12
+            if x > GUTTER and x + wide > self.sheet.width - 8:
+                x, y = GUTTER, y + 24
+            self.sheet.box(x, y, wide, 20, "send fill", note.text if note else text)
+            self.sheet.text(x + 6, y + 14, text)
+            x += wide + 8
+        self.y = y + 27
+
+    def foot(self, line):
+        """The report's last line."""
+        self.sheet.box(0, self.y, self.sheet.width, 22, "band", line.text)
+        words = line.words
+        text = f"the end: {words[0]} commands were accepted"
+        if len(words) > 1:
+            text += f"; of {words[2]} records {words[4]} were dispatched, and the cut rest has {words[6]} bytes"
+        self.sheet.text(8, self.y + 15, text, "b")
+        self.y += 26
+
+
+def middle_height(rows, middle):
+    """How high the first of two columns is that part these rows in their middle."""
+    first = second = 0
+    for shown in rows:
+        if first < middle:
+            first += len(shown)
+        else:
+            second += len(shown)
+    return LINE * max(first, second)
+
+
+def draw(script, lines):
+    """The picture of a run and the values of its filter."""
+    picture = RunPicture(script, list(lines))
+    return picture.draw(), picture.values

@@ -1,0 +1,119 @@
+"""What lines of a report say, in words: rows of text for pictures and for the session."""
+
+from dataclasses import dataclass
+
+from wrapper.reading import number, reply_of
+from wrapper.svg import shortened
+
+
+
+@dataclass
+class Row:
+    """A row of text: how deep it stands, and how it looks: `b` bold, `faint`, or plain."""
+
+    text: str
+    depth: int = 0
+    look: str = ""
+
+
+def binding_words(one):
+    """A binding's handler, and its mode where it isn't plain."""
+    mode = "" if one.mode == "plain" else f" {one.mode}"
+    return f"#{one.number} handler {one.handler}{mode}"
+
+
+def rule_words(script, event, which):
+    """The rule of the event's owner by which something was refused."""
+    if not which:
+        return f"no rule of event {event} allows it"
+    rules = script.rules.get(event)
+    if not rules:
+        return f"rule {which} of {script.authorisers.get(event, 'the authoriser')}"
+    low, high, kind, handler, own = rules[which - 1][:5]
+    effect = " ".join(rules[which - 1][5:])
+    return f"rule {which}: modules {low} to {high}, {kind}, handler {handler}, {own}: {effect}"
+
+
+def refusal_words(script, deed, words):
+    """Why a command or a raise was refused, in words; the words are those behind `refused`."""
+    name = words[1].replace("_", " ")
+    if words[1] in ("denied", "forced_mode"):
+        return f"{name}: {rule_words(script, number(deed[1]), int(words[2]))}"
+    if words[1] == "conflict":
+        return f"{name}: {' before '.join([*words[2:], words[2]])}"
+    return name
+
+
+class Teller:
+    """Tells steps of replies, with the bindings as they were at a place."""
+
+    def __init__(self, script, bindings):
+        self.script, self.bindings = script, bindings
+
+    def run(self, place, words):
+        """A handler that runs."""
+        event, which = map(int, words)
+        if not which:
+            return f"event {event}: its default"
+        return binding_words(self.bindings.at(place, which))
+
+    def endpoint(self, which):
+        """An endpoint with its name."""
+        return f"endpoint {which} {' '.join(self.script.endpoints.get(int(which), []))}".rstrip()
+
+    def step(self, place, step):
+        """One step that isn't a raise upwards."""
+        if step.kind == "run":
+            return self.run(place, step.words)
+        if step.kind == "result":
+            return f"gives {step.words[0]}"
+        if step.kind == "send":
+            return f"sends {step.words[1]} bytes to {self.endpoint(step.words[0])}"
+        if step.kind == "drop":
+            return f"drops it: {step.words[0].replace('_', ' ')}"
+        return f"{self.run(place, step.words)}: left to a job"
+
+    def steps(self, place, steps, depth):
+        """The rows of steps; a result stands behind its handler."""
+        rows = []
+        for step in steps:
+            if step.kind == "up":
+                rows.append(Row(f"↑ raises event {step.words[0]}", depth + 1))
+                rows += self.steps(place, step.inner, depth + 2)
+                rows.append(Row(f"= {step.answer}", depth + 2, "faint"))
+            elif step.kind == "result" and rows and rows[-1].text.startswith(("#", "event")):
+                rows[-1].text += f" gives {step.words[0]}"
+            else:
+                rows.append(Row(self.step(place, step), depth + (step.kind not in ("run", "job"))))
+        return rows
+
+    def reply(self, line):
+        """The rows of a reply and of its answer."""
+        steps, answer = reply_of(line)
+        return [*self.steps(line.place, steps, 1), Row(f"= {answer}", 1, "b")]
+
+    def head(self, line):
+        """What was asked, as the script has it."""
+        deed = self.script.deeds[line.line].words
+        if line.kind == "job":
+            which = f", its job {line.index}" if line.index else ""
+            return f"job of line {line.source}{which}"
+        if line.part:
+            return f"packet {line.part} of event {number(deed[1])}"
+        text = " ".join(shortened(word) for word in deed)
+        # constraints that name nobody say nothing
+        return text.replace(" before 0 after 0", "") if deed[0] == "install" else text
+
+    def entry(self, line):
+        """The rows of an entry or a job, its head first."""
+        deed = self.script.deeds[line.line].words
+        head = Row(self.head(line), 0, "b")
+        if line.is_refused:
+            words = line.words[line.words.index("refused") + 1:]
+            return [head, Row(f"✗ refused: {refusal_words(self.script, deed, words)}", 1)]
+        if line.kind == "entry" and line.words[1:] == ["ok"]:
+            head.text = f"✓ {head.text}"
+            return [head]
+        if line.kind == "entry" and line.words[0] == "later":
+            return [head, Row("left to a job", 1)]
+        return [head, *self.reply(line)]
