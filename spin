@@ -1,33 +1,36 @@
 #!/usr/bin/env python3
-"""spin WORD..: runs the program with these words in the folder where it is called; `spin build` proves and builds it.
+"""spin [--quiet] COMMAND WORD..: runs the program with these words in the folder where it is called, or a command of its own.
 
 Where the proved program is built and no source is newer, it is that program that runs. Where it isn't, the words are
 run as a trial, which nothing has proved: a line on standard error says so. The exit status is the program's; 126 says
-that it didn't run. The wrapper's own commands are in COMMANDS: each is a module of `wrapper` with `main(words) -> int`.
+that it didn't run. Where it isn't 0, standard error tells what it means, but for --quiet. The commands are those of
+`wrapper/commands.py`: each of the wrapper's own is a module of `wrapper` with `main(words) -> int`.
 """
 
 import importlib
-import os
 import sys
 from pathlib import Path
 
 TOP = Path(__file__).resolve().parent
 sys.pycache_prefix = str(TOP / "out" / "python")
 sys.path.insert(0, str(TOP))
-from wrapper import program
-
-# The wrapper's own commands and their modules; every other word is the program's.
-COMMANDS = {"build": "build", "picture": "picture"}
+from wrapper import commands
 
 
 def main(words):
     """Runs a command of the wrapper's own, or the program, and answers the exit status."""
-    if words and words[0] in COMMANDS:
-        return importlib.import_module(f"wrapper.{COMMANDS[words[0]]}").main(words[1:])
-    command = program.command()
-    if command is not None:
-        os.execv(command[0], [*command, *words])
-    return program.run(words).returncode
+    quiet = words[:1] == [commands.QUIET]
+    words = words[1:] if quiet else words
+    name = commands.FLAGS.get(words[0], words[0]) if words else ""
+    if commands.is_programs(name) and not commands.asks_help(words):
+        from wrapper import explain
+
+        return explain.main(words, quiet)
+    if commands.named(name) and not commands.asks_help(words):
+        return importlib.import_module(f"wrapper.{name}").main(words[1:])
+    from wrapper import help
+
+    return help.answer(name, words)
 
 
 if __name__ == "__main__":

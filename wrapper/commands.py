@@ -1,0 +1,80 @@
+"""The one table of the commands of `./spin`: those of the program, and those of the wrapper, each a module of its name.
+
+The help, the man page and the completions are made from it. A command of the wrapper's own is told of where its module is.
+"""
+
+from collections import namedtuple
+
+from wrapper.program import TOP
+
+# A word of a command line in capitals stands for what the caller gives; one in brackets may be left out; `..` is one or more.
+Command = namedtuple("Command", "name words line example")
+
+PROGRAM = [
+    Command("run", "SCRIPT [PACKETS]", "runs a script, over a capture or none, and writes its report",
+            "run examples/first.spin"),
+    Command("check", "SCRIPT REPORT [PACKETS]", "judges a report: yes where it is that of some run, no where of none",
+            "check examples/first.spin examples/first.report"),
+    Command("join", "SCRIPT PACKETS", "runs a script over a capture whose fragmented datagrams are made whole",
+            "join examples/packets.spin packets.pcap"),
+    Command("vm", "SCRIPT TRACE", "runs a trace of memory accesses, whose faults are events",
+            "vm pager.spin accesses.trace"),
+    Command("gen", "NUMBER", "makes a large script and a capture from a number, runs them and writes six counts",
+            "gen 1"),
+]
+
+WRAPPER = [
+    Command("build", "[--plain]", "proves and builds the program; with --plain builds it in seconds without proof",
+            "build"),
+    Command("session", "[SCRIPT]", "a prompt that keeps a script growing line by line and tells what each line did",
+            "session examples/first.spin"),
+    Command("picture", "run|climb SCRIPT REPORT [PACKETS] [--html]", "draws a run's report, or the climb of its packets, as SVG",
+            "picture run examples/first.spin examples/first.report"),
+    Command("filter", "SCRIPT CAPTURE.. [--jobs N] [--out FOLDER] [--pcap]",
+            "runs a script over captures of any length and number, side by side in pieces",
+            "filter examples/packets.spin monday.pcap tuesday.pcap"),
+    Command("help", "[COMMAND]", "tells of the commands, or of one", "help run"),
+    Command("version", "", "tells what this is, and which program would run", "version"),
+]
+
+# The flags that may stand in the place of a command.
+FLAGS = {"-h": "help", "--help": "help", "--version": "version"}
+
+# The flag that comes before a command.
+QUIET = "--quiet"
+
+
+def is_there(command):
+    """Whether the module of a command of the wrapper's own is there."""
+    return (TOP / "wrapper" / f"{command.name}.py").is_file()
+
+
+def of_wrapper():
+    """The wrapper's own commands that are there."""
+    return [command for command in WRAPPER if is_there(command)]
+
+
+def every():
+    """All commands that are there, the program's first."""
+    return [*PROGRAM, *of_wrapper()]
+
+
+def named(name):
+    """The command of this name; None where there is none."""
+    return next((command for command in every() if command.name == name), None)
+
+
+def is_programs(name):
+    """Whether the program knows a command of this name."""
+    return any(command.name == name for command in PROGRAM)
+
+
+def asks_help(words):
+    """Whether a word behind the command asks for its help."""
+    return any(word in ("-h", "--help") for word in words[1:])
+
+
+def how_many(command):
+    """The least and the greatest number of words behind a command of the program's."""
+    words = command.words.split()
+    return sum(not word.startswith("[") for word in words), len(words)

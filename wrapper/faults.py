@@ -1,0 +1,120 @@
+"""Why a capture is refused, in words: where the fault lies, and what makes the capture readable, where something does.
+
+Nothing is proved of what is told here.
+"""
+
+import os
+import shlex
+import struct
+
+from wrapper import causes
+
+MAGICS = {
+    b"\xd4\xc3\xb2\xa1": "<", b"\x4d\x3c\xb2\xa1": "<", b"\xa1\xb2\xc3\xd4": ">", b"\xa1\xb2\x3c\x4d": ">",
+}
+MAX_LENGTH = 262_144
+
+# What other files begin with, what they are, and the command that makes a capture of one.
+OTHERS = [
+    (b"\x0a\x0d\x0d\x0a", "pcapng", "editcap -F pcap {0} {1}"),
+    (b"\x1f\x8b", "gzip", "gunzip -c {0} > {1}"),
+    (b"\x28\xb5\x2f\xfd", "zstd", "zstd -dc {0} > {1}"),
+    (b"\xfd7zXZ\x00", "xz", "xz -dc {0} > {1}"),
+    (b"BZh", "bzip2", "bzip2 -dc {0} > {1}"),
+    (b"PK\x03\x04", "zip", "unzip -p {0} > {1}"),
+    (b"\x34\xcd\xb2\xa1", "pcap with longer records", "editcap -F pcap {0} {1}"),
+    (b"\xa1\xb2\xcd\x34", "pcap with longer records", "editcap -F pcap {0} {1}"),
+    (b"snoop\x00\x00\x00", "snoop", "editcap -F pcap {0} {1}"),
+]
+
+# Link types that tcprewrite of tcpreplay 4.4 makes Ethernet of, and others that are met.
+REWRITTEN = {12: "raw IP", 101: "raw IP", 113: "Linux cooked, as of tcpdump -i any"}
+LINKS = {
+    0: "loopback of BSD", 105: "802.11", 127: "802.11 with radiotap", 108: "loopback of OpenBSD",
+    220: "USB", 228: "raw IPv4", 229: "raw IPv6", 276: "Linux cooked 2, as of tcpdump -i any",
+}
+REWRITE = (
+    "tcprewrite --dlt=enet --enet-smac=02:00:00:00:00:01 --enet-dmac=02:00:00:00:00:02 --infile={0} --outfile={1}"
+)
+
+
+def other_name(name):
+    """A name for the capture that a command makes, beside this one."""
+    stem = name
+    for end in (".gz", ".zst", ".xz", ".bz2", ".zip", ".pcapng", ".pcap", ".cap"):
+        stem = stem[: -len(end)] if stem.endswith(end) and stem != end else stem
+    return f"{stem}.classic.pcap"
+
+
+def made_by(command, name):
+    """A line that names the command which makes a capture of the file."""
+    return f"make it one with: {command.format(shlex.quote(name), shlex.quote(other_name(name)))}"
+
+
+def of_magic(name, head):
+    """What is told of a file whose first bytes are no magic."""
+    begins = f"its first 4 bytes are {head[:4].hex(' ')}, where a classic pcap has d4 c3 b2 a1 or a like magic"
+    for magic, what, command in OTHERS:
+        if head.startswith(magic):
+            return [f"{begins}: it is {what}", made_by(command, name)]
+    if all(byte in b"\t\n\r" or 0x20 <= byte <= 0x7E for byte in head):
+        return [f"{begins}: it is a text; is it SCRIPT, and the words in another order?"]
+    return [begins]
+
+
+def of_version(name, head):
+    """What is told of a capture of another version."""
+    major, minor = struct.unpack(f"{MAGICS[head[:4]]}HH", head[4:8])
+    return [f"at offset 4 stands version {major}.{minor}, where 2.4 is read", made_by("editcap -F pcap {0} {1}", name)]
+
+
+def of_link(name, head):
+    """What is told of a capture of another link type."""
+    (link,) = struct.unpack(f"{MAGICS[head[:4]]}I", head[20:24])
+    known = REWRITTEN.get(link) or LINKS.get(link)
+    told = [f"at offset 20 stands link type {link}" + (f" ({known})" if known else "") + ", where 1 is read, Ethernet"]
+    if link in REWRITTEN:
+        return [*told, made_by(REWRITE, name)]
+    return [*told, "capture on an interface of Ethernet, as tcpdump -i eth0 -w does"]
+
+
+def offset_of(file, order, record):
+    """Where in a capture the header of the record of this number, counted from 1, begins."""
+    at = 24
+    for _ in range(record - 1):
+        file.seek(at + 8)
+        at += 16 + struct.unpack(f"{order}I", file.read(4))[0]
+    return at
+
+
+def of_record(name, fault, record):
+    """What is told of a record that is refused."""
+    with open(name, "rb") as file:
+        order = MAGICS[file.read(4)]
+        at = offset_of(file, order, record)
+        file.seek(at + 8)
+        length = file.read(4)
+    before = f"head -c {at} {{0}} > {{1}}"
+    told = [f"record {record} begins at offset {at}"]
+    if fault == 6:
+        told[0] += f", and says a captured length of {struct.unpack(f'{order}I', length)[0]:,}, where at most {MAX_LENGTH:,} is read"
+        return [*told, f"the {record - 1} records before it are a capture: {before.format(shlex.quote(name), shlex.quote(other_name(name)))}"]
+    return [*told, "a capture may be cut into pieces: editcap -c 1000000 does so"]
+
+
+def explain(name, record, fault):
+    """The lines that tell of a fault of the capture of this name."""
+    called, where = causes.capture_fault(fault)
+    told = [f"{name}, record {record}, fault {fault} ({called}): {where}"]
+    try:
+        with open(name, "rb") as file:
+            head = file.read(24)
+        if fault == 5:
+            return [*told, f"the file has {os.path.getsize(name)} bytes, where the header alone has 24"]
+        if fault in (2, 3, 4):
+            return told + {2: of_magic, 3: of_version, 4: of_link}[fault](name, head)
+        if fault in (6, 7):
+            return told + of_record(name, fault, record)
+    except (OSError, KeyError, struct.error):
+        return told
+    return told

@@ -1,0 +1,92 @@
+"""help: tells of the commands in a line each, of one of them, or of the nearest to a word that is none."""
+
+import difflib
+import sys
+
+from wrapper import commands
+from wrapper.program import tell
+
+FLAGS_LINES = [
+    ("-h, --help", "this text; behind a command the text of that command"),
+    ("--version", "as version"),
+    ("--quiet", "before a command: no word of the wrapper's about what the program answered"),
+]
+
+BELOW = """\
+Example, on a fresh clone:
+  ./spin run examples/first.spin
+
+Standard output and the status of the first five are the program's, byte for byte. Where its status isn't 0, the wrapper
+tells on standard error what that means. Nothing is proved of what the wrapper tells.
+
+To read on: README.md, what there is; docs/FORMATS.md, scripts, reports, captures, causes and statuses; examples/,
+scripts that teach, each with its report; man docs/spin.1.
+"""
+
+
+def columns(pairs):
+    """Lines of two columns, indented."""
+    width = max(len(left) for left, _ in pairs)
+    return "".join(f"  {left:{width}}  {right}\n" for left, right in pairs)
+
+
+def whole():
+    """The text of all commands."""
+    rows = [(command.name, command.line) for command in commands.every()]
+    return (
+        "spin: an event dispatcher, whose program is proved\n\n"
+        "usage: ./spin [--quiet] COMMAND WORD..\n\n"
+        f"{columns(rows)}\n{columns(FLAGS_LINES)}\n"
+        f"./spin help COMMAND tells a command's words.\n\n{BELOW}"
+    )
+
+
+def usage(command):
+    """The usage line of a command."""
+    return f"usage: ./spin {command.name} {command.words}".rstrip() + "\n"
+
+
+def of_one(command):
+    """The text of one command."""
+    return f"{usage(command)}\n{command.name}: {command.line}\n\nExample:\n  ./spin {command.example}\n"
+
+
+def nearest(word, among):
+    """The word among these that is nearest to this one; None where none is near."""
+    found = difflib.get_close_matches(word, among, n=1, cutoff=0.5)
+    return found[0] if found else None
+
+
+def mistyped(word):
+    """Tells that the word is no command, which is the nearest one, and answers the status."""
+    near = nearest(word, [command.name for command in commands.every()] + [commands.QUIET, *commands.FLAGS])
+    tell(f"{word!a} is no command" + (f"; the nearest is {near}" if near else "; ./spin help tells them"))
+    return 1
+
+
+def no_words():
+    """Tells the usage where no words are given, and answers the status."""
+    sys.stderr.write(whole())
+    return 1
+
+
+def answer(name, words):
+    """Answers words that no command takes, or that ask for the help of one."""
+    if not words:
+        return no_words()
+    return main([name]) if commands.named(name) else mistyped(name)
+
+
+def main(words):
+    """Writes the text of all commands, or of the one that is named, and answers the exit status."""
+    if len(words) > 1:
+        tell("help takes one word at most")
+        return 1
+    if not words:
+        sys.stdout.write(whole())
+        return 0
+    command = commands.named(words[0])
+    if command is None:
+        return mistyped(words[0])
+    sys.stdout.write(of_one(command))
+    return 0

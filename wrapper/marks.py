@@ -1,0 +1,311 @@
+"""Which word of a script's line a cause is about, and what may stand in its place.
+
+A word is marked only where what is found here has the cause that the program named; else the line is shown as it is.
+Nothing is proved of what is told here.
+"""
+
+import re
+from collections import namedtuple
+
+from wrapper import places
+
+# The words to mark, from the first to the last, and what may stand there; either may be None.
+Mark = namedtuple("Mark", "first last wanted")
+
+WIDTHS = ("1", "2", "4", "8")
+
+
+class Before:
+    """What the lines before a line have declared."""
+
+    def __init__(self, lines):
+        """Goes through the lines, each of which stands in the language."""
+        self.version, self.modules, self.section = 0, 1, ""
+        self.events, self.endpoints, self.handlers, self.guards = [], [], [], []
+        self.rules, self.authorised, self.defaults = {}, set(), set()
+        for words in lines:
+            self.add(words)
+
+    def add(self, words):
+        """Adds the words of a line."""
+        first = words[0]
+        if not self.version:
+            self.version = int(words[1])
+            return
+        self.section = first
+        if first == "modules":
+            self.modules = places.number_of(words[1])
+        elif first == "event":
+            self.events.append(words[3])
+        elif first == "endpoint":
+            self.endpoints.append(words[2])
+        elif first in ("handler", "guard"):
+            known = self.handlers if first == "handler" else self.guards
+            known.append("" if words[2] == "native" else words[2])
+        elif first == "rule":
+            event = places.number_of(words[1])
+            self.rules[event] = self.rules.get(event, 0) + 1
+        elif first in ("authoriser", "default"):
+            known = self.authorised if first == "authoriser" else self.defaults
+            known.add(places.number_of(words[1]))
+
+    def declared(self, name):
+        """How the things of a name are counted: the first number and the first one that isn't declared."""
+        return {
+            "event": (0, len(self.events)), "owner": (0, self.modules), "endpoint": (0, len(self.endpoints)),
+            "handler": (1, 1 + len(self.handlers)), "guard": (1, 1 + len(self.guards)),
+        }[name]
+
+
+def kinds(signature):
+    """The kinds of a signature's parameters, in lower case."""
+    return "" if signature.startswith("-") else signature.split(":")[0].lower()
+
+
+def parameters(words):
+    """The parameters that the code of a line speaks of, as letters."""
+    if words[0] == "event":
+        return "ww"
+    return "" if words[2].startswith("-") else words[2].split(":")[0]
+
+
+def uses(placed):
+    """The arguments that words use: the word, the argument's number, and the kind that it must have."""
+    for one in placed:
+        if one.want is places.ARGUMENT:
+            yield one, places.number_of(one.word), "w"
+        elif one.want is places.BYTES_ARGUMENT:
+            yield one, places.number_of(one.word), "b"
+        elif one.want.kind == "expression" and one.word.startswith("a"):
+            yield one, int(one.word[1]), "w"
+
+
+def is_node(one):
+    """Whether a word is a node of an expression, a test or a step."""
+    return one.want.kind in ("expression", "test", "steps", "part")
+
+
+def of_depth(before, words, placed):
+    """The first word that is too deep."""
+    return next((one.at for one in placed if one.depth > 8), None), "an expression or test that is at most 8 deep"
+
+
+def of_length(before, words, placed):
+    """The first node behind the 64th."""
+    nodes = [one.at for one in placed if is_node(one) and one.want is not places.MERGE]
+    return (nodes[64] if len(nodes) > 64 else None), "at most 64 nodes: steps, parts, expressions and tests"
+
+
+def of_argument(before, words, placed):
+    """The first argument that isn't there."""
+    there = len(parameters(words))
+    at = next((one.at for one, argument, _ in uses(placed) if argument >= there), None)
+    return at, f"an argument that is there: {there} of them are, counted from 0" if there else "nothing, since there is no argument"
+
+
+def layer_fits(layer, letters):
+    """Whether a step that reads headers can stand in a handler of these parameters."""
+    return letters.startswith("b") if layer == "ipv4" else letters == "bwww"
+
+
+def of_kind(before, words, placed):
+    """The first argument of the other kind, width that is none, or layer that the parameters don't have."""
+    letters = parameters(words).lower()
+    wrong = {}
+    for one, argument, kind in uses(placed):
+        if argument < len(letters) and letters[argument] != kind:
+            wrong[one.at] = "an argument that is " + ("a word" if kind == "w" else "bytes")
+    for one in placed:
+        if one.want is places.WIDTH and str(places.number_of(one.word)) not in WIDTHS:
+            wrong[one.at] = "a width of 1, 2, 4 or 8"
+        if one.want is places.LAYER and not layer_fits(one.word, letters):
+            wrong[one.at] = "`ipv4` where argument 0 is bytes, `udp` where the signature is `bwww`"
+    at = min(wrong, default=None)
+    return at, wrong.get(at)
+
+
+def of_var(before, words, placed):
+    """The first argument that is set and isn't var."""
+    letters = parameters(words)
+    for one in placed:
+        if one.want is places.ARGUMENT and letters[places.number_of(one.word)].islower():
+            return one.at, "the number of a var parameter, one that the signature has as a capital"
+    return None, None
+
+
+def of_result(before, words, placed):
+    """The first step that gives a result."""
+    at = next((one.at for one in placed if one.want is places.STEPS and one.word == "result"), None)
+    return at, "a result, only where the signature ends in `:w`"
+
+
+def of_next(before, words, placed):
+    """The number that isn't the next one."""
+    return 1, f"{before.declared(words[0])[1]}, the next number"
+
+
+NAMES = {
+    places.EVENT.name: "event", places.OWNER.name: "owner", places.ENDPOINT.name: "endpoint",
+    places.HANDLER.name: "handler", places.GUARD.name: "guard",
+}
+
+
+def range_of(name, before):
+    """Which numbers of a name are declared, in words."""
+    low, end = before.declared(name)
+    thing = "module" if name == "owner" else name
+    if end - low > 1:
+        return f"{low} to {end - 1}, the {thing}s that are declared"
+    return f"{low}, the one {thing} that is declared" if low < end else f"nothing, since no {thing} is declared"
+
+
+def of_undeclared(before, words, placed):
+    """The first number of what isn't declared."""
+    for one in placed:
+        name = NAMES.get(one.want.name)
+        if name and one.word != "any":
+            low, end = before.declared(name)
+            if not low <= places.number_of(one.word) < end:
+                return one.at, range_of(name, before)
+    return None, None
+
+
+def raised(placed):
+    """The raises upwards of a line: the event's word, and the kinds that it is raised with."""
+    for index, one in enumerate(placed):
+        if one.want is places.STEPS and one.word == "up":
+            yield placed[index + 1], "".join(part_kinds(placed[index + 3 :]))
+        elif one.want is places.LAYER:
+            yield placed[index + 1], "bwww" if one.word == "ipv4" else "bwwww"
+
+
+def part_kinds(placed):
+    """The kinds of the parts up to the next step."""
+    for one in placed:
+        if one.want is places.STEPS:
+            return
+        if one.want is places.PART:
+            yield one.word
+
+
+def of_mismatch(before, words, placed):
+    """What doesn't fit: a raise upwards, an imposed guard, a default, or a rule beside an authoriser."""
+    for one, parts in raised(placed):
+        takes = kinds(before.events[places.number_of(one.word)])
+        if takes != parts:
+            return one.at, f"an event of the kinds `{parts or '-'}`; this one takes `{takes or '-'}`"
+    if words[0] not in ("rule", "default", "authoriser"):
+        return None, None
+    event = places.number_of(words[1])
+    if words[0] == "authoriser":
+        return 1, "an event without a rule, whose kinds the authoriser's guards have"
+    if words[0] == "default":
+        signature = before.events[event]
+        return 2, f"a handler of the signature `{signature}` that sets no argument and raises greater events alone"
+    if event in before.authorised:
+        return 1, "an event without a native authoriser"
+    takes = kinds(before.events[event])
+    for one in placed:
+        if one.want is places.GUARD and kinds(before.guards[places.number_of(one.word) - 1]) != takes:
+            return one.at, f"a guard of the kinds `{takes or '-'}`"
+    return None, None
+
+
+def of_native(before, words, placed):
+    """The name of the native."""
+    names = {"handler": "`first_word`", "guard": "`is_ipv4`", "authoriser": "`own_two`"}
+    return placed[-1].at, f"{names[words[0]]}, the one native of that kind that the program has"
+
+
+def of_repeated(before, words, placed):
+    """The name, or the event, that stands already."""
+    if words[0] == "endpoint":
+        return 2, f"a name that no endpoint has: {places.either(before.endpoints)} stand{'s' * (len(before.endpoints) == 1)} already"
+    what = "a first default" if words[0] == "default" else "an authoriser"
+    return 1, f"an event that has no {what.split(' ', 1)[1]} yet"
+
+
+def of_limit(before, words, placed):
+    """What is one too many: the whole line."""
+    if words[0] == "rule":
+        return 0, "at most 16 rules of an event"
+    return 0, f"at most 65,536 deeds, {4096 if before.version == 3 else 1000:,} of them commands"
+
+
+def of_lane(before, words, placed):
+    """The lane's number."""
+    return 1, "a lane from 0 to 7"
+
+
+FINDERS = {
+    12: of_next, 13: of_limit, 14: of_depth, 15: of_length, 16: of_argument, 17: of_kind, 18: of_var, 19: of_result,
+    20: of_undeclared, 21: of_mismatch, 22: of_native, 23: of_repeated, 24: of_lane,
+}
+
+
+def of_version(words):
+    """The mark of a first line that names no version."""
+    wanted = "`spin 1`, `spin 2` or `spin 3`"
+    if words[:1] == ["report"]:
+        wanted += "; this file is a report"
+    elif words[:1] == ["vm"]:
+        wanted += "; this file is a trace, and the script comes before it"
+    return Mark(0, len(words) - 1, wanted)
+
+
+def of_order(before, words):
+    """The mark of a line that stands too late."""
+    if words[0] == "retire":
+        wanted = "`retire` only behind `barrier` or another `retire`"
+    elif words[0] == "modules" and before.section == "modules":
+        wanted = "`modules` only once"
+    else:
+        wanted = f"`{before.section}` or what comes behind it; `{words[0]}` comes before: the order is modules, event, "
+        wanted += "endpoint, handler, guard, rule and authoriser, default, lane and barrier"
+    return Mark(0, 0, wanted)
+
+
+def find(cause, before, words):
+    """The mark for a cause of the line of these words; None where it can't be told."""
+    if cause == 3:
+        return of_version(words)
+    if cause == 4:
+        return Mark(0, 0, f"a word that begins a line: {places.either(places.lines(1))}")
+    if words[0] not in places.lines(1):
+        return None
+    if cause == 5:
+        return of_order(before, words)
+    placed, fault = places.walk(words, before.version)
+    if fault:
+        same = fault.cause == cause
+        return Mark(fault.at, fault.at, places.wanted(fault.want)) if same else None
+    if cause not in FINDERS:
+        return None
+    at, wanted = FINDERS[cause](before, words, placed)
+    if at is None:
+        return None
+    return Mark(at, len(words) - 1 if cause == 13 else at, wanted)
+
+
+def spans(line):
+    """Where each word of a line stands, from its first byte to behind its last."""
+    return [found.span() for found in re.finditer(rb"[^ \t]+", line)]
+
+
+def lines_of(text):
+    """The lines of a text, without their ends."""
+    lines = text.split(b"\n")
+    if lines[-1] == b"":
+        lines.pop()
+    return [line[:-1] if line.endswith(b"\r") else line for line in lines]
+
+
+def words_of(line):
+    """The words of a line."""
+    return line.decode("ascii").replace("\t", " ").split()
+
+
+def before_line(lines, number):
+    """What the lines before the one of this number, counted from 1, have declared."""
+    given = (words_of(line) for line in lines[: number - 1])
+    return Before(words for words in given if words and not words[0].startswith("#"))

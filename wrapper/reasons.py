@@ -1,0 +1,283 @@
+"""What a status of the program means: the lines that are told of it.
+
+The program is asked anew by words that send nothing, and only over regular files, which a second reading doesn't change.
+"""
+
+import difflib
+import os
+import re
+import select
+import stat
+import subprocess
+
+from wrapper import causes, commands, faults, marks, program
+
+WIDTH = 96
+
+
+def files_of(words):
+    """The files that the words name, each as the format calls it, in the order in which the program reads them."""
+    order = {"run": "script packets", "join": "script packets", "check": "script report packets", "vm": "script trace"}
+    named = dict(zip(order.get(words[0], "").split(), words[1:]))
+    return {what: named[what] for what in ("script", "packets", "report", "trace") if what in named}
+
+
+def asked(words):
+    """The last line that the program writes for words which send nothing; empty where that can't be asked."""
+    named = files_of(words)
+    if not all(os.path.isfile(name) for name in named.values()):
+        return ""
+    if words[0] != "vm":
+        words = ["check", named["script"], os.devnull, *filter(None, [named.get("packets")])]
+    told = program.run(words, stdout=subprocess.PIPE, stderr=subprocess.DEVNULL).stdout
+    return told.decode("ascii", "replace").rstrip("\n").rpartition("\n")[2]
+
+
+def numbers_of(line, status):
+    """The numbers of a stop line of this status; none where it is no such line."""
+    found = re.fullmatch(rf"stop {status} \w+ (\d+) \w+ (\d+)", line)
+    return [int(number) for number in found.groups()] if found else []
+
+
+def meaning(status, numbers=(), letters=""):
+    """A status in words, with the numbers of its stop line."""
+    text = re.sub(r"\b(exactly|only) where ", "", causes.status(status))
+    for letter, number in zip(letters, numbers):
+        text = re.sub(rf"\b{letter}\b", str(number), text)
+    return f"status {status}: {text}"
+
+
+def shown(line, first, last):
+    """A line of a file with a mark below the bytes from the first to the last, cut to where the mark is."""
+    start = max(0, min(first - WIDTH // 3, len(line) - WIDTH))
+    piece = line[start : start + WIDTH].decode("latin-1")
+    text = "".join(letter if " " <= letter <= "~" else "\t?"[letter != "\t"] for letter in piece).replace("\t", " ")
+    front, back = "... " if start else "", " ..." if start + WIDTH < len(line) else ""
+    length = max(1, min(last, start + WIDTH) - first)
+    return [f"    {front}{text}{back}".rstrip(), " " * (4 + len(front) + first - start) + "^" + "~" * (length - 1)]
+
+
+def marked(line, mark):
+    """A line of a file with the words of a mark marked, and what may stand there."""
+    if mark is None:
+        return shown(line, 0, len(line))[:1]
+    spans = marks.spans(line)
+    end = len(line.rstrip()) + 1
+    first = spans[mark.first][0] if mark.first < len(spans) else end
+    last = spans[mark.last][1] if mark.last < len(spans) else end + 1
+    told = shown(line if mark.first < len(spans) else line.rstrip() + b"  ", first, last)
+    if mark.wanted:
+        told.append(f"    may stand here: {mark.wanted}")
+    return told
+
+
+def of_bytes(line, text):
+    """A line with its first byte that isn't ASCII marked."""
+    at = next((k for k, byte in enumerate(line) if byte != 9 and not 0x20 <= byte <= 0x7E), None)
+    if at is None:
+        return []
+    told = [*shown(line, at, at + 1), f"    this is byte 0x{line[at]:02x}, the {at + 1}. of the line"]
+    if text[:4] in faults.MAGICS:
+        told.append("    the file begins as a capture does: SCRIPT comes before it")
+    return told
+
+
+def of_script_line(text, number, cause):
+    """The line of a script with the mark of the cause, and what may stand there."""
+    lines = marks.lines_of(text)
+    if not 1 <= number <= len(lines):
+        return ["    it has no line"]
+    line = lines[number - 1]
+    if cause == 2:
+        return of_bytes(text.split(b"\n")[number - 1], text)
+    words = marks.words_of(line)
+    mark = marks.find(cause, marks.before_line(lines, number), words)
+    told = marked(line, mark)
+    near = nearest_word(mark, words)
+    return told[:-1] + [f"{told[-1]}; the nearest is `{near}`"] if near else told
+
+
+def nearest_word(mark, words):
+    """The word in backticks of what may stand at a mark that is nearest to the one that stands there."""
+    if mark is None or not mark.wanted or mark.first >= len(words):
+        return None
+    found = difflib.get_close_matches(words[mark.first], re.findall(r"`(\w+)`", mark.wanted), n=1)
+    return found[0] if found and found[0] != words[mark.first] else None
+
+
+def read(name):
+    """The bytes of a file; empty where it can't be read."""
+    try:
+        with open(name, "rb") as file:
+            return file.read()
+    except OSError:
+        return b""
+
+
+def of_script(words, status):
+    """A refused script."""
+    numbers = numbers_of(asked(words), status)
+    if not numbers:
+        return [meaning(status)]
+    (line, cause), script = numbers, words[1]
+    name, where = causes.script_cause(cause)
+    told = [f"{script}, line {line}, cause {cause} ({name}): {where}"]
+    told += of_script_line(read(script), line, cause) if line else [f"    it has {os.path.getsize(script):,} bytes"]
+    return [*told, meaning(status, numbers, "NC")]
+
+
+def of_capture(words, status):
+    """A refused capture."""
+    numbers = numbers_of(asked(words), status)
+    if not numbers:
+        return [meaning(status)]
+    told = faults.explain(files_of(words)["packets"], *numbers)
+    return [told[0], *(f"    {line}" for line in told[1:]), meaning(status, numbers, "NF")]
+
+
+TRACE_FORMS = {
+    "space": "`space S`", "region": "`region S START PAGES RIGHTS`, RIGHTS `r` or `rw`", "unmap": "`unmap S PAGE`",
+    "access": "`access S ADDRESS KIND`, KIND `r` or `w`",
+}
+
+
+def trace_mark(cause, words):
+    """The mark of a trace's line."""
+    if cause == 3:
+        script = "; this file is a script, which comes before the trace" if words[:1] == ["spin"] else ""
+        return marks.Mark(0, len(words) - 1, f"`vm 1`{script}")
+    if cause == 4 and words[0] in TRACE_FORMS:
+        return marks.Mark(0, len(words) - 1, TRACE_FORMS[words[0]])
+    if cause == 4:
+        return marks.Mark(0, 0, "`space`, `region`, `unmap` or `access`")
+    return marks.Mark(*((1, 1) if cause in (5, 6) else (0, len(words) - 1)), None)
+
+
+def of_trace(words, status):
+    """A refused trace."""
+    numbers = numbers_of(asked(words), status)
+    if not numbers:
+        return [meaning(status)]
+    number, cause = numbers
+    name, where = causes.trace_cause(cause)
+    told, text = [f"{words[2]}, line {number}, cause {cause} ({name}): {where}"], read(words[2])
+    lines = marks.lines_of(text)
+    if 1 <= number <= len(lines):
+        if cause == 2:
+            told += of_bytes(text.split(b"\n")[number - 1], text)
+        else:
+            told += marked(lines[number - 1], trace_mark(cause, marks.words_of(lines[number - 1])))
+    return [*told, meaning(status, numbers, "NC")]
+
+
+def of_unsuited(words, status):
+    """A script that isn't one for traces."""
+    return [
+        meaning(status),
+        "    such a script has one segment, one lane and commands alone, and its events 0, 1 and 2 are of `www:w`",
+    ]
+
+
+def of_words(words, status):
+    """A faulty command line."""
+    command, given = commands.named(words[0]), words[1:]
+    least, most = commands.how_many(command)
+    told = [f"{command.name} takes {command.words}"]
+    if not least <= len(given) <= most:
+        told[0] += f"; {len(given)} word{'s are' if len(given) != 1 else ' is'} given"
+    for word in given:
+        if not word:
+            told.append("    a word is empty")
+        elif word.startswith("-"):
+            told.append(f"    {word} begins with `-`: the program has no flags; ./{word} names a file so")
+        elif not word.isprintable() and word.encode("utf-8", "replace").decode() != word:
+            told.append(f"    {word!a} isn't UTF-8")
+    if command.name == "gen" and len(given) == 1:
+        told.append("    NUMBER is decimal digits, or `0x` and 1 to 16 hexadecimal digits, below 2^64")
+    return [*told, meaning(status)]
+
+
+def of_missing(words, status):
+    """A file that isn't there."""
+    for what, name in files_of(words).items():
+        if not os.path.lexists(name):
+            folder, base = os.path.split(name)
+            try:
+                near = difflib.get_close_matches(base, os.listdir(folder or "."), n=1)
+            except OSError:
+                near = []
+            told = f"{name}, the {what}, isn't there"
+            return [told + (f"; the nearest is {os.path.join(folder, near[0])}" if near else ""), meaning(status)]
+    return [meaning(status)]
+
+
+def of_unread(words, status):
+    """A file that can't be read."""
+    for what, name in files_of(words).items():
+        try:
+            with open(name, "rb", buffering=0) as file:
+                file.read(1)
+        except OSError as why:
+            return [f"{name}, the {what}, can't be read: {why.strerror}", meaning(status)]
+    return [meaning(status)]
+
+
+def of_unwritten(words, status):
+    """A write that failed; nothing is told where a pipe's reader went away, as `head` does."""
+    try:
+        kind = os.fstat(1).st_mode
+    except OSError:
+        return ["standard output is closed", meaning(status)]
+    if stat.S_ISFIFO(kind):
+        poll = select.poll()
+        poll.register(1, select.POLLOUT)
+        if any(event & (select.POLLERR | select.POLLHUP) for _, event in poll.poll(0)):
+            return []
+    return ["standard output took no more bytes; is the disk full?", meaning(status)]
+
+
+def of_endpoint(words, status):
+    """An endpoint that failed."""
+    told = []
+    for name in ("out0.bin", "out1.bin", "out2.bin", "out3.bin", "echo.bin"):
+        if os.path.isdir(name):
+            told.append(f"    {name} is a folder")
+        elif os.path.exists(name) and not os.access(name, os.W_OK):
+            told.append(f"    {name} may not be written")
+    if not os.access(".", os.W_OK):
+        told.append("    no file may be made in this folder")
+    return ["what a handler sends to an endpoint goes to the file NAME.bin in this folder", *told, meaning(status)]
+
+
+def of_no(words, status):
+    """A report that is judged none: what can be told of it without judging again."""
+    script, report, *packets = words[1:]
+    lines = read(report).split(b"\n") if os.path.isfile(report) else []
+    told = []
+    wants = any(re.fullmatch(rb"end \d+ records .*", line) or b" packet " in line for line in lines)
+    if wants and not packets:
+        told.append(f"    it is one of a run over a capture, and none is named: ./spin check {script} {report} PACKETS")
+    if packets and any(re.fullmatch(rb"end \d+", line) for line in lines):
+        told.append(f"    it is one of a run without a capture, and {packets[0]} is named")
+    if lines and lines[0] != b"report 1":
+        told.append("    its first line isn't `report 1`")
+    if lines and lines[-1]:
+        told.append("    its last line lacks its line feed")
+    if len(lines) > 1 and lines[-2].startswith(b"stop "):
+        told.append(f"    it ends in `{lines[-2].decode('ascii', 'replace')}`: it is that of a run that was stopped")
+    if any(line.endswith(b"\r") for line in lines):
+        told.append("    its lines end in a carriage return")
+    return [f"{report} is the report of no run of {script}", *told, meaning(status)]
+
+
+REASONS = {
+    1: of_words, 2: of_script, 3: of_capture, 4: of_unread, 5: of_unwritten, 6: of_missing, 8: of_endpoint, 9: of_no,
+    11: of_trace, 12: of_unsuited,
+}
+
+
+def of(words, status):
+    """The lines that are told of a status of the program, which ended so on these words."""
+    if status in REASONS:
+        return REASONS[status](words, status)
+    return [meaning(status)] if status in (7, 10) else []
