@@ -24,11 +24,10 @@ PROGRAM = [
 ]
 
 WRAPPER = [
-    Command("build", "[--plain]", "proves and builds the program; with --plain builds it in seconds without proof",
-            "build"),
+    Command("build", "", "proves every crate and builds the program", "build"),
     Command("session", "[SCRIPT]", "a prompt that keeps a script growing line by line and tells what each line did",
             "session examples/first.spin"),
-    Command("picture", "run|climb SCRIPT REPORT [PACKETS] [--html]", "draws a run's report, or the climb of its packets, as SVG",
+    Command("picture", "run|climb SCRIPT REPORT [PACKETS] [--html] [--out FILE]", "draws a run's report, or the climb of its packets, as SVG",
             "picture run examples/first.spin examples/first.report"),
     Command("filter", "SCRIPT CAPTURE.. [--jobs N] [--out FOLDER] [--pcap]",
             "runs a script over captures of any length and number, side by side in pieces",
