@@ -1,6 +1,6 @@
 //! What is asked of a collection of guards.
 
-ghost use Rattle.std.specs.Prelude.{◌≡◌, ◌+◌, ◌-◌, ◌<◌, ◌≤◌, List, length, slice_get, Some};
+ghost use Rattle.std.specs.Prelude.{ℕ, ◌≡◌, ◌+◌, ◌-◌, ◌<◌, ◌≤◌, List, length, slice_get, Some};
 ghost use Rattle.spin_code.specs.Truth.{admits_at};
 ghost use Rattle.spin_code.specs.declared.test.Test.{Test};
 
@@ -19,6 +19,9 @@ pub trait Sincere {
 pub trait Guards: Sincere {
     ghost tests: { Self → List Test };
 
+    /// They may be asked on the counter of this name. Who is handed guards and a counter can show that of no other.
+    ghost counts: { Self → ℕ → Type 0 };
+
     /// How many guards there are.
     fn count(&self) -> u16
         ensures { result ≡ length (tests self.now) };
@@ -34,6 +37,7 @@ pub trait Guards: Sincere {
         requires first { 0 < guard }
         requires last { guard ≤ length (tests self.now) }
         requires sincere { Self.sincere self.now }
+        requires counter { Self.counts self.now L.name }
         ensures value { result ≡ admits_at (tests self.now) guard args.now }
         ensures one_step { steps.new ≡ steps.old + 1 };
 }

@@ -53,6 +53,7 @@ impl Model for Plan {
 fn admits<C: Guards, L: Ledger>(guards: &C, guard: u16, args: &Args, steps: &mut Steps<L>) -> bool
     requires there { IsGuard (length (C.tests guards.now)) guard }
     requires sincere { C.sincere guards.now }
+    requires counter { C.counts guards.now L.name }
     ensures holds { result ≡ guard_holds (C.tests guards.now) args.now guard }
     ensures steps { steps.new ≤ steps.old + (if guard == 0 then 0 else 1) }
 {
@@ -69,6 +70,7 @@ fn admits_all<C: Guards, L: Ledger>(
     requires own { IsGuard (length (C.tests guards.now)) binding.now.own_guard }
     requires imposed { All (IsGuard (length (C.tests guards.now))) binding.now.imposed }
     requires sincere { C.sincere guards.now }
+    requires counter { C.counts guards.now L.name }
     ensures holds { result ≡ guards_hold (C.tests guards.now) args.now binding.now }
     ensures steps { steps.new ≤ steps.old + guards_in binding.now }
 {
@@ -218,6 +220,7 @@ impl Plan {
             self.now.bindings }
         requires over { IsOver (C.tests guards.now) self.now }
         requires sincere { C.sincere guards.now }
+        requires counter { C.counts guards.now L.name }
         ensures next { IsNext (guards_hold (C.tests guards.now) args.now) self.now.bindings from result }
         ensures within { IfSome result (λ at. at < length self.now.bindings) }
         ensures small { IfSome result (λ at. at + 1 < 2 ^ 32) }

@@ -33,6 +33,9 @@ use std::mem;
 /// catalogue's objects do what they were handed in with. After want of memory nothing is known of the arguments and
 /// the outcome. It is linear in the bindings that may fire, their guards, and what the acts do and give; the arguments
 /// are copied for jobs alone.
+///
+/// It is for a host that has one event and follows no raise upwards by itself: such raises stand in the outcome.
+/// A whole raise, with those that it makes upwards, goes along the same plan by [`step`].
 pub fn raise(
     alloc: Global,
     plan: &Plan,

@@ -10,5 +10,5 @@ mod number;
 mod word;
 
 pub use line::{end_line, put_line};
-pub use number::{begins_with_digit, put_decimal, put_hex};
+pub use number::{put_decimal, put_hex};
 pub use word::{put_number, put_numbers, put_word};

@@ -2,7 +2,6 @@
 
 ghost use Rattle.std.specs.Prelude.{◌≡◌, ◌++◌, ◌<◌, decimal, OnOk, OnErr};
 ghost use Rattle.std.specs.Char.{digit_char};
-ghost use Rattle.spin_text.specs.Digits as specs;
 ghost use Rattle.spin_text.specs.Digits.{hex_digits};
 
 use itoa::Buffer;
@@ -39,14 +38,4 @@ pub fn put_hex(out: &mut Octets, bytes: &[u8]) -> Result<(), NoMemory>
         out.push(hex_digit(*byte % 16))?;
     }
     Ok(())
-}
-
-/// Whether the first byte of a word is a decimal digit, as no byte of the empty word is.
-pub fn begins_with_digit(word: &[u8]) -> bool
-    ensures { result ≡ specs.begins_with_digit word.now }
-{
-    match word {
-        [first, ..] => first.is_ascii_digit(),
-        [] => false,
-    }
 }
