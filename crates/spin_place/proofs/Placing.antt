@@ -1,5 +1,5 @@
 -- Placing the least binding that is ready, again and again.
-use Rattle.std.proofs.Common.{◌≡◌, ℕ, ◌+◌, ◌-◌, ◌<◌, ◌≤◌, List, [], ◌∷◌, ◌++◌, length, get_or, map, count_by, refl, sym, ap, subst, ◌∙◌, arith}
+use Rattle.std.proofs.Common.{◌≡◌, ℕ, zero, suc, ◌+◌, ◌-◌, ◌<◌, ◌≤◌, List, [], ◌∷◌, ◌++◌, length, get_or, map, count_by, refl, sym, ap, subst, ◌∙◌, arith}
 use Rattle.std.specs.Prelude.{IsTrue}
 use Rattle.std.specs.List.{All, Contains, remove}
 use Rattle.std.specs.List.Sorted.{IsPermutation}
@@ -14,7 +14,7 @@ use Rattle.spin_place.specs.Inner.Candidates.{bindings_of, released, AreCounted,
 use Rattle.spin_place.specs.Orders.{AreDistinct, IsLeastOrder, Leads, IsRing, IsCycleOf}
 use Rattle.spin_place.specs.Precedence.{must_precede, numbers_of, MustPrecede, IsTheOrder, IsLawful, IsCycle}
 use Rattle.spin_place.proofs.Lists.{one_if, count_by-zero, none_pass, some_passes}
-use Rattle.spin_place.proofs.Lawful.{IsLeastOrder-nil, IsLeastOrder-cons, IsCycleOf-unlawful}
+use Rattle.spin_place.proofs.Lawful.{length-distinct, IsLeastOrder-nil, IsLeastOrder-cons, IsCycleOf-unlawful}
 use Rattle.spin_place.proofs.Precedences.{MustPrecede-irreflexive, MustPrecede-within, MustPrecede-from, MustPrecede-more, MustPrecede-at, Contains-number}
 use Rattle.spin_place.proofs.Walks.{numbers_left, number_at, Contains-binding}
 
@@ -165,3 +165,15 @@ IsCycle-from_rest bs rest cycle within h = record {
 pub IsCycle-unlawful : (bs : List Binding) (cycle : List ℕ) → IsCycle bs cycle → (ns : List ℕ) → IsLawful bs ns → ⊥
 IsCycle-unlawful bs cycle h ns order =
     IsCycleOf-unlawful (MustPrecede bs) (MustPrecede-irreflexive bs) (numbers_of bs) cycle (MustPrecede-within bs) h ns order
+
+Leads-within : (bs : List Binding) (first : ℕ) (ns : List ℕ) (last : ℕ) → Leads (MustPrecede bs) first ns last → All (Contains (numbers_of bs)) (first ∷ ns)
+Leads-within bs first [] last h zero d l = (MustPrecede-within bs first last h).0
+Leads-within bs first [] last h (suc k) d l = absurd (omega arith)
+Leads-within bs first (n ∷ ns) last h zero d l = (MustPrecede-within bs first n h.0).0
+Leads-within bs first (n ∷ ns) last h (suc k) d l = Leads-within bs n ns last h.1 k d (omega arith)
+
+-- a cycle has at most as many numbers as there are bindings
+pub cycle_fits : (bs : List Binding) (ns : List ℕ) → IsCycle bs ns → length ns ≤ length bs
+cycle_fits bs [] h = omega arith
+cycle_fits bs (n ∷ ns) h =
+    omega (arith, length-distinct (n ∷ ns) (numbers_of bs) h.distinct (Leads-within bs n ns n h.closed), length-map bs (λ (b : Binding). b.number))

@@ -75,15 +75,23 @@ fn is_least_first(numbers: &[u16]) -> bool
     true
 }
 
-/// Whether the numbers are a cycle of the bindings: at least two distinct numbers, the least first, of which the
-/// binding of each must precede that of the next, and that of the last that of the first. It takes no memory. Its
-/// time is linear in the numbers beside the number of bindings: those behind the first that repeats aren't looked at
-/// again.
-pub fn is_cycle(bindings: &[Binding], numbers: &[u16]) -> bool
+// Whether the numbers are a cycle, however many they are.
+fn is_closed(bindings: &[Binding], numbers: &[u16]) -> bool
     ensures { Decides result (IsCycle bindings.now numbers.now) }
 {
     numbers.len() >= 2
         && is_ring(bindings, numbers)
         && are_distinct(numbers)
         && is_least_first(numbers)
+}
+
+/// Whether the numbers are a cycle of the bindings: at least two distinct numbers, the least first, of which the
+/// binding of each must precede that of the next, and that of the last that of the first. It takes no memory. A cycle
+/// has at most as many numbers as there are bindings, so a longer list is refused without a look at it; else its time
+/// is linear in the numbers beside the number of bindings: those behind the first that repeats aren't looked at again.
+#[tactic(auto, using(crate::proofs::Placing::cycle_fits))]
+pub fn is_cycle(bindings: &[Binding], numbers: &[u16]) -> bool
+    ensures { Decides result (IsCycle bindings.now numbers.now) }
+{
+    numbers.len() <= bindings.len() && is_closed(bindings, numbers)
 }
