@@ -66,13 +66,13 @@ not_judged before after mid end_shelf stood stood' stood'' only =
 -- ---- the answer
 
 -- nothing more was written
-appends_nothing : (a b c : Option (List ℕ)) (bytes : List ℕ) → Appends a b bytes → Appends b c [] → Appends a c bytes
+pub appends_nothing : (a b c : Option (List ℕ)) (bytes : List ℕ) → Appends a b bytes → Appends b c [] → Appends a c bytes
 appends_nothing None b c bytes first next = tt
 appends_nothing (Some xs) None c bytes first next = absurd first
 appends_nothing (Some xs) (Some ys) None bytes first next = absurd next
 appends_nothing (Some xs) (Some ys) (Some zs) bytes first next = next ∙ append-nil ys ∙ first
 
-told_nothing : (a b : SinkSeen) → Tells a b [] → Appends a.told b.told []
+pub told_nothing : (a b : SinkSeen) → Tells a b [] → Appends a.told b.told []
 told_nothing a b (inl w) = w.1
 told_nothing a b (inr w) = absurd (omega (arith, w.1))
 

@@ -3,6 +3,7 @@ pub mod CheckKnown
 pub mod Exactly
 pub mod Forms
 pub mod GenCauses
+pub mod Headline
 pub mod Holding
 pub mod JoinCauses
 pub mod JoinKnown

@@ -2,9 +2,11 @@ pub mod Captures
 pub mod Check
 pub mod Ends
 pub mod Gen
+pub mod Headline
 pub mod Held
 pub mod Inner
 pub mod Join
+pub mod Limits
 pub mod Loading
 pub mod Outside
 pub mod Run

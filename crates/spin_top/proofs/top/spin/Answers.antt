@@ -1,5 +1,9 @@
 use Rattle.spin_top.proofs.Exactly.{table_known, whole_known}
+use Rattle.spin_top.proofs.Headline.{headline_holds}
 use Rattle.spin_top.proofs.top.spin.Goals as goal
+
+pub returns-clause-headline : goal.returns-clause-headline
+returns-clause-headline g c = headline_holds _ (whole_known _ c.choose.ensures)
 
 pub returns-clause-whole : goal.returns-clause-whole
 returns-clause-whole g c = whole_known _ c.choose.ensures
