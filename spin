@@ -1,9 +1,9 @@
-#!/usr/bin/env python3
+#!/usr/bin/env -S python3 -IS
 """spin [--quiet] COMMAND WORD..: runs the program with these words in the folder where it is called, or a command of its own.
 
-Where the proved program is built and no source is newer, it is that program that runs. Where it isn't, the words are
-run as a trial, which nothing has proved: a line on standard error says so. The exit status is the program's; 126 says
-that it didn't run. Where it isn't 0, standard error tells what it means, but for --quiet. The commands are those of
+Where the proved program is built and no source is newer, it is that program that runs. Where it isn't, it is the plain
+program, built by cargo, and without cargo a trial: nothing has proved these, and a line on standard error says so. The
+exit status is the program's; 126 says that it didn't run. Where it isn't 0, standard error tells what it means, but for --quiet. The commands are those of
 `wrapper/commands.py`: each of the wrapper's own is a module of `wrapper` with `main(words) -> int`.
 """
 

@@ -19,14 +19,27 @@ def tell(text):
     print(f"spin: {text}", file=sys.stderr, flush=True)
 
 
-def crates_listed():
-    """The repository's crates, each with those of them on which it stands, lowest first."""
+def below_by_crate():
+    """Of each crate of the repository all that it stands on, the kit's libraries too."""
     crates = {}
     for line in (TOP / "crates.txt").read_text().splitlines():
         if line.strip() and not line.startswith("#"):
             head, _, below = line.partition(":")
-            crates[head.split()[0]] = [name for name in below.split() if name in crates]
+            crates[head.split()[0]] = below.split()
     return crates
+
+
+def crates_listed():
+    """The repository's crates, each with those of them on which it stands, lowest first."""
+    left, listed = below_by_crate(), {}
+    below = {name: [other for other in others if other in left] for name, others in left.items()}
+    while below:
+        ready = [name for name, others in below.items() if all(other in listed for other in others)]
+        if not ready:
+            sys.exit(f"spin: crates.txt: these stand on each other: {', '.join(below)}")
+        for name in ready:
+            listed[name] = below.pop(name)
+    return listed
 
 
 def stands_on(crates, tops=("spin_main",)):
@@ -58,8 +71,20 @@ def is_built():
 
 
 def command():
-    """The words that begin the command line of the program to run; None where only a trial is left."""
-    return [str(PROGRAM)] if is_built() else None
+    """The words that begin the command line of the program to run; None where only a trial is left.
+
+    It is the proved program where that is built, else the plain one, which is built first if need be. Where the sources
+    can't be built the process ends, with a clear line.
+    """
+    if is_built():
+        return [str(PROGRAM)]
+    from wrapper import plain
+
+    file = plain.program()
+    if file is None:
+        return None
+    tell("the plain program, of which nothing is proved; ./spin build makes the proved one")
+    return [str(file)]
 
 
 def run(words, **how):

@@ -1,0 +1,8 @@
+//! What only contracts see.
+
+/// What contracts see of a type in place of its fields.
+pub trait Model {}
+
+/// The name of a ledger.
+#[derive(Debug)]
+pub struct Brand;
