@@ -3,8 +3,9 @@
 
 Where the proved program is built and no source is newer, it is that program that runs. Where it isn't, it is the plain
 program, built by cargo, and without cargo a trial: nothing has proved these, and a line on standard error says so. The
-exit status is the program's; 126 says that it didn't run. Where it isn't 0, standard error tells what it means, but for --quiet. The commands are those of
-`wrapper/commands.py`: each of the wrapper's own is a module of `wrapper` with `main(words) -> int`.
+exit status is the program's; 126 says that it didn't run. Where it isn't 0, standard error tells what it means, but for
+--quiet. The commands are those of `wrapper/commands.py`: each of the wrapper's own is a module of `wrapper` with
+`main(words) -> int`.
 """
 
 import importlib
@@ -14,7 +15,7 @@ from pathlib import Path
 TOP = Path(__file__).resolve().parent
 sys.pycache_prefix = str(TOP / "out" / "python")
 sys.path.insert(0, str(TOP))
-from wrapper import commands
+from wrapper import commands, program
 
 
 def main(words):
@@ -34,4 +35,4 @@ def main(words):
 
 
 if __name__ == "__main__":
-    sys.exit(main(sys.argv[1:]))
+    program.exit_with(main, sys.argv[1:])

@@ -1,24 +1,16 @@
 """build: proves every crate and builds the program."""
 
-import contextlib
 import fcntl
 import os
 import re
 import subprocess
 import sys
 import tempfile
-import threading
 import time
 from pathlib import Path
 
 from wrapper.program import CRATE, NOT_RUN, PROGRAM, TOP, crates_listed, is_built, tell
-from wrapper.trial import has_toolchain
-
-
-def passed(since):
-    """How long it has been, in words."""
-    minutes, seconds = divmod(int(time.monotonic() - since), 60)
-    return f"{minutes} min {seconds} s"
+from wrapper.trial import each_minute, has_toolchain, passed
 
 
 def side_by_side():
@@ -29,24 +21,6 @@ def side_by_side():
     return max(1, min(len(os.sched_getaffinity(0)), memory // 3_000_000_000))
 
 
-@contextlib.contextmanager
-def each_minute(line):
-    """Tells the line that the call gives once a minute, while what stands below this runs."""
-    ended = threading.Event()
-
-    def watch():
-        while not ended.wait(60):
-            tell(line())
-
-    thread = threading.Thread(target=watch, daemon=True)
-    thread.start()
-    try:
-        yield
-    finally:
-        ended.set()
-        thread.join()
-
-
 def prove_crates(log, since):
     """Proves every crate, tells how many are done, and answers whether all are."""
     names, done, name = set(crates_listed()), [], ""
@@ -54,7 +28,7 @@ def prove_crates(log, since):
     words = ["rt", "all", "check", "--jobs", str(side_by_side())]
     how = {"stdin": subprocess.DEVNULL, "stdout": subprocess.PIPE, "stderr": subprocess.STDOUT}
     with subprocess.Popen(words, cwd=TOP, **how) as run:
-        with each_minute(lambda: f"{len(done)} of {len(names)} crates are proved, {passed(since)}"):
+        with each_minute(lambda: tell(f"{len(done)} of {len(names)} crates are proved, {passed(since)}")):
             for line in run.stdout:
                 log.write(line)
                 if line.startswith(b"== "):
@@ -68,7 +42,7 @@ def prove_crates(log, since):
 def compile_program(log, since):
     """Compiles the program, whose crates are proved, and answers whether it runs."""
     words = ["rt", "run", "--", "run", "data/first.spin"]
-    with each_minute(lambda: f"the program is being built, {passed(since)}"):
+    with each_minute(lambda: tell(f"the program is being built, {passed(since)}")):
         return subprocess.run(words, cwd=CRATE, stdin=subprocess.DEVNULL, stdout=log, stderr=log).returncode == 0
 
 

@@ -13,6 +13,9 @@ NOT_RUN = 126
 FOLDERS = ("src", "specs", "proofs")
 SUFFIXES = (".rt", ".antt")
 
+# Whether it was told that it is the plain program that runs.
+told = []
+
 
 def tell(text):
     """Says a line of the wrapper's own, which is never the program's."""
@@ -83,7 +86,9 @@ def command():
     file = plain.program()
     if file is None:
         return None
-    tell("the plain program, of which nothing is proved; ./spin build makes the proved one")
+    if not told:
+        told.append(True)
+        tell("the plain program, of which nothing is proved; ./spin build makes the proved one")
     return [str(file)]
 
 
@@ -97,3 +102,18 @@ def run(words, **how):
     from wrapper import trial
 
     return trial.run(words, **how)
+
+
+def exit_with(main, words):
+    """Ends the process with what `main(words)` answers; an interrupt or a closed pipe ends it in one line or none."""
+    try:
+        status = main(words)
+        sys.stdout.flush()
+    except KeyboardInterrupt:
+        tell("interrupted")
+        status = 130
+    except BrokenPipeError:
+        # what is left in the list before standard output can go nowhere
+        os.dup2(os.open(os.devnull, os.O_WRONLY), 1)
+        status = 141
+    sys.exit(status)

@@ -1,9 +1,12 @@
 """A trial of the program by `rt try`: the sources as they stand, with checks at run time and without proof."""
 
+import contextlib
 import os
 import re
 import subprocess
 import sys
+import threading
+import time
 from pathlib import Path
 
 from wrapper.program import CRATE, NOT_RUN, tell
@@ -17,6 +20,30 @@ def has_toolchain():
         tell("the command rt isn't found: install the Rattle toolchain and put rt on the PATH")
         return False
     return True
+
+
+def passed(since):
+    """How long it has been, in words."""
+    minutes, seconds = divmod(int(time.monotonic() - since), 60)
+    return f"{minutes} min {seconds} s"
+
+
+@contextlib.contextmanager
+def each_minute(say):
+    """Makes this call once a minute, while what stands below this runs."""
+    ended = threading.Event()
+
+    def watch():
+        while not ended.wait(60):
+            say()
+
+    thread = threading.Thread(target=watch, daemon=True)
+    thread.start()
+    try:
+        yield
+    finally:
+        ended.set()
+        thread.join()
 
 
 def handed_in(words, folder):
