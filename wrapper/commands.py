@@ -24,7 +24,7 @@ PROGRAM = [
 ]
 
 WRAPPER = [
-    Command("build", "", "proves every crate and builds the program", "build"),
+    Command("build", "[--all]", "proves the crates of the program and builds it; with --all the two hosts too", "build"),
     Command("session", "[SCRIPT]", "a prompt that keeps a script growing line by line and tells what each line did",
             "session examples/first.spin"),
     Command("picture", "run|climb SCRIPT REPORT [PACKETS] [--html] [--out FILE]", "draws a run's report, or the climb of its packets, as SVG",
