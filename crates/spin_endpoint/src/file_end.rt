@@ -3,7 +3,7 @@
 ghost use Rattle.std.specs.Prelude.{◌≡◌, None};
 
 use crate::endpoint::Endpoint;
-use spin_outside::Failed;
+use spin_outside::{Count, Failed};
 use spin_values::Text;
 use std::fs::OpenOptions;
 use std::io;
@@ -19,21 +19,21 @@ pub struct FileEnd<R: Files + Drop> {
     name: Text,
     file: Option<R::File>,
     finishes: u64,
-    faults: u64,
+    faults: Count,
 }
 
 impl<R: Files + Drop> FileEnd<R> {
     /// An endpoint over the file of that name, which it doesn't open yet.
     pub fn new(runtime: R, name: Text) -> FileEnd<R>
         ensures finishes { result.finishes ≡ 0 }
-        ensures faults { result.faults ≡ 0 }
+        ensures faults { result.faults.number ≡ 0 }
     {
         FileEnd {
             runtime,
             name,
             file: None,
             finishes: 0,
-            faults: 0,
+            faults: Count::new(),
         }
     }
 
@@ -73,13 +73,13 @@ fn write_piece<W: Write>(file: &mut W, bytes: &[u8]) -> io::Result<()> {
 }
 
 impl<R: Files + Drop> Endpoint for FileEnd<R> {
-    ghost seen = { λ e. record { pieces = None; finishes = e.finishes; faults = e.faults } };
+    ghost seen = { λ e. record { pieces = None; finishes = e.finishes; faults = e.faults.number } };
 
     fn take(&mut self, bytes: &[u8]) -> Result<(), Failed> {
         match self.append(bytes) {
             Ok(()) => Ok(()),
             Err(_) => {
-                self.faults = self.faults.saturating_add(1);
+                self.faults.raise();
                 Err(Failed)
             }
         }

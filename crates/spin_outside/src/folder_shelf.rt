@@ -2,6 +2,7 @@
 
 ghost use Rattle.std.specs.Prelude.{◌≡◌, ℕ, List, Option, None};
 
+use crate::count::Count;
 use crate::faults::{Failed, FindFault};
 use crate::shelf::Shelf;
 use spin_values::Text;
@@ -15,21 +16,21 @@ use std::rt::Files;
 pub struct FolderShelf<'a, R: Files> {
     folder: &'a R,
     opened: Vec<R::File>,
-    faults: u64,
-    absences: u64,
+    faults: Count,
+    absences: Count,
 }
 
 impl<'a, R: Files> FolderShelf<'a, R> {
     /// A shelf over the files that the runtime reaches.
     pub fn new(alloc: Global, folder: &'a R) -> FolderShelf<'a, R>
-        ensures faults { result.faults ≡ 0 }
-        ensures absences { result.absences ≡ 0 }
+        ensures faults { result.faults.number ≡ 0 }
+        ensures absences { result.absences.number ≡ 0 }
     {
         FolderShelf {
             folder,
             opened: Vec::new(alloc),
-            faults: 0,
-            absences: 0,
+            faults: Count::new(),
+            absences: Count::new(),
         }
     }
 }
@@ -40,8 +41,8 @@ impl<R: Files> Shelf for FolderShelf<'_, R> {
       left = λ _. None;
       found_as = λ _. None;
       reads = λ _. 0;
-      faults = s.faults;
-      absences = s.absences;
+      faults = s.faults.number;
+      absences = s.absences.number;
     } };
 
     ghost none_left = { λ _ _ _. tt };
@@ -49,7 +50,7 @@ impl<R: Files> Shelf for FolderShelf<'_, R> {
     /// Opens the file. No file has a name that isn't UTF-8.
     fn find(&mut self, name: &Text) -> Result<u32, FindFault> {
         let Ok(path) = std::str::from_utf8(name.as_slice()) else {
-            self.absences = self.absences.saturating_add(1);
+            self.absences.raise();
             return Err(FindFault::Absent);
         };
         match fs::open(self.folder, path) {
@@ -64,12 +65,12 @@ impl<R: Files> Shelf for FolderShelf<'_, R> {
             }
             Err(error) => match error.kind() {
                 ErrorKind::NotFound => {
-                    self.absences = self.absences.saturating_add(1);
+                    self.absences.raise();
                     Err(FindFault::Absent)
                 }
                 ErrorKind::OutOfMemory => Err(FindFault::NoMemory),
                 _ => {
-                    self.faults = self.faults.saturating_add(1);
+                    self.faults.raise();
                     Err(FindFault::Failed)
                 }
             },
@@ -84,7 +85,7 @@ impl<R: Files> Shelf for FolderShelf<'_, R> {
         match opened.read(buf) {
             Ok(count) => Ok(count),
             Err(_) => {
-                self.faults = self.faults.saturating_add(1);
+                self.faults.raise();
                 Err(Failed)
             }
         }

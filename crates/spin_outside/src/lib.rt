@@ -9,10 +9,11 @@
 //! - [`Gate`] is what lanes pass before each deed, and [`OpenGate`] the one that holds up nothing;
 //! - [`Failed`], [`FindFault`] and [`TakeFault`] are the answers that aren't success.
 //!
-//! Contracts see of each object a plain record, its ghost member `seen`.
+//! Contracts see of each object a plain record, its ghost member `seen`; its faults and absences are a [`Count`].
 #![tactic(auto)]
 
 mod calls;
+mod count;
 mod faults;
 mod folder_shelf;
 mod gate;
@@ -30,6 +31,7 @@ mod source;
 mod std_sink;
 
 pub use calls::FailingCalls;
+pub use count::Count;
 pub use faults::{Failed, FindFault, TakeFault};
 pub use folder_shelf::FolderShelf;
 pub use gate::{Gate, OpenGate};
