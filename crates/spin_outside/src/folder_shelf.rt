@@ -1,6 +1,7 @@
-//! The files of the working folder as a shelf, which tells nothing of them.
+//! The files of the working folder as a shelf, which tells what a file has left where std does.
 
 ghost use Rattle.std.specs.Prelude.{◌≡◌, ℕ, List, Option, None};
+ghost use Rattle.spin_outside.specs.Folders.{left_in};
 
 use crate::count::Count;
 use crate::faults::{Failed, FindFault};
@@ -11,7 +12,8 @@ use std::fs;
 use std::io::{ErrorKind, Read};
 use std::rt::Files;
 
-/// The files below the working folder. Each file that was found stays open as long as the shelf.
+/// The files below the working folder. Each file that was found stays open as long as the shelf. It doesn't tell the
+/// files by name, but what a file has left, where std tells what is to be read of it.
 #[derive(Drop)]
 pub struct FolderShelf<'a, R: Files> {
     folder: &'a R,
@@ -38,7 +40,7 @@ impl<'a, R: Files> FolderShelf<'a, R> {
 impl<R: Files> Shelf for FolderShelf<'_, R> {
     ghost seen = { λ s. record {
       files = None;
-      left = λ _. None;
+      left = left_in R.File.remaining s.opened.items;
       found_as = λ _. None;
       reads = λ _. 0;
       faults = s.faults.number;

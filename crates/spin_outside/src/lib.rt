@@ -5,7 +5,8 @@
 //! - [`Shelf`] is where files are found by name and read, and [`read_up_to`] takes a whole file;
 //! - [`MemSink`], [`MemSource`] and [`MemShelf`] are in memory. They tell what they hold, and of their calls those of
 //!   listed numbers fail ([`FailingCalls`]); on demand a call moves at most a piece;
-//! - [`StdSink`] is a writer of std, as standard output, and [`FolderShelf`] the working folder, which tells nothing;
+//! - [`StdSink`] is a writer of std, as standard output, and [`FolderShelf`] the working folder, which tells of a file
+//!   what std tells of it;
 //! - [`Gate`] is what lanes pass before each deed, and [`OpenGate`] the one that holds up nothing;
 //! - [`Failed`], [`FindFault`] and [`TakeFault`] are the answers that aren't success.
 //!
