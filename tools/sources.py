@@ -121,3 +121,35 @@ def methods(crate, name):
                     its = clauses_below(lines, at)
                     found.append(Item(head[1], "fn", path, at + 1, comment_above(lines, at), its))
     return found
+
+
+def end_of(lines, at):
+    """The last line of what begins in that line: a definition ends before a blank line, a function at its own brace."""
+    indent = re.match(r" *", lines[at])[0]
+    if not re.search(r"\bfn ", lines[at]) and lines[at].rstrip().endswith((";", "}")):
+        return at
+    closing = at
+    while closing < len(lines) and lines[closing].strip():
+        if re.search(r"\bfn |pub (struct|enum|trait) ", lines[at]) and lines[closing].rstrip() in (indent + "}", indent + "};"):
+            return closing
+        closing += 1
+    if re.search(r"\bfn |pub (struct|enum|trait) ", lines[at]):
+        rest = [it for it in range(closing, len(lines)) if lines[it].rstrip() in (indent + "}", indent + "};")]
+        return rest[0] if rest else at
+    return closing - 1
+
+
+def span(path, name):
+    """The first and last lines, from 1 on, of the definition, function or type of that name in a file, or none."""
+    lines = read(path)
+    owner, _, plain = name.rpartition("::")
+    if path.endswith(".antt"):
+        head = re.compile(rf"(?:[a-z]+ )*pub (?:(?:record|data|abbrev) )?{re.escape(plain)}(?![\w'-])")
+    else:
+        head = re.compile(rf" *(?:pub(?:\([^)]*\))? )?(?:fn|struct|enum|trait|const|type) {re.escape(plain)}\b")
+    within = list(blocks_of(lines, owner)) if owner else [(0, len(lines))]
+    for first, last in within:
+        for at in range(first, last):
+            if head.match(lines[at]):
+                return at + 1, end_of(lines, at) + 1
+    return None
