@@ -117,6 +117,14 @@ class Source:
                 place = self.behind_word(place)
         return self.behind_pair(place)
 
+    def leave_out_visibility(self):
+        """Leaves out the `pub` that stands right before what is left out next."""
+        place = len(self.left) - 1
+        while place >= 0 and self.left[place].isspace():
+            place -= 1
+        if place >= 0 and self.left[place] == "pub":
+            del self.left[place:]
+
     def leave_out(self, at, end, has_docs=False):
         """Leaves the tokens out, but for their line ends; an item's comments before it go too."""
         place = len(self.left) - 1
@@ -147,6 +155,7 @@ class Source:
         while at < len(self.tokens):
             token = self.tokens[at]
             if token == "ghost":
+                self.leave_out_visibility()
                 at = self.leave_out(at, self.behind_ghost(at), has_docs=True)
             elif token in ("requires", "ensures"):
                 at = self.leave_out(at, self.behind_clause(at))

@@ -1,5 +1,7 @@
 //! What only contracts see.
 
+pub use core::marker::PhantomData;
+
 /// What contracts see of a type in place of its fields.
 pub trait Model {}
 
