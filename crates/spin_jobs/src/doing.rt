@@ -23,9 +23,11 @@ use std::thread::Threads;
 /// by [`job_path`], whatever the schedule; it leaves no further job.
 ///
 /// A worker claims the number of the next job by one atomic step, passes the gate and does that job, until none is
-/// left: so each job is done once. The worker of place w passes the gate as number 8 + w. Workers are from 1 to
-/// [`MAX_WORKERS`], of which no more are at work than there are jobs; where a thread can't be started, its worker's part is done by the caller or another worker. A
-/// worker that has no memory ends, the others do all jobs that are left, and the answer is `NoMemory`.
+/// left. Proved is that each number is claimed once, and that each reply is one that its job has. That a worker does
+/// what it claimed no more than once, and passes the gate once before it, as number 8 + w where its place is w, no
+/// clause says: this is tested. Workers are from 1 to [`MAX_WORKERS`], of which no more are at work than there are
+/// jobs; where a thread can't be started, its worker's part is done by the caller or another worker. A worker that has
+/// no memory ends, the others do all jobs that are left, and the answer is `NoMemory`.
 ///
 /// The state of each version is sound for the setup, each call belongs to its version, and the catalogue's objects do
 /// what they were handed in with. Versions are lent, and replies moved. Besides what the jobs take, it is linear in
