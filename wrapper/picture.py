@@ -29,6 +29,7 @@ class Refused(Exception):
     """Why nothing is drawn, and the exit status."""
 
     def __init__(self, why, status):
+        """Keeps the status beside why."""
         super().__init__(why)
         self.status = status
 
@@ -75,8 +76,10 @@ def judged(folder, packets):
     more = [os.path.abspath(file) for file in packets]
     ran = program.run(["check", "script", "report", *more], cwd=folder, stdout=subprocess.PIPE)
     if ran.returncode == NO_RUN:
-        hint = "; it is one of a run over a capture, which isn't named" if tells_of_records(folder) and not packets else ""
-        raise Refused(f"the report is that of no run of the script, so it isn't drawn{hint}", NO_RUN)
+        why = "the report is that of no run of the script, so it isn't drawn"
+        if tells_of_records(folder) and not packets:
+            why += "; it is one of a run over a capture, which isn't named"
+        raise Refused(why, NO_RUN)
     if ran.returncode:
         said = ran.stdout.decode("ascii", "replace").strip() or "the program said nothing"
         raise Refused(f"the report can't be judged, so it isn't drawn: {said}", ran.returncode)
@@ -89,8 +92,15 @@ def drawn(kind, folder, title, is_page):
         try:
             picture, values = KINDS[kind][0].draw(script, read_report(stream))
         except TooLarge:
-            raise Refused("the run is too long for one picture; `picture climb` draws any number of packets", program.NOT_RUN)
+            why = "the run is too long for one picture; `picture climb` draws any number of packets"
+            raise Refused(why, program.NOT_RUN)
     return page(picture, title, values) if is_page else picture
+
+
+def hush():
+    """Lets nothing more be written on standard output, which takes no more."""
+    with contextlib.suppress(OSError):
+        os.dup2(os.open(os.devnull, os.O_WRONLY), sys.stdout.fileno())
 
 
 def write(text, out):
@@ -101,11 +111,11 @@ def write(text, out):
             return
         sys.stdout.buffer.write(text.encode())
         sys.stdout.flush()
+    except BrokenPipeError:
+        raise
     except OSError as error:
         if out is None:
-            # nothing more is to be written at the end
-            with contextlib.suppress(OSError):
-                os.dup2(os.open(os.devnull, os.O_WRONLY), sys.stdout.fileno())
+            hush()
         raise Refused(f"the picture can't be written: {error.strerror}", NOT_WRITTEN)
 
 
