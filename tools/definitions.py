@@ -26,6 +26,7 @@ class Definition:
 
     @property
     def key(self):
+        """What tells it from every other one."""
         return self.file, self.line
 
     def lines(self):
@@ -171,6 +172,7 @@ class Names:
     """What the names in a text stand for, in the module of the file that it stands in."""
 
     def __init__(self):
+        """Reads all definitions."""
         self.known = modules()
 
     def cited(self, definition):
