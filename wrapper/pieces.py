@@ -6,7 +6,7 @@ the record and its place in the file.
 
 import os
 import struct
-from dataclasses import dataclass
+from typing import NamedTuple
 
 HEADER = 24
 RECORD_HEADER = 16
@@ -36,8 +36,7 @@ class Refused(Exception):
         self.status = status
 
 
-@dataclass(frozen=True)
-class Capture:
+class Capture(NamedTuple):
     """A capture's file as it was when it was found, and what its header says."""
 
     name: str
@@ -53,8 +52,7 @@ class Capture:
         return [os.path.realpath(self.name), self.size, self.changed]
 
 
-@dataclass(frozen=True)
-class Piece:
+class Piece(NamedTuple):
     """So many records of a capture, from one place of its file up to another."""
 
     capture: Capture

@@ -6,7 +6,7 @@ it and on its own records alone, and a piece that begins with a round answers as
 more.
 """
 
-from dataclasses import dataclass
+from typing import NamedTuple
 
 # A script has at most so many deeds and so many bytes, by docs/FORMATS.md.
 MOST_DEEDS = 65_536
@@ -27,8 +27,7 @@ class InTheWay(Exception):
         self.line = line
 
 
-@dataclass(frozen=True)
-class Rounds:
+class Rounds(NamedTuple):
     """A script that can be run in pieces: the text before its first packet line, its commands, and one round."""
 
     head: str
