@@ -16,13 +16,13 @@ import time
 from collections import Counter
 from pathlib import Path
 
+from wrapper import commands, help, reasons
 from wrapper.counts import Report, summary
-from wrapper.pieces import LONGEST, Refused, Walk, find_capture
+from wrapper.pieces import Refused, Walk, find_capture
 from wrapper.program import NOT_RUN, TOP, command, tell
 from wrapper.rounds import InTheWay, read_rounds
 from wrapper.worker import DONE, PLAIN_NAMES
 
-USAGE = "spin filter SCRIPT CAPTURE.. [--jobs N] [--out FOLDER] [--pcap] [--piece N] [--part K/N]"
 PIECE = 32_768
 INTERRUPTED = 130
 
@@ -32,7 +32,7 @@ class Words(argparse.ArgumentParser):
 
     def error(self, message):
         """Refuses the words."""
-        raise Refused(1, f"{message}; usage: {USAGE}")
+        raise Refused(1, message, self.usage)
 
 
 def positive(word):
@@ -52,15 +52,15 @@ def part(word):
 
 def read_words(words):
     """What the words ask for."""
-    parser = Words(prog="spin filter", usage=USAGE, description=__doc__, allow_abbrev=False)
+    usage = help.usage(commands.named("filter")).rstrip()
+    parser = Words(usage=usage, add_help=False, allow_abbrev=False)
     parser.add_argument("script", metavar="SCRIPT")
     parser.add_argument("captures", metavar="CAPTURE", nargs="+")
-    processors = len(os.sched_getaffinity(0))
-    parser.add_argument("--jobs", type=positive, default=processors, help=f"pieces side by side ({processors})")
-    parser.add_argument("--out", type=Path, default=Path("filtered"), help="the folder for what is received (filtered)")
-    parser.add_argument("--pcap", action="store_true", help="what is received is written as captures, where it is frames")
-    parser.add_argument("--piece", type=positive, default=PIECE, help=f"records of a piece, at most ({PIECE})")
-    parser.add_argument("--part", type=part, help="does only each Nth piece, from the Kth on, and joins nothing")
+    parser.add_argument("--jobs", type=positive, default=len(os.sched_getaffinity(0)))
+    parser.add_argument("--out", type=Path, default=Path("filtered"))
+    parser.add_argument("--pcap", action="store_true")
+    parser.add_argument("--piece", type=positive, default=PIECE)
+    parser.add_argument("--part", type=part)
     return parser.parse_intermixed_args(words)
 
 
@@ -172,7 +172,7 @@ class Filter:
             with subprocess.Popen([*self.command, "run", "script"], **how) as ran:
                 report = Report(ran.stdout)
         if ran.returncode:
-            raise Refused(ran.returncode, f"{name}: {report.last}")
+            raise Refused(ran.returncode, *reasons.of(["run", name], ran.returncode))
         return text, report.counts
 
     def key(self, piece):
@@ -188,7 +188,7 @@ class Filter:
         return {
             "folder": str(folder), "key": self.key(piece), "command": self.command,
             "script": self.rounds.script(piece.records), "names": self.rounds.endpoints,
-            "capture": piece.capture.name, "order": piece.capture.order, "captured_second": piece.capture.second,
+            "capture": piece.capture.path, "order": piece.capture.order, "captured_second": piece.capture.second,
             "start": piece.start, "end": piece.end, "records": piece.records, "second": self.second,
         }
 
@@ -308,12 +308,13 @@ def main(words):
     try:
         Filter(read_words(words)).run()
     except Refused as refused:
-        tell(f"filter: {refused}")
+        for line in refused.lines:
+            tell(line) if not line.startswith(" ") else print(line, file=sys.stderr)
         return refused.status
     except OSError as error:
-        tell(f"filter: {error}")
+        tell(f"{error.filename or 'filter'}: {error.strerror}")
         return 5
     except KeyboardInterrupt:
-        tell("filter: stopped; called again with the same words, it goes on")
+        tell("stopped; called again with the same words, it goes on")
         return INTERRUPTED
     return 0

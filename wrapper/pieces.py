@@ -5,8 +5,11 @@ the record and its place in the file.
 """
 
 import os
+import stat
 import struct
 from typing import NamedTuple
+
+from wrapper import faults
 
 HEADER = 24
 RECORD_HEADER = 16
@@ -16,30 +19,19 @@ BLOCK = 4_194_304
 # The numbers that a capture may begin with, and how many parts of a second its records then count.
 MAGICS = {0xA1B2C3D4: 1_000_000, 0xA1B23C4D: 1_000_000_000}
 
-# Links that are often met, by their numbers in a capture's header.
-LINKS = {0: "BSD loopback", 101: "raw IP", 105: "802.11", 113: "the interface any", 127: "802.11 with radiotap",
-         276: "the interface any, version 2"}
-
-# What other files begin with, and how a capture is made of them.
-OTHERS = {
-    b"\x0a\x0d\x0d\x0a": "it is pcapng, of which `editcap -F pcap OLD NEW` makes a capture",
-    b"\x1f\x8b": "it is compressed, so run gunzip first",
-    b"\x28\xb5\x2f\xfd": "it is compressed, so run unzstd first",
-}
-
-
 class Refused(Exception):
-    """What is asked for can't be done: the exit status, by the program's table, and why."""
+    """What is asked for can't be done: the exit status, by the program's table, and lines that say why."""
 
-    def __init__(self, status, why):
-        super().__init__(why)
-        self.status = status
+    def __init__(self, status, *lines):
+        super().__init__(*lines)
+        self.status, self.lines = status, lines
 
 
 class Capture(NamedTuple):
     """A capture's file as it was when it was found, and what its header says."""
 
     name: str
+    path: str
     size: int
     changed: int
     order: str
@@ -49,7 +41,7 @@ class Capture(NamedTuple):
 
     def identity(self):
         """What tells this capture from others, and from itself after a change."""
-        return [os.path.realpath(self.name), self.size, self.changed]
+        return [self.path, self.size, self.changed]
 
 
 class Piece(NamedTuple):
@@ -70,40 +62,34 @@ def order_of(header):
 
 
 def fault_of(header):
-    """The number of what is wrong with a capture's header, and why in words; or None."""
+    """The number of the first thing that is wrong with a capture's header, or None."""
     if len(header) < HEADER:
-        return 5, f"it has {len(header)} bytes, and a capture begins with {HEADER}"
+        return 5
     order = order_of(header)
     if not order:
-        found = [why for begin, why in OTHERS.items() if header.startswith(begin)]
-        return 2, found[0] if found else f"it is no classic pcap, but begins with {header[:4].hex()}"
+        return 2
     major, minor, _, _, _, link = struct.unpack_from(f"{order}HHIIII", header, 4)
-    if (major, minor) != (2, 4):
-        return 3, f"its version is {major}.{minor}, and only 2.4 is read"
-    if link != 1:
-        known = f", {LINKS[link]}" if link in LINKS else ""
-        return 4, f"its link type is {link}{known}, and only 1, Ethernet, is read"
-    return None
+    return 3 if (major, minor) != (2, 4) else 4 if link != 1 else None
 
 
 def find_capture(name):
     """The capture in the file of that name; raises `Refused` where it isn't there or the program refuses its header."""
     try:
+        found = os.stat(name)
+        if not stat.S_ISREG(found.st_mode):
+            raise Refused(4, f"{name} is no file, and only files are cut into pieces")
         with open(name, "rb") as file:
-            found = os.fstat(file.fileno())
-            header = file.read(HEADER) if os.path.isfile(name) else None
+            header = file.read(HEADER)
     except FileNotFoundError:
         raise Refused(6, f"there is no capture {name}") from None
     except OSError as error:
         raise Refused(4, f"{name} can't be read: {error.strerror}") from None
-    if header is None:
-        raise Refused(4, f"{name} is no file, and only files are cut into pieces")
     fault = fault_of(header)
     if fault:
-        raise Refused(3, f"{name}, record 0 at byte 0, fault {fault[0]}: {fault[1]}")
+        raise Refused(3, *faults.explain(name, 0, fault))
     order = order_of(header)
     magic, _, _, _, _, snapped, _ = struct.unpack(f"{order}IHHIIII", header)
-    return Capture(name, found.st_size, found.st_mtime_ns, order, MAGICS[magic], snapped)
+    return Capture(name, os.path.realpath(name), found.st_size, found.st_mtime_ns, order, MAGICS[magic], snapped)
 
 
 class Walk:
@@ -132,7 +118,7 @@ class Walk:
             for count in range(1, most + 1):
                 (length,) = length_of(block, at)
                 if length > LONGEST:
-                    self.refuse(count, at, length)
+                    raise Refused(3, *faults.explain(self.capture.name, self.records + count, 6))
                 last, at = at, at + RECORD_HEADER + length
         except struct.error:  # no whole header is left in the block
             count -= 1
@@ -141,12 +127,6 @@ class Walk:
         self.end += at
         self.records += count
         return count
-
-    def refuse(self, count, at, length):
-        """Refuses the record of that number and place behind those that are passed, whose captured length is too long."""
-        at += self.end
-        raise Refused(3, f"{self.capture.name}, record {self.records + count} at byte {at}, fault 6: its captured length is "
-                         f"{length}, and at most {LONGEST} is read; `head -c {at} OLD > NEW` keeps what is before it")
 
 
 def places(file, order, at, count):

@@ -24,7 +24,6 @@ class InTheWay(Exception):
 
     def __init__(self, line, why):
         super().__init__(f"line {line}: {why}" if line else why)
-        self.line = line
 
 
 class Rounds(NamedTuple):
