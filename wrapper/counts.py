@@ -1,71 +1,64 @@
 """The counts of a run over a capture, by its report: how packets were answered, what was sent, and what was dropped.
 
-A report has a line for each packet. Most of these say the same behind their place, lane and line, so such texts are
-counted first, and each is read once.
+A report has a line for each packet, so what the lines tell is counted by looking for words, many lines at a time.
 """
 
 from collections import Counter
 
 CHUNK = 1_048_576
-ANSWERS = ["value", "done", "default", "nohandler"]
-REFUSALS = ["unknown_event", "wrong_args", "spent"]
+
+# What stands in the line of a packet that was answered so, or refused so.
+ANSWERS = {"value": b" = value ", "done": b" = done\n", "default": b" = default", "nohandler": b" = nohandler\n"}
+REFUSALS = {"unknown_event": b" packet refused 1 ", "wrong_args": b" packet refused 2 ", "spent": b" packet refused 3 "}
 DROPS = ["short", "version", "header_length", "total_length", "checksum", "fragment", "udp_length"]
 
+# What begins a line that is no packet's, and none that begins a segment.
+OTHERS = (b"job ", b"lost ", b"end ", b"stop ")
 
-def whole_lines(stream):
-    """The lines of a stream, some at a time, each without its line feed."""
-    rest = b""
-    while chunk := stream.read(CHUNK):
-        *lines, rest = (rest + chunk).split(b"\n")
-        yield lines
-    if rest:
-        yield [rest]
+
+def whole_lines(file):
+    """The text of a file some lines at a time."""
+    while text := file.read(CHUNK):
+        yield text + file.readline()
 
 
 class Report:
     """What a report says: its counts, its last line, and where it is asked for its lines that tell of sends, in order."""
 
-    def __init__(self, stream, keeps_sends=False):
+    def __init__(self, file, endpoints=(), keeps_sends=False):
         self.counts, self.last, self.sends = Counter(), "", []
-        texts, jobs = Counter(), Counter()
-        for lines in whole_lines(stream):
-            entries = [line for line in lines if line[:1] <= b"9"]
-            texts.update([line.split(b" ", 3)[3] for line in entries])
-            if len(entries) < len(lines):
-                self.take_others([line for line in lines if line[:1] > b"9"], jobs)
+        self.steps = {f"send {number}": f" send {number} ".encode() for number in endpoints}
+        for text in whole_lines(file):
+            self.take(text)
             if keeps_sends:
-                self.sends += [line for line in lines if b" send " in line]
-        for text, times in texts.items():
-            self.count_entries(text.decode().split(), times)
-        for text, times in jobs.items():
-            self.counts["jobs"] += times
-            self.count_steps(text.decode().split(), times)
+                self.sends += [line for line in text.split(b"\n") if b" send " in line]
 
-    def take_others(self, lines, jobs):
-        """Takes lines that are no entries: jobs, lost sends, and those that begin segments and end the report."""
+    def take(self, text):
+        """Counts what some lines tell."""
+        self.count(ANSWERS, text)
+        self.count(self.steps, text)
+        if b" packet refused " in text:
+            self.count(REFUSALS, text)
+        if b" drop " in text:
+            self.count({f"drop {name}": f" drop {name} ".encode() for name in DROPS}, text)
+        if any(b"\n" + begin in text or text.startswith(begin) for begin in OTHERS):
+            self.take_others([line for line in text.split(b"\n") if line.startswith(OTHERS)])
+
+    def count(self, words, text, times=1):
+        """Adds how often the words stand in the text."""
+        for name, what in words.items():
+            self.counts[name] += times * text.count(what)
+
+    def take_others(self, lines):
+        """Takes the lines that are no packets'; the answers of jobs don't count among those of packets."""
+        jobs = b"".join(line + b"\n" for line in lines if line.startswith(b"job "))
+        self.count(ANSWERS, jobs, -1)
+        self.counts["jobs"] += jobs.count(b"\n")
         for line in lines:
-            if line.startswith(b"job "):
-                jobs[line.split(b" ", 5)[5]] += 1
-            elif line.startswith(b"lost "):
+            if line.startswith(b"lost "):
                 _, endpoint, sends = line.decode().split()
                 self.counts[f"lost {endpoint}"] += int(sends)
         self.last = lines[-1].decode()
-
-    def count_entries(self, words, times):
-        """Counts so many entries that say this."""
-        if words[0] != "packet":
-            self.counts["accepted" if words[1] == "ok" else "refused"] += times
-        elif words[1] == "refused":
-            self.counts[words[3]] += times
-        else:
-            self.counts[words[words.index("=") + 1]] += times
-            self.count_steps(words, times)
-
-    def count_steps(self, words, times):
-        """Counts the sends and drops among these words, so many times."""
-        for word, what in zip(words, words[1:]):
-            if word in ("send", "drop"):
-                self.counts[f"{word} {what}"] += times
 
 
 def summary(counts, endpoints):

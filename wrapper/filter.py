@@ -17,7 +17,7 @@ from collections import Counter
 from pathlib import Path
 
 from wrapper import commands, help, reasons
-from wrapper.counts import Report, summary
+from wrapper.counts import summary
 from wrapper.pieces import Refused, Walk, find_capture
 from wrapper.program import NOT_RUN, TOP, command, tell
 from wrapper.rounds import InTheWay, read_rounds
@@ -146,19 +146,20 @@ class Filter:
         self.options, self.command = options, command()
         if self.command is None:
             raise Refused(NOT_RUN, "the program isn't built, and a trial keeps no endpoint's file; build it first")
-        text, self.counts = self.read_script()
+        text, accepted = self.read_script()
         self.checksum = hashlib.sha256(text).hexdigest()
         try:
             self.rounds = read_rounds(text.decode())
         except InTheWay as found:
             raise Refused(2, f"{options.script} can't be run in pieces: {found}") from None
+        self.counts = Counter(accepted=accepted, refused=self.rounds.commands - accepted)
         self.captures = [find_capture(name) for name in options.captures]
         self.pieces = []  # how many each capture has
         self.folder = options.out.absolute() / "pieces"
         self.second = max(capture.second for capture in self.captures) if options.pcap else None
 
     def read_script(self):
-        """The script's text, and the counts of its commands, by a run without a capture."""
+        """The script's text, and how many of its commands are accepted, by a run without a capture."""
         name = self.options.script
         try:
             text = Path(name).read_bytes()
@@ -169,11 +170,10 @@ class Filter:
         with tempfile.TemporaryDirectory() as folder:
             (Path(folder) / "script").write_bytes(text)
             how = {"cwd": folder, "stdin": subprocess.DEVNULL, "stdout": subprocess.PIPE}
-            with subprocess.Popen([*self.command, "run", "script"], **how) as ran:
-                report = Report(ran.stdout)
+            ran = subprocess.run([*self.command, "run", "script"], **how)
         if ran.returncode:
             raise Refused(ran.returncode, *reasons.of(["run", name], ran.returncode))
-        return text, report.counts
+        return text, int(ran.stdout.split()[-1])
 
     def key(self, piece):
         """What a finished piece must have been made of, to be kept."""
@@ -232,9 +232,7 @@ class Filter:
             """Adds the counts of a piece."""
             if "why" in answer:
                 raise Refused(answer["status"], answer["why"])
-            found = Counter(answer["counts"])
-            del found["accepted"], found["refused"]  # those of the script are counted once
-            self.counts.update(found)
+            self.counts.update(answer["counts"])
             progress.add(task["end"] - task["start"], task["records"], is_new)
 
         try:

@@ -38,8 +38,10 @@ def copy_piece(task, file):
 def run_program(task, work):
     """Runs the program on a piece in its folder, and answers what its report says."""
     words = [*task["command"], "run", "piece.spin", "piece.pcap"]
-    with subprocess.Popen(words, cwd=work, stdin=subprocess.DEVNULL, stdout=subprocess.PIPE) as ran:
-        report = Report(ran.stdout, task["second"] is not None)
+    with open(work / "report", "w+b") as file:
+        ran = subprocess.run(words, cwd=work, stdin=subprocess.DEVNULL, stdout=file)
+        file.seek(0)
+        report = Report(file, task["names"], task["second"] is not None)
     records = task["records"]
     if ran.returncode:
         status = ran.returncode if ran.returncode > 0 else NOT_RUN
@@ -104,7 +106,7 @@ def run_piece(task):
     report = run_program(task, work)
     if task["second"] is not None:
         write_all_frames(task, work, report)
-    for name in ("piece.spin", "piece.pcap"):
+    for name in ("piece.spin", "piece.pcap", "report"):
         os.remove(work / name)
     (work / DONE).write_text(json.dumps({"key": task["key"], "counts": report.counts}))
     try:
