@@ -12,8 +12,8 @@ ANSWERS = {"value": b" = value ", "done": b" = done\n", "default": b" = default"
 REFUSALS = {"unknown_event": b" packet refused 1 ", "wrong_args": b" packet refused 2 ", "spent": b" packet refused 3 "}
 DROPS = ["short", "version", "header_length", "total_length", "checksum", "fragment", "udp_length"]
 
-# What begins a line that is no packet's, and none that begins a segment.
-OTHERS = (b"job ", b"lost ", b"end ", b"stop ")
+# What begins the lines that tell of jobs, and of sends that were lost.
+OTHERS = (b"job ", b"lost ")
 
 
 def whole_lines(file):
@@ -32,6 +32,7 @@ class Report:
             self.take(text)
             if keeps_sends:
                 self.sends += [line for line in text.split(b"\n") if b" send " in line]
+            self.last = text[text[:-1].rfind(b"\n") + 1 :].decode().rstrip("\n")
 
     def take(self, text):
         """Counts what some lines tell."""
@@ -58,7 +59,6 @@ class Report:
             if line.startswith(b"lost "):
                 _, endpoint, sends = line.decode().split()
                 self.counts[f"lost {endpoint}"] += int(sends)
-        self.last = lines[-1].decode()
 
 
 def summary(counts, endpoints):
