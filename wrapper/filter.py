@@ -172,7 +172,7 @@ class Filter:
             how = {"cwd": folder, "stdin": subprocess.DEVNULL, "stdout": subprocess.PIPE}
             ran = subprocess.run([*self.command, "run", "script"], **how)
         if ran.returncode:
-            raise Refused(ran.returncode, *reasons.of(["run", name], ran.returncode))
+            raise Refused(ran.returncode, *reasons.of(self.command, ["run", name], ran.returncode))
         return text, int(ran.stdout.split()[-1])
 
     def key(self, piece):
