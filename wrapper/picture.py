@@ -12,7 +12,7 @@ import sys
 import tempfile
 from pathlib import Path
 
-from wrapper import climb_picture, program, run_picture
+from wrapper import climb_picture, explain, program, run_picture
 from wrapper.reading import read_report, read_script
 from wrapper.svg import TooLarge, page
 
@@ -26,12 +26,12 @@ WRONG_WORDS, NOT_READ, NOT_WRITTEN, ABSENT, NO_RUN = 1, 4, 5, 6, 9
 
 
 class Refused(Exception):
-    """Why nothing is drawn, and the exit status."""
+    """Why nothing is drawn, the exit status, and the words behind `check` whose end it is, if it is the program's."""
 
-    def __init__(self, why, status):
-        """Keeps the status beside why."""
+    def __init__(self, why, status, judged=()):
+        """Keeps status and words beside why."""
         super().__init__(why)
-        self.status = status
+        self.status, self.judged = status, judged
 
 
 def read_words(words):
@@ -64,25 +64,15 @@ def copied(files, folder):
             raise Refused(f"the {name} {file} can't be read: {error.strerror}", status)
 
 
-def tells_of_records(folder):
-    """Whether the copied report's last line tells of a capture."""
-    with open(Path(folder) / "report", "rb") as stream:
-        stream.seek(max(0, os.path.getsize(stream.name) - 200))
-        return b" records " in stream.read()
-
-
-def judged(folder, packets):
+def judge(folder, files):
     """Lets the program judge the copied report, and refuses one that isn't a run's."""
-    more = [os.path.abspath(file) for file in packets]
+    more = [os.path.abspath(file) for file in files[2:]]
     ran = program.run(["check", "script", "report", *more], cwd=folder, stdout=subprocess.PIPE)
     if ran.returncode == NO_RUN:
-        why = "the report is that of no run of the script, so it isn't drawn"
-        if tells_of_records(folder) and not packets:
-            why += "; it is one of a run over a capture, which isn't named"
-        raise Refused(why, NO_RUN)
+        raise Refused("the report is that of no run of the script, so it isn't drawn", NO_RUN, files)
     if ran.returncode:
         said = ran.stdout.decode("ascii", "replace").strip() or "the program said nothing"
-        raise Refused(f"the report can't be judged, so it isn't drawn: {said}", ran.returncode)
+        raise Refused(f"the report can't be judged, so it isn't drawn: {said}", ran.returncode, files)
 
 
 def drawn(kind, folder, title, is_page):
@@ -125,10 +115,12 @@ def main(words):
         kind, files, is_page, out = read_words(words)
         with tempfile.TemporaryDirectory() as folder:
             copied(files, folder)
-            judged(folder, files[2:])
+            judge(folder, files)
             text = drawn(kind, folder, f"{kind} of {files[0]}", is_page)
         write(text, out)
     except Refused as refused:
         program.tell(str(refused))
+        if refused.judged:
+            explain.tell_reasons(program.command(), ["check", *refused.judged], refused.status)
         return refused.status
     return 0
