@@ -39,6 +39,21 @@ def end_by(number):
     os.kill(os.getpid(), number)
 
 
+def wrapped(lines, columns):
+    """The lines cut at their blanks to fit so many columns, but for marks and the lines above them, which stay whole."""
+    import re
+    import textwrap
+
+    width, told = max(40, columns - 1), []
+    for line, below in zip(lines, [*lines[1:], ""]):
+        if any(re.fullmatch(" *\\^~*", one) for one in (line, below)):
+            told.append(line)
+        else:
+            how = {"subsequent_indent": "      ", "break_long_words": False, "break_on_hyphens": False}
+            told += textwrap.wrap(line, width - 6 * (line[:1] != " "), **how)
+    return told
+
+
 def tell_reasons(command, words, status):
     """Tells what the status means; where that fails, the status stays the program's all the same."""
     from wrapper import reasons
@@ -47,6 +62,8 @@ def tell_reasons(command, words, status):
         lines = reasons.of(command, words, status)
     except Exception as why:  # a mistake in what is told must not hide the program's answer
         lines = [f"what status {status} means can't be told: {why!r}"]
+    if sys.stderr.isatty():
+        lines = wrapped(lines, os.get_terminal_size(sys.stderr.fileno()).columns)
     for line in lines:
         tell(line) if line[:1] != " " else print(line, file=sys.stderr)
 

@@ -92,6 +92,8 @@ def of_script_line(text, number, cause):
     if cause == 2:
         return of_bytes(text.split(b"\n")[number - 1], text)
     words = marks.words_of(line)
+    if not words:
+        return ["    it has no line but blank ones and comments"]
     mark = marks.find(cause, marks.before_line(lines, number), words)
     told = marked(line, mark)
     near = nearest_word(mark, words)
