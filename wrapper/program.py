@@ -18,8 +18,11 @@ told = set()
 
 
 def tell(text):
-    """Says a line of the wrapper's own, which is never the program's."""
-    print(f"spin: {text}", file=sys.stderr, flush=True)
+    """Says a line of the wrapper's own, which is never the program's. Where it can't be said, nothing more is."""
+    try:
+        print(f"spin: {text}", file=sys.stderr, flush=True)
+    except OSError:
+        sys.stderr = open(os.devnull, "w")
 
 
 def below_by_crate():
