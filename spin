@@ -9,6 +9,7 @@ exit status is the program's; 126 says that it didn't run. Where it isn't 0, sta
 """
 
 import importlib
+import os
 import sys
 from pathlib import Path
 
@@ -16,6 +17,13 @@ TOP = Path(__file__).resolve().parent
 sys.pycache_prefix = str(TOP / "out" / "python")
 sys.path.insert(0, str(TOP))
 from wrapper import commands, program
+
+
+def open_streams():
+    """Where standard output or error is closed, what the wrapper writes there goes nowhere, and not to the other."""
+    for name in ("stdout", "stderr"):
+        if getattr(sys, name) is None:
+            setattr(sys, name, open(os.devnull, "w"))
 
 
 def main(words):
@@ -26,7 +34,7 @@ def main(words):
     if commands.is_programs(name) and not commands.asks_help(words):
         from wrapper import explain
 
-        return explain.main(words, quiet)
+        explain.main(words, quiet)
     if commands.named(name) and not commands.asks_help(words):
         return importlib.import_module(f"wrapper.{name}").main(words[1:])
     from wrapper import help
@@ -35,4 +43,5 @@ def main(words):
 
 
 if __name__ == "__main__":
+    open_streams()
     program.exit_with(main, sys.argv[1:])

@@ -29,7 +29,7 @@ WRAPPER = [
             "session examples/first.spin"),
     Command("picture", "run|climb SCRIPT REPORT [PACKETS] [--html] [--out FILE]", "draws a run's report, or the climb of its packets, as SVG",
             "picture run examples/first.spin examples/first.report"),
-    Command("filter", "SCRIPT CAPTURE.. [--jobs N] [--out FOLDER] [--pcap]",
+    Command("filter", "SCRIPT CAPTURE.. [--jobs N] [--out FOLDER] [--pcap] [--piece N] [--part K/N]",
             "runs a script over captures of any length and number, side by side in pieces",
             "filter examples/packets.spin monday.pcap tuesday.pcap"),
     Command("help", "[COMMAND]", "tells of the commands, or of one", "help run"),

@@ -104,7 +104,7 @@ def call_cargo(*words):
     ran = subprocess.run(call, cwd=OUT / "work", stdin=subprocess.DEVNULL, capture_output=True, text=True)
     if ran.returncode:
         sys.stderr.write(re.sub(r"(crates/\w+/src/[\w/]+)\.rs\b", r"\1.rt", ran.stderr)[:20_000])
-        tell("cargo can't build the plain program; it has to be cargo of Rust 1.85 or later, with its linker")
+        tell("cargo can't build the plain program, for what is told above; it wants Rust 1.85 or later, and a linker")
         sys.exit(NOT_RUN)
 
 

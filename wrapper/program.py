@@ -13,13 +13,16 @@ NOT_RUN = 126
 FOLDERS = ("src", "specs", "proofs")
 SUFFIXES = (".rt", ".antt")
 
-# Whether it was told that it is the plain program that runs.
-told = []
+# What this process has told already: that the plain program runs, or that it can't.
+told = set()
 
 
 def tell(text):
-    """Says a line of the wrapper's own, which is never the program's."""
-    print(f"spin: {text}", file=sys.stderr, flush=True)
+    """Says a line of the wrapper's own, which is never the program's. Where it can't be said, nothing more is."""
+    try:
+        print(f"spin: {text}", file=sys.stderr, flush=True)
+    except OSError:
+        sys.stderr = open(os.devnull, "w")
 
 
 def below_by_crate():
@@ -81,13 +84,16 @@ def command():
     """
     if is_built():
         return [str(PROGRAM)]
+    if "no plain program" in told:
+        return None
     from wrapper import plain
 
     file = plain.program()
     if file is None:
+        told.add("no plain program")
         return None
-    if not told:
-        told.append(True)
+    if "plain" not in told:
+        told.add("plain")
         tell("the plain program, of which nothing is proved; ./spin build makes the proved one")
     return [str(file)]
 
@@ -102,6 +108,18 @@ def run(words, **how):
     from wrapper import trial
 
     return trial.run(words, **how)
+
+
+def named_or_proved(words, at):
+    """The program that the words of a script name there, or the proved one; where there is none, the script ends at once."""
+    script = os.path.relpath(sys.argv[0], TOP)
+    file = os.path.abspath(words[at]) if len(words) > at else str(PROGRAM)
+    if len(words) > at and not os.access(file, os.X_OK):
+        sys.exit(f"{script}: {words[at]} is no program")
+    if len(words) <= at and not is_built():
+        stale = "is older than a source" if os.access(PROGRAM, os.X_OK) else "isn't built"
+        sys.exit(f"{script}: the proved program {stale}: call ./spin build, or name a program, as that below out/plain")
+    return file
 
 
 def exit_with(main, words):

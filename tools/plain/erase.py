@@ -29,6 +29,10 @@ TOKEN = re.compile(
     re.DOTALL,
 )
 
+# Each bracket that closes, with the one that it closes.
+CLOSED = {")": "(", "]": "[", "}": "{"}
+OPEN = set(CLOSED.values())
+
 # The C runtime calls the program, so that Rust's changes nothing of what it is handed.
 STARTED = (
     '#[unsafe(no_mangle)] pub extern "C" fn main(count: i32, words: *const *const ::core::ffi::c_char) -> i32'
@@ -167,25 +171,30 @@ class Source:
         return "".join(self.left)
 
 
-def check_left(name, text):
-    """Refuses what can be no Rust: words of a clause, and a bracket without its other."""
-    left, opened = Source(name, text), []
-    for at, token in enumerate(left.tokens):
-        if not token.isascii() and not is_space(token) and '"' not in token and "'" not in token:
-            left.refuse(at, f"{token} stands outside a clause")
-        if token in ("(", "[", "{"):
+def check_left(name, left):
+    """Refuses tokens that can be no Rust: words of a clause, and a bracket without its other."""
+
+    def refuse(at, why):
+        raise Refused(f"{name}:{1 + ''.join(left[:at]).count(chr(10))}: {why}")
+
+    opened = []
+    for at, token in enumerate(left):
+        if token in OPEN:
             opened.append(at)
-        elif token in (")", "]", "}"):
-            if not opened or left.tokens[opened.pop()] + token not in ("()", "[]", "{}"):
-                left.refuse(at, f"this {token} closes nothing")
+        elif token in CLOSED:
+            if not opened or left[opened.pop()] != CLOSED[token]:
+                refuse(at, f"this {token} closes nothing")
+        elif not token.isascii() and not is_space(token) and '"' not in token and "'" not in token:
+            refuse(at, f"{token} stands outside a clause")
     if opened:
-        left.refuse(opened[-1], f"this {left.tokens[opened[-1]]} isn't closed")
+        refuse(opened[-1], f"this {left[opened[-1]]} isn't closed")
 
 
 def erased(name, text):
     """A file of Rattle as Rust, with the same lines."""
-    text = Source(name, text).erase()
-    check_left(name, text)
+    source = Source(name, text)
+    text = source.erase()
+    check_left(name, source.left)
     for pattern, instead in DIFFERENCES:
         text = re.sub(pattern, instead, text)
     return text + "\n#[allow(unused_imports)]\nuse std::prelude::*;\n"
@@ -201,7 +210,7 @@ members = ["crates/*"]
 debug = 0
 incremental = false
 overflow-checks = true
-debug-assertions = true
+panic = "abort"
 """
 
 

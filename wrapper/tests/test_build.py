@@ -11,8 +11,8 @@ from pathlib import Path
 from unittest import mock
 
 from wrapper import build
+from wrapper.tests import make_repository, stand_in
 
-WRAPPER = Path(__file__).resolve().parent.parent
 CRATES = {"low": [], "left": ["low"], "right": ["low"], "spin_main": ["left", "right"], "aside": ["low"]}
 
 RT = """#!/bin/sh
@@ -33,18 +33,8 @@ class Build(unittest.TestCase):
     def setUp(self):
         self.top = Path(tempfile.mkdtemp())
         self.addCleanup(shutil.rmtree, self.top)
-        shutil.copytree(WRAPPER, self.top / "wrapper", ignore=shutil.ignore_patterns("__pycache__"))
-        shutil.copy(WRAPPER.parent / "spin", self.top)
-        lines = [f"{name}: {' '.join(below)}\n" for name, below in CRATES.items()]
-        (self.top / "crates.txt").write_text("".join(lines))
-        (self.top / "HANDLES").write_text("Handles allowed: none.\n")
-        for name in CRATES:
-            src = self.top / "crates" / name / "src"
-            src.mkdir(parents=True)
-            (src / ("main.rt" if name == "spin_main" else "lib.rt")).write_text("\n" * 5)
-        (self.top / "bin").mkdir()
-        (self.top / "bin" / "rt").write_text(RT)
-        (self.top / "bin" / "rt").chmod(0o755)
+        make_repository(self.top, CRATES)
+        stand_in(self.top, "rt", RT)
         self.journal = self.top / "journal"
 
     def begin(self, *words, **environment):
