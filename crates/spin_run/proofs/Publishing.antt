@@ -218,4 +218,4 @@ module _ (d : SetupData) (lanes : ℕ) (asked : List Numbered) (before after : �
           ∙ sym (filter_beyond (λ (x : ℕ × Row). lane_of x.1) lanes k (enumerate_from (length start + 1) more) far (enumerated_lanes lanes (length start + 1) more all.rows))
 
   pub rows_are : IsInOrder woven → more ≡ rows_in woven
-  rows_are up = sym (rows_alone (length start + 1) more) ∙ ap (map (λ (x : ℕ × Row). x.1)) (sym (all_published up)) ∙ rows_told woven
+  rows_are up = sym (rows_alone (length start + 1) more) ∙ ap (λ (l : List (ℕ × Row)). map (λ (x : ℕ × Row). x.1) l) (sym (all_published up)) ∙ rows_told woven
