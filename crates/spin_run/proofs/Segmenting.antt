@@ -417,6 +417,16 @@ still_of_hub d log count asked before ran ready have k l lt =
     let h = have.1 k l at in
     (h.same.0 ∙ (ready.each k l at).own, h.seat)
 
+-- and stand in the order of their lanes
+pub still_in_order : (d : SetupData) (asked : List Numbered) (before ran : List Lane) → AreOfLanes 0 (map (λ (x : Lane). x.seat) before) → HaveRun d asked before ran → AreOfLanes 0 (map (λ (x : Lane). x.seat) ran)
+still_in_order d asked before ran order have = are_of_lanes 0 (map (λ (x : Lane). x.seat) ran) (λ k s lt.
+    let l : Lane = record { seat = s; trail = []; jobs = []; stop = None } in
+    let size = length-map ran (λ (x : Lane). x.seat) in
+    let at : k < length before = omega (arith, lt, have.0, size) in
+    let same : (get_or (map (λ (x : Lane). x.seat) ran) k s).pen.lane ≡ k =
+    ap (λ (v : SeatValue). v.pen.lane) (get_or-map (λ (x : Lane). x.seat) ran k l s (omega (arith, lt, size))) ∙ (have.1 k l at).same.2 ∙ lane_at before k l order at in
+    omega (arith, same))
+
 -- what is known where all have met
 pub known : (d : SetupData) (log : TableId) (count : ℕ) (lines : List Line) (records : List (List ℕ)) (before ran met : List Lane) (ready : AreAtRest d log count before)
     → IsFitSegment (length before) lines → length (front_of before) + commands_in lines ≤ MAX_PLACE → HaveRun d (asked_in lines records) before ran → All (λ (lane : Lane). HadMemory lane.stop) ran → HaveMet d ran met
