@@ -1,20 +1,29 @@
-#!/usr/bin/env python3
+#!/usr/bin/env -S python3 -IS
 """spin [--quiet] COMMAND WORD..: runs the program with these words in the folder where it is called, or a command of its own.
 
-Where the proved program is built and no source is newer, it is that program that runs. Where it isn't, the words are
-run as a trial, which nothing has proved: a line on standard error says so. The exit status is the program's; 126 says
-that it didn't run. Where it isn't 0, standard error tells what it means, but for --quiet. The commands are those of
-`wrapper/commands.py`: each of the wrapper's own is a module of `wrapper` with `main(words) -> int`.
+Where the proved program is built and no source is newer, it is that program that runs. Where it isn't, it is the plain
+program, built by cargo, and without cargo a trial: nothing has proved these, and a line on standard error says so. The
+exit status is the program's; 126 says that it didn't run. Where it isn't 0, standard error tells what it means, but for
+--quiet. The commands are those of `wrapper/commands.py`: each of the wrapper's own is a module of `wrapper` with
+`main(words) -> int`.
 """
 
 import importlib
+import os
 import sys
 from pathlib import Path
 
 TOP = Path(__file__).resolve().parent
 sys.pycache_prefix = str(TOP / "out" / "python")
 sys.path.insert(0, str(TOP))
-from wrapper import commands
+from wrapper import commands, program
+
+
+def open_streams():
+    """Where standard output or error is closed, what the wrapper writes there goes nowhere, and not to the other."""
+    for name in ("stdout", "stderr"):
+        if getattr(sys, name) is None:
+            setattr(sys, name, open(os.devnull, "w"))
 
 
 def main(words):
@@ -25,7 +34,7 @@ def main(words):
     if commands.is_programs(name) and not commands.asks_help(words):
         from wrapper import explain
 
-        return explain.main(words, quiet)
+        explain.main(words, quiet)
     if commands.named(name) and not commands.asks_help(words):
         return importlib.import_module(f"wrapper.{name}").main(words[1:])
     from wrapper import help
@@ -34,4 +43,5 @@ def main(words):
 
 
 if __name__ == "__main__":
-    sys.exit(main(sys.argv[1:]))
+    open_streams()
+    program.exit_with(main, sys.argv[1:])

@@ -114,6 +114,12 @@ def summary(number):
     return "".join(f"{word} {count}\n" for word, count in counts.items())
 
 
+def sent(number):
+    """What the file of the endpoint receives: a piece for each datagram to a port below 512, in the records' order."""
+    _, ports, _ = generated(number)
+    return b"".join(struct.pack(">IQ", 8, at) for at, port in enumerate(ports) if port < 512)
+
+
 def main():
     for word in sys.argv[1:]:
         text, _, capture = generated(int(word))

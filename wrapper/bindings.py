@@ -91,6 +91,7 @@ class Bindings:
     """The events' bindings; `take` follows an accepted command."""
 
     def __init__(self, script):
+        """Begins with the script's first defaults and no binding."""
         self.script = script
         self.events = {event: Event(default=script.defaults.get(event, 0)) for event in script.events}
         self.past = {}
@@ -116,7 +117,8 @@ class Bindings:
         if where != "keep":
             wish = replace(wish, place=where, before=(), after=())
         mode = "async" if how == "async" else wish.mode
-        one = Binding(place, event, module, handler, number(words[4]), imposed, wish.place, wish.before, wish.after, mode)
+        guards = number(words[4]), imposed
+        one = Binding(place, event, module, handler, *guards, wish.place, wish.before, wish.after, mode)
         self.keep(place, one)
 
     def replace(self, place, event, module, words):

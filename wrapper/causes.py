@@ -18,10 +18,11 @@ SCRIPT = [
     ("5", "order", "the section lies before an earlier line's; a second `modules`; a `retire` that follows neither `barrier` nor "
      "`retire`"),
     ("6", "number", "a number in range was wanted, also where the word begins with a digit and an expression or a HANDLER was "
-     "wanted"),
+     "wanted; behind `before` and `after` in version 3 the number isn't greater than the one before it"),
     ("7", "signature", "a signature, or `native`, was wanted"),
     ("8", "name", "a name was wanted"),
-    ("9", "word", "one of several fixed words, an expression, a test, a step or a part was wanted"),
+    ("9", "word", "one of several fixed words, or the only one that can stand there (in version 3 `before`, `after`), an "
+     "expression, a test, a step or a part was wanted"),
     ("10", "bytes", "a value that begins with `x` isn't bytes"),
     ("11", "end", "the line ends too early, or a word is left over (in a `handler` line that is cause 9, since another step might "
      "follow)"),

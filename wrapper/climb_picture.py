@@ -33,6 +33,7 @@ class Climb:
     """The tree of the ways that the packets of a report take."""
 
     def __init__(self, script):
+        """Begins with no packet."""
         self.script, self.bindings = script, Bindings(script)
         self.root, self.nodes, self.replies = Node("packet"), 0, {}
 
@@ -127,6 +128,7 @@ class ClimbPicture:
     """The drawing of the tree."""
 
     def __init__(self, climb):
+        """Takes the tree that is drawn."""
         self.climb, self.sheet = climb, Sheet(WIDTH)
         self.total = max(1, climb.root.count)
         self.found, self.listed = [], []
@@ -145,7 +147,7 @@ class ClimbPicture:
             self.bar(*bar)
         y = max((bar[0] for bar in self.found), default=top) + HIGH + 22
         if self.listed:
-            self.sheet.text(EDGE, y, "bars that are too narrow for their words, from left to right in each row:", "faint")
+            self.sheet.text(EDGE, y, "bars too narrow for their words, from left to right in each row:", "faint")
             y = self.list(y + 17)
         return self.sheet.write(y, f"{count} packets as they climb")
 

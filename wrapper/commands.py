@@ -24,12 +24,12 @@ PROGRAM = [
 ]
 
 WRAPPER = [
-    Command("build", "", "proves every crate and builds the program", "build"),
+    Command("build", "[--all]", "proves the crates of the program and builds it; with --all the two hosts too", "build"),
     Command("session", "[SCRIPT]", "a prompt that keeps a script growing line by line and tells what each line did",
             "session examples/first.spin"),
     Command("picture", "run|climb SCRIPT REPORT [PACKETS] [--html] [--out FILE]", "draws a run's report, or the climb of its packets, as SVG",
             "picture run examples/first.spin examples/first.report"),
-    Command("filter", "SCRIPT CAPTURE.. [--jobs N] [--out FOLDER] [--pcap]",
+    Command("filter", "SCRIPT CAPTURE.. [--jobs N] [--out FOLDER] [--pcap] [--piece N] [--part K/N]",
             "runs a script over captures of any length and number, side by side in pieces",
             "filter examples/packets.spin monday.pcap tuesday.pcap"),
     Command("help", "[COMMAND]", "tells of the commands, or of one", "help run"),

@@ -14,6 +14,9 @@ MAGICS = {
 }
 MAX_LENGTH = 262_144
 
+# What makes several captures of one with too many records.
+PIECES = "editcap -F pcap -c 1000000 {0} {1}"
+
 # What other files begin with, what they are, and the command that makes a capture of one.
 OTHERS = [
     (b"\x0a\x0d\x0d\x0a", "pcapng", "editcap -F pcap {0} {1}"),
@@ -27,15 +30,13 @@ OTHERS = [
     (b"snoop\x00\x00\x00", "snoop", "editcap -F pcap {0} {1}"),
 ]
 
-# Link types that tcprewrite of tcpreplay 4.4 makes Ethernet of, and others that are met.
-REWRITTEN = {12: "raw IP", 101: "raw IP", 113: "Linux cooked, as of tcpdump -i any"}
+# Link types that are met. Of a cooked frame the last 14 of the 16 first bytes read as an Ethernet header, with the type in its
+# place and no addresses.
+COOKED = 113
 LINKS = {
-    0: "loopback of BSD", 105: "802.11", 127: "802.11 with radiotap", 108: "loopback of OpenBSD",
-    220: "USB", 228: "raw IPv4", 229: "raw IPv6", 276: "Linux cooked 2, as of tcpdump -i any",
+    0: "loopback of BSD", 12: "raw IP", 101: "raw IP", 105: "802.11", 108: "loopback of OpenBSD", 113: "Linux cooked",
+    127: "802.11 with radiotap", 220: "USB", 228: "raw IPv4", 229: "raw IPv6", 276: "Linux cooked 2, as of tcpdump -i any",
 }
-REWRITE = (
-    "tcprewrite --dlt=enet --enet-smac=02:00:00:00:00:01 --enet-dmac=02:00:00:00:00:02 --infile={0} --outfile={1}"
-)
 
 
 def other_name(name):
@@ -46,9 +47,14 @@ def other_name(name):
     return f"{stem}.classic.pcap"
 
 
+def made_of(command, name):
+    """The command that makes another file of the one of this name."""
+    return command.format(shlex.quote(name), shlex.quote(other_name(name)))
+
+
 def made_by(command, name):
     """A line that names the command which makes a capture of the file."""
-    return f"make it one with: {command.format(shlex.quote(name), shlex.quote(other_name(name)))}"
+    return f"make it one with: {made_of(command, name)}"
 
 
 def of_magic(name, head):
@@ -71,10 +77,10 @@ def of_version(name, head):
 def of_link(name, head):
     """What is told of a capture of another link type."""
     (link,) = struct.unpack(f"{MAGICS[head[:4]]}I", head[20:24])
-    known = REWRITTEN.get(link) or LINKS.get(link)
-    told = [f"at offset 20 stands link type {link}" + (f" ({known})" if known else "") + ", where 1 is read, Ethernet"]
-    if link in REWRITTEN:
-        return [*told, made_by(REWRITE, name)]
+    known = f" ({LINKS[link]})" if link in LINKS else ""
+    told = [f"at offset 20 stands link type {link}{known}, where 1 is read, Ethernet"]
+    if link == COOKED:
+        return [*told, made_by("editcap -F pcap -T ether -C 2 {0} {1}", name), "its frames have the type in its place, but no addresses"]
     return [*told, "capture on an interface of Ethernet, as tcpdump -i eth0 -w does"]
 
 
@@ -87,19 +93,18 @@ def offset_of(file, order, record):
     return at
 
 
-def of_record(name, fault, record):
-    """What is told of a record that is refused."""
+def of_length(name, record):
+    """What is told of a record whose captured length is over the limit."""
     with open(name, "rb") as file:
         order = MAGICS[file.read(4)]
         at = offset_of(file, order, record)
         file.seek(at + 8)
-        length = file.read(4)
-    before = f"head -c {at} {{0}} > {{1}}"
-    told = [f"record {record} begins at offset {at}"]
-    if fault == 6:
-        told[0] += f", and says a captured length of {struct.unpack(f'{order}I', length)[0]:,}, where at most {MAX_LENGTH:,} is read"
-        return [*told, f"the {record - 1} records before it are a capture: {before.format(shlex.quote(name), shlex.quote(other_name(name)))}"]
-    return [*told, "a capture may be cut into pieces: editcap -c 1000000 does so"]
+        (length,) = struct.unpack(f"{order}I", file.read(4))
+    front = made_of(f"head -c {at} {{0}} > {{1}}", name)
+    return [
+        f"record {record} begins at offset {at} and says a captured length of {length:,}, where at most {MAX_LENGTH:,} is read",
+        f"what stands before it is a capture: {front}",
+    ]
 
 
 def explain(name, record, fault):
@@ -113,8 +118,10 @@ def explain(name, record, fault):
             return [*told, f"the file has {os.path.getsize(name)} bytes, where the header alone has 24"]
         if fault in (2, 3, 4):
             return told + {2: of_magic, 3: of_version, 4: of_link}[fault](name, head)
-        if fault in (6, 7):
-            return told + of_record(name, fault, record)
+        if fault == 6:
+            return told + of_length(name, record)
+        if fault == 7:
+            return [*told, f"a capture has at most 1,048,576 records: {made_of(PIECES, name)}"]
     except (OSError, KeyError, struct.error):
         return told
     return told

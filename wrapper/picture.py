@@ -12,7 +12,7 @@ import sys
 import tempfile
 from pathlib import Path
 
-from wrapper import climb_picture, program, run_picture
+from wrapper import climb_picture, explain, program, run_picture
 from wrapper.reading import read_report, read_script
 from wrapper.svg import TooLarge, page
 
@@ -26,11 +26,12 @@ WRONG_WORDS, NOT_READ, NOT_WRITTEN, ABSENT, NO_RUN = 1, 4, 5, 6, 9
 
 
 class Refused(Exception):
-    """Why nothing is drawn, and the exit status."""
+    """Why nothing is drawn, the exit status, and the words behind `check` whose end it is, if it is the program's."""
 
-    def __init__(self, why, status):
+    def __init__(self, why, status, judged=()):
+        """Keeps status and words beside why."""
         super().__init__(why)
-        self.status = status
+        self.status, self.judged = status, judged
 
 
 def read_words(words):
@@ -63,23 +64,15 @@ def copied(files, folder):
             raise Refused(f"the {name} {file} can't be read: {error.strerror}", status)
 
 
-def tells_of_records(folder):
-    """Whether the copied report's last line tells of a capture."""
-    with open(Path(folder) / "report", "rb") as stream:
-        stream.seek(max(0, os.path.getsize(stream.name) - 200))
-        return b" records " in stream.read()
-
-
-def judged(folder, packets):
+def judge(folder, files):
     """Lets the program judge the copied report, and refuses one that isn't a run's."""
-    more = [os.path.abspath(file) for file in packets]
+    more = [os.path.abspath(file) for file in files[2:]]
     ran = program.run(["check", "script", "report", *more], cwd=folder, stdout=subprocess.PIPE)
     if ran.returncode == NO_RUN:
-        hint = "; it is one of a run over a capture, which isn't named" if tells_of_records(folder) and not packets else ""
-        raise Refused(f"the report is that of no run of the script, so it isn't drawn{hint}", NO_RUN)
+        raise Refused("the report is that of no run of the script, so it isn't drawn", NO_RUN, files)
     if ran.returncode:
         said = ran.stdout.decode("ascii", "replace").strip() or "the program said nothing"
-        raise Refused(f"the report can't be judged, so it isn't drawn: {said}", ran.returncode)
+        raise Refused(f"the report can't be judged, so it isn't drawn: {said}", ran.returncode, files)
 
 
 def drawn(kind, folder, title, is_page):
@@ -89,8 +82,15 @@ def drawn(kind, folder, title, is_page):
         try:
             picture, values = KINDS[kind][0].draw(script, read_report(stream))
         except TooLarge:
-            raise Refused("the run is too long for one picture; `picture climb` draws any number of packets", program.NOT_RUN)
+            why = "the run is too long for one picture; `picture climb` draws any number of packets"
+            raise Refused(why, program.NOT_RUN)
     return page(picture, title, values) if is_page else picture
+
+
+def hush():
+    """Lets nothing more be written on standard output, which takes no more."""
+    with contextlib.suppress(OSError):
+        os.dup2(os.open(os.devnull, os.O_WRONLY), sys.stdout.fileno())
 
 
 def write(text, out):
@@ -101,11 +101,11 @@ def write(text, out):
             return
         sys.stdout.buffer.write(text.encode())
         sys.stdout.flush()
+    except BrokenPipeError:
+        raise
     except OSError as error:
         if out is None:
-            # nothing more is to be written at the end
-            with contextlib.suppress(OSError):
-                os.dup2(os.open(os.devnull, os.O_WRONLY), sys.stdout.fileno())
+            hush()
         raise Refused(f"the picture can't be written: {error.strerror}", NOT_WRITTEN)
 
 
@@ -115,10 +115,12 @@ def main(words):
         kind, files, is_page, out = read_words(words)
         with tempfile.TemporaryDirectory() as folder:
             copied(files, folder)
-            judged(folder, files[2:])
+            judge(folder, files)
             text = drawn(kind, folder, f"{kind} of {files[0]}", is_page)
         write(text, out)
     except Refused as refused:
         program.tell(str(refused))
+        if refused.judged:
+            explain.tell_reasons(program.command(), ["check", *refused.judged], refused.status)
         return refused.status
     return 0

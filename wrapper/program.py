@@ -13,20 +13,39 @@ NOT_RUN = 126
 FOLDERS = ("src", "specs", "proofs")
 SUFFIXES = (".rt", ".antt")
 
+# What this process has told already: that the plain program runs, or that it can't.
+told = set()
+
 
 def tell(text):
-    """Says a line of the wrapper's own, which is never the program's."""
-    print(f"spin: {text}", file=sys.stderr, flush=True)
+    """Says a line of the wrapper's own, which is never the program's. Where it can't be said, nothing more is."""
+    try:
+        print(f"spin: {text}", file=sys.stderr, flush=True)
+    except OSError:
+        sys.stderr = open(os.devnull, "w")
 
 
-def crates_listed():
-    """The repository's crates, each with those of them on which it stands, lowest first."""
+def below_by_crate():
+    """Of each crate of the repository all that it stands on, the kit's libraries too."""
     crates = {}
     for line in (TOP / "crates.txt").read_text().splitlines():
         if line.strip() and not line.startswith("#"):
             head, _, below = line.partition(":")
-            crates[head.split()[0]] = [name for name in below.split() if name in crates]
+            crates[head.split()[0]] = below.split()
     return crates
+
+
+def crates_listed():
+    """The repository's crates, each with those of them on which it stands, lowest first."""
+    left, listed = below_by_crate(), {}
+    below = {name: [other for other in others if other in left] for name, others in left.items()}
+    while below:
+        ready = [name for name, others in below.items() if all(other in listed for other in others)]
+        if not ready:
+            sys.exit(f"spin: crates.txt: these stand on each other: {', '.join(below)}")
+        for name in ready:
+            listed[name] = below.pop(name)
+    return listed
 
 
 def stands_on(crates, tops=("spin_main",)):
@@ -58,8 +77,25 @@ def is_built():
 
 
 def command():
-    """The words that begin the command line of the program to run; None where only a trial is left."""
-    return [str(PROGRAM)] if is_built() else None
+    """The words that begin the command line of the program to run; None where only a trial is left.
+
+    It is the proved program where that is built, else the plain one, which is built first if need be. Where the sources
+    can't be built the process ends, with a clear line.
+    """
+    if is_built():
+        return [str(PROGRAM)]
+    if "no plain program" in told:
+        return None
+    from wrapper import plain
+
+    file = plain.program()
+    if file is None:
+        told.add("no plain program")
+        return None
+    if "plain" not in told:
+        told.add("plain")
+        tell("the plain program, of which nothing is proved; ./spin build makes the proved one")
+    return [str(file)]
 
 
 def run(words, **how):
@@ -72,3 +108,30 @@ def run(words, **how):
     from wrapper import trial
 
     return trial.run(words, **how)
+
+
+def named_or_proved(words, at):
+    """The program that the words of a script name there, or the proved one; where there is none, the script ends at once."""
+    script = os.path.relpath(sys.argv[0], TOP)
+    file = os.path.abspath(words[at]) if len(words) > at else str(PROGRAM)
+    if len(words) > at and not os.access(file, os.X_OK):
+        sys.exit(f"{script}: {words[at]} is no program")
+    if len(words) <= at and not is_built():
+        stale = "is older than a source" if os.access(PROGRAM, os.X_OK) else "isn't built"
+        sys.exit(f"{script}: the proved program {stale}: call ./spin build, or name a program, as that below out/plain")
+    return file
+
+
+def exit_with(main, words):
+    """Ends the process with what `main(words)` answers; an interrupt or a closed pipe ends it in one line or none."""
+    try:
+        status = main(words)
+        sys.stdout.flush()
+    except KeyboardInterrupt:
+        tell("interrupted")
+        status = 130
+    except BrokenPipeError:
+        # what is left in the list before standard output can go nowhere
+        os.dup2(os.open(os.devnull, os.O_WRONLY), 1)
+        status = 141
+    sys.exit(status)

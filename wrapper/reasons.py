@@ -10,7 +10,7 @@ import select
 import stat
 import subprocess
 
-from wrapper import causes, commands, faults, marks, program
+from wrapper import causes, commands, faults, marks
 
 WIDTH = 96
 
@@ -22,14 +22,15 @@ def files_of(words):
     return {what: named[what] for what in ("script", "packets", "report", "trace") if what in named}
 
 
-def asked(words):
+def asked(command, words):
     """The last line that the program writes for words which send nothing; empty where that can't be asked."""
     named = files_of(words)
-    if not all(os.path.isfile(name) for name in named.values()):
+    if command is None or not all(os.path.isfile(name) for name in named.values()):
         return ""
     if words[0] != "vm":
         words = ["check", named["script"], os.devnull, *filter(None, [named.get("packets")])]
-    told = program.run(words, stdout=subprocess.PIPE, stderr=subprocess.DEVNULL).stdout
+    how = {"stdout": subprocess.PIPE, "stderr": subprocess.DEVNULL}
+    told = subprocess.run([*command, *words], **how).stdout
     return told.decode("ascii", "replace").rstrip("\n").rpartition("\n")[2]
 
 
@@ -44,7 +45,7 @@ def meaning(status, numbers=(), letters=""):
     text = re.sub(r"\b(exactly|only) where ", "", causes.status(status))
     for letter, number in zip(letters, numbers):
         text = re.sub(rf"\b{letter}\b", str(number), text)
-    return f"status {status}: {text}"
+    return f"status {status}: {text.partition('; record 0')[0]}"
 
 
 def shown(line, first, last):
@@ -91,6 +92,8 @@ def of_script_line(text, number, cause):
     if cause == 2:
         return of_bytes(text.split(b"\n")[number - 1], text)
     words = marks.words_of(line)
+    if not words:
+        return ["    it has no line but blank ones and comments"]
     mark = marks.find(cause, marks.before_line(lines, number), words)
     told = marked(line, mark)
     near = nearest_word(mark, words)
@@ -114,9 +117,9 @@ def read(name):
         return b""
 
 
-def of_script(words, status):
+def of_script(command, words, status):
     """A refused script."""
-    numbers = numbers_of(asked(words), status)
+    numbers = numbers_of(asked(command, words), status)
     if not numbers:
         return [meaning(status)]
     (line, cause), script = numbers, words[1]
@@ -126,9 +129,9 @@ def of_script(words, status):
     return [*told, meaning(status, numbers, "NC")]
 
 
-def of_capture(words, status):
+def of_capture(command, words, status):
     """A refused capture."""
-    numbers = numbers_of(asked(words), status)
+    numbers = numbers_of(asked(command, words), status)
     if not numbers:
         return [meaning(status)]
     told = faults.explain(files_of(words)["packets"], *numbers)
@@ -153,9 +156,9 @@ def trace_mark(cause, words):
     return marks.Mark(*((1, 1) if cause in (5, 6) else (0, len(words) - 1)), None)
 
 
-def of_trace(words, status):
+def of_trace(command, words, status):
     """A refused trace."""
-    numbers = numbers_of(asked(words), status)
+    numbers = numbers_of(asked(command, words), status)
     if not numbers:
         return [meaning(status)]
     number, cause = numbers
@@ -170,7 +173,7 @@ def of_trace(words, status):
     return [*told, meaning(status, numbers, "NC")]
 
 
-def of_unsuited(words, status):
+def of_unsuited(command, words, status):
     """A script that isn't one for traces."""
     return [
         meaning(status),
@@ -178,11 +181,11 @@ def of_unsuited(words, status):
     ]
 
 
-def of_words(words, status):
+def of_words(command, words, status):
     """A faulty command line."""
-    command, given = commands.named(words[0]), words[1:]
-    least, most = commands.how_many(command)
-    told = [f"{command.name} takes {command.words}"]
+    called, given = commands.named(words[0]), words[1:]
+    least, most = commands.how_many(called)
+    told = [f"{called.name} takes {called.words}"]
     if not least <= len(given) <= most:
         told[0] += f"; {len(given)} word{'s are' if len(given) != 1 else ' is'} given"
     for word in given:
@@ -190,14 +193,14 @@ def of_words(words, status):
             told.append("    a word is empty")
         elif word.startswith("-"):
             told.append(f"    {word} begins with `-`: the program has no flags; ./{word} names a file so")
-        elif not word.isprintable() and word.encode("utf-8", "replace").decode() != word:
+        elif any("\ud800" <= letter <= "\udfff" for letter in word):
             told.append(f"    {word!a} isn't UTF-8")
-    if command.name == "gen" and len(given) == 1:
+    if called.name == "gen" and len(given) == 1:
         told.append("    NUMBER is decimal digits, or `0x` and 1 to 16 hexadecimal digits, below 2^64")
     return [*told, meaning(status)]
 
 
-def of_missing(words, status):
+def of_missing(command, words, status):
     """A file that isn't there."""
     for what, name in files_of(words).items():
         if not os.path.lexists(name):
@@ -211,7 +214,7 @@ def of_missing(words, status):
     return [meaning(status)]
 
 
-def of_unread(words, status):
+def of_unread(command, words, status):
     """A file that can't be read."""
     for what, name in files_of(words).items():
         try:
@@ -222,7 +225,7 @@ def of_unread(words, status):
     return [meaning(status)]
 
 
-def of_unwritten(words, status):
+def of_unwritten(command, words, status):
     """A write that failed; nothing is told where a pipe's reader went away, as `head` does."""
     try:
         kind = os.fstat(1).st_mode
@@ -236,7 +239,7 @@ def of_unwritten(words, status):
     return ["standard output took no more bytes; is the disk full?", meaning(status)]
 
 
-def of_endpoint(words, status):
+def of_endpoint(command, words, status):
     """An endpoint that failed."""
     told = []
     for name in ("out0.bin", "out1.bin", "out2.bin", "out3.bin", "echo.bin"):
@@ -246,10 +249,11 @@ def of_endpoint(words, status):
             told.append(f"    {name} may not be written")
     if not os.access(".", os.W_OK):
         told.append("    no file may be made in this folder")
-    return ["what a handler sends to an endpoint goes to the file NAME.bin in this folder", *told, meaning(status)]
+    why = meaning(status).replace("endpoint P", "the endpoint of that number")
+    return ["what a handler sends to an endpoint goes to the file NAME.bin in this folder", *told, why]
 
 
-def of_no(words, status):
+def of_no(command, words, status):
     """A report that is judged none: what can be told of it without judging again."""
     script, report, *packets = words[1:]
     lines = read(report).split(b"\n") if os.path.isfile(report) else []
@@ -276,8 +280,8 @@ REASONS = {
 }
 
 
-def of(words, status):
+def of(command, words, status):
     """The lines that are told of a status of the program, which ended so on these words."""
     if status in REASONS:
-        return REASONS[status](words, status)
+        return REASONS[status](command, words, status)
     return [meaning(status)] if status in (7, 10) else []

@@ -40,6 +40,7 @@ class RunPicture:
     """The drawing of one run."""
 
     def __init__(self, script, lines):
+        """Lays out the columns for the lanes that have entries."""
         self.script, self.lines = script, lines
         self.bindings = Bindings(script)
         self.teller = Teller(script, self.bindings)

@@ -39,7 +39,8 @@ def scheme(name, at):
     """The rules of style of one scheme."""
     of = SCHEMES[name]
     rules = [f".paper{{fill:{of['paper']}}}text{{fill:{of['ink']}}}.faint{{fill:{of['faint']}}}"]
-    rules.append(f".rule{{stroke:{of['line']}}}.band{{fill:{of['band']}}}.plain{{fill:{of['paper']};stroke:{of['line']}}}")
+    rules.append(f".rule{{stroke:{of['line']}}}.band{{fill:{of['band']}}}")
+    rules.append(f".plain{{fill:{of['paper']};stroke:{of['line']}}}")
     for kind, look in KINDS.items():
         rules.append(f"rect.{kind}{{fill:{look[at]};stroke:{look[at]}}}path.{kind}{{stroke:{look[at]}}}")
     return "".join(rules)
@@ -91,6 +92,7 @@ class Sheet:
     """What is drawn so far, in the order of drawing."""
 
     def __init__(self, width):
+        """Begins an empty sheet."""
         self.width, self.parts = width, []
 
     def add(self, part):
@@ -129,7 +131,8 @@ class Sheet:
             f'<svg xmlns="http://www.w3.org/2000/svg" width="{self.width:.0f}" height="{height:.0f}" '
             f'viewBox="0 0 {self.width:.0f} {height:.0f}" role="img"><title>{escape(title)}</title>'
         )
-        return f'{head}{style()}<rect class="paper" width="100%" height="100%"/>\n' + "\n".join(self.parts) + "\n</svg>\n"
+        paper = '<rect class="paper" width="100%" height="100%"/>'
+        return "\n".join([f"{head}{style()}{paper}", *self.parts, "</svg>"]) + "\n"
 
 
 def legend(sheet, x, y, kinds):

@@ -48,6 +48,7 @@ class Teller:
     """Tells steps of replies, with the bindings as they were at a place."""
 
     def __init__(self, script, bindings):
+        """Takes the script, and the bindings that are followed beside it."""
         self.script, self.bindings = script, bindings
 
     def run(self, place, words):

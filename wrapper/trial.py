@@ -1,35 +1,79 @@
-"""A trial of the program by `rt try`: the sources as they stand, with checks at run time and without proof."""
+"""A trial of the program by `rt try`: the sources as they stand, with checks at run time and without proof.
 
+A trial runs in a folder of its own, in which it finds no file but those that it is handed. So each word that names a file,
+a pipe or standard input is replaced by the name of a file with what is read from it, one that names a folder or what can't
+be read by that of a folder, and one that names nothing by a name that is nothing there either.
+"""
+
+import contextlib
 import os
 import re
+import shutil
 import subprocess
 import sys
+import tempfile
+import threading
+import time
 from pathlib import Path
 
 from wrapper.program import CRATE, NOT_RUN, tell
 
+# The commands whose further words name files.
+READERS = ("run", "check", "join", "vm")
 
-def has_toolchain():
-    """Whether the toolchain is installed; where it isn't, a line says so."""
+
+def has_toolchain(otherwise="the command rt isn't found: install the Rattle toolchain and put rt on the PATH"):
+    """Whether the toolchain is installed; where it isn't, this line is told."""
     try:
         subprocess.run(["rt", "version"], stdout=subprocess.DEVNULL, stderr=subprocess.DEVNULL)
     except OSError:
-        tell("the command rt isn't found: install the Rattle toolchain and put rt on the PATH")
+        tell(otherwise)
         return False
     return True
 
 
-def handed_in(words, folder):
-    """The words as a trial gets them, and the flags that hand in the files which they name, each under a name of its own."""
+def passed(since):
+    """How long it has been, in words."""
+    minutes, seconds = divmod(int(time.monotonic() - since), 60)
+    return f"{minutes} min {seconds} s"
+
+
+@contextlib.contextmanager
+def each_minute(say):
+    """Makes this call once a minute, while what stands below this runs."""
+    ended = threading.Event()
+
+    def watch():
+        while not ended.wait(60):
+            say()
+
+    thread = threading.Thread(target=watch, daemon=True)
+    thread.start()
+    try:
+        yield
+    finally:
+        ended.set()
+        thread.join()
+
+
+def handed_in(words, folder, beside):
+    """The words as a trial gets them, and the flags that hand in what they name; `beside` is a folder for what is read."""
     given, flags = list(words), []
-    for at, word in enumerate(words[1:], start=1):
-        file = folder / word
-        if file.is_file():
-            given[at] = f"file{at}"
-            flags += ["--data", f"file{at}={file.absolute()}"]
-        elif word and not word.startswith("-") and (CRATE / word).exists():
-            # a trial would find such a file of the crate, which isn't there where this is called
+    for at, word in enumerate(words[1:], start=1) if words[:1] and words[0] in READERS else []:
+        try:
+            file = os.path.join(folder, word)
+            content = open(file, "rb").read() if word else None
+        except FileNotFoundError:
+            content = None
+        except OSError:
+            given[at] = "."
+            continue
+        if content is None:
             given[at] = f"absent{at}"
+            continue
+        given[at] = f"file{at}"
+        (beside / given[at]).write_bytes(content)
+        flags += ["--data", f"{given[at]}={beside / given[at]}"]
     return given, flags
 
 
@@ -41,13 +85,14 @@ def ended(words, stdout, status):
 def run(words, cwd=None, capture_output=False, stdout=None, **_):
     """Runs the words on the program as it stands, with no proof, and answers what `subprocess.run` would."""
     keeps = capture_output or stdout == subprocess.PIPE
-    if not has_toolchain():
+    why = "the plain program can't be built" if shutil.which("cargo") else "cargo isn't found"
+    if not has_toolchain(f"{why}, and the command rt isn't found: cargo builds the plain program, rt the proved one"):
         return ended(words, b"", NOT_RUN)
-    tell("a trial that nothing has proved, which keeps no endpoint's file; ./spin build makes the proved program")
-    given, flags = handed_in(words, Path(cwd or os.getcwd()))
-    tried = subprocess.run(
-        ["rt", "try", *flags, "--", *given], cwd=CRATE, stdin=subprocess.DEVNULL, capture_output=True
-    )
+    tell(f"{why}, so this is a trial by rt try: it takes minutes, proves nothing, and keeps no endpoint's file")
+    with tempfile.TemporaryDirectory() as beside, each_minute(lambda: tell("the trial runs")):
+        given, flags = handed_in(words, cwd or os.getcwd(), Path(beside))
+        call = ["rt", "try", *flags, "--", *given]
+        tried = subprocess.run(call, cwd=CRATE, stdin=subprocess.DEVNULL, capture_output=True)
     found = re.search(rb"^run=ended status=(\d+) .*\n\Z", tried.stderr, re.MULTILINE)
     if not found:
         sys.stderr.buffer.write(tried.stderr)

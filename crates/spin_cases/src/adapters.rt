@@ -251,7 +251,7 @@ fn an_endpoint_appends_to_a_file(rt: HostRuntime) -> Result<(), NoMemory> {
     assert!(rt; fs::write(&rt, "stood.bin", "stood").is_ok());
     let _ = fs::remove_file(&rt, "fresh.bin");
     for (name, path, bytes) in ROUNDS {
-        let mut end = FileEnd::new(rt.clone()?, Text::from_bytes(alloc, name)?);
+        let mut end = FileEnd::new(alloc, rt.clone()?, Text::from_bytes(alloc, name)?)?;
         assert!(rt; takes_two(&mut end));
         assert_eq!(rt; bytes_of(&rt, alloc, path)?.as_slice(), bytes);
     }
@@ -261,7 +261,7 @@ fn an_endpoint_appends_to_a_file(rt: HostRuntime) -> Result<(), NoMemory> {
 #[test]
 fn an_endpoint_that_opens_no_file(rt: HostRuntime) -> Result<(), NoMemory> {
     for name in [b"no folder/out.bin".as_slice(), b".", b"\xff.bin"] {
-        let mut end = FileEnd::new(rt.clone()?, Text::from_bytes(rt.alloc(), name)?);
+        let mut end = FileEnd::new(rt.alloc(), rt.clone()?, Text::from_bytes(rt.alloc(), name)?)?;
         assert!(rt; fails_twice(&mut end));
     }
     Ok(())
@@ -271,7 +271,7 @@ fn an_endpoint_that_opens_no_file(rt: HostRuntime) -> Result<(), NoMemory> {
 #[test]
 fn an_endpoint_that_takes_nothing(rt: HostRuntime) -> Result<(), NoMemory> {
     let _ = fs::remove_file(&rt, "unused.bin");
-    let mut end = FileEnd::new(rt.clone()?, Text::from_bytes(rt.alloc(), b"unused.bin")?);
+    let mut end = FileEnd::new(rt.alloc(), rt.clone()?, Text::from_bytes(rt.alloc(), b"unused.bin")?)?;
     end.finish();
     assert!(rt; fs::read(&rt, "unused.bin").is_err());
     Ok(())

@@ -51,6 +51,23 @@ const THREE: [Move; 6] = [
     (0, false, Some((1, 0))),
 ];
 
+/// Each party in turn puts a task, which the other one takes, so that the queue is empty again.
+const IN_TURN: [Move; 4] = [
+    (0, true, Some((0, 0))),
+    (1, false, Some((0, 0))),
+    (1, true, Some((1, 0))),
+    (0, false, Some((1, 0))),
+];
+
+/// How many tasks the queue holds, the moves, how often they are made, and what is left then.
+type Case = (u32, &'static [Move], u32, &'static [(u8, u32)]);
+
+const CASES: [Case; 3] = [
+    (1, &ONE, 1, &[]),
+    (3, &THREE, 1, &[(0, 1), (1, 1)]),
+    (1, &IN_TURN, 1001, &[]),
+];
+
 /// The version at the start of a setup.
 fn start_of(alloc: Global, setup: &Setup) -> Result<Arc<Version>, NoMemory> {
     Ok(Arc::new(alloc, Version::start(alloc, setup)?)?)
@@ -127,14 +144,48 @@ fn close<R: Wait + Sync>(
     queue.close(rt, alloc, parties)
 }
 
-/// Makes the moves, each of which comes to what it should.
+/// What the move should come to in this round.
+fn wanted_in(round: u32, wanted: Option<(u8, u32)>) -> Option<(u8, u32)> {
+    let (sender, number) = wanted?;
+    Some((sender, number.wrapping_add(round)))
+}
+
+/// Makes the moves, each of which comes to what it should in this round.
 fn make_all<R: Wait + Abort + Sync>(
     rt: &R,
     alloc: Global,
     queue: &Queue,
     first: &mut Party,
     second: &mut Party,
+    version: &Arc<Version>,
     moves: &[Move],
+    round: u32,
+) -> Result<(), Fail>
+    requires first { IsPartyOf queue.now first.old }
+    requires second { IsPartyOf queue.now second.old }
+    ensures first { IsSameParty first.old first.new }
+    ensures second { IsSameParty second.old second.new }
+{
+    for &(party, puts, wanted) in moves {
+        let comes = if party == 0 {
+            make(rt, alloc, queue, first, version, puts)?
+        } else {
+            make(rt, alloc, queue, second, version, puts)?
+        };
+        assert_eq!(rt; comes, wanted_in(round, wanted));
+    }
+    Ok(())
+}
+
+/// Makes the moves so often.
+fn make_rounds<R: Wait + Abort + Sync>(
+    rt: &R,
+    alloc: Global,
+    queue: &Queue,
+    first: &mut Party,
+    second: &mut Party,
+    moves: &[Move],
+    rounds: u32,
 ) -> Result<(), Fail>
     requires first { IsPartyOf queue.now first.old }
     requires second { IsPartyOf queue.now second.old }
@@ -142,23 +193,19 @@ fn make_all<R: Wait + Abort + Sync>(
     ensures second { IsSameParty second.old second.new }
 {
     let version = version_of(alloc)?;
-    for &(party, puts, wanted) in moves {
-        let comes = if party == 0 {
-            make(rt, alloc, queue, first, &version, puts)?
-        } else {
-            make(rt, alloc, queue, second, &version, puts)?
-        };
-        assert_eq!(rt; comes, wanted);
+    for round in 0..rounds {
+        make_all(rt, alloc, queue, first, second, &version, moves, round)?;
     }
     Ok(())
 }
 
-/// The tasks that are left when the moves were made in a queue of this capacity.
+/// The tasks that are left when the moves were made so often in a queue of this capacity.
 fn left_after<R: Wait + Abort + Sync>(
     rt: &R,
     alloc: Global,
     capacity: u32,
     moves: &[Move],
+    rounds: u32,
 ) -> Result<Tasks, Fail>
     requires { (1 ≤ capacity) × (capacity ≤ MAX_CAPACITY) }
 {
@@ -169,7 +216,7 @@ fn left_after<R: Wait + Abort + Sync>(
     let Some(mut second) = parties.take_first() else {
         unreachable!()
     };
-    make_all(rt, alloc, &queue, &mut first, &mut second, moves)?;
+    make_rounds(rt, alloc, &queue, &mut first, &mut second, moves, rounds)?;
     Ok(close(rt, alloc, queue, first, second)?)
 }
 
@@ -185,9 +232,8 @@ fn names_of(alloc: Global, tasks: &Tasks) -> Result<Vec<(u8, u32)>, NoMemory> {
 #[test]
 fn tasks_come_once_and_in_order(rt: HostRuntime) -> Result<(), Fail> {
     let alloc: Global = rt.alloc();
-    let cases: [(u32, &[Move], &[(u8, u32)]); 2] = [(1, &ONE, &[]), (3, &THREE, &[(0, 1), (1, 1)])];
-    for (capacity, moves, left) in cases {
-        let tasks = left_after(&rt, alloc, capacity, moves)?;
+    for (capacity, moves, rounds, left) in CASES {
+        let tasks = left_after(&rt, alloc, capacity, moves, rounds)?;
         assert_eq!(rt; names_of(alloc, &tasks)?.as_slice(), left);
     }
     Ok(())

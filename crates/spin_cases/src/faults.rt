@@ -144,14 +144,15 @@ fn shelf_of(alloc: Global, row: Row, failing: Failing, size: u32) -> Result<MemS
     Ok(shelf)
 }
 
-/// A sink with room for each report, of which a write moves at most so many bytes.
+/// A sink with room for each report, of which a write moves at most so many bytes; one whose call fails takes whole
+/// pieces before.
 fn sink_of(alloc: Global, failing: Failing, size: u32) -> Result<MemSink, NoMemory>
     requires { 0 < size }
 {
     let mut sink = MemSink::new(alloc, 4000)?;
-    sink.in_pieces(size);
-    if let Kind::Write = failing.kind {
-        sink.fail_at(failing.call)?;
+    match failing.kind {
+        Kind::Write => sink.fail_at(failing.call)?,
+        Kind::Find | Kind::Read | Kind::Delivery => sink.in_pieces(size),
     }
     Ok(sink)
 }
@@ -327,7 +328,7 @@ const WHOLE: Wanted = (End::Whole, Part::All, Part::All);
 const NO_SCRIPT: Wanted = (End::NoScript, Part::Just(0), Part::Just(0));
 
 /// For each row and kind the calls from 0 on, up to the first number that no run comes to.
-const STOPS: [Stops; 23] = [
+const STOPS: [Stops; 28] = [
     (Row::Filter, Kind::Find, 0, 1, NO_SCRIPT),
     (
         Row::Filter,
@@ -363,22 +364,37 @@ const STOPS: [Stops; 23] = [
         (End::NoPackets, Part::Just(47), Part::All),
     ),
     (Row::Filter, Kind::Read, 10, 11, WHOLE),
+    // A segment is written by two calls: the line that begins it, and all that stands behind it.
     (
         Row::Filter,
         Kind::Write,
         0,
-        6,
+        3,
         (End::NoWrite, Part::Call, Part::Just(0)),
     ),
     // What the second segment sends is delivered before its text is written.
     (
         Row::Filter,
         Kind::Write,
-        6,
-        48,
-        (End::NoWrite, Part::Call, Part::All),
+        3,
+        4,
+        (End::NoWrite, Part::Just(6), Part::All),
     ),
-    (Row::Filter, Kind::Write, 48, 49, WHOLE),
+    (
+        Row::Filter,
+        Kind::Write,
+        4,
+        5,
+        (End::NoWrite, Part::Just(7), Part::All),
+    ),
+    (
+        Row::Filter,
+        Kind::Write,
+        5,
+        6,
+        (End::NoWrite, Part::Just(47), Part::All),
+    ),
+    (Row::Filter, Kind::Write, 6, 7, WHOLE),
     (
         Row::Filter,
         Kind::Delivery,
@@ -402,18 +418,39 @@ const STOPS: [Stops; 23] = [
         Row::Retiring,
         Kind::Write,
         1,
-        4,
+        3,
         (End::NoWrite, Part::Call, Part::Just(1)),
     ),
-    // The endpoint is retired before the second segment.
+    // The endpoint is retired before the second segment, whose first piece is the line that tells it.
+    (
+        Row::Retiring,
+        Kind::Write,
+        3,
+        4,
+        (End::NoWrite, Part::Just(4), Part::All),
+    ),
     (
         Row::Retiring,
         Kind::Write,
         4,
-        9,
-        (End::NoWrite, Part::Call, Part::All),
+        5,
+        (End::NoWrite, Part::Just(5), Part::All),
     ),
-    (Row::Retiring, Kind::Write, 9, 10, WHOLE),
+    (
+        Row::Retiring,
+        Kind::Write,
+        5,
+        6,
+        (End::NoWrite, Part::Just(6), Part::All),
+    ),
+    (
+        Row::Retiring,
+        Kind::Write,
+        6,
+        7,
+        (End::NoWrite, Part::Just(8), Part::All),
+    ),
+    (Row::Retiring, Kind::Write, 7, 8, WHOLE),
     (
         Row::Retiring,
         Kind::Delivery,

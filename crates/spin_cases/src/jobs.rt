@@ -1,6 +1,6 @@
 //! Jobs that several workers do at once.
 
-ghost use Rattle.std.specs.Prelude.{◌<◌, length, IfOk};
+ghost use Rattle.std.specs.Prelude.{◌≡◌, ◌<◌, [], length, IfOk};
 ghost use Rattle.std.specs.Arc.{arc_value};
 ghost use Rattle.std.specs.List.{All};
 ghost use Rattle.spin_table.specs.SetupOf.{data_of};
@@ -8,14 +8,14 @@ ghost use Rattle.spin_table.specs.Soundness.{IsSound};
 ghost use Rattle.spin_jobs.specs.Jobs.{CanRun};
 
 use crate::gates::{Hold, worker};
-use spin_code::Sincere;
+use spin_code::{Act, Sincere, Steplist};
 use spin_jobs::{Job, Jobs, MAX_WORKERS, Replies, run_all};
-use spin_objects::{Catalogue, Natives};
+use spin_objects::{Catalogue, Handler, Natives, Outcome};
 use spin_outside::Gate;
 use spin_proto::{JobCall, Reply, Step, Trace};
 use spin_script::read_script;
 use spin_table::{Setup, Version};
-use spin_values::{Args, NoMemory, Value};
+use spin_values::{Args, EventType, Kind, NoMemory, Param, Params, Text, Value};
 use std::alloc::Global;
 use std::process::Abort;
 use std::sync::Arc;
@@ -110,15 +110,19 @@ fn replies_in<R: Threads + Sync + Abort, G: Gate>(
     run_all(rt, alloc, setup, &jobs, workers, gate)
 }
 
-/// The replies to so many jobs.
+/// The replies to so many jobs of the script's event.
 fn replies_of<R: Threads + Sync + Abort, G: Gate>(
     rt: &R,
     alloc: Global,
+    script: &[u8],
+    natives: Natives,
     count: u32,
     workers: u8,
     gate: &G,
-) -> Result<Replies, Fail> {
-    let script = read_script(alloc, ECHO, Natives::new(alloc))?;
+) -> Result<Replies, Fail>
+    requires { ⟦<Natives as Sincere>⟧.sincere natives }
+{
+    let script = read_script(alloc, script, natives)?;
     Ok(replies_in(rt, alloc, &script.setup, count, workers, gate)?)
 }
 
@@ -156,12 +160,113 @@ const CASES: [(u32, u8); 3] = [
 fn jobs_are_done_at_once_and_answered_in_order(rt: HostRuntime) -> Result<(), Fail> {
     for (count, workers) in CASES {
         let gate = Counting::new();
-        let replies = replies_of(&rt, rt.alloc(), count, workers, &gate)?;
+        let natives = Natives::new(rt.alloc());
+        let replies = replies_of(&rt, rt.alloc(), ECHO, natives, count, workers, &gate)?;
         assert_eq!(rt; replies.len(), count as usize);
         assert!(rt; are_in_order(replies.as_slice()));
         assert_eq!(rt; gate.passes.load(Ordering::SeqCst), u64::from(count));
         assert_eq!(rt; gate.strangers.load(Ordering::SeqCst), 0);
         assert!(rt; gate.hold.is_in_time());
     }
+    Ok(())
+}
+
+/// One event, whose default is the native.
+const TALLY: &[u8] = b"spin 1\nevent 0 0 w last\nhandler 1 native own\ndefault 0 1\n";
+
+/// What a run of job 1 counts; one of job 0 counts 1.
+const SECOND: u64 = 65_536;
+
+/// Counts the runs of jobs 0 and 1.
+struct Tally {
+    runs: Arc<AtomicU64>,
+}
+
+impl Drop for Tally {
+    fn drop(self) {
+        let Tally { runs } = self;
+        drop(runs);
+    }
+}
+
+impl Handler for Tally {
+    ghost does = { λ _. record { steps = [] } };
+
+    fn run(&self, _alloc: Global, args: &mut Args, _out: &mut Outcome) -> Result<(), NoMemory> {
+        let worth = match args.as_slice().first() {
+            Some(Value::Word(0)) => 1,
+            _ => SECOND,
+        };
+        self.runs.fetch_add(worth, Ordering::SeqCst);
+        Ok(())
+    }
+}
+
+/// The native that counts, under its name.
+fn tally_natives(alloc: Global, object: Box<dyn Handler + Send + Sync>) -> Result<Natives, Fail>
+    requires { does object ≡ record { steps = [] } }
+    ensures { IfOk result (λ natives. ⟦<Natives as Sincere>⟧.sincere natives) }
+{
+    let mut natives = Natives::new(alloc);
+    let mut params = Params::new(alloc);
+    params.push(Param {
+        kind: Kind::Word,
+        var: false,
+    })?;
+    let sig = EventType {
+        params,
+        gives: false,
+    };
+    let steps = Steplist::new(alloc);
+    natives.add_handler(Text::from_bytes(alloc, b"own")?, sig, Act { steps }, object)?;
+    Ok(natives)
+}
+
+/// Holds job 0 until job 1 has passed, and notes who passed, and each pass of a job that was done already.
+#[derive(Drop)]
+struct Watching {
+    hold: Hold,
+    runs: Arc<AtomicU64>,
+    passed: AtomicU64,
+    late: AtomicU64,
+}
+
+impl Gate for Watching {
+    fn pass(&self, lane: u8, deed: u32) {
+        let runs = self.runs.load(Ordering::SeqCst);
+        let own = if deed == 0 {
+            runs % SECOND
+        } else {
+            runs / SECOND
+        };
+        self.late.fetch_add(own, Ordering::SeqCst);
+        self.passed.fetch_add(u64::from(lane), Ordering::SeqCst);
+        self.hold.pass(lane, deed);
+    }
+}
+
+#[test]
+fn two_workers_pass_and_each_does_its_job_once(rt: HostRuntime) -> Result<(), Fail> {
+    let alloc: Global = rt.alloc();
+    let runs = Arc::new(alloc, AtomicU64::new(0))?;
+    let object: Box<dyn Handler + Send + Sync> = Box::new(
+        alloc,
+        Tally {
+            runs: Arc::try_clone(&runs)?,
+        },
+    )?;
+    let gate = Watching {
+        hold: Hold::new(worker(0), worker(1)),
+        runs: Arc::try_clone(&runs)?,
+        passed: AtomicU64::new(0),
+        late: AtomicU64::new(0),
+    };
+    let natives = tally_natives(alloc, object)?;
+    let replies = replies_of(&rt, alloc, TALLY, natives, 2, 2, &gate)?;
+    assert_eq!(rt; replies.len(), 2);
+    assert!(rt; gate.hold.is_in_time());
+    assert_eq!(rt; gate.late.load(Ordering::SeqCst), 0);
+    assert_eq!(rt; gate.passed.load(Ordering::SeqCst), 8 + 9);
+    assert_eq!(rt; runs.load(Ordering::SeqCst), 1 + SECOND);
     Ok(())
 }

@@ -2,7 +2,7 @@
 
 ghost use Rattle.std.specs.Prelude.{None};
 
-use spin_endpoint::{Endpoint, Ends, Failed};
+use spin_endpoint::{Count, Endpoint, Ends, Failed};
 use spin_values::{NoMemory, Octets, Text};
 use std::alloc::Global;
 use std::cell::RefCell;
@@ -25,7 +25,7 @@ pub(crate) struct Noting {
     takes: u32,
     failing: u32,
     finishes: u64,
-    faults: u64,
+    faults: Count,
 }
 
 impl Drop for Noting {
@@ -50,13 +50,13 @@ fn note(notes: &Notes, bytes: &[u8]) {
 }
 
 impl Endpoint for Noting {
-    ghost seen = { λ n. record { pieces = None; finishes = n.finishes; faults = n.faults } };
+    ghost seen = { λ n. record { pieces = None; finishes = n.finishes; faults = n.faults.number } };
 
     fn take(&mut self, bytes: &[u8]) -> Result<(), Failed> {
         let take = self.takes;
         self.takes = take.saturating_add(1);
         if take == self.failing {
-            self.faults = self.faults.saturating_add(1);
+            self.faults.raise();
             return Err(Failed);
         }
         note(&self.notes, bytes);
@@ -81,7 +81,7 @@ pub(crate) fn noting_end(notes: &Notes, failing: u32) -> Result<Noting, NoMemory
         takes: 0,
         failing,
         finishes: 0,
-        faults: 0,
+        faults: Count::new(),
     })
 }
 

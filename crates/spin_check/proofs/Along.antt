@@ -5,7 +5,7 @@ use Rattle.std.specs.List.{flat_map}
 use Rattle.std.specs.Ordering.{is_lt}
 use Rattle.std.proofs.lemmas.Bool.{cases_eq}
 use Rattle.std.proofs.lemmas.Bool.Decides.{nat_tests}
-use Rattle.std.proofs.lemmas.List.{append-nil, map-append, length-set, get_or-set_same, get_or-set_other, get_or_default}
+use Rattle.std.proofs.lemmas.List.{append-nil, map-append, length-append, length-set, get_or-set_same, get_or-set_other, get_or_default}
 use Rattle.std.proofs.lemmas.List.Elements.{All-head, All-tail, All-cons}
 use Rattle.spin_table.specs.Setups.{SetupData}
 use Rattle.spin_table.specs.States.{State}
@@ -17,10 +17,11 @@ use Rattle.spin_report.specs.Legal.{IsNextEntry, IsLegal}
 use Rattle.spin_report.specs.Jobs.{calls_of, AreJobsFrom, AreJobs}
 use Rattle.spin_report.specs.Segments.{moment, moment_cmp, of_lane, IsInOrder}
 use Rattle.spin_report.specs.Runs.{sends_of, sends_of_reply}
+use Rattle.spin_report.proofs.Shows.{one_list_of_jobs}
 use Rattle.spin_check.specs.declared.deeds.Ask.{Ask}
 use Rattle.spin_check.specs.Inner.Asks.{numbered, queue_of, left_of}
 use Rattle.spin_check.specs.Inner.Standings.{numbers_of}
-use Rattle.spin_check.specs.Inner.Replays.{At, Follows, IsNext, sent_by_jobs, queues_after, Replays, IsOnlyNext, AreRead, AreEntries, HasReplayed, IsFresh}
+use Rattle.spin_check.specs.Inner.Replays.{At, Follows, IsNext, sent_by_jobs, queues_after, Replays, IsOnlyNext, AreRead, AreEntries, HasReplayed, IsFresh, GoesOn, AreLonger}
 
 -- ---- the texts of lists
 
@@ -177,6 +178,22 @@ module _ (d : SetupData) where
       let rest = jobs_push are.0 middle next done e are.2 own (subst (λ s. IsLegal d s done middle) state_is h.2) g from are.5 same in
       (are.0, are.1, are.2 ++ own, are.3, are.4, rest, ap (λ j. j ++ own) are.6 ∙ append_assoc are.1 are.2 own)
 
+  -- the jobs of more entries begin with those of the first ones and of the next one
+  jobs_split : (state middle next : State) (done : List Entry) (e : Entry) (others : List Entry) (jobs all : List JobSeen) → IsLegal d state done middle → AreJobs d state done jobs
+      → IsNextEntry d middle e next → AreJobs d state (done ++ e ∷ others) all → (same : (s : State) (x : Entry) (a b : State) → IsNextEntry d s x a → IsNextEntry d s x b → a ≡ b)
+      → (own : List JobSeen) × (rest : List JobSeen) × AreJobsFrom d next e 0 (calls_of e.what) own × (all ≡ jobs ++ (own ++ rest))
+  jobs_split state middle next [] e others jobs all legal are g h same =
+      let state_is : h.0 ≡ next = same state e h.0 next h.3 (subst (λ s. IsNextEntry d s e next) legal g) in
+      (h.1, h.2, subst (λ s. AreJobsFrom d s e 0 (calls_of e.what) h.1) state_is h.4, h.6 ∙ ap (λ j. j ++ (h.1 ++ h.2)) (sym are))
+  jobs_split state middle next (x ∷ done) e others jobs all legal are g h same =
+      let legal_is : legal.0 ≡ are.0 = same state x legal.0 are.0 legal.1 are.3 in
+      let state_is : h.0 ≡ are.0 = same state x h.0 are.0 h.3 are.3 in
+      let own_is : h.1 ≡ are.1 =
+      sym (append-nil h.1)
+      ∙ one_list_of_jobs d state (x ∷ []) (h.1 ++ []) (are.1 ++ []) (h.0, h.1, [], h.3, h.4, refl, refl) (are.0, are.1, [], are.3, are.4, refl, refl) ∙ append-nil are.1 in
+      let r = jobs_split are.0 middle next done e others are.2 h.2 (subst (λ s. IsLegal d s done middle) legal_is legal.2) are.5 g (subst (λ s. AreJobs d s (done ++ e ∷ others) h.2) state_is h.5) same in
+      (r.0, r.1, r.2, h.6 ∙ (λ i. own_is i ++ r.3 i) ∙ sym (append_assoc are.1 are.2 (r.0 ++ r.1)) ∙ ap (λ j. j ++ (r.0 ++ r.1)) (sym are.6))
+
   -- the replay stands behind these entries, with which each history of the report begins
   pub record IsAlong (start : At) (done : List Entry) (jobs : List JobSeen) (at : At) : Type 0 where
     pub on : (es : List Entry) (last : State) (more : List ℕ) → AreEntries d start es last more → (rest : List Entry) × (es ≡ done ++ rest) × AreRead d at rest last more
@@ -254,13 +271,29 @@ module _ (d : SetupData) where
         front.1 ∙ ap (λ rest. done ++ rest) (read_done at front.0 last more none front.2) ∙ append-nil done;
   }
 
-  -- no entry may come next, and something is left to do
-  pub along_stuck : (start at : At) (done : List Entry) (jobs : List JobSeen) → (All (λ queue. queue ≡ []) at.queues → ⊥) → IsAlong start done jobs at
-      → ((e : Entry) (next : State) (more : List ℕ) → IsNext d at e next more → ⊥)
-      → (es : List Entry) (last : State) (more : List ℕ) → AreEntries d start es last more → ⊥
-  along_stuck start at done jobs left_over along stuck es last more h = go (along.on es last more h).0 (along.on es last more h).1 (along.on es last more h).2 where
-    go : (rest : List Entry) → es ≡ done ++ rest → AreRead d at rest last more → ⊥
-    go [] split read = left_over (none_left at last more read)
+  -- the lines of all jobs are no shorter than those of some of them
+  lines_of_more : (jobs own rest : List JobSeen) → length (text_of (map job_line (jobs ++ (own ++ rest)))) ≡ length (text_of (map job_line jobs)) + (length (text_of (map job_line own)) + length (text_of (map job_line rest)))
+  lines_of_more jobs own rest =
+      let two = text_of-append (map job_line own) (map job_line rest) in
+      let all : text_of (map job_line (jobs ++ (own ++ rest))) ≡ text_of (map job_line jobs) ++ (text_of (map job_line own) ++ text_of (map job_line rest)) =
+      ap text_of (map-append job_line jobs (own ++ rest)) ∙ text_of-append (map job_line jobs) (map job_line (own ++ rest))
+      ∙ ap (λ t. text_of (map job_line jobs) ++ t) (ap text_of (map-append job_line own rest) ∙ two) in
+      ap length all ∙ length-append (text_of (map job_line jobs)) (text_of (map job_line own) ++ text_of (map job_line rest))
+      ∙ ap (λ n. length (text_of (map job_line jobs)) + n) (length-append (text_of (map job_line own)) (text_of (map job_line rest)))
+
+  -- something is left to do, and no entry may come next that leaves room for the lines of the jobs
+  pub along_stuck : (start at : At) (done : List Entry) (jobs : List JobSeen) → (All (λ queue. queue ≡ []) at.queues → ⊥) → IsAlong start done jobs at → GoesOn d at None
+      → ((s : State) (x : Entry) (a b : State) → IsNextEntry d s x a → IsNextEntry d s x b → a ≡ b)
+      → (es : List Entry) (last : State) (more : List ℕ) → AreEntries d start es last more → (all : List JobSeen) → AreJobs d start.state es all → AreLonger (length more) [] all
+  along_stuck start at done jobs left_over along stuck same es last more h all are = go (along.on es last more h).0 (along.on es last more h).1 (along.on es last more h).2 where
+    go : (rest : List Entry) → es ≡ done ++ rest → AreRead d at rest last more → AreLonger (length more) [] all
+    go [] split read = absurd (left_over (none_left at last more read))
     go (x ∷ others) split read =
         let first = read_first at x others last more (follows_last start at done x others es at.last along.last split h.1) read in
-        stuck x first.0 (text_of (map entry_line others) ++ more) first.1
+        let parts = jobs_split start.state at.state first.0 done x others jobs all along.legal along.jobs_are first.1.answers (subst (λ l. AreJobs d start.state l all) split are) same in
+        let short : length (text_of (map entry_line others) ++ more) < length (at.owed ++ text_of (map job_line parts.0)) = stuck x first.0 (text_of (map entry_line others) ++ more) first.1 parts.0 parts.2 in
+        let behind = length-append (text_of (map entry_line others)) more in
+        let owed = length-append at.owed (text_of (map job_line parts.0)) in
+        let own = ap length along.owed in
+        let whole = ap (λ js. length (text_of (map job_line js))) parts.3 ∙ lines_of_more jobs parts.0 parts.1 in
+        omega (arith, short, behind, owed, own, whole)

@@ -16,8 +16,9 @@ use Rattle.spin_report.specs.declared.entry.Entry.{Entry}
 use Rattle.spin_report.specs.Lines.{JobSeen, job_line}
 use Rattle.spin_report.specs.Jobs.{calls_of, job_of, AreJobsFrom}
 use Rattle.spin_report.specs.Runs.{sent_by, sends_of_reply}
+use Rattle.spin_report.proofs.Answering.{one_job_reply}
 use Rattle.spin_check.specs.Inner.Standings.{numbers_of}
-use Rattle.spin_check.specs.Inner.Replays.{sent_by_jobs}
+use Rattle.spin_check.specs.Inner.Replays.{sent_by_jobs, AreLonger}
 use Rattle.spin_check.proofs.Along.{text_of-append}
 
 -- ---- sends
@@ -49,6 +50,15 @@ from_push d s e n (c ∷ calls) jobs call reply are is =
       ap (λ l. l ++ job_of e (n + length (c ∷ calls)) reply ∷ []) are.3,
       subst (λ k. AreJobsFrom d s e (n + 1) (calls ++ call ∷ []) (are.1 ++ job_of e k reply ∷ [])) at (from_push d s e (n + 1) calls are.1 call reply are.4 is),
     )
+
+-- the jobs of more calls begin with those of the first ones
+from_front : (d : SetupData) (s : State) (e : Entry) (n : ℕ) (calls left : List JobCall) (jobs own : List JobSeen) → AreJobsFrom d s e n calls jobs → AreJobsFrom d s e n (calls ++ left) own
+    → (others : List JobSeen) × (own ≡ jobs ++ others)
+from_front d s e n [] left jobs own are all = (own, ap (λ j. j ++ own) (sym are))
+from_front d s e n (c ∷ calls) left jobs own are all =
+    let reply : all.0 ≡ are.0 = one_job_reply d s c all.0 are.0 all.2 are.2 in
+    let rest = from_front d s e (n + 1) calls left are.1 all.1 are.4 all.4 in
+    (rest.0, all.3 ∙ (λ i. job_of e n (reply i) ∷ rest.1 i) ∙ ap (λ j. j ++ rest.0) (sym are.3))
 
 -- the first calls of an entry are done
 pub record AreDone (d : SetupData) (s : State) (e : Entry) (out_before sends_before : List ℕ) (left : List JobCall) (index : ℕ) (out sends : List ℕ) : Type 0 where
@@ -90,6 +100,18 @@ pub done_all : (d : SetupData) (s : State) (e : Entry) (out_before sends_before 
 done_all d s e out_before sends_before [] index out sends none done =
     (done.jobs, subst (λ l. AreJobsFrom d s e 0 l done.jobs) (sym (done.all ∙ append-nil done.calls)) done.are, done.text, done.sent)
 done_all d s e out_before sends_before (c ∷ queue) index out sends none done = absurd (cc (none))
+
+-- the lines of the first calls are longer than the room, and so are those of all
+pub done_short : (d : SetupData) (s : State) (e : Entry) (out_before sends_before : List ℕ) (left : List JobCall) (index : ℕ) (out sends : List ℕ) (room : ℕ)
+    → AreDone d s e out_before sends_before left index out sends → room < length out → (own : List JobSeen) → AreJobsFrom d s e 0 (calls_of e.what) own → AreLonger room out_before own
+done_short d s e out_before sends_before left index out sends room done long own are =
+    let front = from_front d s e 0 done.calls left done.jobs own done.are (subst (λ l. AreJobsFrom d s e 0 l own) done.all are) in
+    let lines : text_of (map job_line own) ≡ text_of (map job_line done.jobs) ++ text_of (map job_line front.0) =
+    ap (λ js. text_of (map job_line js)) front.1 ∙ ap text_of (map-append job_line done.jobs front.0) ∙ text_of-append (map job_line done.jobs) (map job_line front.0) in
+    let first = ap length done.text ∙ length-append out_before (text_of (map job_line done.jobs)) in
+    let whole = length-append out_before (text_of (map job_line own)) in
+    let parts = ap length lines ∙ length-append (text_of (map job_line done.jobs)) (text_of (map job_line front.0)) in
+    omega (arith, long, first, whole, parts)
 
 -- a call that is done belongs to the state, and its index has 32 bits
 pub call_belongs : (d : SetupData) (s : State) (e : Entry) (out_before sends_before : List ℕ) (call : JobCall) (queue left : List JobCall) (index : ℕ) (out sends : List ℕ) → queue ≡ call ∷ left

@@ -3,7 +3,7 @@ use Rattle.std.proofs.Common.{◌≡◌, ℕ, ◌+◌, ◌<◌, Bool, List, [], 
 use denote.Ref.{Bor}
 use Rattle.std.specs.Prelude.{All, Option, None, Some}
 use Rattle.std.specs.List.{flat_map}
-use Rattle.std.proofs.lemmas.List.{append-nil, map-append, append_cancel_left, length-drop}
+use Rattle.std.proofs.lemmas.List.{append-nil, map-append, append_cancel_left, length-append, length-drop}
 use Rattle.spin_endpoint.specs.Named.{NamedEnd}
 use Rattle.spin_endpoint.specs.Sends.{SentSeen, all_retired, all_received}
 use Rattle.spin_table.specs.Setups.{SetupData}
@@ -130,7 +130,13 @@ module _ (d : SetupData) (lanes : ℕ) (names : List (List ℕ)) (number : ℕ) 
   -- with no entries of the segment
   pub no_entries : (rest : List ℕ) (start : At) → mark.rest ≡ head_now ++ rest → IsBegun rest start → EndsAt d start None → Goes d lanes names number segment mark ends None
   no_entries rest start cut begun none s after more part =
-      none s.entries after.state (tail_text s.jobs s.lost ++ more) (part_read start rest begun s after more part (part_rest rest cut s after more part))
+      let behind = tail_text s.jobs s.lost ++ more in
+      let short : length behind < length (text_of (map job_line s.jobs)) =
+      none s.entries after.state behind (part_read start rest begun s after more part (part_rest rest cut s after more part)) s.jobs
+      (subst (λ t. AreJobs d t s.entries s.jobs) (sym begun.state) part.run.woven.jobs_are) in
+      let whole = length-append (tail_text s.jobs s.lost) more in
+      let tail = length-append (text_of (map job_line s.jobs)) (text_of (lost_lines s.lost)) in
+      absurd (omega (arith, short, whole, tail))
 
   -- ---- the entries are read
 

@@ -32,7 +32,7 @@ use Rattle.spin_check.specs.declared.answer.Answered.{Answered}
 use Rattle.spin_check.specs.Inner.Told.{Begins}
 use Rattle.spin_check.specs.Inner.Asks.{numbered, IsValid, asks_command, queue_of, commands_left}
 use Rattle.spin_check.specs.Inner.Answers.{IsAnswered}
-use Rattle.spin_check.specs.Inner.Replays.{At, Follows, IsNext, IsFound, sent_by_jobs, queues_after, IsFresh, GoesOn, EndsAt}
+use Rattle.spin_check.specs.Inner.Replays.{At, Follows, IsNext, IsFound, sent_by_jobs, queues_after, IsFresh, HasNoNext, GoesOn, AreLonger, EndsAt}
 use Rattle.spin_check.specs.Inner.Standings.{numbers_of}
 use Rattle.spin_check.proofs.Queues.{all_set}
 use Rattle.spin_check.proofs.Along.{IsAlong, along_none, along_more, along_all, along_stuck}
@@ -124,7 +124,7 @@ pub on_way_end : (d : SetupData) (start at : At) → All (λ queue. queue ≡ []
 on_way_end d start at none way = (way.done, way.jobs, along_all d start at way.done way.jobs none way.along, way.sound, omega (arith, way.room))
 
 pub on_way_stuck : (d : SetupData) (start at : At) → (All (λ queue. queue ≡ []) at.queues → ⊥) → GoesOn d at None → IsOnWay d start at → EndsAt d start None
-on_way_stuck d start at left_over none way = along_stuck d start at way.done way.jobs left_over way.along none
+on_way_stuck d start at left_over none way = along_stuck d start at way.done way.jobs left_over way.along none (same_next d)
 
 -- ---- one step
 
@@ -132,14 +132,14 @@ module _ (d : SetupData) (at : At) (few : length at.queues ≤ MAX_LANES) where
   lane_begins : (e : Entry) (next : State) (more : List ℕ) → IsNext d at e next more → (e.lane < 10) × Begins at.rest e
   lane_begins e next more h = (omega (arith, h.there, few), (more, h.text))
 
-  pub no_lane : ((entry : Entry) → entry.lane < 10 → Begins at.rest entry → ◌≡◌ {A = Option ℕ} None (Some entry.lane)) → GoesOn d at None
+  pub no_lane : ((entry : Entry) → entry.lane < 10 → Begins at.rest entry → ◌≡◌ {A = Option ℕ} None (Some entry.lane)) → HasNoNext d at
   no_lane told e next more h = let b = lane_begins e next more h in absurd (cc (told e b.0 b.1))
 
   module _ (lane : ℕ) (told : (entry : Entry) → entry.lane < 10 → Begins at.rest entry → ◌≡◌ {A = Option ℕ} (Some lane) (Some entry.lane)) where
     lane_is : (e : Entry) (next : State) (more : List ℕ) → IsNext d at e next more → lane ≡ e.lane
     lane_is e next more h = let b = lane_begins e next more h in cc (told e b.0 b.1)
 
-    pub no_ask : queue_of lane at.queues ≡ [] → GoesOn d at None
+    pub no_ask : queue_of lane at.queues ≡ [] → HasNoNext d at
     no_ask none e next more h =
         let same = lane_is e next more h in
         absurd (cc (none, ap (λ k. queue_of k at.queues) same ∙ h.asked.2))
@@ -152,17 +152,17 @@ module _ (d : SetupData) (at : At) (few : length at.queues ≤ MAX_LANES) where
           let one : ask ≡ h.asked.0 = cc (both) in
           ap numbered one ∙ h.asked.3
 
-      pub no_answer : IsAnswered d at.state ask at.rest None → GoesOn d at None
+      pub no_answer : IsAnswered d at.state ask at.rest None → HasNoNext d at
       no_answer none e next more h = none e next h.answers (asked_is e next more h) (more, h.text)
 
       module _ (answered : Answered) (is : IsAnswered d at.state ask at.rest (Some answered)) where
         answer_is : (e : Entry) (next : State) (more : List ℕ) → IsNext d at e next more → (e ≡ answered.entry) × (next ≡ arc_value answered.version)
         answer_is e next more h = is.4 e next h.answers (asked_is e next more h) (more, h.text)
 
-        pub no_line : ((rest : List ℕ) → at.rest ≡ ended (entry_line answered.entry) ++ rest → ⊥) → GoesOn d at None
+        pub no_line : ((rest : List ℕ) → at.rest ≡ ended (entry_line answered.entry) ++ rest → ⊥) → HasNoNext d at
         no_line none e next more h = none more (h.text ∙ ap (λ x. ended (entry_line x) ++ more) (answer_is e next more h).0)
 
-        pub no_order : (Follows at.last answered.entry → ⊥) → GoesOn d at None
+        pub no_order : (Follows at.last answered.entry → ⊥) → HasNoNext d at
         no_order none e next more h = none (subst (Follows at.last) (answer_is e next more h).0 h.order)
 
         -- the line is the report's, and all else is as it should be
@@ -200,6 +200,15 @@ module _ (d : SetupData) (at : At) (few : length at.queues ≤ MAX_LANES) where
         let whole : count (queue_of lane at.queues) ≡ cond {A = ℕ} (asks_command ask) 1 0 + count (drop 1 (queue_of lane at.queues)) = ap count first ∙ sum_by-cons (λ (a : Ask). cond (asks_command a) 1 0) ask (drop 1 (queue_of lane at.queues)) in
         let one : cond {A = ℕ} (asks_command ask) 1 0 ≡ 1 = ap (λ b. cond {A = ℕ} b 1 0) is in
         omega (arith, within, whole, one, room)
+
+-- the entry that was found is the one that may come next, and the lines of its jobs find no room
+pub no_room : (d : SetupData) (at : At) (queues : List (List Ask)) (answered : Answered) (rest : Bor (List ℕ)) → IsFound d at queues (Some (answered, rest))
+    → ((own : List JobSeen) → AreJobsFrom d (arc_value answered.version) answered.entry 0 (calls_of answered.entry.what) own → AreLonger (length rest.now) at.owed own) → GoesOn d at None
+no_room d at queues answered rest found longer e next more h own jobs =
+    let one = found.4 e next more h in
+    let of_found : AreJobsFrom d (arc_value answered.version) answered.entry 0 (calls_of answered.entry.what) own =
+    subst (λ s. AreJobsFrom d s answered.entry 0 (calls_of answered.entry.what) own) one.1 (subst (λ (x : Entry). AreJobsFrom d next x 0 (calls_of x.what) own) one.0 jobs) in
+    subst (λ m. AreLonger (length m) at.owed own) (sym one.2) (longer own of_found)
 
 -- the entry that was found is written, and its jobs are done
 pub goes_on : (d : SetupData) (at after : At) (answered : Answered) (rest : Bor (List ℕ)) (own : List JobSeen) → IsFound d at after.queues (Some (answered, rest))

@@ -1,6 +1,6 @@
 //! Whether a text is a report of a script.
 
-ghost use Rattle.std.specs.Prelude.{◌≡◌, ◌<◌, ◌≤◌, ◌+◌, ◌^◌, ℕ, List, All, Decides, IfOk, IfSome, Option, length, bytes_eq, slice_index_or, false};
+ghost use Rattle.std.specs.Prelude.{◌≡◌, ◌<◌, ◌≤◌, ◌+◌, ◌++◌, ℕ, List, All, Decides, IfOk, OnOk, Option, length, bytes_eq, slice_index_or, false};
 ghost use Rattle.std.specs.Option.{option_map, option_copied};
 ghost use Rattle.std.specs.List.{list_any};
 ghost use Rattle.spin_word.specs.declared.command.TheConstants.{MAX_PLACE};
@@ -8,11 +8,11 @@ ghost use Rattle.spin_endpoint.specs.Named.{NamedEnd};
 ghost use Rattle.spin_endpoint.specs.Sends.{name_of};
 ghost use Rattle.spin_table.specs.SetupOf.{data_of};
 ghost use Rattle.spin_table.specs.Soundness.{IsSound};
-ghost use Rattle.spin_text.specs.Words.{ended};
+ghost use Rattle.spin_text.specs.Words.{ended, spaced};
 ghost use Rattle.spin_script.specs.Scripts.{script_seen};
 ghost use Rattle.spin_script.specs.Segments.{IsOrderly};
 ghost use Rattle.spin_script.specs.Soundness.{AreValid, command_lines};
-ghost use Rattle.spin_report.specs.Histories.{end_line};
+ghost use Rattle.spin_report.specs.Histories.{capture_words, end_line};
 ghost use Rattle.spin_report.specs.Runs.{frames_of, counts_of};
 ghost use Rattle.spin_check.specs.RunTexts.{StandAs, IsRunText, capture_of};
 ghost use Rattle.spin_check.specs.Inner.Standings.{AreFlags};
@@ -23,9 +23,9 @@ use crate::front::behind;
 use crate::segment::Mark;
 use spin_code::Sincere;
 use spin_objects::Catalogue;
-use spin_report::{CaptureCounts, end_text};
 use spin_script::Script;
 use spin_table::Version;
+use spin_text::{end_line as put_end, put_number, put_word};
 use spin_values::{NoMemory, Octets, Text, Texts};
 use std::alloc::Global;
 use std::sync::Arc;
@@ -65,28 +65,53 @@ fn records_of<'a>(capture: Option<&'a Captured>) -> &'a [Octets]
     }
 }
 
-// What the last line tells of a capture of which so many records are left.
-fn counts(capture: Option<&Captured>, left: &[Octets]) -> Option<CaptureCounts>
-    requires few { IfSome capture (λ c. length c.now.frames < 2 ^ 32) }
+// Appends what the last line tells of a capture of which so many records are left.
+fn put_counts(
+    line: &mut Octets,
+    capture: Option<&Captured>,
+    left: &[Octets],
+) -> Result<(), NoMemory>
     requires left { length left.now ≤ length (frames_of (option_map capture_of (option_copied capture))) }
-    ensures { result ≡ option_map (counts_of left.now) (option_map capture_of (option_copied capture.entry)) }
+    ensures { let counts = option_map (counts_of left.now) (option_map capture_of (option_copied capture.entry)) in
+        OnOk result (line.new ≡ line.old ++ spaced (capture_words counts)) }
 {
-    let capture = capture?;
+    let Some(capture) = capture else {
+        return Ok(());
+    };
     let records = capture.frames.len();
-    Some(CaptureCounts {
-        records: records as u32,
-        used: (records - left.len()) as u32,
-        cut: capture.cut,
-    })
+    put_word(line, b"records")?;
+    put_number(line, records as u64)?;
+    put_word(line, b"used")?;
+    put_number(line, (records - left.len()) as u64)?;
+    put_word(line, b"cut")?;
+    put_number(line, u64::from(capture.cut))
+}
+
+// Appends the last line of a report, without its line feed.
+fn put_last(
+    line: &mut Octets,
+    place: u16,
+    capture: Option<&Captured>,
+    left: &[Octets],
+) -> Result<(), NoMemory>
+    requires left { length left.now ≤ length (frames_of (option_map capture_of (option_copied capture))) }
+    ensures { let counts = option_map (counts_of left.now) (option_map capture_of (option_copied capture.entry)) in
+        OnOk result (line.new ≡ line.old ++ end_line place counts) }
+{
+    line.extend_from_slice(b"end")?;
+    put_number(line, u64::from(place))?;
+    put_counts(line, capture, left)
 }
 
 // Whether what is left of the report is its last line.
-fn is_end(alloc: Global, mark: &Mark<'_>, capture: Option<CaptureCounts>) -> Result<bool, NoMemory>
-    ensures { let line = ended (end_line mark.now.state.place capture) in
-        IfOk result (λ yes. Decides yes (mark.now.rest ≡ line)) }
+fn is_end(alloc: Global, mark: &Mark<'_>, capture: Option<&Captured>) -> Result<bool, NoMemory>
+    requires left { length mark.now.left ≤ length (frames_of (option_map capture_of (option_copied capture))) }
+    ensures { let counts = option_map (counts_of mark.now.left) (option_map capture_of (option_copied capture.entry)) in
+        IfOk result (λ yes. Decides yes (mark.now.rest ≡ ended (end_line mark.now.state.place counts))) }
 {
     let mut line = Octets::new(alloc);
-    end_text(mark.version.place(), capture, &mut line)?;
+    put_last(&mut line, mark.version.place(), capture, mark.left)?;
+    put_end(&mut line)?;
     Ok(mark.rest == line.as_slice())
 }
 
@@ -101,7 +126,6 @@ fn are_left(
     requires valid { AreValid script.now.segments }
     requires commands { mark.old.state.place + command_lines script.now.segments ≤ MAX_PLACE }
     requires orderly { IsOrderly (script_seen script.now) }
-    requires few { IfSome capture (λ c. length c.now.frames < 2 ^ 32) }
     requires sound { IsSound (data_of script.now.setup) mark.old.state }
     requires long { length mark.old.flags ≡ length script.now.endpoints }
     requires left { length mark.old.left ≤ length (frames_of (option_map capture_of (option_copied capture))) }
@@ -116,8 +140,7 @@ fn are_left(
             return Ok(false);
         }
     }
-    let counts = counts(capture, mark.left);
-    is_end(alloc, mark, counts)
+    is_end(alloc, mark, capture)
 }
 
 /// Whether the report is the text of one legal history of the script with the capture, `names` being the names of the
@@ -126,11 +149,16 @@ fn are_left(
 ///
 /// The deeds are replayed along the report. Each line that the history so far owes is made anew and compared; of an
 /// entry's line the lane is read, which tells whose deed comes next, and of a conflict the cycle, which may be any
-/// cycle of the bindings; nothing is searched. It is linear in the report, the script and the records that packet lines
-/// take, beside the work of the raises.
+/// cycle of the bindings; nothing is searched.
 ///
-/// The script is one that [`read_script`](spin_script::read_script) gives, the catalogue's objects do what they were
-/// handed in with, and the capture has fewer than 2^32 records. It is refused only for want of memory.
+/// Its time is linear in the report, the script and the records that packet lines take, beside the work of the raises.
+/// Its memory, beside the script, the capture and the report, is what the lanes of one segment are still to do, one
+/// version, one answer with its line, a byte for each send of a segment, and the lines of a segment's jobs. These
+/// stand behind the segment's entries in the report: where they are longer than what is left of it the answer is no,
+/// and no further job is done, so that no more of them is held than the report is long and one line.
+///
+/// The script is one that [`read_script`](spin_script::read_script) gives, and the catalogue's objects do what they
+/// were handed in with; the capture may have any number of records. It is refused only for want of memory.
 pub fn check_report(
     alloc: Global,
     script: &Script,
@@ -142,7 +170,6 @@ pub fn check_report(
     requires valid { AreValid script.now.segments }
     requires commands { command_lines script.now.segments ≤ MAX_PLACE }
     requires orderly { IsOrderly (script_seen script.now) }
-    requires few { IfSome capture (λ c. length c.now.frames < 2 ^ 32) }
     ensures { (ends : List NamedEnd) → StandAs script.now.endpoints names.now ends
         → IfOk result (λ yes. Decides yes (IsRunText (script_seen script.now)
         (option_map capture_of (option_copied capture.entry)) ends report.now)) }

@@ -1,17 +1,17 @@
 //! The jobs that an entry leaves.
 
-ghost use Rattle.std.specs.Prelude.{◌≡◌, ◌<◌, ◌^◌, ◌++◌, List, All, IfOk, OnOk, length, map};
+ghost use Rattle.std.specs.Prelude.{◌≡◌, ◌<◌, ◌^◌, ◌++◌, All, IfOk, OnOk, length};
 ghost use Rattle.std.specs.Arc.{arc_value};
 ghost use Rattle.spin_table.specs.SetupOf.{data_of};
 ghost use Rattle.spin_table.specs.Soundness.{IsSound};
 ghost use Rattle.spin_proto.specs.Replies.{IsJobReply, BelongsTo};
 ghost use Rattle.spin_proto.specs.declared.reply.Reply.{Reply};
-ghost use Rattle.spin_text.specs.Words.{ended, text_of};
-ghost use Rattle.spin_report.specs.Lines.{JobSeen, job_seen, job_line};
-ghost use Rattle.spin_report.specs.Jobs.{calls_of, AreJobsFrom};
+ghost use Rattle.spin_text.specs.Words.{ended};
+ghost use Rattle.spin_report.specs.Lines.{job_seen, job_line};
+ghost use Rattle.spin_report.specs.Jobs.{calls_of};
 ghost use Rattle.spin_report.specs.Runs.{sends_of_reply};
 ghost use Rattle.spin_check.specs.Inner.Standings.{numbers_of};
-ghost use Rattle.spin_check.specs.Inner.Replays.{sent_by_jobs};
+ghost use Rattle.spin_check.specs.Inner.Replays.{DidJobs};
 
 use crate::sends::add_of_reply;
 use spin_code::Sincere;
@@ -66,24 +66,23 @@ fn do_job(
 }
 
 /// Does the jobs that an entry leaves, on the version of its place. It appends the line of each, and the numbers of the
-/// endpoints that they send to. A call is moved into its job.
+/// endpoints that they send to. A call is moved into its job. False, with the last line appended, as soon as the lines
+/// are longer than the room for them.
 pub(crate) fn do_jobs(
     alloc: Global,
     setup: &Setup,
     version: &Arc<Version>,
     entry: Entry,
+    room: usize,
     out: &mut Octets,
     sends: &mut Octets,
-) -> Result<(), NoMemory>
+) -> Result<bool, NoMemory>
     requires sincere { ⟦<Catalogue as Sincere>⟧.sincere setup.now.catalogue }
     requires sound { IsSound (data_of setup.now) (arc_value version.now) }
     requires belong { All (BelongsTo (arc_value version.now)) (calls_of entry.what) }
     requires few { length (calls_of entry.what) < 2 ^ 32 }
     ensures { let d = data_of setup.now in
-        OnOk result ((own : List JobSeen)
-        × AreJobsFrom d (arc_value version.now) entry 0 (calls_of entry.what) own
-        × (out.new ≡ out.old ++ text_of (map job_line own))
-        × (sends.new ≡ sends.old ++ sent_by_jobs own)) }
+        IfOk result (DidJobs d (arc_value version.now) entry room (out.old, sends.old) (out.new, sends.new)) }
 {
     let Entry {
         place,
@@ -105,7 +104,10 @@ pub(crate) fn do_jobs(
             index,
         };
         do_job(alloc, setup, &job, out, sends)?;
+        if out.len() > room {
+            return Ok(false);
+        }
         index += 1;
     }
-    Ok(())
+    Ok(true)
 }

@@ -36,7 +36,7 @@ pub(crate) struct Replay<'a> {
     pub(crate) deeds: Deeds,
     /// Where the last entry stands.
     pub(crate) last: Option<Moment>,
-    /// The lines of the jobs so far.
+    /// The lines of the jobs so far, which aren't longer than what is left of the report.
     pub(crate) owed: Octets,
     /// The numbers of the endpoints that entries send to.
     pub(crate) sends: Octets,
@@ -150,7 +150,8 @@ impl<'a> Replay<'a> {
         }
     }
 
-    /// Goes on by the one entry that may come next, with its jobs.
+    /// Goes on by the one entry that may come next, with its jobs, while what is left of the report has room for their
+    /// lines.
     fn step(self, alloc: Global, setup: &Setup) -> Result<Option<Replay<'a>>, NoMemory>
         requires sincere { ⟦<Catalogue as Sincere>⟧.sincere setup.now.catalogue }
         requires sound { IsSound (data_of setup.now) self.state }
@@ -175,7 +176,18 @@ impl<'a> Replay<'a> {
         let Answered { entry, version } = answered;
         let last = Some(entry.moment());
         add_of_entry(&mut sends, &entry.what)?;
-        do_jobs(alloc, setup, &version, entry, &mut owed, &mut job_sends)?;
+        let fits = do_jobs(
+            alloc,
+            setup,
+            &version,
+            entry,
+            rest.len(),
+            &mut owed,
+            &mut job_sends,
+        )?;
+        if !fits {
+            return Ok(None);
+        }
         Ok(Some(Replay {
             rest,
             version,

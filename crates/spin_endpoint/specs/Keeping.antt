@@ -1,7 +1,6 @@
 -- What contracts see of an endpoint that keeps its pieces in memory.
-use Rattle.std.specs.Prelude.{ℕ, List, Bool, Some, ◌||◌, ◌&&◌, ◌-◌, ◌++◌, ◌∷◌, [], not, nat_lt}
+use Rattle.std.specs.Prelude.{ℕ, List, Bool, Some, ◌||◌, ◌&&◌, ◌+◌, ◌-◌, ◌++◌, ◌∷◌, [], not, nat_lt}
 use Rattle.std.specs.Prelude.{nat_le, length, if◌then◌else◌}
-use Rattle.spin_outside.specs.Counts.{raised_by}
 use Rattle.spin_outside.specs.Calls.{CallsState, no_call, next_fails, counted}
 use Rattle.spin_endpoint.specs.Endpoints.{EndpointSeen}
 
@@ -55,5 +54,5 @@ refuses end piece = next_fails end.calls || not (fits end.kept piece)
 abbrev pub taken : KeepState → List ℕ → KeepState
 taken end piece =
     if refuses end piece
-    then record end { calls = counted end.calls; faults = raised_by end.faults 1 }
+    then record end { calls = counted end.calls; faults = end.faults + 1 }
     else record end { kept = with_kept end.kept piece; calls = counted end.calls }

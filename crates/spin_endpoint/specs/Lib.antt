@@ -1,4 +1,5 @@
 pub mod Endpoints
+pub mod Framing
 pub mod Inner
 pub mod Keeping
 pub mod Named

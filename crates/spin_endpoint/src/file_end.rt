@@ -1,40 +1,50 @@
 //! An endpoint over a file, which tells nothing.
 
-ghost use Rattle.std.specs.Prelude.{◌≡◌, None};
+ghost use Rattle.std.specs.Prelude.{◌≡◌, None, IfOk, OnOk};
+ghost use Rattle.std.specs.Io.KnownBytes.{Appends};
+ghost use Rattle.spin_endpoint.specs.Framing.{framed};
 
 use crate::endpoint::Endpoint;
-use spin_outside::Failed;
-use spin_values::Text;
+use spin_outside::{Count, Failed};
+use spin_values::{NoMemory, Text};
+use std::alloc::Global;
 use std::fs::OpenOptions;
 use std::io;
 use std::io::{ErrorKind, Write};
 use std::rt::Files;
 
-/// Appends each piece to a file: its length in four bytes, the highest first, and then its bytes. The file is
-/// opened at the first `take`, and made where it isn't there. After a failed `take` a part of the piece may be in
-/// the file. It is trusted to write what it is given: no contract says what a file holds.
+/// How many bytes there is room for from the start: a piece of 65,536 bytes, and its length.
+const ROOM: usize = 65_540;
+
+/// Appends each piece to a file by one write: its length in four bytes, the highest first, and then its bytes. The file
+/// is opened at the first `take`, and made where it isn't there. After a failed `take` a part of the piece may be in the
+/// file. That the file then holds what was written is trusted to the system.
 #[derive(Drop)]
 pub struct FileEnd<R: Files + Drop> {
     runtime: R,
     name: Text,
     file: Option<R::File>,
+    buffer: Vec<u8>,
     finishes: u64,
-    faults: u64,
+    faults: Count,
 }
 
 impl<R: Files + Drop> FileEnd<R> {
-    /// An endpoint over the file of that name, which it doesn't open yet.
-    pub fn new(runtime: R, name: Text) -> FileEnd<R>
-        ensures finishes { result.finishes ≡ 0 }
-        ensures faults { result.faults ≡ 0 }
+    /// An endpoint over the file of that name, which it doesn't open yet. It takes the memory for a piece of 65,536 bytes
+    /// now; a longer one is `Failed` where there is no memory for it.
+    pub fn new(alloc: Global, runtime: R, name: Text) -> Result<FileEnd<R>, NoMemory>
+        ensures finishes { IfOk result (λ end. end.finishes ≡ 0) }
+        ensures faults { IfOk result (λ end. end.faults.number ≡ 0) }
     {
-        FileEnd {
+        let buffer = Vec::with_capacity(alloc, ROOM)?;
+        Ok(FileEnd {
             runtime,
             name,
             file: None,
+            buffer,
             finishes: 0,
-            faults: 0,
-        }
+            faults: Count::new(),
+        })
     }
 
     /// Appends the piece, and its length before it, to the file, which is opened where it isn't open.
@@ -46,7 +56,7 @@ impl<R: Files + Drop> FileEnd<R> {
             Some(file) => file,
             None => open_to_append(&self.runtime, self.name.as_slice())?,
         };
-        let written = write_piece(&mut file, bytes);
+        let written = write_piece(&mut file, &mut self.buffer, bytes);
         self.file = Some(file);
         written
     }
@@ -63,23 +73,32 @@ fn open_to_append<R: Files>(runtime: &R, name: &[u8]) -> io::Result<R::File> {
         .open(runtime, path)
 }
 
-/// Writes the length of the piece, and the piece.
-fn write_piece<W: Write>(file: &mut W, bytes: &[u8]) -> io::Result<()> {
+/// Writes the length of the piece and the piece, which are laid out in the buffer first. So a file that takes what it is
+/// given whole gets them by one write.
+fn write_piece<W: Write>(file: &mut W, buffer: &mut Vec<u8>, bytes: &[u8]) -> io::Result<()>
+    ensures { OnOk result (Appends (W.contents file.old) (W.contents file.new) (framed bytes.now)) }
+{
     let Ok(len) = u32::try_from(bytes.len()) else {
         return Err(io::Error::from(ErrorKind::InvalidInput));
     };
-    file.write_all(&len.to_be_bytes())?;
-    file.write_all(bytes)
+    buffer.clear();
+    let Ok(()) = buffer.extend_from_slice(&len.to_be_bytes()) else {
+        return Err(io::Error::from(ErrorKind::OutOfMemory));
+    };
+    let Ok(()) = buffer.extend_from_slice(bytes) else {
+        return Err(io::Error::from(ErrorKind::OutOfMemory));
+    };
+    file.write_all(buffer)
 }
 
 impl<R: Files + Drop> Endpoint for FileEnd<R> {
-    ghost seen = { λ e. record { pieces = None; finishes = e.finishes; faults = e.faults } };
+    ghost seen = { λ e. record { pieces = None; finishes = e.finishes; faults = e.faults.number } };
 
     fn take(&mut self, bytes: &[u8]) -> Result<(), Failed> {
         match self.append(bytes) {
             Ok(()) => Ok(()),
             Err(_) => {
-                self.faults = self.faults.saturating_add(1);
+                self.faults.raise();
                 Err(Failed)
             }
         }

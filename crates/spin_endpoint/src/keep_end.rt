@@ -8,7 +8,7 @@ ghost use Rattle.spin_endpoint.specs.Keeping.{empty_end, keep_seen, refuses, tak
 
 use crate::endpoint::Endpoint;
 use crate::pieces::Pieces;
-use spin_outside::{Failed, FailingCalls};
+use spin_outside::{Count, Failed, FailingCalls};
 use spin_values::NoMemory;
 use std::alloc::Global;
 use std::marker::Model;
@@ -19,7 +19,7 @@ pub struct KeepEnd {
     kept: Pieces,
     calls: FailingCalls,
     finishes: u64,
-    faults: u64,
+    faults: Count,
 }
 
 impl Model for KeepEnd {
@@ -31,7 +31,7 @@ impl Model for KeepEnd {
       kept = k.kept;
       calls = k.calls;
       finishes = k.finishes;
-      faults = k.faults;
+      faults = k.faults.number;
     } };
 }
 
@@ -44,7 +44,7 @@ impl KeepEnd {
             kept: Pieces::new(alloc, pieces, bytes)?,
             calls: FailingCalls::new(alloc),
             finishes: 0,
-            faults: 0,
+            faults: Count::new(),
         })
     }
 
@@ -70,7 +70,7 @@ impl Endpoint for KeepEnd {
     {
         let listed = self.calls.count();
         if listed || !self.kept.push(bytes) {
-            self.faults = self.faults.saturating_add(1);
+            self.faults.raise();
             return Err(Failed);
         }
         Ok(())

@@ -23,4 +23,4 @@ pub use file_end::FileEnd;
 pub use keep_end::KeepEnd;
 pub use limits::limits_are_stated;
 pub use sends::{Lost, Sent};
-pub use spin_outside::Failed;
+pub use spin_outside::{Count, Failed};

@@ -1,6 +1,6 @@
 //! All jobs of a segment, each on its own version.
 
-ghost use Rattle.std.specs.Prelude.{◌<◌, ◌≤◌, ◌^◌, length, All, IfOk};
+ghost use Rattle.std.specs.Prelude.{◌≡◌, ◌<◌, ◌≤◌, ◌^◌, length, max, min, All, IfOk};
 ghost use Rattle.std.specs.List.{AllZip};
 ghost use Rattle.spin_objects.specs.Units.{IsSincereBy};
 ghost use Rattle.spin_table.specs.SetupOf.{data_of};
@@ -23,9 +23,11 @@ use std::thread::Threads;
 /// by [`job_path`], whatever the schedule; it leaves no further job.
 ///
 /// A worker claims the number of the next job by one atomic step, passes the gate and does that job, until none is
-/// left: so each job is done once. The worker of place w passes the gate as number 8 + w. Workers are from 1 to
-/// [`MAX_WORKERS`]; where a thread can't be started, its worker's part is done by the caller or another worker. A
-/// worker that has no memory ends, the others do all jobs that are left, and the answer is `NoMemory`.
+/// left. Proved is that each number is claimed once, and that each reply is one that its job has. That a worker does
+/// what it claimed no more than once, and passes the gate once before it, as number 8 + w where its place is w, no
+/// clause says: this is tested. Workers are from 1 to [`MAX_WORKERS`], of which no more are at work than there are
+/// jobs; where a thread can't be started, its worker's part is done by the caller or another worker. A worker that has
+/// no memory ends, the others do all jobs that are left, and the answer is `NoMemory`.
 ///
 /// The state of each version is sound for the setup, each call belongs to its version, and the catalogue's objects do
 /// what they were handed in with. Versions are lent, and replies moved. Besides what the jobs take, it is linear in
@@ -52,7 +54,22 @@ pub fn run_all<R: Threads + Sync, G: Gate>(
         requires can { All (CanRun (data_of setup.now)) jobs.now }
         ensures { IfOk result (IsReplyAt (data_of setup.entry.now) jobs.entry.now number) }
     { do_job(alloc, setup, jobs, number) };
-    run_numbered(rt, alloc, jobs.len(), workers, &do_numbered, gate)
+    let team = team_size(workers, jobs.len());
+    run_numbered(rt, alloc, jobs.len(), team, &do_numbered, gate)
+}
+
+// How many of the workers are wanted for so many jobs: no more than there are jobs, and one at least.
+fn team_size(workers: u8, jobs: usize) -> u8
+    requires some { 1 ≤ workers }
+    ensures { result ≡ max 1 (min workers jobs) }
+{
+    if jobs == 0 {
+        1
+    } else if jobs < usize::from(workers) {
+        jobs as u8
+    } else {
+        workers
+    }
 }
 
 // The reply to the job of that number, on its own version.

@@ -39,7 +39,8 @@ global_sync = search (crosses, sendable) depth 20
 call_sync : IsSync Call.the_row
 call_sync = search (version_send, version_sync, crosses, sendable) depth 60 fits 20000
 
-task_send : IsSend Task.the_row
+-- a task, a queue and a party may cross: a host that hands them to threads of its own cites these
+pub task_send : IsSend Task.the_row
 task_send = search (version_send, version_sync, crosses, sendable) depth 60 fits 20000
 
 maybe_task_send : IsSend (Option.the_row Task.the_row)
@@ -51,14 +52,14 @@ inside_sync =
     recorded_sync (queue.the_field).row _ _ (queue.the_type).to_one
     (struct_sync (shape queue.the_type) (search (ring.the_field_sync, maybe_task_send, crosses, sendable) depth 30 fits 20000, (search sendable, tt)))
 
-queue_sync : IsSync Queue.the_row
+pub queue_sync : IsSync Queue.the_row
 queue_sync = search (inside_sync, view_sync)
 
 -- a party's fields
 party_inside_send : IsSend party.the_row
 party_inside_send = search (seat.the_send, maybe_task_send, crosses, sendable) depth 30 fits 20000
 
-party_send : IsSend Party.the_row
+pub party_send : IsSend Party.the_row
 party_send = search (party_inside_send, view_send)
 
 done_send : IsSend Done.the_row

@@ -5,3 +5,4 @@ pub mod Making
 pub mod Crossing
 pub mod Zipping
 pub mod Team
+pub mod Once

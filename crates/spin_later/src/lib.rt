@@ -5,7 +5,7 @@
 //!   left in it;
 //! - a [`Party`] puts tasks into it by [`Party::put`] and takes tasks out of it by [`Party::take`];
 //! - [`run_background`] does the calls of [`Batches`] by parties side by side, which share a queue;
-//! - [`HistoryRule`] names the fact that holds between any two steps, over what each pass knows of it, a [`Known`].
+//! - [`laws`] has the names that only proofs use.
 //!
 //! # What a caller learns, and when
 //!
@@ -16,8 +16,8 @@
 //!
 //! | when | what is known |
 //! |---|---|
-//! | [`Party::put`] | the task is the last that the party sent, and its number counts them; where it is [`Full`], some history has what the party did, and the queue held its capacity |
-//! | [`Party::take`] | the task is the last that the party took, and of its sender it comes after all that the party took before; where there is none, some history has what the party did, and the queue was empty |
+//! | [`Party::put`] | the task is the last that the party sent, and its number counts them; where it is [`Full`], some history has what the party did, and the queue held its capacity: in a queue of two or more parties some history always does |
+//! | [`Party::take`] | the task is the last that the party took, and of its sender it comes after all that the party took before; where there is none, some history has what the party did, and the queue was empty: in a queue of two or more parties some history always does |
 //! | [`Queue::close`] | one history has what all parties did, and leaves just the tasks that are given: each sent task was taken once or is left once, with its version and call |
 //! | [`run_background`] | each reply is what its call comes to on its version, in the order of the batches and their calls |
 //! | never | what the queue holds at present, when a step is made, that a call returns |
@@ -30,6 +30,7 @@ mod background;
 mod batch;
 mod doing;
 mod known;
+pub mod laws;
 mod limits;
 mod party;
 mod places;
@@ -40,9 +41,6 @@ mod worker;
 
 pub use background::run_background;
 pub use batch::{Batch, BatchReplies, Batches, Call};
-pub use known::{Hand, Known};
-pub use limits::limits_are_stated;
 pub use party::{Parties, Party};
 pub use queue::{MAX_CAPACITY, MAX_PARTIES, Queue};
-pub use rule::HistoryRule;
 pub use task::{Full, Task, Tasks};

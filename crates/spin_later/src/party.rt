@@ -60,8 +60,13 @@ impl Party {
     }
 
     /// Puts a task with this version and call at the queue's end, and answers its number, which counts this party's
-    /// tasks from 0. [`Full`] comes only where the queue held as many tasks as it may at a step of this call; the task
-    /// comes back then, and nothing is sent. The party has sent fewer than 4,294,967,295 tasks.
+    /// tasks from 0. At [`Full`] the task comes back and nothing is sent. The party has sent fewer than 4,294,967,295
+    /// tasks.
+    ///
+    /// Of [`Full`] it is proved that some history has what this party did and holds as many tasks as the queue may. In
+    /// a queue of one party that is the queue's own history, so `Full` comes only where the queue is full. In a queue
+    /// of two or more parties there always is such a history, since puts and takes of others can make a queue hold any
+    /// number: there the clause excludes no `Full`, and that it comes only from a full queue is tested.
     ///
     /// It may wait for another thread that is in the middle of a put or a take.
     pub fn put<W: Wait + Sync>(
@@ -99,8 +104,11 @@ impl Party {
         }
     }
 
-    /// Takes the task at the queue's front. Of each sender the tasks come in the order sent. `None` comes only where
-    /// the queue was empty at a step of this call.
+    /// Takes the task at the queue's front. Of each sender the tasks come in the order sent.
+    ///
+    /// Of `None` it is proved that some history has what this party did and holds nothing. In a queue of one party it
+    /// comes only where the queue is empty; in a queue of two or more the clause excludes no `None`, as at
+    /// [`put`](Party::put), and that it comes only from an empty queue is tested.
     ///
     /// It may wait for another thread that is in the middle of a put or a take.
     pub fn take<W: Wait + Sync>(&mut self, wait: &W, queue: &Queue) -> Option<Task>

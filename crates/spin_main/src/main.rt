@@ -89,7 +89,7 @@ fn run<R: Env + Files + Threads + Sync + AllocGlobal, K: Sink>(
 
 /// An endpoint over the file of that name.
 fn over_file<R: Files + Clone + AllocGlobal>(rt: &R, file: &[u8]) -> Result<FileEnd<R>, NoMemory> {
-    Ok(FileEnd::new(rt.clone()?, Text::from_bytes(rt.alloc(), file)?))
+    FileEnd::new(rt.alloc(), rt.clone()?, Text::from_bytes(rt.alloc(), file)?)
 }
 
 /// An endpoint of that name over that file.

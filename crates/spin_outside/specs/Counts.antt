@@ -1,5 +1,5 @@
 -- What a call may do to an object's count of faults, or of absences.
-use Rattle.std.specs.Prelude.{◌≡◌, ℕ, ◌+◌, ◌-◌, ◌^◌, ◌≤◌, min, max, MatchResult, Result}
+use Rattle.std.specs.Prelude.{◌≡◌, ℕ, ◌+◌, ◌-◌, ◌^◌, ◌<◌, min, max, MatchResult, Result}
 use Rattle.spin_outside.specs.declared.faults.FindFault.{FindFault}
 use Rattle.spin_outside.specs.declared.faults.FindFault.TheVariants as find
 use Rattle.spin_outside.specs.declared.faults.TakeFault.{TakeFault}
@@ -9,10 +9,9 @@ use Rattle.spin_outside.specs.declared.faults.TakeFault.TheVariants as taking
 abbrev pub raised_by : ℕ → ℕ → ℕ
 raised_by before more = max before (min (before + more) (2 ^ 64 - 1))
 
--- The count is greater than before, or stands still at the greatest number of 64 bits. It hasn't
--- fallen.
+-- The count is greater than before.
 abbrev pub Rose : ℕ → ℕ → Type 0
-Rose before now = raised_by before 1 ≤ now
+Rose before now = before < now
 
 -- The call failed only where the count rose, and the count rose in no call that ended otherwise.
 abbrev pub FailsByCount : {T E : Type 0} → ℕ → ℕ → Result T E → Type 0

@@ -1,6 +1,7 @@
 pub mod Calls
 pub mod Counts
 pub mod Files
+pub mod Folders
 pub mod Inner
 pub mod Memory
 pub mod Seen

@@ -1,7 +1,6 @@
 -- What contracts see of a sink in memory.
-use Rattle.std.specs.Prelude.{ℕ, List, Bool, Option, Some, None, ◌||◌, ◌-◌, ◌++◌, [], nat_le, length, take}
+use Rattle.std.specs.Prelude.{ℕ, List, Bool, Option, Some, None, ◌||◌, ◌+◌, ◌-◌, ◌++◌, [], nat_le, length, take}
 use Rattle.std.specs.Prelude.{if◌then◌else◌}
-use Rattle.spin_outside.specs.Counts.{raised_by}
 use Rattle.spin_outside.specs.Calls.{CallsState, no_call, next_fails, counted}
 use Rattle.spin_outside.specs.Seen.{SinkSeen}
 use Rattle.spin_outside.specs.Sources.{moved_at_most}
@@ -33,5 +32,5 @@ fitting sink bytes = take (moved_at_most sink.piece (sink.room - length sink.tak
 abbrev pub written : SinkState → List ℕ → SinkState
 written sink bytes =
     if refuses sink
-    then record sink { calls = counted sink.calls; faults = raised_by sink.faults 1 }
+    then record sink { calls = counted sink.calls; faults = sink.faults + 1 }
     else record sink { calls = counted sink.calls; taken = sink.taken ++ fitting sink bytes }

@@ -1,5 +1,5 @@
 -- What contracts see of a source at one moment, and what a read does to it.
-use Rattle.std.specs.Prelude.{◌≡◌, ℕ, Option, Some, None, List, if◌then◌else◌, bytes_eq, min, take}
+use Rattle.std.specs.Prelude.{◌≡◌, ◌+◌, ℕ, Option, Some, None, List, if◌then◌else◌, bytes_eq, min, take}
 use Rattle.std.specs.Prelude.{drop, length, MatchResult, Result}
 use Rattle.spin_outside.specs.Calls.{CallsState, no_call, next_fails, counted}
 use Rattle.spin_outside.specs.Counts.{raised_by}
@@ -113,7 +113,7 @@ handed source size = take (moved_at_most source.piece size) source.left
 abbrev pub after_read : SourceState → ℕ → SourceState
 after_read source size =
     if next_fails source.calls
-    then record source { calls = counted source.calls; faults = raised_by source.faults 1 }
+    then record source { calls = counted source.calls; faults = source.faults + 1 }
     else record source {
       calls = counted source.calls;
       left = drop (moved_at_most source.piece size) source.left;

@@ -1,7 +1,9 @@
-//! The files of the working folder as a shelf, which tells nothing of them.
+//! The files of the working folder as a shelf, which tells what a file has left where std does.
 
 ghost use Rattle.std.specs.Prelude.{◌≡◌, ℕ, List, Option, None};
+ghost use Rattle.spin_outside.specs.Folders.{left_in};
 
+use crate::count::Count;
 use crate::faults::{Failed, FindFault};
 use crate::shelf::Shelf;
 use spin_values::Text;
@@ -10,26 +12,27 @@ use std::fs;
 use std::io::{ErrorKind, Read};
 use std::rt::Files;
 
-/// The files below the working folder. Each file that was found stays open as long as the shelf.
+/// The files below the working folder. Each file that was found stays open as long as the shelf. It doesn't tell the
+/// files by name, but what a file has left, where std tells what is to be read of it.
 #[derive(Drop)]
 pub struct FolderShelf<'a, R: Files> {
     folder: &'a R,
     opened: Vec<R::File>,
-    faults: u64,
-    absences: u64,
+    faults: Count,
+    absences: Count,
 }
 
 impl<'a, R: Files> FolderShelf<'a, R> {
     /// A shelf over the files that the runtime reaches.
     pub fn new(alloc: Global, folder: &'a R) -> FolderShelf<'a, R>
-        ensures faults { result.faults ≡ 0 }
-        ensures absences { result.absences ≡ 0 }
+        ensures faults { result.faults.number ≡ 0 }
+        ensures absences { result.absences.number ≡ 0 }
     {
         FolderShelf {
             folder,
             opened: Vec::new(alloc),
-            faults: 0,
-            absences: 0,
+            faults: Count::new(),
+            absences: Count::new(),
         }
     }
 }
@@ -37,11 +40,11 @@ impl<'a, R: Files> FolderShelf<'a, R> {
 impl<R: Files> Shelf for FolderShelf<'_, R> {
     ghost seen = { λ s. record {
       files = None;
-      left = λ _. None;
+      left = left_in R.File.remaining s.opened.items;
       found_as = λ _. None;
       reads = λ _. 0;
-      faults = s.faults;
-      absences = s.absences;
+      faults = s.faults.number;
+      absences = s.absences.number;
     } };
 
     ghost none_left = { λ _ _ _. tt };
@@ -49,7 +52,7 @@ impl<R: Files> Shelf for FolderShelf<'_, R> {
     /// Opens the file. No file has a name that isn't UTF-8.
     fn find(&mut self, name: &Text) -> Result<u32, FindFault> {
         let Ok(path) = std::str::from_utf8(name.as_slice()) else {
-            self.absences = self.absences.saturating_add(1);
+            self.absences.raise();
             return Err(FindFault::Absent);
         };
         match fs::open(self.folder, path) {
@@ -64,12 +67,12 @@ impl<R: Files> Shelf for FolderShelf<'_, R> {
             }
             Err(error) => match error.kind() {
                 ErrorKind::NotFound => {
-                    self.absences = self.absences.saturating_add(1);
+                    self.absences.raise();
                     Err(FindFault::Absent)
                 }
                 ErrorKind::OutOfMemory => Err(FindFault::NoMemory),
                 _ => {
-                    self.faults = self.faults.saturating_add(1);
+                    self.faults.raise();
                     Err(FindFault::Failed)
                 }
             },
@@ -84,7 +87,7 @@ impl<R: Files> Shelf for FolderShelf<'_, R> {
         match opened.read(buf) {
             Ok(count) => Ok(count),
             Err(_) => {
-                self.faults = self.faults.saturating_add(1);
+                self.faults.raise();
                 Err(Failed)
             }
         }

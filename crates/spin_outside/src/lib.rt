@@ -5,14 +5,16 @@
 //! - [`Shelf`] is where files are found by name and read, and [`read_up_to`] takes a whole file;
 //! - [`MemSink`], [`MemSource`] and [`MemShelf`] are in memory. They tell what they hold, and of their calls those of
 //!   listed numbers fail ([`FailingCalls`]); on demand a call moves at most a piece;
-//! - [`StdSink`] is a writer of std, as standard output, and [`FolderShelf`] the working folder, which tells nothing;
+//! - [`StdSink`] is a writer of std, as standard output, and [`FolderShelf`] the working folder, which tells of a file
+//!   what std tells of it;
 //! - [`Gate`] is what lanes pass before each deed, and [`OpenGate`] the one that holds up nothing;
 //! - [`Failed`], [`FindFault`] and [`TakeFault`] are the answers that aren't success.
 //!
-//! Contracts see of each object a plain record, its ghost member `seen`.
+//! Contracts see of each object a plain record, its ghost member `seen`; its faults and absences are a [`Count`].
 #![tactic(auto)]
 
 mod calls;
+mod count;
 mod faults;
 mod folder_shelf;
 mod gate;
@@ -30,6 +32,7 @@ mod source;
 mod std_sink;
 
 pub use calls::FailingCalls;
+pub use count::Count;
 pub use faults::{Failed, FindFault, TakeFault};
 pub use folder_shelf::FolderShelf;
 pub use gate::{Gate, OpenGate};

@@ -12,6 +12,7 @@ ghost use Rattle.spin_outside.specs.Files.{ReadsUnder};
 ghost use Rattle.spin_outside.specs.Shelves.{empty_shelf, handed_at, shelf_seen, with_file};
 
 use crate::calls::FailingCalls;
+use crate::count::Count;
 use crate::faults::{Failed, FindFault};
 use crate::mem_file::MemFile;
 use crate::mem_files::{open_at, place_of, read_at, refill_at};
@@ -29,8 +30,8 @@ pub struct MemShelf {
     piece: Option<u32>,
     finds: FailingCalls,
     reads: FailingCalls,
-    faults: u64,
-    absences: u64,
+    faults: Count,
+    absences: Count,
 }
 
 impl Model for MemShelf {
@@ -45,8 +46,8 @@ impl Model for MemShelf {
       piece = s.piece;
       finds = s.finds;
       reads = s.reads;
-      faults = s.faults;
-      absences = s.absences;
+      faults = s.faults.number;
+      absences = s.absences.number;
     } };
 
     ghost invariant = { λ s.
@@ -63,8 +64,8 @@ impl MemShelf {
             piece: None,
             finds: FailingCalls::new(alloc),
             reads: FailingCalls::new(alloc),
-            faults: 0,
-            absences: 0,
+            faults: Count::new(),
+            absences: Count::new(),
         }
     }
 
@@ -146,11 +147,11 @@ impl Shelf for MemShelf {
         ensures reads { self.new.reads ≡ self.old.reads }
     {
         if self.finds.count() {
-            self.faults = self.faults.saturating_add(1);
+            self.faults.raise();
             return Err(FindFault::Failed);
         }
         let Some(at) = place_of(&self.files, name.as_slice()) else {
-            self.absences = self.absences.saturating_add(1);
+            self.absences.raise();
             return Err(FindFault::Absent);
         };
         let Ok(file) = u32::try_from(at) else {
@@ -184,7 +185,7 @@ impl Shelf for MemShelf {
         ensures finds { self.new.finds ≡ self.old.finds }
     {
         if self.reads.count() {
-            self.faults = self.faults.saturating_add(1);
+            self.faults.raise();
             return Err(Failed);
         }
         let room = moved_at_most(self.piece, buf.len());

@@ -8,6 +8,7 @@ ghost use Rattle.spin_outside.specs.Calls.{with_failing};
 ghost use Rattle.spin_outside.specs.Memory.{empty_sink, sink_seen, refuses, written, fitting};
 
 use crate::calls::FailingCalls;
+use crate::count::Count;
 use crate::faults::Failed;
 use crate::pieces::moved_at_most;
 use crate::sink::Sink;
@@ -22,7 +23,7 @@ pub struct MemSink {
     room: u32,
     piece: Option<u32>,
     calls: FailingCalls,
-    faults: u64,
+    faults: Count,
 }
 
 impl Model for MemSink {
@@ -36,7 +37,7 @@ impl Model for MemSink {
       room = s.room;
       piece = s.piece;
       calls = s.calls;
-      faults = s.faults;
+      faults = s.faults.number;
     } };
 
     ghost invariant = { λ s. (length s.taken.items ≤ s.room) × (s.room ≤ vec_capacity s.taken)
@@ -53,7 +54,7 @@ impl MemSink {
             room,
             piece: None,
             calls: FailingCalls::new(alloc),
-            faults: 0,
+            faults: Count::new(),
         })
     }
 
@@ -99,14 +100,14 @@ impl Sink for MemSink {
         let listed = self.calls.count();
         let left = self.room as usize - self.taken.len();
         if listed || left == 0 {
-            self.faults = self.faults.saturating_add(1);
+            self.faults.raise();
             return Err(Failed);
         }
         let count = bytes.len().min(moved_at_most(self.piece, left));
         match self.taken.extend_from_slice(&bytes[..count]) {
             Ok(()) => Ok(count),
             Err(_) => {
-                self.faults = self.faults.saturating_add(1);
+                self.faults.raise();
                 Err(Failed)
             }
         }

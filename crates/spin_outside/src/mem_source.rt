@@ -10,6 +10,7 @@ ghost use Rattle.spin_outside.specs.Sources.{TakesMore, full_source, memory_seen
 ghost use Rattle.spin_outside.specs.Sources.{after_read};
 
 use crate::calls::FailingCalls;
+use crate::count::Count;
 use crate::faults::Failed;
 use crate::pieces::moved_at_most;
 use crate::source::Source;
@@ -24,7 +25,7 @@ pub struct MemSource {
     piece: Option<u32>,
     calls: FailingCalls,
     taken: u64,
-    faults: u64,
+    faults: Count,
 }
 
 impl Model for MemSource {
@@ -38,7 +39,7 @@ impl Model for MemSource {
       piece = s.piece;
       calls = s.calls;
       taken = s.taken;
-      faults = s.faults;
+      faults = s.faults.number;
     } };
 
     ghost invariant = { λ s.
@@ -57,7 +58,7 @@ impl MemSource {
             piece: None,
             calls,
             taken: 0,
-            faults: 0,
+            faults: Count::new(),
         }
     }
 
@@ -103,7 +104,7 @@ impl Source for MemSource {
         ensures state { self.new ≡ after_read self.old (length buf.old) }
     {
         if self.calls.count() {
-            self.faults = self.faults.saturating_add(1);
+            self.faults.raise();
             return Err(Failed);
         }
         let room = moved_at_most(self.piece, buf.len());

@@ -2,6 +2,7 @@
 
 ghost use Rattle.std.specs.Prelude.{◌≡◌};
 
+use crate::count::Count;
 use crate::faults::Failed;
 use crate::sink::Sink;
 use std::io::Write;
@@ -11,27 +12,30 @@ use std::io::Write;
 #[derive(Debug, Drop)]
 pub struct StdSink<W> {
     inner: W,
-    faults: u64,
+    faults: Count,
 }
 
 impl<W: Write> StdSink<W> {
     /// A sink over the writer.
     pub fn new(inner: W) -> StdSink<W>
         ensures inner { result.inner ≡ inner }
-        ensures faults { result.faults ≡ 0 }
+        ensures faults { result.faults.number ≡ 0 }
     {
-        StdSink { inner, faults: 0 }
+        StdSink {
+            inner,
+            faults: Count::new(),
+        }
     }
 }
 
 impl<W: Write> Sink for StdSink<W> {
-    ghost seen = { λ s. record { told = W.contents s.inner; faults = s.faults } };
+    ghost seen = { λ s. record { told = W.contents s.inner; faults = s.faults.number } };
 
     fn write(&mut self, bytes: &[u8]) -> Result<usize, Failed> {
         match self.inner.write(bytes) {
             Ok(count) if count > 0 => Ok(count),
             _ => {
-                self.faults = self.faults.saturating_add(1);
+                self.faults.raise();
                 Err(Failed)
             }
         }

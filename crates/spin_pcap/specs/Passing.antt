@@ -1,5 +1,5 @@
 -- What contracts see of a reader, and what its calls do.
-use Rattle.std.specs.Prelude.{◌≡◌, ℕ, ◌+◌, ◌≤◌, Option, Some, None, List}
+use Rattle.std.specs.Prelude.{◌≡◌, ℕ, ◌+◌, ◌<◌, ◌≤◌, Option, Some, None, List}
 use Rattle.std.specs.Prelude.{[], ◌++◌, length, drop, Result, Ok, Err, ⊤}
 use Rattle.std.specs.Io.KnownBytes.{Consumes}
 use Rattle.spin_outside.specs.Counts.{Rose}
@@ -12,7 +12,7 @@ use Rattle.spin_pcap.specs.declared.order.Order.{Order}
 use Rattle.spin_pcap.specs.declared.state.State.{State}
 use Rattle.spin_pcap.specs.declared.state.State.TheVariants as state
 use Rattle.spin_pcap.specs.Captures.{header_of, captured, IsRecord, IsRest}
-use Rattle.spin_pcap.specs.declared.limits.TheConstants.{MAX_CAPTURED, MAX_HELD}
+use Rattle.spin_pcap.specs.declared.limits.TheConstants.{MAX_CAPTURED, MAX_HELD, MAX_RECORDS}
 
 -- a reader: the order of the fields, the bytes that it took and hasn't given yet, how many records
 -- it gave, and how it stands
@@ -128,6 +128,14 @@ IsGone way (Ok next.Packet) gone frame =
 IsGone way (Ok next.End) gone frame = IsWithinRecord way gone
 IsGone way (Ok (next.Cut count)) gone frame = IsWithinRecord way gone
 IsGone way (Err wrong) gone frame = IsWithinRecord way gone
+
+-- Behind so many records a cut rest may stand: it has a byte, and fewer than the longest record.
+abbrev pub IsCutShort : ℕ → Result Next PcapFault → Type 0
+IsCutShort given (Ok next.Packet) = ⊤
+IsCutShort given (Ok next.End) = ⊤
+IsCutShort given (Ok (next.Cut count)) =
+    (given < MAX_RECORDS) × (0 < count) × (count < 16 + MAX_CAPTURED)
+IsCutShort given (Err wrong) = ⊤
 
 -- The frame has no bytes, unless a record was given.
 abbrev pub EmptyUnlessPacket : Result Next PcapFault → List ℕ → Type 0

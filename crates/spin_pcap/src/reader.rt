@@ -1,12 +1,12 @@
 //! The reader of a capture.
 
 ghost use Rattle.std.specs.Prelude.{◌≡◌, ◌<◌, ◌≤◌, ◌+◌, ℕ, List, [], ◌++◌, length, IfOk, IfErr};
-ghost use Rattle.std.specs.Prelude.{IfSome};
+ghost use Rattle.std.specs.Prelude.{IfSome, ⊤};
 ghost use Rattle.spin_pcap.specs.Inner.Filling.{Copies};
 ghost use Rattle.spin_pcap.specs.Passing.{Passes, UnlessFailed, ReadsByCount, IsStart};
 ghost use Rattle.spin_pcap.specs.Passing.{TakesHeader, IsFresh, IsAnswer, IsGone};
 ghost use Rattle.spin_pcap.specs.Passing.{EmptyUnlessPacket, IfReading, Repeats, given_after};
-ghost use Rattle.spin_pcap.specs.Passing.{state_after, left_for};
+ghost use Rattle.spin_pcap.specs.Passing.{state_after, left_for, IsCutShort};
 
 use crate::fault::PcapFault;
 use crate::header::{HEADER, read_header};
@@ -102,6 +102,7 @@ fn read_record<S: Source>(
         IsAnswer order given bytes result frame.new
         (left_for window.new (S.seen source.new).left)) }
     ensures few { result ≡ Ok Next.Packet → given < MAX_RECORDS }
+    ensures cut { IsCutShort given result }
     ensures passed { (gone : List ℕ)
         × Passes gone window.old (S.seen source.old) window.new (S.seen source.new)
         × IsGone order result gone frame.new }
@@ -171,7 +172,7 @@ impl Reader {
     /// Replaces the frame by the bytes of the next record.
     ///
     /// `End` comes exactly where nothing is left, and `Cut` where bytes are left that are no whole record and no
-    /// refusal applies. After them, and after a refusal, the frame has no bytes. `End` and `Cut` are answered
+    /// refusal applies; these are fewer than a record may have. After them, and after a refusal, the frame has no bytes. `End` and `Cut` are answered
     /// again at every later call; after a refusal every later call answers [`PcapFault::Spoilt`] with its number.
     /// Such calls don't read. Else the refusals are:
     /// - [`PcapFault::TooManyRecords`] exactly where a byte follows 1,048,576 whole records;
@@ -202,6 +203,7 @@ impl Reader {
             × IsGone self.old.order result gone frame.new }
         ensures bound { (length self.old.held ≤ MAX_HELD) × (length self.new.held ≤ MAX_HELD) }
         ensures few { result ≡ Ok Next.Packet → self.old.given < MAX_RECORDS }
+        ensures cut { IfReading self.old.state (IsCutShort self.old.given result) ⊤ }
         ensures cause { ReadsByCount (S.seen source.old).faults (S.seen source.new).faults result }
     {
         empty(frame);

@@ -33,7 +33,7 @@ use Rattle.spin_run.proofs.Jobs.{jobs_stay, jobs_more}
 
 -- one more entry
 entry_more : (d : SetupData) (old new : Lane) (entry : Entry) → new.trail ≡ old.trail ++ entry ∷ [] → Gives d old.seat.pen (answer_of entry) new.seat.pen
-    → (AreJobsOf d old.trail new.seat.pen old.jobs → AreJobsOf d (old.trail ++ entry ∷ []) new.seat.pen new.jobs) → Answers d (asked_of entry ∷ []) old new
+    → (AreJobsOf d old.trail new.seat.pen.front old.jobs → AreJobsOf d (old.trail ++ entry ∷ []) new.seat.pen.front new.jobs) → Answers d (asked_of entry ∷ []) old new
 entry_more d old new entry trail gives jobs =
     let answers : map answer_of new.trail ≡ map answer_of old.trail ++ answer_of entry ∷ [] = ap (map answer_of) trail ∙ map-append answer_of old.trail (entry ∷ []) in
     record {
@@ -43,7 +43,7 @@ entry_more d old new entry trail gives jobs =
         pins = subst (λ l. GainsPins before l new.seat.pen) (sym answers) (pins_more d before old.seat.pen new.seat.pen (map answer_of old.trail) (answer_of entry) h.pins gives);
         jobs_are =
             let front = (answered d old.seat.pen (answer_of entry) new.seat.pen gives).front in
-            subst (λ l. AreJobsOf d l new.seat.pen new.jobs) (sym trail) (jobs (jobs_stay d before old.seat.pen new.seat.pen old.trail old.jobs h.ran front h.jobs_are));
+            subst (λ l. AreJobsOf d l new.seat.pen.front new.jobs) (sym trail) (jobs (jobs_stay d before old.seat.pen new.seat.pen old.trail old.jobs h.ran front h.jobs_are));
       };
     }
 
@@ -77,7 +77,7 @@ reads_more d old new trail jobs reads =
       goes_on = λ before h. record {
         ran = subst (λ l. Ran d before (map answer_of l) new.seat.pen) (sym trail) (ran_reads d before old.seat.pen new.seat.pen (map answer_of old.trail) h.ran reads);
         pins = pins ∙ subst (λ l. GainsPins before (map answer_of l) old.seat.pen) (sym trail) h.pins;
-        jobs_are = subst (λ (x : List Entry × List Job). AreJobsOf d x.0 new.seat.pen x.1) (λ i. (sym trail i, sym jobs i)) (jobs_stay d before old.seat.pen new.seat.pen old.trail old.jobs h.ran front h.jobs_are);
+        jobs_are = subst (λ (x : List Entry × List Job). AreJobsOf d x.0 new.seat.pen.front x.1) (λ i. (sym trail i, sym jobs i)) (jobs_stay d before old.seat.pen new.seat.pen old.trail old.jobs h.ran front h.jobs_are);
       };
     }
 
@@ -128,10 +128,10 @@ pub nothing_answered : (d : SetupData) (lane : Lane) → lane.trail ≡ [] → l
 nothing_answered d lane trail jobs = record {
   ran = subst (λ l. Ran d lane.seat.pen (map answer_of l) lane.seat.pen) (sym trail) (nothing_ran d lane.seat.pen);
   pins = subst (λ l. GainsPins lane.seat.pen (map answer_of l) lane.seat.pen) (sym trail) (sym (append-nil lane.seat.pen.pins));
-  jobs_are = subst (λ (x : List Entry × List Job). AreJobsOf d x.0 lane.seat.pen x.1) (λ i. (sym trail i, sym jobs i)) none;
+  jobs_are = subst (λ (x : List Entry × List Job). AreJobsOf d x.0 lane.seat.pen.front x.1) (λ i. (sym trail i, sym jobs i)) none;
 }
   where
-    none : AreJobsOf d [] lane.seat.pen []
+    none : AreJobsOf d [] lane.seat.pen.front []
     none = record {
       asked = refl;
       versions = All-nil (λ (j : Job). IsReplay d (take j.place lane.seat.pen.front) (arc_value j.version));

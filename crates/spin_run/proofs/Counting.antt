@@ -86,7 +86,7 @@ begins_some (next ∷ rest) is =
     let e : cond {A = ℕ} (is_command_work next.asked) 1 0 ≡ 1 = ap (λ b. cond {A = ℕ} b 1 0) is in
     omega (arith, c, e)
 
-enumerated_lanes : (n p : ℕ) (rows : List Row) → All (λ row. lane_of row < n) rows → All (λ x. lane_of x.1 < n) (enumerate_from p rows)
+pub enumerated_lanes : (n p : ℕ) (rows : List Row) → All (λ row. lane_of row < n) rows → All (λ x. lane_of x.1 < n) (enumerate_from p rows)
 enumerated_lanes n p [] all = All-nil (λ x. lane_of x.1 < n)
 enumerated_lanes n p (row ∷ rows) all =
     All-cons (λ (x : ℕ × Row). lane_of x.1 < n) (p, row) (enumerate_from (p + 1) rows) (All-head (λ row. lane_of row < n) row rows all) (enumerated_lanes n (p + 1) rows (All-tail (λ row. lane_of row < n) row rows all))
@@ -101,10 +101,10 @@ module _ (d : SetupData) (lanes : ℕ) (asked : List Numbered) (before after : �
     pub under : All (λ n. n.lane < lanes) asked
 
   -- the rows of a lane past the start, each with its place
-  abbrev rows_at : ℕ → List (ℕ × Row)
+  abbrev pub rows_at : ℕ → List (ℕ × Row)
   rows_at k = filter (λ x. lane_of x.1 == k) (enumerate_from (length start + 1) more)
 
-  own_of : AllRan → (k : ℕ) → k < lanes → published (map answer_of (trail k)) ≡ rows_at k
+  pub own_of : AllRan → (k : ℕ) → k < lanes → published (map answer_of (trail k)) ≡ rows_at k
   own_of all k lt =
       let r = (all.ran k lt).ran in
       let s = all.at_start k lt in

@@ -44,10 +44,10 @@ job_sooner x y = sooner (job_asked x) (job_asked y)
 pub job_sooner_weak : IsStrictWeakOrder job_sooner
 job_sooner_weak = ranks_by job_total (λ (job : Job). asked_moment (job_asked job))
 
-nat_less : (p q : ℕ) → p < q → nat_cmp p q ≡ Less
+pub nat_less : (p q : ℕ) → p < q → nat_cmp p q ≡ Less
 nat_less p q lt = ap (λ b. cond b Less (cond (p == q) Equal Greater)) (lt-ltb p q lt)
 
-equal : (p q : ℕ) → (p < q → ⊥) → (q < p → ⊥) → p ≡ q
+pub equal : (p q : ℕ) → (p < q → ⊥) → (q < p → ⊥) → p ≡ q
 equal p q up down = go (ltb p q) refl (ltb q p) refl
   where
     go : (a : Bool) → ltb p q ≡ a → (b : Bool) → ltb q p ≡ b → p ≡ q
@@ -55,7 +55,7 @@ equal p q up down = go (ltb p q) refl (ltb q p) refl
     go false e true f = absurd (down (ltb-true q p f))
     go false e false f = let x = ltb-false p q e in let y = ltb-false q p f in omega arith
 
-true_not : (b : Bool) → b ≡ true → not b ≡ true → ⊥
+pub true_not : (b : Bool) → b ≡ true → not b ≡ true → ⊥
 true_not b e f = false≢true (ap not (sym e) ∙ f)
 
 -- jobs that tie are of one lane
@@ -119,7 +119,7 @@ one_entry entry index (call ∷ calls) = (
   one_entry entry (index + 1) calls,
 )
 
-then_equal : (o : Ordering) → ordering_then o Equal ≡ o
+pub then_equal : (o : Ordering) → ordering_then o Equal ≡ o
 then_equal Less = refl
 then_equal Equal = refl
 then_equal Greater = refl
@@ -186,11 +186,12 @@ filter_told k (j ∷ js) = go (j.lane == k) (filter_told k js)
     go true e = ap (λ l. job_asked j ∷ l) e
     go false e = e
 
-filter_beyond : (n k : ℕ) (jobs : List JobAsked) → (k < n → ⊥) → All (λ (j : JobAsked). j.lane < n) jobs → filter (λ (j : JobAsked). j.lane == k) jobs ≡ []
-filter_beyond n k [] far under = refl
-filter_beyond n k (j ∷ js) far under =
-    ap (λ b. cond b (j ∷ filter (λ (j : JobAsked). j.lane == k) js) (filter (λ (j : JobAsked). j.lane == k) js)) (ne_eqb j.lane k (λ same. far (subst (λ m. m < n) same (All-head (λ (j : JobAsked). j.lane < n) j js under))))
-    ∙ filter_beyond n k js far (All-tail (λ (j : JobAsked). j.lane < n) j js under)
+-- no lane past the last has any
+pub filter_beyond : {X : Type 0} (lane : X → ℕ) (n k : ℕ) (xs : List X) → (k < n → ⊥) → All (λ x. lane x < n) xs → filter (λ x. lane x == k) xs ≡ []
+filter_beyond lane n k [] far under = refl
+filter_beyond lane n k (x ∷ xs) far under =
+    ap (λ b. cond b (x ∷ filter (λ y. lane y == k) xs) (filter (λ y. lane y == k) xs)) (ne_eqb (lane x) k (λ same. far (subst (λ m. m < n) same (All-head (λ y. lane y < n) x xs under))))
+    ∙ filter_beyond lane n k xs far (All-tail (λ y. lane y < n) x xs under)
 
 -- jobs in order, that are those of the trails lane by lane, are those of the woven entries
 pub jobs_woven : (n : ℕ) (trails : ℕ → List Entry) (woven : List Entry) (jobs : List Job)
@@ -206,5 +207,5 @@ jobs_woven n trails woven jobs up under each rise jobs_under own =
     go k true e = let lt = ltb-true k n e in filter_told k jobs ∙ own k lt ∙ ap (flat_map jobs_of) (sym (each k lt)) ∙ sym (jobs_of_lane k woven)
     go k false e =
         let far : k < n → ⊥ = λ lt. let le = ltb-false k n e in absurd (omega arith) in
-        filter_beyond n k (map job_asked jobs) far (All-map (λ (j : JobAsked). j.lane < n) job_asked jobs jobs_under)
-        ∙ sym (filter_beyond n k (flat_map jobs_of woven) far (have_all (λ m. m.1 < n) woven under))
+        filter_beyond (λ (j : JobAsked). j.lane) n k (map job_asked jobs) far (All-map (λ (j : JobAsked). j.lane < n) job_asked jobs jobs_under)
+        ∙ sym (filter_beyond (λ (j : JobAsked). j.lane) n k (flat_map jobs_of woven) far (have_all (λ m. m.1 < n) woven under))

@@ -84,7 +84,7 @@ version_stands d pen after jobs p reached versions k j lt =
     subst (λ rows. IsReplay d rows (arc_value (get_or jobs k j).version)) same (versions k j lt)
 
 -- the jobs where the front grows
-pub jobs_stay : (d : SetupData) (before pen after : PenValue) (entries : List Entry) (jobs : List Job) → Ran d before (map answer_of entries) pen → IsPrefix pen.front after.front → AreJobsOf d entries pen jobs → AreJobsOf d entries after jobs
+pub jobs_stay : (d : SetupData) (before pen after : PenValue) (entries : List Entry) (jobs : List Job) → Ran d before (map answer_of entries) pen → IsPrefix pen.front after.front → AreJobsOf d entries pen.front jobs → AreJobsOf d entries after.front jobs
 jobs_stay d before pen after entries jobs r p j = record {
   asked = j.asked;
   versions = version_stands d pen after jobs p (jobs_reached d before pen entries jobs r j.asked) j.versions;
@@ -93,8 +93,8 @@ jobs_stay d before pen after entries jobs r p j = record {
 }
 
 -- one more entry, with its jobs
-pub jobs_more : (d : SetupData) (pen : PenValue) (entries : List Entry) (entry : Entry) (version : State) (old new : List Job) → AreJobsOf d entries pen old → AddsJobs entry version (calls_of entry.what) old new
-    → IsReplay d (take entry.place pen.front) version → IsSound d version → AreJobsOf d (entries ++ entry ∷ []) pen new
+pub jobs_more : (d : SetupData) (pen : PenValue) (entries : List Entry) (entry : Entry) (version : State) (old new : List Job) → AreJobsOf d entries pen.front old → AddsJobs entry version (calls_of entry.what) old new
+    → IsReplay d (take entry.place pen.front) version → IsSound d version → AreJobsOf d (entries ++ entry ∷ []) pen.front new
 jobs_more d pen entries entry version old new j a replay sound = record {
   asked =
       ap (map job_asked) a.jobs_are ∙ map-append job_asked old a.added ∙ (λ i. j.asked i ++ a.asked i)

@@ -1,9 +1,11 @@
 -- Texts that are written one after another.
-use Rattle.std.proofs.Common.{◌≡◌, ◌<◌, ◌+◌, ℕ, Option, Some, None, List, [], ◌∷◌, ◌++◌, length, take, drop, get_or, refl, sym, ap, subst, ◌∙◌, arith, append_assoc}
+use Rattle.std.proofs.Common.{◌≡◌, ◌<◌, ◌+◌, ℕ, Option, Some, None, List, [], ◌∷◌, ◌++◌, length, take, drop, get_or, map, refl, sym, ap, subst, ◌∙◌, arith, append_assoc}
 use Rattle.std.proofs.lemmas.List.{append-nil, take_more, length-append, take-append-drop, take-append-le}
 use Rattle.std.proofs.Math.Seq.{take-append-add}
 use Rattle.std.specs.Io.KnownBytes.{Appends}
+use Rattle.spin_text.specs.Words.{ended, text_of}
 use Rattle.spin_run.specs.Inner.Writing.{joined}
+use Rattle.spin_run.proofs.TextLines.{text_of-append}
 
 pub Appends-none : (a : Option (List ℕ)) → Appends a a []
 Appends-none None = tt
@@ -18,6 +20,31 @@ Appends-append (Some a) (Some b) (Some c) xs ys h k = k ∙ ap (λ zs. zs ++ ys)
 pub joined-append : (a b : List (List ℕ)) → joined (a ++ b) ≡ joined a ++ joined b
 joined-append [] b = refl
 joined-append (x ∷ a) b = ap (λ ys. x ++ ys) (joined-append a b) ∙ sym (append_assoc x (joined a) (joined b))
+
+-- lines that are ended, one after another
+pub joined_ended : (lines : List (List ℕ)) → joined (map ended lines) ≡ text_of lines
+joined_ended [] = refl
+joined_ended (line ∷ lines) = ap (λ xs. ended line ++ xs) (joined_ended lines)
+
+-- Pieces that are those of the retired endpoints, the line that begins a segment, and all that stands behind it, are the
+-- text of the segment's part.
+pub pieces_are : (retired first pieces : List (List ℕ)) (head : List ℕ) (entries jobs lost : List (List ℕ)) (text text' text'' : List ℕ)
+    → first ≡ retired ++ ended head ∷ [] → text ≡ text_of entries → text' ≡ text ++ text_of jobs → text'' ≡ text' ++ text_of lost → pieces ≡ first ++ text'' ∷ []
+    → joined pieces ≡ joined (retired ++ map ended (head ∷ entries ++ jobs ++ lost))
+pieces_are retired first pieces head entries jobs lost text text' text'' begun a b c pushed =
+    let rest = entries ++ jobs ++ lost in
+    let all : text'' ≡ text_of rest =
+    c ∙ ap (λ t. t ++ text_of lost) (b ∙ ap (λ t. t ++ text_of jobs) a)
+    ∙ append_assoc (text_of entries) (text_of jobs) (text_of lost)
+    ∙ ap (λ t. text_of entries ++ t) (sym (text_of-append jobs lost))
+    ∙ sym (text_of-append entries (jobs ++ lost)) in
+    let front : joined first ≡ joined retired ++ ended head =
+    ap joined begun ∙ joined-append retired (ended head ∷ []) ∙ ap (λ t. joined retired ++ t) (append-nil (ended head)) in
+    let made : joined pieces ≡ (joined retired ++ ended head) ++ text_of rest =
+    ap joined pushed ∙ joined-append first (text'' ∷ []) ∙ ap (λ t. joined first ++ t) (append-nil text'' ∙ all) ∙ ap (λ t. t ++ text_of rest) front in
+    let wanted : joined (retired ++ map ended (head ∷ rest)) ≡ joined retired ++ (ended head ++ text_of rest) =
+    joined-append retired (map ended (head ∷ rest)) ∙ ap (λ t. joined retired ++ (ended head ++ t)) (joined_ended rest) in
+    made ∙ append_assoc (joined retired) (ended head) (text_of rest) ∙ sym wanted
 
 -- the texts up to a place, and the text there
 pub joined-more : (texts : List (List ℕ)) (i : ℕ) → i < length texts → joined (take (i + 1) texts) ≡ joined (take i texts) ++ get_or texts i []

@@ -6,6 +6,7 @@ pub mod Asking
 pub mod Counted
 pub mod Counting
 pub mod Legal
+pub mod Publishing
 pub mod Replying
 pub mod Gathering
 pub mod ManyJobs

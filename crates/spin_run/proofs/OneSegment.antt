@@ -39,6 +39,7 @@ use Rattle.spin_run.specs.Inner.Steps.{Moment, standing, Setting, RunsFrom, reti
 use Rattle.spin_run.specs.Summaries.{Counts, counts_in}
 use Rattle.spin_run.specs.Inner.Tallies.{TalliesOn, Tells}
 use Rattle.spin_run.specs.Inner.Writing.{joined}
+use Rattle.spin_run.proofs.JoinedTexts.{joined_ended}
 use Rattle.spin_run.proofs.JoinedTexts.{Appends-none}
 
 -- ---- the records that a segment asks with
@@ -117,10 +118,6 @@ runs_one s segment before after left frames entries jobs read woven ends =
     (runs_to s segment before left frames after.state entries jobs read woven)
 
 -- ---- its text
-
-joined_ended : (lines : List (List ℕ)) → joined (map ended lines) ≡ text_of lines
-joined_ended [] = refl
-joined_ended (line ∷ lines) = ap (λ xs. ended line ++ xs) (joined_ended lines)
 
 lines_around : (number : ℕ) (part : SegmentSeen) → map retire_line part.retired ++ (segment_line number part.start ∷ (map entry_line part.entries ++ map job_line part.jobs ++ lost_lines part.lost)) ≡ segment_lines number part
 lines_around number part =

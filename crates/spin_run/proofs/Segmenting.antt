@@ -14,8 +14,10 @@ use Rattle.spin_log.specs.Rows.{rows_of, IsCommandBelow}
 use Rattle.spin_log.specs.Pens.{PenValue, StandsIn, IsPen}
 use Rattle.spin_log.proofs.Lists.{rows_of-append}
 use Rattle.spin_table.specs.Setups.{SetupData}
-use Rattle.spin_table.specs.States.{State}
+use Rattle.spin_table.specs.States.{State, start_of}
+use Rattle.spin_table.specs.Soundness.{IsSound}
 use Rattle.spin_proto.specs.declared.deed.Job.{Job}
+use Rattle.spin_proto.specs.Replies.{BelongsTo}
 use Rattle.spin_proto.specs.declared.reply.Reply.{Reply}
 use Rattle.spin_jobs.specs.Jobs.{CanRun, IsReplyTo}
 use Rattle.spin_seat.specs.declared.answer.SeatFault.{SeatFault}
@@ -24,17 +26,19 @@ use Rattle.spin_seat.specs.Replay.{IsReplay, IsClean}
 use Rattle.spin_seat.specs.Seats.{SeatValue, IsSeatOf, AreOfLanes}
 use Rattle.spin_seat.specs.Answers as seat
 use Rattle.spin_seat.proofs.Counts.{by_lane}
+use Rattle.spin_seat.proofs.Replays.{IsReplay-one, IsReplay-take}
 use Rattle.spin_seat.proofs.Keeping.{all_applied, all_unmap, clean_by_lanes, of_lanes_at, are_of_lanes}
 use Rattle.spin_script.specs.declared.script.Line.{Line}
 use Rattle.spin_script.specs.Segments.{IsOnLane}
 use Rattle.spin_script.specs.Soundness.{commands_in}
 use Rattle.spin_report.specs.declared.entry.Entry.{Entry}
 use Rattle.spin_report.specs.Asked.{Numbered, asked_of}
+use Rattle.spin_report.specs.Lines.{JobSeen}
 use Rattle.spin_report.specs.Legal.{IsLegal}
 use Rattle.spin_report.specs.Segments.{asked_in, asked_of_lane, of_lane, IsInOrder, IsWoven}
 use Rattle.spin_run.specs.declared.lane.Lane.{Lane}
-use Rattle.spin_run.specs.Lanes.{answer_of, job_asked, jobs_of, RanLane, HadMemory}
-use Rattle.spin_run.specs.Segments.{front_of, state_of, IsReady, AreReady, IsFitSegment, HaveRun, jobs_seen}
+use Rattle.spin_run.specs.Lanes.{answer_of, rows_in, job_asked, jobs_of, AreJobsOf, RanLane, HadMemory}
+use Rattle.spin_run.specs.Segments.{front_of, state_of, IsAtRest, AreAtRest, IsReady, AreReady, IsFitSegment, HaveRun, jobs_seen}
 use Rattle.spin_run.specs.Meetings.{IsOfHub, HasMet, HaveMet}
 use Rattle.spin_run.specs.Inner.Weaves.{AreOfTheirLanes, IsInterleaving, AreJobsInOrder, IsEmptied, trails_of, jobs_by_lane}
 use Rattle.spin_run.proofs.Moments.{trail_in_order}
@@ -43,6 +47,7 @@ use Rattle.spin_run.proofs.Asking.{asked_all, lane_rises, commands_asked}
 use Rattle.spin_run.proofs.Counting.{AllRan, grown_few, never_full}
 use Rattle.spin_run.proofs.ManyJobs.{jobs_few}
 use Rattle.spin_run.proofs.Legal.{all_right, woven_legal}
+use Rattle.spin_run.proofs.Publishing.{rows_are}
 use Rattle.spin_run.proofs.Replying.{IsOfLog, IsRepliedBy, are_jobs}
 
 pub some_lane : (xs : List Lane) → 0 < length xs → Lane
@@ -85,7 +90,7 @@ neither (Some fault.NoMemory) full memory = absurd (memory refl)
 module _ (d : SetupData) (log : TableId) (count : ℕ) (lines : List Line) (records : List (List ℕ)) (before ran met : List Lane) (l : Lane) where
   -- what is known once all lanes ran and all seats met
   pub record Facts : Type 0 where
-    pub ready : AreReady d log count before
+    pub ready : AreAtRest d log count before
     pub fit : IsFitSegment (length before) lines
     pub room : length (front_of before) + commands_in lines ≤ MAX_PLACE
     pub have_run : HaveRun d (asked_in lines records) before ran
@@ -117,7 +122,7 @@ module _ (d : SetupData) (log : TableId) (count : ℕ) (lines : List Line) (reco
     lane_before : (k : ℕ) → k < length before → (pen_before k).lane ≡ k
     lane_before k lt = lane_at before k l f.ready.order lt
 
-    ready_at : (k : ℕ) → k < length before → IsReady d log count (front_of before) (get_or before k l)
+    ready_at : (k : ℕ) → k < length before → IsAtRest d log count (front_of before) (get_or before k l)
     ready_at k lt = f.ready.each k l lt
 
     lane_ran : (k : ℕ) → k < length before → RanLane d (asked_of_lane k asked) (pen_before k) (pen_ran k) (trail_at k) (jobs_at k) (stop_at k)
@@ -180,15 +185,21 @@ module _ (d : SetupData) (log : TableId) (count : ℕ) (lines : List Line) (reco
       under = asked_all (λ n. n.lane < length before) lines records (All-weaker (IsOnLane (length before)) (λ line. (part : ℕ × Work) → line.lane < length before) (λ line on part. on.below) lines f.fit.on_lane);
     }
 
-    replay_before : IsReplay d (front_of before) (state_of d before)
-    replay_before =
-        let r = ready_at 0 f.ready.some in
-        subst (λ (x : List Row × State). IsReplay d x.0 x.1) (λ i. (r.front_is i, sym (state_of_first d before l f.ready.some) i)) (all_applied d (get_or before 0 l).seat r.seat r.whole)
-
     replay_met : IsReplay d (front_of met) (state_of d met)
     replay_met =
         let m = lane_met 0 f.ready.some in
         subst (λ (x : List Row × State). IsReplay d x.0 x.1) (λ i. (m.front_is i, m.state_is i)) (all_applied d (get_or met 0 l).seat m.read.seat m.settled.whole)
+
+    start_front : take (length (front_of before)) (front_of met) ≡ front_of before
+    start_front = ap (take (length (front_of before))) grown.1 ∙ take_at (front_of before) grown.0 (length (front_of before)) refl
+
+    -- the state of the front that all lanes knew
+    pub first : State
+    first = (IsReplay-take d (front_of met) (length (front_of before)) (start_of d) (state_of d met) replay_met).0
+
+    pub replay_first : IsReplay d (front_of before) first
+    unfolding first
+    replay_first = subst (λ (rows : List Row). IsReplay d rows first) start_front (IsReplay-take d (front_of met) (length (front_of before)) (start_of d) (state_of d met) replay_met).1
 
     -- no lane stopped
     no_stop : (k : ℕ) → k < length before → stop_at k ≡ None
@@ -295,37 +306,50 @@ module _ (d : SetupData) (log : TableId) (count : ℕ) (lines : List Line) (reco
             let r = lane_ran k lt in
             ap (map asked_of) (each_trail k lt) ∙ sym (r.deeds_are ∙ ap (λ x. map asked_of (trail_at k) ++ x) (r.whole (no_stop k lt)) ∙ append-nil (map asked_of (trail_at k)))
 
-        woven_is_legal : IsLegal d (state_of d before) entries (state_of d met)
+        woven_is_legal : IsLegal d first entries (state_of d met)
         woven_is_legal =
-            woven_legal d (length before) asked pen_before pen_ran trail_at jobs_at stop_at (front_of before) grown.0 all_ran entries under each_trail (state_of d before) (state_of d met)
-            (subst (IsClean d) grown.1 clean) replay_before (subst (λ (rows : List Row). IsReplay d rows (state_of d met)) grown.1 replay_met) w.order
+            woven_legal d (length before) asked pen_before pen_ran trail_at jobs_at stop_at (front_of before) grown.0 all_ran entries under each_trail first (state_of d met)
+            (subst (IsClean d) grown.1 clean) replay_first (subst (λ (rows : List Row). IsReplay d rows (state_of d met)) grown.1 replay_met) w.order
 
         jobs_told : map job_asked woven_jobs ≡ flat_map jobs_of entries
         jobs_told = jobs_woven (length before) trail_at entries woven_jobs w.order under each_trail w.jobs_rise jobs_under
             (λ k lt. ap (map job_asked) (each_jobs k lt) ∙ (lane_ran k lt).jobs_are.asked)
 
         pub few_jobs : length woven_jobs < 2 ^ 32
-        few_jobs = jobs_few d (state_of d before) (state_of d met) (length before) lines records entries woven_jobs f.fit.few woven_is_legal all_ran.under under asked_once jobs_told
+        few_jobs = jobs_few d first (state_of d met) (length before) lines records entries woven_jobs f.fit.few woven_is_legal all_ran.under under asked_once jobs_told
+
+        -- the jobs are those that the entries leave, each with its version
+        pub jobs_left : AreJobsOf d entries (front_of met) woven_jobs
+        jobs_left = record {
+          asked = jobs_told;
+          versions = of_all_jobs (IsOfLog d (front_of met)) jobs_of_log;
+          sound = of_all_jobs (λ (j : Job). IsSound d (arc_value j.version)) (λ k lt. (lane_ran k lt).jobs_are.sound);
+          calls = of_all_jobs (λ (j : Job). BelongsTo (arc_value j.version) j.call) (λ k lt. (lane_ran k lt).jobs_are.calls);
+        }
+
+        -- the front is the one before and the rows that the entries published
+        pub front_told : front_of met ≡ front_of before ++ rows_in entries
+        front_told =
+            grown.1 ∙ ap (λ (rows : List Row). front_of before ++ rows) (rows_are d (length before) asked pen_before pen_ran trail_at jobs_at stop_at (front_of before) grown.0 all_ran entries under each_trail w.order)
 
         -- each job can be done
         pub jobs_can_run : All (CanRun d) woven_jobs
         jobs_can_run = of_all_jobs (CanRun d) (λ k lt i j in'. let are = (lane_ran k lt).jobs_are in (are.sound i j in', are.calls i j in'))
 
         pub woven_made : (replies : List Reply) → AllZip (IsReplyTo d) woven_jobs replies
-            → IsWoven d (length before) asked (state_of d before) (state_of d met) entries (jobs_seen woven_jobs replies)
+            → IsWoven d (length before) asked first (state_of d met) entries (jobs_seen woven_jobs replies)
         woven_made replies replied =
             let right = subst (λ (rows : List Row). All (λ e. seat.IsAnswerIn d rows (answer_of e)) entries) (sym grown.1)
             (all_right d (length before) asked pen_before pen_ran trail_at jobs_at stop_at (front_of before) grown.0 all_ran entries under each_trail) in
-            let start : take (length (front_of before)) (front_of met) ≡ front_of before = ap (take (length (front_of before))) grown.1 ∙ take_at (front_of before) grown.0 (length (front_of before)) refl in
             record {
               legal = woven_is_legal;
               once = asked_once;
               lanes_are = under;
               order = w.order;
               jobs_are =
-                  are_jobs d (front_of met) clean entries woven_jobs replies (length (front_of before)) (state_of d before) (state_of d met)
+                  are_jobs d (front_of met) clean entries woven_jobs replies (length (front_of before)) first (state_of d met)
                   (omega (arith, ap length grown.1, length-append (front_of before) grown.0))
-                  (subst (λ (rows : List Row). IsReplay d rows (state_of d before)) (sym start) replay_before)
+                  (subst (λ (rows : List Row). IsReplay d rows first) (sym start_front) replay_first)
                   woven_is_legal right jobs_told (replies_told d woven_jobs replies replied) (of_all_jobs (IsOfLog d (front_of met)) jobs_of_log);
             }
 
@@ -387,15 +411,58 @@ module _ (d : SetupData) (log : TableId) (count : ℕ) (lines : List Line) (reco
       }
 
 -- the seats of lanes that ran are still those of their hub
-pub still_of_hub : (d : SetupData) (log : TableId) (count : ℕ) (asked : List Numbered) (before ran : List Lane) → AreReady d log count before → HaveRun d asked before ran → All (IsOfHub d log) ran
+pub still_of_hub : (d : SetupData) (log : TableId) (count : ℕ) (asked : List Numbered) (before ran : List Lane) → AreAtRest d log count before → HaveRun d asked before ran → All (IsOfHub d log) ran
 still_of_hub d log count asked before ran ready have k l lt =
     let at : k < length before = omega (arith, have.0) in
     let h = have.1 k l at in
     (h.same.0 ∙ (ready.each k l at).own, h.seat)
 
+-- and stand in the order of their lanes
+pub still_in_order : (d : SetupData) (asked : List Numbered) (before ran : List Lane) → AreOfLanes 0 (map (λ (x : Lane). x.seat) before) → HaveRun d asked before ran → AreOfLanes 0 (map (λ (x : Lane). x.seat) ran)
+still_in_order d asked before ran order have = are_of_lanes 0 (map (λ (x : Lane). x.seat) ran) (λ k s lt.
+    let l : Lane = record { seat = s; trail = []; jobs = []; stop = None } in
+    let size = length-map ran (λ (x : Lane). x.seat) in
+    let at : k < length before = omega (arith, lt, have.0, size) in
+    let same : (get_or (map (λ (x : Lane). x.seat) ran) k s).pen.lane ≡ k =
+    ap (λ (v : SeatValue). v.pen.lane) (get_or-map (λ (x : Lane). x.seat) ran k l s (omega (arith, lt, size))) ∙ (have.1 k l at).same.2 ∙ lane_at before k l order at in
+    omega (arith, same))
+
 -- what is known where all have met
-pub known : (d : SetupData) (log : TableId) (count : ℕ) (lines : List Line) (records : List (List ℕ)) (before ran met : List Lane) (ready : AreReady d log count before)
+pub known : (d : SetupData) (log : TableId) (count : ℕ) (lines : List Line) (records : List (List ℕ)) (before ran met : List Lane) (ready : AreAtRest d log count before)
     → IsFitSegment (length before) lines → length (front_of before) + commands_in lines ≤ MAX_PLACE → HaveRun d (asked_in lines records) before ran → All (λ (lane : Lane). HadMemory lane.stop) ran → HaveMet d ran met
     → Facts d log count lines records before ran met (some_lane before ready.some)
 known d log count lines records before ran met ready fit room have_run memory have_met =
     record { ready = ready; fit = fit; room = room; have_run = have_run; memory = memory; have_met = have_met }
+
+-- ---- lanes that keep no row
+
+-- ready lanes are at rest
+pub rest_of_ready : (d : SetupData) (log : TableId) (count : ℕ) (lanes : List Lane) → AreReady d log count lanes → AreAtRest d log count lanes
+rest_of_ready d log count lanes r = record {
+  some = r.some;
+  all = r.all;
+  order = r.order;
+  each = λ k x lt.
+      let one = r.each k x lt in
+      record {
+        own = one.own;
+        among = one.among;
+        seat = one.seat;
+        front_is = one.front_is;
+        trail = one.trail;
+        jobs_are = one.jobs_are;
+        stop = one.stop;
+      };
+}
+
+-- and their state is that of their front
+pub ready_state : (d : SetupData) (log : TableId) (count : ℕ) (lanes : List Lane) (s : State) → AreReady d log count lanes → IsReplay d (front_of lanes) s → s ≡ state_of d lanes
+ready_state d log count [] s r replay = let some = r.some in absurd (omega arith)
+ready_state d log count (lane ∷ lanes) s r replay =
+    let one : IsReady d log count lane.seat.pen.front lane = r.each 0 lane (omega arith) in
+    IsReplay-one d lane.seat.pen.front s lane.seat.state replay (all_applied d lane.seat one.seat one.whole)
+
+pub woven_ready : (d : SetupData) (log : TableId) (count : ℕ) (lanes : List Lane) (asked : List Numbered) (after : State) (entries : List Entry) (jobs : List JobSeen) → AreReady d log count lanes
+    → ((before : State) × IsReplay d (front_of lanes) before × IsWoven d (length lanes) asked before after entries jobs) → IsWoven d (length lanes) asked (state_of d lanes) after entries jobs
+woven_ready d log count lanes asked after entries jobs ready w =
+    subst (λ (s : State). IsWoven d (length lanes) asked s after entries jobs) (ready_state d log count lanes w.0 ready w.1) w.2

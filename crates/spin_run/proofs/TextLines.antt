@@ -3,13 +3,13 @@ use Rattle.std.proofs.Common.{◌≡◌, ◌<◌, ◌≤◌, ◌+◌, ℕ, zero,
 use Rattle.std.specs.Prelude.{zip, filter, not, ◌==◌, slice_index_or}
 use Rattle.std.specs.List.{enumerate_from, range_with_len}
 use Rattle.std.proofs.Math.Seq.{take-append_seam}
-use Rattle.std.proofs.lemmas.List.{map-append, take_more, take_all, length-map, get_or-map}
+use Rattle.std.proofs.lemmas.List.{append-nil, map-append, take_more, take_all, length-map, get_or-map}
 use Rattle.std.proofs.lemmas.Slice.Zip.{length-zip, get_or-zip}
 use Rattle.std.proofs.lemmas.List.Elements.{filter-append}
 use Rattle.std.proofs.lemmas.List.FromFn.{length-range_with_len}
 use Rattle.spin_endpoint.specs.Named.{NamedEnd}
 use Rattle.spin_endpoint.specs.Sends.{stands_in_turn}
-use Rattle.spin_text.specs.Words.{ended}
+use Rattle.spin_text.specs.Words.{ended, text_of}
 use Rattle.spin_report.specs.Histories.{lost_line, losses, lost_lines}
 use Rattle.spin_report.specs.Runs.{retirements}
 use Rattle.spin_run.specs.Inner.Lining.{retired_as, if_lost, counts_to}
@@ -26,6 +26,23 @@ pub added : {X : Type 0} (f : X → List ℕ) (old lines lines' : List (List ℕ
 added f old lines lines' line xs k x lt is before one now =
     now ∙ (λ i. before i ++ one i ∷ []) ∙ lines_more f old xs k x lt is
 
+-- the texts of lines, one after another
+pub text_of-append : (xs ys : List (List ℕ)) → text_of (xs ++ ys) ≡ text_of xs ++ text_of ys
+text_of-append [] ys = refl
+text_of-append (x ∷ xs) ys = ap (λ t. ended x ++ t) (text_of-append xs ys) ∙ sym (append_assoc (ended x) (text_of xs) (text_of ys))
+
+-- one line more
+pub text_added : {X : Type 0} (f : X → List ℕ) (old text text' : List ℕ) (xs : List X) (k : ℕ) (x : X) → k < length xs → get_or xs k x ≡ x
+    → text ≡ old ++ text_of (map f (take k xs)) → text' ≡ text ++ ended (f x) → text' ≡ old ++ text_of (map f (take (k + 1) xs))
+text_added f old text text' xs k x lt is before now =
+    let front = text_of (map f (take k xs)) in
+    now ∙ ap (λ t. t ++ ended (f x)) before ∙ append_assoc old front (ended (f x))
+    ∙ ap (λ t. old ++ t)
+    (sym (ap (λ y. text_of (map f y)) (take_more xs k x lt ∙ ap (λ y. take k xs ++ y ∷ []) is)
+    ∙ ap text_of (map-append f (take k xs) (x ∷ []))
+    ∙ text_of-append (map f (take k xs)) (f x ∷ [])
+    ∙ ap (λ t. front ++ t) (append-nil (ended (f x)))))
+
 -- ---- two lists side by side
 
 length_side : {A B X : Type 0} (f : A × B → X) (xs : List A) (ys : List B) → length ys ≡ length xs → length (map f (zip xs ys)) ≡ length xs
@@ -37,11 +54,12 @@ side_at f xs ys k a b long lt = (
   get_or-map f (zip xs ys) k (a, b) _ (omega (arith, length-zip xs ys, long, lt)) ∙ ap f (get_or-zip xs ys k (a, b) lt (omega (arith, long, lt))),
 )
 
-pub added_side : {A B X : Type 0} (f : A × B → X) (g : X → List ℕ) (old lines lines' : List (List ℕ)) (line : List ℕ) (xs : List A) (ys : List B) (k : ℕ) (a : A) (b : B) → length ys ≡ length xs → k < length xs → get_or xs k a ≡ a → get_or ys k b ≡ b → lines ≡ old ++ map ended (map g (take k (map f (zip xs ys)))) → line ≡ ended (g (f (a, b))) → lines' ≡ lines ++ line ∷ [] → lines' ≡ old ++ map ended (map g (take (k + 1) (map f (zip xs ys))))
-added_side {X = X} f g old lines lines' line xs ys k a b long lt at_a at_b before one now =
+pub text_added_side : {A B X : Type 0} (f : A × B → X) (g : X → List ℕ) (old text text' : List ℕ) (xs : List A) (ys : List B) (k : ℕ) (a : A) (b : B) → length ys ≡ length xs → k < length xs → get_or xs k a ≡ a → get_or ys k b ≡ b
+    → text ≡ old ++ text_of (map g (take k (map f (zip xs ys)))) → text' ≡ text ++ ended (g (f (a, b))) → text' ≡ old ++ text_of (map g (take (k + 1) (map f (zip xs ys))))
+text_added_side {X = X} f g old text text' xs ys k a b long lt at_a at_b before now =
     let side = side_at f xs ys k a b long lt in
     let pair : f (get_or xs k a, get_or ys k b) ≡ f (a, b) = λ i. f (at_a i, at_b i) in
-    added g old lines lines' line (map f (zip xs ys)) k (f (a, b)) side.0 (subst (λ (x : X). get_or (map f (zip xs ys)) k x ≡ x) pair side.1) before one now
+    text_added g old text text' (map f (zip xs ys)) k (f (a, b)) side.0 (subst (λ (x : X). get_or (map f (zip xs ys)) k x ≡ x) pair side.1) before now
 
 pub side_all : {A B X : Type 0} (f : A × B → X) (xs : List A) (ys : List B) (k : ℕ) → length ys ≡ length xs → length xs ≤ k → take k (map f (zip xs ys)) ≡ map f (zip xs ys)
 side_all f xs ys k long le = take_all k (map f (zip xs ys)) (omega (arith, length_side f xs ys long, le))
@@ -75,16 +93,18 @@ losses_more counts k =
     ∙ ap (filter (λ (l : ℕ × ℕ). not (l.1 == 0))) (enumerate_more 0 (counts_to counts k) (count_at counts k) ∙ ap (λ (n : ℕ). enumerate_from 0 (counts_to counts k) ++ (n, count_at counts k) ∷ []) long)
     ∙ filter-append (λ (l : ℕ × ℕ). not (l.1 == 0)) (enumerate_from 0 (counts_to counts k)) ((k, count_at counts k) ∷ [])
 
-pub lost_more : (old lines lines' : List (List ℕ)) (counts : List ℕ) (k : ℕ) → lines ≡ old ++ map ended (lost_lines (counts_to counts k)) → lines' ≡ lines ++ map ended (map lost_line (if_lost k (count_at counts k))) → lines' ≡ old ++ map ended (lost_lines (counts_to counts (k + 1)))
-lost_more old lines lines' counts k before now =
+pub lost_more : (old text text' : List ℕ) (counts : List ℕ) (k : ℕ) → text ≡ old ++ text_of (lost_lines (counts_to counts k)) → text' ≡ text ++ text_of (map lost_line (if_lost k (count_at counts k)))
+    → text' ≡ old ++ text_of (lost_lines (counts_to counts (k + 1)))
+lost_more old text text' counts k before now =
     let more = losses_more counts k in
     let last = if_lost k (count_at counts k) in
-    now ∙ ap (λ x. x ++ map ended (map lost_line last)) before
-    ∙ append_assoc old (map ended (lost_lines (counts_to counts k))) (map ended (map lost_line last))
-    ∙ ap (λ y. old ++ y)
-    (sym (ap (λ (x : List (ℕ × ℕ)). map ended (map lost_line x)) more
-    ∙ ap (map ended) (map-append lost_line (losses (counts_to counts k)) last)
-    ∙ map-append ended (map lost_line (losses (counts_to counts k))) (map lost_line last)))
+    let front = text_of (lost_lines (counts_to counts k)) in
+    now ∙ ap (λ t. t ++ text_of (map lost_line last)) before
+    ∙ append_assoc old front (text_of (map lost_line last))
+    ∙ ap (λ t. old ++ t)
+    (sym (ap (λ (x : List (ℕ × ℕ)). text_of (map lost_line x)) more
+    ∙ ap text_of (map-append lost_line (losses (counts_to counts k)) last)
+    ∙ text_of-append (map lost_line (losses (counts_to counts k))) (map lost_line last)))
 
 -- ---- retirements
 

@@ -1,8 +1,9 @@
 -- What one lane does in a segment.
 use Rattle.std.specs.Prelude.{◌≡◌, ◌≢◌, ◌+◌, ℕ, true, List, [], ◌∷◌, ◌++◌, map, length, take, All, Option, Some, None}
-use Rattle.std.specs.List.{flat_map}
+use Rattle.std.specs.List.{flat_map, filter_map}
 use Rattle.std.specs.Arc.{arc_value}
 use Rattle.spin_word.specs.declared.command.TheConstants.{MAX_PLACE}
+use Rattle.spin_word.specs.declared.row.Row.{Row}
 use Rattle.spin_log.specs.Pens.{PenValue, IsSamePen}
 use Rattle.spin_table.specs.Setups.{SetupData}
 use Rattle.spin_table.specs.Soundness.{IsSound}
@@ -38,6 +39,10 @@ said_of (what.Deed deed reply) = seat.deed deed reply
 
 abbrev pub answer_of : Entry → seat.Answer
 answer_of entry = record { lane = entry.lane; place = entry.place; said = said_of entry.what }
+
+-- the rows that accepted commands have published, in the order of their entries
+abbrev pub rows_in : List Entry → List Row
+rows_in entries = filter_map (λ entry. seat.row_published (said_of entry.what)) entries
 
 -- ---- the jobs that entries leave
 
@@ -76,11 +81,11 @@ jobs_from entry index (call ∷ calls) =
 abbrev pub jobs_of : Entry → List JobAsked
 jobs_of entry = jobs_from entry 0 (calls_of entry.what)
 
--- These are the jobs of the entries, in order; each has the version of its place in the log, which is sound, and to which
--- its call belongs.
-pub record AreJobsOf (d : SetupData) (entries : List Entry) (pen : PenValue) (jobs : List Job) : Type 0 where
+-- These are the jobs of the entries, in order; each has the version of its place in the log, which begins with this front
+-- and is sound, and to which its call belongs.
+pub record AreJobsOf (d : SetupData) (entries : List Entry) (front : List Row) (jobs : List Job) : Type 0 where
   pub asked : map job_asked jobs ≡ flat_map jobs_of entries
-  pub versions : All (λ job. IsReplay d (take job.place pen.front) (arc_value job.version)) jobs
+  pub versions : All (λ job. IsReplay d (take job.place front) (arc_value job.version)) jobs
   pub sound : All (λ job. IsSound d (arc_value job.version)) jobs
   pub calls : All (λ job. BelongsTo (arc_value job.version) job.call) jobs
 
@@ -101,7 +106,7 @@ pub record RanLane (d : SetupData) (deeds : List Numbered) (before after : PenVa
   pub deeds_are : deeds ≡ map asked_of trail ++ left
   pub whole : stop ≡ None → left ≡ []
   pub full : stop ≡ Some fault.Full → (length after.front ≡ MAX_PLACE) × BeginsWithCommand left
-  pub jobs_are : AreJobsOf d trail after jobs
+  pub jobs_are : AreJobsOf d trail after.front jobs
 
 -- the lane didn't end for want of memory
 abbrev pub HadMemory : Option SeatFault → Type 0

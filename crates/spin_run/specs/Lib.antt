@@ -2,6 +2,7 @@ pub mod Lanes
 pub mod Segments
 pub mod Meetings
 pub mod Laws
+pub mod Limits
 pub mod Records
 pub mod Ends
 pub mod Inner

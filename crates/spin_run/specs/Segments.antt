@@ -27,8 +27,26 @@ abbrev pub state_of : SetupData → List Lane → State
 state_of d [] = start_of d
 state_of d (lane ∷ lanes) = lane.seat.state
 
--- Between two segments: the lane's seat is one of a hub with that log and so many lanes, knows the whole log, keeps no
--- row, and nothing is answered yet.
+-- Between two segments: the lane's seat is one of a hub with that log and so many lanes, its front is this one, and nothing
+-- is answered yet.
+pub record IsAtRest (d : SetupData) (log : TableId) (count : ℕ) (front : List Row) (lane : Lane) : Type 0 where
+  pub own : lane.seat.pen.log ≡ log
+  pub among : lane.seat.pen.lanes ≡ count
+  pub seat : IsSeatOf d lane.seat
+  pub front_is : lane.seat.pen.front ≡ front
+  pub trail : lane.trail ≡ []
+  pub jobs_are : lane.jobs ≡ []
+  pub stop : lane.stop ≡ None
+
+-- The lanes have all seats of a hub of so many lanes, the k-th that of lane k, all fronts are equal, and nothing is
+-- answered yet. So much a segment needs of its lanes.
+pub record AreAtRest (d : SetupData) (log : TableId) (count : ℕ) (lanes : List Lane) : Type 0 where
+  pub some : 0 < length lanes
+  pub all : length lanes ≡ count
+  pub order : AreOfLanes 0 (map (λ lane. lane.seat) lanes)
+  pub each : All (IsAtRest d log count (front_of lanes)) lanes
+
+-- The same, and the lane's seat keeps no row, so that its version is that of its whole front.
 pub record IsReady (d : SetupData) (log : TableId) (count : ℕ) (front : List Row) (lane : Lane) : Type 0 where
   pub own : lane.seat.pen.log ≡ log
   pub among : lane.seat.pen.lanes ≡ count

@@ -11,7 +11,7 @@ ghost use Rattle.spin_script.specs.Segments.{IsOfLane};
 ghost use Rattle.spin_script.specs.declared.lanes.TheConstants.{MAX_DEEDS};
 ghost use Rattle.spin_report.specs.Segments.{raise_with, parts_of, asked_at, asked_in, asked_of_lane};
 ghost use Rattle.spin_run.specs.Lanes.{HasRun, IsFresh};
-ghost use Rattle.spin_run.specs.Segments.{IsReady, IsFitSegment};
+ghost use Rattle.spin_run.specs.Segments.{IsAtRest, IsFitSegment};
 ghost use Rattle.spin_run.specs.Inner.Answering.{Answers, Comes, Stays, asked_alone, asked_packets};
 
 use crate::jobs_left::leave_jobs;
@@ -71,7 +71,7 @@ impl Lane {
         requires sincere { ⟦<Catalogue as Sincere>⟧.sincere hub.now.setup.catalogue }
         requires ready { let d = data_of hub.now.setup in
             let front = self.old.seat.pen.front in
-            IsReady d hub.now.log.id hub.now.log.lanes front self.old }
+            IsAtRest d hub.now.log.id hub.now.log.lanes front self.old }
         requires lines { IsFitSegment hub.now.log.lanes segment.now.lines }
         ensures { let asked = asked_in segment.now.lines frames.now in
             HasRun (data_of hub.now.setup) asked self.old self.new }
@@ -91,7 +91,7 @@ impl Lane {
         requires sincere { ⟦<Catalogue as Sincere>⟧.sincere hub.now.setup.catalogue }
         requires ready { let d = data_of hub.now.setup in
             let front = self.old.seat.pen.front in
-            IsReady d hub.now.log.id hub.now.log.lanes front self.old }
+            IsAtRest d hub.now.log.id hub.now.log.lanes front self.old }
         requires lines { IsFitSegment hub.now.log.lanes segment.now.lines }
         ensures stays { Stays (data_of hub.now.setup) self.old self.new }
         ensures comes { let asked = asked_in segment.now.lines frames.now in

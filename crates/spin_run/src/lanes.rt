@@ -1,6 +1,6 @@
 //! All lanes of a segment, side by side.
 
-ghost use Rattle.std.specs.Prelude.{◌≡◌, ◌<◌, ◌≤◌, [], map, length, All, IfOk};
+ghost use Rattle.std.specs.Prelude.{◌≡◌, ◌<◌, ◌≤◌, ◌++◌, [], ◌∷◌, map, length, slice_get, Some, All, IfOk, OnOk, OnErr, MatchOption};
 ghost use Rattle.spin_word.specs.declared.command.TheConstants.{MAX_LANES};
 ghost use Rattle.spin_log.specs.Pens.{new_pens};
 ghost use Rattle.spin_objects.specs.Units.{IsSincereBy};
@@ -9,7 +9,7 @@ ghost use Rattle.spin_table.specs.States.{start_of};
 ghost use Rattle.spin_seat.specs.Seats.{IsSeatOf};
 ghost use Rattle.spin_report.specs.Segments.{asked_in};
 ghost use Rattle.spin_run.specs.Lanes.{HasRun};
-ghost use Rattle.spin_run.specs.Segments.{IsReady, AreReady, IsFitSegment, HaveRun, front_of, state_of};
+ghost use Rattle.spin_run.specs.Segments.{IsAtRest, AreAtRest, AreReady, IsFitSegment, HaveRun, front_of, state_of};
 ghost use Rattle.spin_run.specs.Inner.Answering.{AreFresh};
 
 use crate::lane::Lane;
@@ -45,6 +45,58 @@ impl Model for Lanes {
 }
 
 impl Lanes {
+    /// No lane. It takes no memory until one is added.
+    pub fn new(alloc: Global) -> Lanes
+        ensures { result ≡ [] }
+    {
+        Lanes {
+            items: Vec::new(alloc),
+        }
+    }
+
+    /// Adds the lane at the end. After want of memory the lanes are unchanged, and this one is dropped.
+    pub fn push(&mut self, lane: Lane) -> Result<(), NoMemory>
+        ensures ok { OnOk result (self.new ≡ self.old ++ lane ∷ []) }
+        ensures err { OnErr result (self.new ≡ self.old) }
+    {
+        self.items.push(lane)?;
+        Ok(())
+    }
+
+    /// The number of lanes.
+    pub fn len(&self) -> usize
+        ensures { result ≡ length self.now }
+    {
+        self.items.len()
+    }
+
+    /// The lane at a place that is there, counted from 0.
+    pub fn get(&self, at: usize) -> &Lane
+        requires { at < length self.now }
+        ensures { slice_get self.now at ≡ Some result.now }
+    {
+        &self.items[at]
+    }
+
+    /// All lanes in order.
+    pub fn as_slice(&self) -> &[Lane]
+        ensures { result.now ≡ self.now }
+    {
+        self.items.as_slice()
+    }
+
+    /// Takes the first lane out; `None` exactly where there is none. It takes no memory.
+    pub fn take_first(&mut self) -> Option<Lane>
+        ensures { MatchOption result
+            ((self.old ≡ []) × (self.new ≡ []))
+            (λ first. self.old ≡ first ∷ self.new) }
+    {
+        if self.items.is_empty() {
+            return None;
+        }
+        Some(self.items.remove(0))
+    }
+
     /// A lane for each seat of a new hub, as [`Hub::new`] made them.
     pub fn of_seats(alloc: Global, _hub: &Hub, seats: Seats) -> Result<Lanes, NoMemory>
         requires some { 0 < _hub.now.log.lanes }
@@ -54,6 +106,7 @@ impl Lanes {
         requires seats { All (IsSeatOf (data_of _hub.now.setup)) seats }
         ensures ready { let d = data_of _hub.now.setup in
             IfOk result (λ lanes. AreReady d _hub.now.log.id _hub.now.log.lanes lanes) }
+        ensures given { IfOk result (λ lanes. map (λ lane. lane.seat) lanes ≡ seats) }
         ensures front { IfOk result (λ lanes. front_of lanes ≡ []) }
         ensures start { let d = data_of _hub.now.setup in
             IfOk result (λ lanes. state_of d lanes ≡ start_of d) }
@@ -90,7 +143,7 @@ pub fn run_lanes<R: Threads + Sync, G: Gate>(
 )
     requires sincere { ⟦<Catalogue as Sincere>⟧.sincere hub.now.setup.catalogue }
     requires ready { let d = data_of hub.now.setup in
-        AreReady d hub.now.log.id hub.now.log.lanes lanes.old }
+        AreAtRest d hub.now.log.id hub.now.log.lanes lanes.old }
     requires lines { IsFitSegment (length lanes.old) segment.now.lines }
     ensures { let asked = asked_in segment.now.lines frames.now in
         HaveRun (data_of hub.now.setup) asked lanes.old lanes.new }
@@ -103,7 +156,7 @@ pub fn run_lanes<R: Threads + Sync, G: Gate>(
             requires sincere { IsSincereBy does asks follows hub.now.setup.catalogue.natives }
             requires ready { let d = data_of hub.now.setup in
                 let front = lane.old.seat.pen.front in
-                IsReady d hub.now.log.id hub.now.log.lanes front lane.old }
+                IsAtRest d hub.now.log.id hub.now.log.lanes front lane.old }
             requires lines { IsFitSegment hub.now.log.lanes segment.now.lines }
             ensures { let asked = asked_in segment.entry.now.lines frames.entry.now in
                 HasRun (data_of hub.entry.now.setup) asked lane.old lane.new }

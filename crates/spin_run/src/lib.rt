@@ -9,7 +9,8 @@
 //! - `lines` makes a segment's lines, `writing` writes them, `one` runs a segment with all this, `ending` ends a run;
 //! - `telling` has what becomes of a segment: it is written, or counted by `tally`;
 //! - `script` runs a whole script, `summary` with a summary in place of the report, `end` has how a run ends;
-//! - `law` says that the place of ready lanes is the number of rows that they know, `place` tells that number.
+//! - `law` says that the place of ready lanes is the number of rows that they know, `place` tells that number;
+//! - `limits` states the limits.
 #![tactic(auto)]
 
 mod end;
@@ -18,6 +19,7 @@ mod jobs_left;
 mod lane;
 mod lanes;
 mod law;
+mod limits;
 mod lines;
 mod meeting;
 mod one;
@@ -37,7 +39,8 @@ pub use end::RunEnd;
 pub use lane::Lane;
 pub use lanes::{Lanes, run_lanes};
 pub use law::place_is_front;
+pub use limits::limits_are_stated;
 pub use script::run_script;
-pub use segment::{Woven, run_segment};
+pub use segment::{WORKERS, Woven, run_segment};
 pub use spin_script::Frames;
 pub use summary::run_summary;

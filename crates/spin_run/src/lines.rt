@@ -1,7 +1,7 @@
 //! The lines of a segment's part of the report.
 
 ghost use Rattle.std.specs.Prelude.{◌≡◌, ◌≤◌, ◌++◌, ◌∷◌, [], map, length, OnOk};
-ghost use Rattle.spin_text.specs.Words.{ended};
+ghost use Rattle.spin_text.specs.Words.{ended, text_of};
 ghost use Rattle.spin_endpoint.specs.declared.ends.TheConstants.{MAX_ENDPOINTS};
 ghost use Rattle.spin_report.specs.Lines.{entry_line, job_line};
 ghost use Rattle.spin_report.specs.Histories.{retire_line, segment_line, lost_line, lost_lines};
@@ -41,56 +41,45 @@ pub(crate) fn add_segment(lines: &mut TextLines, number: usize, start: u16) -> R
     lines.push(line)
 }
 
-/// Adds the lines of entries.
-pub(crate) fn add_entries(lines: &mut TextLines, entries: &[Entry]) -> Result<(), NoMemory>
-    ensures { OnOk result (lines.new ≡ lines.old ++ map ended (map entry_line entries.now)) }
+/// Appends the lines of entries.
+pub(crate) fn put_entries(text: &mut Octets, entries: &[Entry]) -> Result<(), NoMemory>
+    ensures { OnOk result (text.new ≡ text.old ++ text_of (map entry_line entries.now)) }
 {
     for entry in entries {
-        let mut line = Octets::new(lines.allocator());
-        entry_text(entry, &mut line)?;
-        lines.push(line)?;
+        entry_text(entry, text)?;
     }
     Ok(())
 }
 
-/// Adds the lines of jobs with their replies.
-pub(crate) fn add_jobs(
-    lines: &mut TextLines,
-    jobs: &[Job],
-    replies: &[Reply],
-) -> Result<(), NoMemory>
+/// Appends the lines of jobs with their replies.
+pub(crate) fn put_jobs(text: &mut Octets, jobs: &[Job], replies: &[Reply]) -> Result<(), NoMemory>
     requires room { length replies.now ≡ length jobs.now }
-    ensures { OnOk result (lines.new
-        ≡ lines.old ++ map ended (map job_line (jobs_seen jobs.now replies.now))) }
+    ensures { OnOk result (text.new
+        ≡ text.old ++ text_of (map job_line (jobs_seen jobs.now replies.now))) }
 {
     for at in 0..jobs.len() {
-        let mut line = Octets::new(lines.allocator());
-        job_text(&jobs[at], &replies[at], &mut line)?;
-        lines.push(line)?;
+        job_text(&jobs[at], &replies[at], text)?;
     }
     Ok(())
 }
 
-/// Adds the line of an endpoint's lost sends, if there are some.
-fn add_count(lines: &mut TextLines, number: u8, count: u64) -> Result<(), NoMemory>
-    ensures { OnOk result (lines.new ≡ lines.old ++ map ended (map lost_line (if_lost number count))) }
+/// Appends the line of an endpoint's lost sends, if there are some.
+fn put_count(text: &mut Octets, number: u8, count: u64) -> Result<(), NoMemory>
+    ensures { OnOk result (text.new ≡ text.old ++ text_of (map lost_line (if_lost number count))) }
 {
     if count == 0 {
         return Ok(());
     }
-    let mut line = Octets::new(lines.allocator());
-    lost_text(number, count, &mut line)?;
-    lines.push(line)
+    lost_text(number, count, text)
 }
 
-/// Adds the line of each of so many endpoints to which sends were lost.
-pub(crate) fn add_lost(lines: &mut TextLines, lost: &Lost, endpoints: u8) -> Result<(), NoMemory>
+/// Appends the line of each of so many endpoints to which sends were lost.
+pub(crate) fn put_lost(text: &mut Octets, lost: &Lost, endpoints: u8) -> Result<(), NoMemory>
     requires few { endpoints ≤ MAX_ENDPOINTS }
-    ensures { OnOk result (lines.new
-        ≡ lines.old ++ map ended (lost_lines (counts_to lost.now endpoints))) }
+    ensures { OnOk result (text.new ≡ text.old ++ text_of (lost_lines (counts_to lost.now endpoints))) }
 {
     for number in 0..endpoints {
-        add_count(lines, number, lost.to(number))?;
+        put_count(text, number, lost.to(number))?;
     }
     Ok(())
 }

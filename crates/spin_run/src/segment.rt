@@ -1,12 +1,14 @@
 //! One segment: its lanes side by side, then one history of them all, then its jobs.
 
-ghost use Rattle.std.specs.Prelude.{◌≡◌, ◌+◌, ◌≤◌, false, length, All, Any, IsTrue, Some, IfOk, OnOk};
+ghost use Rattle.std.specs.Prelude.{◌≡◌, ◌+◌, ◌++◌, ◌≤◌, false, length, All, Any, IsTrue, Some, IfOk, OnOk};
 ghost use Rattle.spin_word.specs.declared.command.TheConstants.{MAX_PLACE};
 ghost use Rattle.spin_table.specs.SetupOf.{data_of};
+ghost use Rattle.spin_table.specs.States.{State};
+ghost use Rattle.spin_seat.specs.Replay.{IsReplay};
 ghost use Rattle.spin_seat.specs.declared.answer.SeatFault.TheVariants as fault;
 ghost use Rattle.spin_report.specs.Segments.{asked_in, IsWoven};
-ghost use Rattle.spin_run.specs.Lanes.{HadMemory};
-ghost use Rattle.spin_run.specs.Segments.{AreReady, IsFitSegment, front_of, state_of, jobs_seen};
+ghost use Rattle.spin_run.specs.Lanes.{AreJobsOf, HadMemory, rows_in};
+ghost use Rattle.spin_run.specs.Segments.{AreAtRest, AreReady, IsFitSegment, front_of, state_of, jobs_seen};
 ghost use Rattle.spin_script.specs.Soundness.{commands_in};
 
 use crate::lanes::{Lanes, run_lanes};
@@ -23,7 +25,7 @@ use std::alloc::Global;
 use std::thread::Threads;
 
 /// How many workers do the jobs of a segment.
-const WORKERS: u8 = 4;
+pub const WORKERS: u8 = 4;
 
 /// What a segment came to.
 #[derive(Drop)]
@@ -39,12 +41,14 @@ pub struct Woven {
 /// Runs the lanes of the segment side by side, lets all seats meet, puts what the lanes answered into one history, and
 /// does the jobs that it leaves.
 ///
-/// The entries are a legal history of the plain dispatcher, from the state that the lanes were ready in to the one that
-/// they are ready in afterwards: each lane's deeds are answered once each and in its order, and nothing else is. They
-/// stand by place; at one place the accepted command first; and then by lane, line and part. Each job has its reply at
-/// the state of its own entry. So it is whatever the schedule of the lanes and of the jobs.
+/// The entries are a legal history of the plain dispatcher, from the state of the front that all lanes know before it to
+/// the one that they are ready in afterwards: each lane's deeds are answered once each and in its order, and nothing else
+/// is. They stand by place; at one place the accepted command first; and then by lane, line and part. The front grows by
+/// the rows of the accepted commands, in this order. The jobs are those that the entries leave, in order, each with the
+/// version of its entry's place, and each has its reply at the state of its own entry. So it is whatever the schedule of
+/// the lanes and of the jobs.
 ///
-/// The frames are the records that the segment's packet lines take, in the order of the text. The log has room for the
+/// A seat that keeps a row applies it before its first answer. The frames are the records that the segment's packet lines take, in the order of the text. The log has room for the
 /// segment's commands. After want of memory the lanes are of no further use.
 pub fn run_segment<R: Threads + Sync, G: Gate>(
     rt: &R,
@@ -57,15 +61,17 @@ pub fn run_segment<R: Threads + Sync, G: Gate>(
 ) -> Result<Woven, NoMemory>
     requires sincere { ⟦<Catalogue as Sincere>⟧.sincere hub.now.setup.catalogue }
     requires ready { let d = data_of hub.now.setup in
-        AreReady d hub.now.log.id hub.now.log.lanes lanes.old }
+        AreAtRest d hub.now.log.id hub.now.log.lanes lanes.old }
     requires lines { IsFitSegment (length lanes.old) segment.now.lines }
     requires room { length (front_of lanes.old) + commands_in segment.now.lines ≤ MAX_PLACE }
     ensures woven { let d = data_of hub.now.setup in
         let asked = asked_in segment.now.lines frames.now in
-        let before = state_of d lanes.old in
         let after = state_of d lanes.new in
-        IfOk result (λ w.
-        IsWoven d (length lanes.old) asked before after w.entries (jobs_seen w.jobs w.replies)) }
+        IfOk result (λ w. (before : State) × IsReplay d (front_of lanes.old) before
+        × IsWoven d (length lanes.old) asked before after w.entries (jobs_seen w.jobs w.replies)) }
+    ensures jobs { let d = data_of hub.now.setup in
+        IfOk result (λ w. AreJobsOf d w.entries (front_of lanes.new) w.jobs) }
+    ensures front { IfOk result (λ w. front_of lanes.new ≡ front_of lanes.old ++ rows_in w.entries) }
     ensures replies { IfOk result (λ w. length w.replies ≡ length w.jobs) }
     ensures ready { let d = data_of hub.now.setup in
         OnOk result (AreReady d hub.now.log.id hub.now.log.lanes lanes.new) }

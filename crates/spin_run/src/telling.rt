@@ -15,10 +15,10 @@ ghost use Rattle.spin_run.specs.Inner.Writing.{joined};
 ghost use Rattle.spin_run.specs.Inner.Tallies.{TalliesOn, Tells, TellsByCount};
 
 use crate::end::RunEnd;
-use crate::lines::{add_entries, add_jobs, add_lost, add_segment};
+use crate::lines::{add_segment, put_entries, put_jobs, put_lost};
 use crate::segment::Woven;
 use crate::tally::Tally;
-use crate::writing::{TextLines, write_lines};
+use crate::writing::{TextLines, write_pieces};
 use spin_endpoint::Lost;
 use spin_outside::{Failed, Sink, write_all};
 use spin_report::{CaptureCounts, end_text};
@@ -89,8 +89,9 @@ pub(crate) struct Report<'a, K: Sink> {
     pub(crate) out: &'a mut K,
 }
 
-/// The lines of a segment's part of the report, behind those of its retired endpoints.
-fn part_lines(
+/// The text of a segment's part of the report, in pieces: the lines of its retired endpoints, the line that begins it,
+/// and all that stands behind that, in one.
+fn part_pieces(
     retired: TextLines,
     number: usize,
     start: u16,
@@ -100,17 +101,19 @@ fn part_lines(
 ) -> Result<TextLines, NoMemory>
     requires replies { length woven.now.replies ≡ length woven.now.jobs }
     requires few { endpoints ≤ MAX_ENDPOINTS }
-    ensures { IfOk result (λ lines. lines ≡ retired ++ map ended (
+    ensures { IfOk result (λ pieces. joined pieces ≡ joined (retired ++ map ended (
         segment_line number start ∷ map entry_line woven.now.entries
         ++ map job_line (jobs_seen woven.now.jobs woven.now.replies)
-        ++ lost_lines (counts_to lost.now endpoints))) }
+        ++ lost_lines (counts_to lost.now endpoints)))) }
 {
-    let mut lines = retired;
-    add_segment(&mut lines, number, start)?;
-    add_entries(&mut lines, woven.entries.as_slice())?;
-    add_jobs(&mut lines, woven.jobs.as_slice(), woven.replies.as_slice())?;
-    add_lost(&mut lines, lost, endpoints)?;
-    Ok(lines)
+    let mut pieces = retired;
+    add_segment(&mut pieces, number, start)?;
+    let mut text = Octets::new(pieces.allocator());
+    put_entries(&mut text, woven.entries.as_slice())?;
+    put_jobs(&mut text, woven.jobs.as_slice(), woven.replies.as_slice())?;
+    put_lost(&mut text, lost, endpoints)?;
+    pieces.push(text)?;
+    Ok(pieces)
 }
 
 /// The last line of a report.
@@ -133,7 +136,8 @@ impl<K: Sink> Telling for Report<'_, K> {
         write_all(self.out, b"report 1\n")
     }
 
-    /// Makes the segment's text in memory, and then writes it, each line by one call.
+    /// Makes the segment's text in memory, and then writes it: the line that begins it by one call, and all its entries,
+    /// jobs and lost sends by another.
     fn tell(
         &mut self,
         retired: TextLines,
@@ -143,8 +147,8 @@ impl<K: Sink> Telling for Report<'_, K> {
         lost: &Lost,
         endpoints: u8,
     ) -> Result<(), RunEnd> {
-        let lines = part_lines(retired, number, start, woven, lost, endpoints)?;
-        match write_lines(self.out, lines.as_slice()) {
+        let pieces = part_pieces(retired, number, start, woven, lost, endpoints)?;
+        match write_pieces(self.out, pieces.as_slice()) {
             Ok(()) => Ok(()),
             Err(_) => Err(RunEnd::WriteFault),
         }

@@ -15,7 +15,7 @@ ghost use Rattle.spin_proto.specs.Replies.{BelongsTo, calls_left};
 ghost use Rattle.spin_seat.specs.Seats.{IsSeatOf};
 ghost use Rattle.spin_seat.specs.Answers.{rows_before};
 ghost use Rattle.spin_seat.specs.Calls.{ReadsOn, ReadsToPin, AddsAtMostAPin, Gives, IsFaultAt, reply_answer, verdict_answer};
-ghost use Rattle.spin_seat.specs.Inner.Tries.{row_seen, Tries};
+ghost use Rattle.spin_seat.specs.Inner.Tries.{row_seen, Tries, TurnsFor};
 
 use crate::answer::{Judged, Raised, SeatFault};
 use crate::hub::Hub;
@@ -25,11 +25,12 @@ use spin_log::{Look, Pen, Publish};
 use spin_objects::Catalogue;
 use spin_proto::{Deed, path};
 use spin_table::{Refusal, StepFault, Verdicted, Version};
-use spin_values::{NoMemory, Sequence};
+use spin_values::{NoMemory, Sequence, Steps};
 use spin_word::{Command, MAX_PLACE, Row, pack, unpack};
 use std::alloc::Global;
-use std::marker::Model;
+use std::marker::{Brand, Model};
 use std::sync::Arc;
+use std::sync::ledger::{Blank, Ledger};
 
 /// Seats, in order.
 pub type Seats = Sequence<Seat>;
@@ -175,21 +176,50 @@ impl Seat {
         }
     }
 
-    // Reads on until there is no next row, which is a pin. Each turn but the last reads a row.
-    fn pin(&mut self, alloc: Global, hub: &Hub) -> Result<(), NoMemory>
+    // Reads on until there is no next row, which is a pin. It counts its turns: one for each row that it reads, and at
+    // most one more.
+    fn pin<L: Ledger>(
+        &mut self,
+        alloc: Global,
+        hub: &Hub,
+        turns: &mut Steps<L>,
+    ) -> Result<(), NoMemory>
         requires sincere { ⟦<Catalogue as Sincere>⟧.sincere hub.now.setup.catalogue }
         requires log { self.old.pen.log ≡ hub.now.log.id }
         requires seat { IsSeatOf (data_of hub.now.setup) self.old }
         ensures seat { IsSeatOf (data_of hub.now.setup) self.new }
         ensures ok { OnOk result (ReadsToPin self.old.pen self.new.pen × (self.new.kept ≡ None)) }
         ensures err { OnErr result (ReadsOn self.old.pen self.new.pen) }
+        ensures turns { TurnsFor self.old.pen turns.old self.new.pen turns.new }
     {
         loop {
+            turns.tick();
             self.apply(alloc, hub)?;
             if let Look::Pinned = self.read(hub) {
                 return Ok(());
             }
         }
+    }
+
+    // The same with a count of its own.
+    fn pin_counted<L: Ledger>(
+        &mut self,
+        alloc: Global,
+        hub: &Hub,
+        blank: Blank,
+    ) -> Result<(), NoMemory>
+        requires sincere { ⟦<Catalogue as Sincere>⟧.sincere hub.now.setup.catalogue }
+        requires log { self.old.pen.log ≡ hub.now.log.id }
+        requires seat { IsSeatOf (data_of hub.now.setup) self.old }
+        requires name { blank.name ≡ L.name }
+        requires parts { blank.parts ≡ L.parts }
+        requires some { 0 < L.parts }
+        ensures seat { IsSeatOf (data_of hub.now.setup) self.new }
+        ensures ok { OnOk result (ReadsToPin self.old.pen self.new.pen × (self.new.kept ≡ None)) }
+        ensures err { OnErr result (ReadsOn self.old.pen self.new.pen) }
+    {
+        let mut turns = Steps::<L>::new(blank);
+        self.pin(alloc, hub, &mut turns)
     }
 
     /// Does the deed on the version of the present end of the log: it reads on until a load finds
@@ -218,7 +248,7 @@ impl Seat {
         ensures calls { IfOk result (λ raised. All (BelongsTo self.new.state) (calls_left raised.reply)) }
         ensures err { OnErr result (AddsAtMostAPin self.old.pen self.new.pen) }
     {
-        self.pin(alloc, hub)?;
+        self.pin_counted::<Brand>(alloc, hub, Blank::new(1))?;
         let place = self.pen.front();
         let reply = path(alloc, &self.version, &hub.setup, deed)?;
         let pinned = Arc::try_clone(&self.version)?;
@@ -303,6 +333,77 @@ impl Seat {
         }
     }
 
+    // Judges the command at the front, and where another row came first again at the next one. It counts its turns: one
+    // for each row that it reads, and at most one more.
+    fn command_turning<L: Ledger>(
+        &mut self,
+        alloc: Global,
+        hub: &Hub,
+        c: &Command,
+        turns: &mut Steps<L>,
+    ) -> Result<Judged, SeatFault>
+        requires sincere { ⟦<Catalogue as Sincere>⟧.sincere hub.now.setup.catalogue }
+        requires log { self.old.pen.log ≡ hub.now.log.id }
+        requires seat { IsSeatOf (data_of hub.now.setup) self.old }
+        requires valid { IsTrue (is_command c.now) }
+        requires lane { c.now.lane ≡ self.old.pen.lane }
+        ensures seat { IsSeatOf (data_of hub.now.setup) self.new }
+        ensures same { IsSamePen self.old.pen self.new.pen }
+        ensures answer { let d = data_of hub.now.setup in
+            let pen = self.old.pen in
+            IfOk result (λ judged.
+            Gives d pen (verdict_answer pen.lane c.now judged.place judged.verdict) self.new.pen) }
+        ensures room { let lane = self.old.pen.lane in
+            IfOk result (λ judged.
+            rows_before (verdict_answer lane c.now judged.place judged.verdict) < MAX_PLACE) }
+        ensures whole { OnOk result (self.new.kept ≡ None) }
+        ensures read { OnErr result (ReadsOn self.old.pen self.new.pen) }
+        ensures fault { IfErr result (IsFaultAt (length self.new.pen.front)) }
+        ensures turns { TurnsFor self.old.pen turns.old self.new.pen turns.new }
+    {
+        while self.pen.front() < MAX_PLACE {
+            turns.tick();
+            self.apply(alloc, hub)?;
+            if let Some(judged) = self.judge(alloc, hub, c)? {
+                return Ok(judged);
+            }
+        }
+        Err(SeatFault::Full)
+    }
+
+    // The same with a count of its own.
+    fn command_counted<L: Ledger>(
+        &mut self,
+        alloc: Global,
+        hub: &Hub,
+        c: &Command,
+        blank: Blank,
+    ) -> Result<Judged, SeatFault>
+        requires sincere { ⟦<Catalogue as Sincere>⟧.sincere hub.now.setup.catalogue }
+        requires log { self.old.pen.log ≡ hub.now.log.id }
+        requires seat { IsSeatOf (data_of hub.now.setup) self.old }
+        requires valid { IsTrue (is_command c.now) }
+        requires lane { c.now.lane ≡ self.old.pen.lane }
+        requires name { blank.name ≡ L.name }
+        requires parts { blank.parts ≡ L.parts }
+        requires some { 0 < L.parts }
+        ensures seat { IsSeatOf (data_of hub.now.setup) self.new }
+        ensures same { IsSamePen self.old.pen self.new.pen }
+        ensures answer { let d = data_of hub.now.setup in
+            let pen = self.old.pen in
+            IfOk result (λ judged.
+            Gives d pen (verdict_answer pen.lane c.now judged.place judged.verdict) self.new.pen) }
+        ensures room { let lane = self.old.pen.lane in
+            IfOk result (λ judged.
+            rows_before (verdict_answer lane c.now judged.place judged.verdict) < MAX_PLACE) }
+        ensures whole { OnOk result (self.new.kept ≡ None) }
+        ensures read { OnErr result (ReadsOn self.old.pen self.new.pen) }
+        ensures fault { IfErr result (IsFaultAt (length self.new.pen.front)) }
+    {
+        let mut turns = Steps::<L>::new(blank);
+        self.command_turning(alloc, hub, c, &mut turns)
+    }
+
     /// Judges the command at the version of its own place. An accepted command has its whole next
     /// version, and then one exchange publishes it as the next row of the log: so nothing that was
     /// published can be refused for want of memory. A refusal is judged at a pin. Where another
@@ -336,13 +437,7 @@ impl Seat {
         ensures read { OnErr result (ReadsOn self.old.pen self.new.pen) }
         ensures fault { IfErr result (IsFaultAt (length self.new.pen.front)) }
     {
-        while self.pen.front() < MAX_PLACE {
-            self.apply(alloc, hub)?;
-            if let Some(judged) = self.judge(alloc, hub, c)? {
-                return Ok(judged);
-            }
-        }
-        Err(SeatFault::Full)
+        self.command_counted::<Brand>(alloc, hub, c, Blank::new(1))
     }
 
     // Learns what a seat with a front no shorter knows, and shares its version. Neither keeps a

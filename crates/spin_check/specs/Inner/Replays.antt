@@ -1,5 +1,5 @@
 -- The replay of a segment's entries.
-use Rattle.std.specs.Prelude.{◌≡◌, ◌≤◌, ◌+◌, ℕ, ◌<◌, Bool, false, List, [], ◌∷◌, ◌++◌, map, drop, length, All, Option, None, Some, ⊤, slice_set}
+use Rattle.std.specs.Prelude.{◌≡◌, ◌≤◌, ◌+◌, ℕ, ◌<◌, Bool, true, false, List, [], ◌∷◌, ◌++◌, map, drop, length, All, Option, None, Some, ⊤, slice_set}
 use denote.Ref.{Bor}
 use Rattle.std.specs.Arc.{arc_value}
 use Rattle.std.specs.List.{flat_map}
@@ -101,9 +101,31 @@ pub record HasReplayed (d : SetupData) (start : At) (entries : List Entry) (jobs
   pub only : (es : List Entry) (last : State) (more : List ℕ) → AreEntries d start es last more
       → es ≡ entries
 
--- The replay goes on by the one entry that may come next; none where no entry may.
+-- no entry may come next
+abbrev pub HasNoNext : SetupData → At → Type 0
+HasNoNext d at = (e : Entry) (next : State) (more : List ℕ) → IsNext d at e next more → ⊥
+
+-- the lines of the jobs, behind those that are owed, are longer than that
+abbrev pub AreLonger : ℕ → List ℕ → List JobSeen → Type 0
+AreLonger room owed jobs = room < length (owed ++ text_of (map job_line jobs))
+
+-- The jobs of an entry are done, and their lines and the numbers that they send to added; false where their lines are
+-- longer than the room for them.
+abbrev pub DidJobs : SetupData → State → Entry → ℕ → List ℕ × List ℕ → List ℕ × List ℕ → Bool → Type 0
+DidJobs d state entry room before after true =
+    (own : List JobSeen) × AreJobsFrom d state entry 0 (calls_of entry.what) own
+    × (after.0 ≡ before.0 ++ text_of (map job_line own)) × (after.1 ≡ before.1 ++ sent_by_jobs own)
+DidJobs d state entry room before after false =
+    (own : List JobSeen) → AreJobsFrom d state entry 0 (calls_of entry.what) own
+    → AreLonger room before.0 own
+
+-- The replay goes on by the one entry that may come next. None where no entry may, or where the lines of the jobs so
+-- far and of the entry's own are longer than what is left of the report behind it.
 abbrev pub GoesOn : SetupData → At → Option At → Type 0
-GoesOn d at None = (e : Entry) (next : State) (more : List ℕ) → IsNext d at e next more → ⊥
+GoesOn d at None =
+    (e : Entry) (next : State) (more : List ℕ) → IsNext d at e next more
+    → (own : List JobSeen) → AreJobsFrom d next e 0 (calls_of e.what) own
+    → AreLonger (length more) at.owed own
 GoesOn d at (Some after) =
     (entry : Entry) × (own : List JobSeen) × Replays d at entry own after × IsOnlyNext d at entry after
     × IsSound d after.state
@@ -122,7 +144,7 @@ at_of state queues last rest owed sends job_sends = record {
 
 -- The entry that may come next, and what the lanes are still to do behind it; none where no entry may.
 abbrev pub IsFound : SetupData → At → List (List Ask) → Option (Answered × Bor (List ℕ)) → Type 0
-IsFound d at queues None = (e : Entry) (next : State) (more : List ℕ) → IsNext d at e next more → ⊥
+IsFound d at queues None = HasNoNext d at
 IsFound d at queues (Some found) =
     IsNext d at found.0.entry (arc_value found.0.version) found.1.now
     × (queues ≡ queues_after found.0.entry at.queues)
@@ -138,10 +160,12 @@ pub record IsFresh (at : At) : Type 0 where
   pub sends : at.sends ≡ []
   pub job_sends : at.job_sends ≡ []
 
--- The replay has come to the end of the segment's entries; none where the report begins with no such entries.
+-- The replay has come to the end of the segment's entries. None where the report begins with no such entries, or where
+-- the lines of their jobs are longer than what is left of it behind them.
 abbrev pub EndsAt : SetupData → At → Option At → Type 0
 EndsAt d start None =
-    (entries : List Entry) (last : State) (more : List ℕ) → AreEntries d start entries last more → ⊥
+    (entries : List Entry) (last : State) (more : List ℕ) → AreEntries d start entries last more
+    → (jobs : List JobSeen) → AreJobs d start.state entries jobs → AreLonger (length more) [] jobs
 EndsAt d start (Some at) =
     (entries : List Entry) × (jobs : List JobSeen) × HasReplayed d start entries jobs at
     × IsSound d at.state × (at.state.place ≤ start.state.place + commands_left start.queues)

@@ -24,7 +24,7 @@ use Rattle.spin_run.specs.Lanes.{answer_of, job_asked, jobs_from, AreJobsOf, Beg
 pub record HasAnswered (d : SetupData) (before : PenValue) (lane : Lane) : Type 0 where
   pub ran : Ran d before (map answer_of lane.trail) lane.seat.pen
   pub pins : GainsPins before (map answer_of lane.trail) lane.seat.pen
-  pub jobs_are : AreJobsOf d lane.trail lane.seat.pen lane.jobs
+  pub jobs_are : AreJobsOf d lane.trail lane.seat.pen.front lane.jobs
 
 -- the lane answers these
 pub record Answers (d : SetupData) (asked : List Numbered) (old new : Lane) : Type 0 where

@@ -1,8 +1,9 @@
 -- One step of a call of a seat.
-use Rattle.std.specs.Prelude.{◌≡◌, ◌+◌, ◌<◌, Option, None, Some, length}
+use Rattle.std.specs.Prelude.{◌≡◌, ◌+◌, ◌<◌, ◌≤◌, ℕ, Option, None, Some, length}
 use Rattle.spin_word.specs.declared.command.TheConstants.{MAX_PLACE}
 use Rattle.spin_word.specs.declared.row.Row.{Row}
 use Rattle.spin_word.specs.declared.command.Command.{Command}
+use Rattle.spin_log.specs.Pens.{PenValue}
 use Rattle.spin_log.specs.declared.log.Look.{Look}
 use Rattle.spin_log.specs.declared.log.Look.TheVariants.{Entry, Pinned}
 use Rattle.spin_table.specs.Setups.{SetupData}
@@ -28,3 +29,7 @@ pub record Judges (d : SetupData) (old : SeatValue) (c : Command) (judged : Judg
 abbrev pub Tries : SetupData → SeatValue → Command → Option Judged → SeatValue → Type 0
 Tries d old c (Some judged) new = Judges d old c judged new
 Tries d old c None new = ReadsOn old.pen new.pen × (length new.pen.front ≡ length old.pen.front + 1)
+
+-- the count of turns rose by at most one more than the rows that the pen read
+abbrev pub TurnsFor : PenValue → ℕ → PenValue → ℕ → Type 0
+TurnsFor old turns new turns' = turns' + length old.front ≤ turns + length new.front + 1

@@ -94,19 +94,14 @@ loop-number-preserved g c =
     (λ names ends are. subst (λ went. Goes script.setup script.lanes names number segment mark ends (gone_to went next)) c.if-not-went.false (c.in_ok-went.ensures.goes names ends are))
     (subst (λ went. IsGoodMark script.setup segment mark (gone_to went next)) c.if-not-went.false c.in_ok-went.ensures.good) c.loop-number.invariant
 
-pub counts-counts-requires-clause-left : goal.counts-counts-requires-clause-left
-counts-counts-requires-clause-left g c =
-    let left_is : c.mark.inside.left.now ≡ c.loop-number.mark.left = ap (λ (m : Mark). m.left) c.mark.view_is in
-    subst (λ (l : List (List ℕ)). length l ≤ length (frames_of (option_map capture_of (option_copied c.args.capture)))) (sym left_is) c.loop-number.invariant.left
+pub is_end-requires-clause-left : goal.is_end-requires-clause-left
+is_end-requires-clause-left g c = c.loop-number.invariant.left
 
 pub returns : goal.returns
 returns g c = λ start flags.
     let script = script_seen c.args.script.now in
     let capture = option_map capture_of (option_copied c.args.capture) in
     let mark = c.loop-number.mark in
-    let left_is : c.mark.inside.left.now ≡ mark.left = ap (λ (m : Mark). m.left) c.mark.view_is in
-    let told : c.counts-counts.result ≡ option_map (counts_of mark.left) capture = c.counts-counts.ensures ∙ ap (λ l. option_map (counts_of l) capture) left_is in
-    IfOk-weaker c.is_end.result (λ yes. Decides yes (mark.rest ≡ ended (end_line mark.state.place c.counts-counts.result))) (λ yes. Decides yes (AreLeft script capture start c.args.mark.now))
+    IfOk-weaker c.is_end.result (λ yes. Decides yes (mark.rest ≡ ended (end_line mark.state.place (option_map (counts_of mark.left) capture)))) (λ yes. Decides yes (AreLeft script capture start c.args.mark.now))
     (λ yes decides.
-    whole_end script capture c.args.mark.now c.loop-number.number mark yes (omega (arith, c.loop-number-test.false, c.len-number-end.ensures))
-    (λ ends. subst (λ counts. Decides yes (mark.rest ≡ ended (end_line mark.state.place counts))) told decides) c.loop-number.invariant start flags) c.is_end.ensures
+    whole_end script capture c.args.mark.now c.loop-number.number mark yes (omega (arith, c.loop-number-test.false, c.len-number-end.ensures)) (λ ends. decides) c.loop-number.invariant start flags) c.is_end.ensures

@@ -60,3 +60,8 @@ returns-then-whole-clause-answer g c =
     answers-packet c.args.order c.args.given c.args.window.now c.need.new.self c.copy_body.new.window c.copy_body.new.frame _ _ _ c.need.ensures.passed size
     (behind c.copy_body.new.frame c.need.new.self c.skip.new.self c.copy_body.new.window _ _ c.skip.ensures.skipped c.copy_body.ensures.passed)
     (omega (arith, c.if-given-ge-MAX_RECORDS.false)) (says ∙ sym all) (omega (arith, all, c.if-captured-gt-MAX_CAPTURED.false))
+
+pub returns-else-whole-clause-cut : goal.returns-else-whole-clause-cut
+returns-else-whole-clause-cut g c =
+    let part : (length c.copy_body.new.frame < c.read_u32-captured.result) × (c.copy_body.new.window ≡ []) × IsAtEnd (g.S.Source.seen c.copy_body.new.source).left = copies-part PcapFault _ _ _ _ _ c.if-whole.false c.in-Ok.ensures.copied in
+    (omega (arith, c.if-given-ge-MAX_RECORDS.false), omega (arith, part.0), omega (arith, part.0, c.if-captured-gt-MAX_CAPTURED.false))

@@ -18,8 +18,12 @@ use Rattle.spin_run.specs.Inner.Steps.{moment, setting}
 use Rattle.spin_run.proofs.Sent.{all_sent}
 use Rattle.spin_run.proofs.Faults.{counts_reading, counts_sending, results_telling}
 use Rattle.spin_run.proofs.Taking.{past_none, takes_before, takes_reading, takes_told}
+use Rattle.spin_run.proofs.Segmenting.{rest_of_ready, woven_ready}
 use Rattle.spin_run.proofs.OneSegment.{HasAnswered, HasLines, sends_are, sends_as, stops_retiring, stops_reading_in, stops_sending, one_told}
 use Rattle.spin_run.proofs.one.run_one.Goals as goal
+
+pub run_segment-requires-clause-ready : goal.run_segment-requires-clause-ready
+run_segment-requires-clause-ready g c κs within = rest_of_ready (data_of c.args.hub.now.setup) c.args.hub.now.log.id c.args.hub.now.log.lanes c.args.lanes.now c.requires.ready
 
 pub send_all-requires-clause-named : goal.send_all-requires-clause-named
 send_all-requires-clause-named g c =
@@ -27,7 +31,7 @@ send_all-requires-clause-named g c =
     let woven = c.in_ok-woven.ensures.woven in
     let same = (λ i. sends_made (c.as_slice-entries.ensures i) (c.as_slice-3.ensures i)) ∙ sends_are w.entries w.jobs w.replies c.in_ok-woven.ensures.replies in
     subst (λ (x : List SentSeen). All (λ (sent : SentSeen). sent.endpoint < length c.args.names.now) x) (sym same)
-    (all_sent (length c.args.names.now) (data_of c.args.hub.now.setup) _ _ w.entries (jobs_seen w.jobs w.replies) c.requires.sent woven.legal woven.jobs_are)
+    (all_sent (length c.args.names.now) (data_of c.args.hub.now.setup) _ _ w.entries (jobs_seen w.jobs w.replies) c.requires.sent woven.2.legal woven.2.jobs_are)
 
 pub returns-in_err-retired : goal.returns-in_err-retired
 returns-in_err-retired g c =
@@ -116,7 +120,7 @@ returns-in_err-lost g c =
           let given = c.in_ok-frames.ensures.answer left rest r in
           let answered : HasAnswered s c.args.segment.now before left (state_of d c.run_segment.new.lanes) w.entries w.jobs w.replies c.in_ok-frames.frames = record {
             read = given.0 ∙ ap (λ n. take n left) wanted;
-            woven = c.in_ok-woven.ensures.woven;
+            woven = woven_ready d c.args.hub.now.log.id c.args.hub.now.log.lanes c.args.lanes.now _ _ _ _ c.requires.ready c.in_ok-woven.ensures.woven;
             replies_are = c.in_ok-woven.ensures.replies;
           } in
           stops_sending s c.args.number c.args.segment.now before after left c.in_ok-frames.frames rest (state_of d c.run_segment.new.lanes) w.entries w.jobs w.replies c.in_err-lost.field-0.0 refl answered sent;
@@ -154,7 +158,7 @@ returns g c =
           let given = c.in_ok-frames.ensures.answer left rest r in
           let answered : HasAnswered s c.args.segment.now before left (state_of d c.run_segment.new.lanes) w.entries w.jobs w.replies c.in_ok-frames.frames = record {
             read = given.0 ∙ ap (λ n. take n left) wanted;
-            woven = c.in_ok-woven.ensures.woven;
+            woven = woven_ready d c.args.hub.now.log.id c.args.hub.now.log.lanes c.args.lanes.now _ _ _ _ c.requires.ready c.in_ok-woven.ensures.woven;
             replies_are = c.in_ok-woven.ensures.replies;
           } in
           one_told s c.args.number c.args.segment.now before after left c.in_ok-frames.frames rest w.entries w.jobs w.replies c.in_ok-lost.lost c.in_ok-retired.retired lines_told c.wanted_by-wanted.result answered (record { sent = sent }) made wanted given _ _ c.tell.result c.tell.ensures.told c.tell.ensures.counts;

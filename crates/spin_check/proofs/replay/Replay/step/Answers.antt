@@ -1,13 +1,13 @@
-use Rattle.std.proofs.Common.{◌≤◌, ◌+◌, length, refl, sym, ap, subst, arith}
+use Rattle.std.proofs.Common.{◌≤◌, ◌+◌, true, false, length, refl, sym, ap, subst, arith}
 use Rattle.std.specs.Prelude.{All, None, Some}
 use Rattle.std.specs.Arc.{arc_value}
 use Rattle.spin_word.specs.declared.command.TheConstants.{MAX_LANES, MAX_PLACE}
 use Rattle.spin_table.specs.SetupOf.{data_of}
 use Rattle.spin_table.specs.Soundness.{IsSound}
 use Rattle.spin_check.specs.Inner.Asks.{IsValid, commands_left}
-use Rattle.spin_check.specs.Inner.Replays.{At, IsFound, GoesOn}
+use Rattle.spin_check.specs.Inner.Replays.{At, DidJobs, AreLonger, IsFound, GoesOn}
 use Rattle.spin_check.proofs.Few.{entry_few}
-use Rattle.spin_check.proofs.Stepping.{goes_on}
+use Rattle.spin_check.proofs.Stepping.{no_room, goes_on}
 use Rattle.spin_check.proofs.replay.Replay.step.Goals as goal
 
 pub next_entry-requires-clause-sound : goal.next_entry-requires-clause-sound
@@ -56,6 +56,19 @@ do_jobs-requires-clause-few g c =
     let few = entry_few d now.state answered.entry.what (arc_value answered.version) found.0.answers.0 in
     omega (arith, few)
 
+pub returns-then-not-fits : goal.returns-then-not-fits
+returns-then-not-fits g c =
+    let d = data_of c.args.setup.now in
+    let i = c.self.inside in
+    let now : At = record { state = arc_value i.version; queues = i.deeds; last = i.last; rest = i.rest.now; owed = i.owed; sends = i.sends; job_sends = i.job_sends } in
+    let found : IsFound d now c.next_entry.new.deeds (Some (c.in-Some.answered, c.in-Some.rest)) = subst (IsFound d now c.next_entry.new.deeds) c.in-Some.is (c.in_ok-next.ensures i.owed i.sends i.job_sends) in
+    let answered = c.in-Some.answered in
+    let short : DidJobs d (arc_value answered.version) answered.entry c.len.result (i.owed, i.job_sends) (c.do_jobs.new.out, c.do_jobs.new.sends) false =
+    subst (DidJobs d (arc_value answered.version) answered.entry c.len.result (i.owed, i.job_sends) (c.do_jobs.new.out, c.do_jobs.new.sends)) c.if-not-fits.true c.in_ok-fits.ensures in
+    subst (λ (a : At). GoesOn d a None) c.self.view_is
+    (no_room d now c.next_entry.new.deeds answered c.in-Some.rest found
+    (λ own are. subst (λ n. AreLonger n now.owed own) c.len.ensures (short own are)))
+
 pub returns : goal.returns
 returns g c =
     let d = data_of c.args.setup.now in
@@ -72,6 +85,7 @@ returns g c =
       sends = c.add_of_entry.new.sends;
       job_sends = c.do_jobs.new.sends;
     } in
-    let jobs = c.in_ok-do_jobs.ensures in
+    let jobs : DidJobs d (arc_value answered.version) answered.entry c.len.result (i.owed, i.job_sends) (c.do_jobs.new.out, c.do_jobs.new.sends) true =
+    subst (DidJobs d (arc_value answered.version) answered.entry c.len.result (i.owed, i.job_sends) (c.do_jobs.new.out, c.do_jobs.new.sends)) c.if-not-fits.false c.in_ok-fits.ensures in
     subst (λ (a : At). GoesOn d a (Some after)) c.self.view_is
     (goes_on d now after answered c.in-Some.rest jobs.0 found refl (ap Some c.moment.ensures) refl jobs.1 jobs.2 c.in_ok-add_of_entry.ensures jobs.3)

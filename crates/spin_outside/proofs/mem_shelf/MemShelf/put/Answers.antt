@@ -19,7 +19,7 @@ returns-in-Some-clause-ok c =
     let there : get_or c.deref_mut.result.now c.in-Some.at found.0 ≡ found.0 = subst (λ (fs : List MemFile). get_or fs c.in-Some.at found.0 ≡ found.0) (c.deref.ensures.value ∙ sym c.deref_mut.ensures.value) found.1 in
     let put = c.refill_at.ensures.put found.0 there ∙ ap (λ fs. with_file fs found.0.name c.args.bytes) c.deref_mut.ensures.value in
     let whole : length c.refill_at.new.files ≡ c.self.inside.files.len = omega (arith, c.refill_at.ensures.len, ap length c.deref_mut.ensures.value, c.self.inside.files.ok.0) in
-    ap (λ fs. record { files = fs; piece = c.self.inside.piece; finds = c.self.inside.finds; reads = c.self.inside.reads; faults = c.self.inside.faults; absences = c.self.inside.absences }) (with_items_is c.self.inside.files c.refill_at.new.files whole ∙ put ∙ ap (λ name. with_file c.self.inside.files.items name c.args.bytes) (found.2 ∙ c.as_slice.ensures))
+    ap (λ fs. record { files = fs; piece = c.self.inside.piece; finds = c.self.inside.finds; reads = c.self.inside.reads; faults = c.self.inside.faults.number; absences = c.self.inside.absences.number }) (with_items_is c.self.inside.files c.refill_at.new.files whole ∙ put ∙ ap (λ name. with_file c.self.inside.files.items name c.args.bytes) (found.2 ∙ c.as_slice.ensures))
     ∙ ap (λ (s : ShelfState). record s { files = with_file s.files c.args.name c.args.bytes }) c.self.view_is
 
 pub returns-in_ok-push-in-None-clause-ok : goal.returns-in_ok-push-in-None-clause-ok
@@ -27,5 +27,5 @@ returns-in_ok-push-in-None-clause-ok c =
     let lacking : content (held c.self.inside.files.items) c.args.name ≡ None =
     ap (λ fs. content (held fs) c.args.name) (sym c.deref.ensures.value) ∙ ap (λ name. content (held c.deref.result.now) name) (sym c.as_slice.ensures) ∙ c.in-None.ensures.none in
     let put = c.in_ok-push-in-None.ensures.items ∙ ap (λ f. c.self.inside.files.items ++ f ∷ []) c.new.ensures in
-    ap (λ fs. record { files = fs; piece = c.self.inside.piece; finds = c.self.inside.finds; reads = c.self.inside.reads; faults = c.self.inside.faults; absences = c.self.inside.absences }) (put ∙ sym (with_file-behind c.self.inside.files.items c.args.name c.args.bytes lacking))
+    ap (λ fs. record { files = fs; piece = c.self.inside.piece; finds = c.self.inside.finds; reads = c.self.inside.reads; faults = c.self.inside.faults.number; absences = c.self.inside.absences.number }) (put ∙ sym (with_file-behind c.self.inside.files.items c.args.name c.args.bytes lacking))
     ∙ ap (λ (s : ShelfState). record s { files = with_file s.files c.args.name c.args.bytes }) c.self.view_is

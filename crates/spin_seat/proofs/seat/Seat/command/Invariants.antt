@@ -1,12 +1,5 @@
-use Rattle.std.proofs.Common.{◌-◌, length}
-use Rattle.spin_word.specs.declared.command.TheConstants.{MAX_PLACE}
-use Rattle.spin_table.specs.SetupOf.{data_of}
-use Rattle.spin_seat.specs.Seats.{IsSeatOf}
-use Rattle.spin_seat.specs.Calls.{ReadsOn}
 use Rattle.spin_seat.proofs.seat.Seat.command.Given as goal
 
-abbrev pub invariant-loop-alloc : goal.invariant-loop-alloc
-invariant-loop-alloc g l = ReadsOn l.initial.self.pen l.self.pen × IsSeatOf (data_of l.hub.setup) l.self
-
-abbrev pub decreases-loop-alloc : goal.decreases-loop-alloc
-decreases-loop-alloc g l = MAX_PLACE - length l.self.pen.front
+-- the count of the one call
+abbrev pub ghosts-command_counted : goal.ghosts-command_counted
+ghosts-command_counted g a = record { name = a.blank.name; parts = a.blank.parts }

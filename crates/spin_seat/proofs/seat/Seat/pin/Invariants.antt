@@ -1,4 +1,4 @@
-use Rattle.std.proofs.Common.{◌-◌, length}
+use Rattle.std.proofs.Common.{◌+◌, ◌-◌, ◌≤◌, length}
 use Rattle.spin_word.specs.declared.command.TheConstants.{MAX_PLACE}
 use Rattle.spin_table.specs.SetupOf.{data_of}
 use Rattle.spin_seat.specs.Seats.{IsSeatOf}
@@ -6,7 +6,9 @@ use Rattle.spin_seat.specs.Calls.{ReadsOn}
 use Rattle.spin_seat.proofs.seat.Seat.pin.Given as goal
 
 abbrev pub invariant-loop-self : goal.invariant-loop-self
-invariant-loop-self g l = ReadsOn l.initial.self.pen l.self.pen × IsSeatOf (data_of l.hub.setup) l.self
+invariant-loop-self g l =
+    ReadsOn l.initial.self.pen l.self.pen × IsSeatOf (data_of l.hub.setup) l.self
+    × (l.turns + length l.initial.self.pen.front ≤ l.initial.turns + length l.self.pen.front)
 
 abbrev pub decreases-loop-self : goal.decreases-loop-self
 decreases-loop-self g l = MAX_PLACE - length l.self.pen.front

@@ -10,9 +10,9 @@ use Rattle.spin_seat.proofs.seat.Seat.raise.Goals as goal
 pub returns-clause-answer : goal.returns-clause-answer
 returns-clause-answer g c =
     let d = data_of c.args.hub.now.setup in
-    let is : ◌≡◌ {A = SeatValue} (record { pen = c.self.inside.pen; state = arc_value c.self.inside.version; kept = c.self.inside.kept }) c.pin.new.self = c.self.view_is in
-    let ok = c.in_ok-pin.ensures.ok in
-    let place : c.front-place.result ≡ length c.pin.new.self.pen.front = c.front-place.ensures.length ∙ ap (λ (s : SeatValue). length s.pen.front) is in
-    let state : c.deref.result.now ≡ c.pin.new.self.state = c.deref.ensures ∙ ap (λ (s : SeatValue). s.state) is in
-    gives_reply d c.args.self.now.pen c.pin.new.self c.args.deed.now c.front-place.result c.in_ok-reply.reply ok.0 c.in_ok-pin.ensures.seat ok.1 place
+    let is : ◌≡◌ {A = SeatValue} (record { pen = c.self.inside.pen; state = arc_value c.self.inside.version; kept = c.self.inside.kept }) c.pin_counted.new.self = c.self.view_is in
+    let ok = c.in_ok-pin_counted.ensures.ok in
+    let place : c.front-place.result ≡ length c.pin_counted.new.self.pen.front = c.front-place.ensures.length ∙ ap (λ (s : SeatValue). length s.pen.front) is in
+    let state : c.deref.result.now ≡ c.pin_counted.new.self.state = c.deref.ensures ∙ ap (λ (s : SeatValue). s.state) is in
+    gives_reply d c.args.self.now.pen c.pin_counted.new.self c.args.deed.now c.front-place.result c.in_ok-reply.reply ok.0 c.in_ok-pin_counted.ensures.seat ok.1 place
     (subst (λ (s : State). IsDeedReply d s c.args.deed.now c.in_ok-reply.reply) state c.in_ok-reply.ensures.reply)

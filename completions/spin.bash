@@ -1,0 +1,19 @@
+# Completion of bash for spin, made by tools/pages: source it, or put it where bash-completion finds it.
+_spin() {
+    local at=1 words=''
+    COMPREPLY=()
+    [[ ${COMP_WORDS[1]} == --quiet ]] && at=2
+    if ((COMP_CWORD <= at)) && [[ ${COMP_WORDS[COMP_CWORD]} != --quiet ]]; then
+        COMPREPLY=($(compgen -W 'run check join vm gen build session picture filter help version --quiet -h --help --version' -- "${COMP_WORDS[COMP_CWORD]}"))
+        return
+    fi
+    case ${COMP_WORDS[at]} in
+        build) words='--all' ;;
+        picture) words='run climb --html --out' ;;
+        filter) words='--jobs --out --pcap --piece --part' ;;
+        help) words='run check join vm gen build session picture filter help version' ;;
+    esac
+    COMPREPLY=($(compgen -W "$words" -- "${COMP_WORDS[COMP_CWORD]}"))
+    compopt -o default
+}
+complete -F _spin spin

@@ -1,0 +1,44 @@
+//! Counts of faults and absences, which clauses alone read.
+
+ghost use Rattle.std.specs.Prelude.{◌≡◌, ◌+◌, ℕ};
+ghost use Rattle.std.specs.Borrow.{ftrue};
+
+use std::fmt;
+use std::marker::{Model, PhantomData};
+
+/// How often something happened to an object. It takes no memory and has no greatest number: clauses read it as
+/// `number`, and no code does.
+#[derive(Drop)]
+pub struct Count {
+    marker: PhantomData<u8>,
+    pub ghost number: { ℕ },
+}
+
+impl Model for Count {
+    ghost also_owns = { λ _. ftrue };
+}
+
+// It owns nothing.
+unsafe impl Send for Count {}
+
+impl Count {
+    /// Nothing happened yet.
+    pub fn new() -> Count
+        ensures { result.number ≡ 0 }
+    {
+        Count {
+            marker: PhantomData,
+        }
+    }
+
+    /// It happened once more.
+    pub fn raise(&mut self)
+        ensures { self.new.number ≡ self.old.number + 1 }
+    {}
+}
+
+impl fmt::Debug for Count {
+    fn fmt<W: fmt::Write>(&self, f: &mut fmt::Formatter<W>) -> fmt::Result {
+        f.write_str("Count")
+    }
+}

@@ -1,7 +1,0 @@
-use Rattle.std.proofs.Common.{◌≡◌, ◌++◌, map, take}
-use Rattle.spin_text.specs.Words.{ended}
-use Rattle.spin_report.specs.Lines.{entry_line}
-use Rattle.spin_run.proofs.lines.add_entries.Given as goal
-
-abbrev pub invariant-loop-entry : goal.invariant-loop-entry
-invariant-loop-entry l = l.lines ≡ l.fn.lines ++ map ended (map entry_line (take l.entry-index l.entries))

@@ -1,0 +1,284 @@
+#!/usr/bin/env python3
+"""erase.py TARGET: writes the crates of this repository as a cargo workspace, their clauses and ghost items left out.
+
+A file is rewritten line by line: what stands in line 7 of `lanes.rt` stands in line 7 of `lanes.rs`, so what the compiler
+says of the one is true of the other. Left out are ghost items, `requires` and `ensures`, `#[tactic(..)]`, the texts of
+errors, and derives that Rust doesn't have; DIFFERENCES lists the calls that Rust's library has in another form. All else
+stays as it is. A file in which one of these isn't as expected is named with its line, and nothing is built.
+"""
+
+import re
+import sys
+from pathlib import Path
+
+HERE = Path(__file__).resolve().parent
+sys.path.insert(0, str(HERE.parent.parent))
+from wrapper.program import TOP, below_by_crate, crates_listed, stands_on
+
+# The crates that are covered are those that these stand on, and they themselves.
+TOPS = ("spin_main", "host_filter", "host_plugins", "spin_later")
+
+# Of the kit's libraries, those that are part of Rust's.
+OF_RUST = ("core", "std_collections")
+
+TOKEN = re.compile(
+    r"//[^\n]*|/\*.*?\*/"  # comments
+    r"|b?r(?P<hashes>\#*)\".*?\"(?P=hashes)|[bc]?\"(?:[^\"\\]|\\.)*\""  # texts
+    r"|b?'(?:[^'\\\n]|\\[^\n][^']*)'|'[A-Za-z_]\w*"  # characters, lifetimes
+    r"|\w+|\s+|.",
+    re.DOTALL,
+)
+
+# Each bracket that closes, with the one that it closes.
+CLOSED = {")": "(", "]": "[", "}": "{"}
+OPEN = set(CLOSED.values())
+
+# The C runtime calls the program, so that Rust's changes nothing of what it is handed.
+STARTED = (
+    '#[unsafe(no_mangle)] pub extern "C" fn main(count: i32, words: *const *const ::core::ffi::c_char) -> i32'
+    " { ::std::rt::started(count, words, begin) }"
+)
+
+# The few places in which Rust's library, or the one that stands in for Rattle's, differs.
+DIFFERENCES = [
+    (r"\bBox::new\(", "::std::boxed::boxed("),
+    (r"\.clone\(\)\?", ".clone()"),
+    (r"\.to_vec\((?=[^)])", ".to_vec_in("),
+    (r"\buse std::ops::DerefSlice;", "use std::ops::Deref;"),
+    (r"\bDerefSlice for ([^{]+)\{(\s*)type Elem = (\w+);", r"Deref for \1{\2type Target = [\3];"),
+    (r"\bfmt<W: fmt::Write>\(&self, (\w+): &mut fmt::Formatter<W>\)", r"fmt(&self, \1: &mut fmt::Formatter<'_>)"),
+    (r"\bfn main\(rt: HostRuntime\)", f"{STARTED} fn begin(rt: HostRuntime)"),
+]
+
+
+class Refused(Exception):
+    """A file that can't be erased, with its line and why."""
+
+
+def is_space(token):
+    """Whether a token is a comment or white space."""
+    return token.isspace() or token.startswith(("//", "/*"))
+
+
+class Source:
+    """A file of Rattle, cut into tokens, and the tokens that are left of it."""
+
+    def __init__(self, name, text):
+        self.name, self.tokens, self.left = name, [found[0] for found in TOKEN.finditer(text)], []
+
+    def refuse(self, at, why):
+        """Ends at this token."""
+        line = 1 + "".join(self.tokens[:at]).count("\n")
+        raise Refused(f"{self.name}:{line}: {why}")
+
+    def token(self, at):
+        """The token there; an empty one behind the last."""
+        return self.tokens[at] if at < len(self.tokens) else ""
+
+    def behind_space(self, at):
+        """The first place at or behind this one that is neither comment nor white space."""
+        while at < len(self.tokens) and is_space(self.tokens[at]):
+            at += 1
+        return at
+
+    def behind_word(self, at):
+        """The next such place behind the token there."""
+        return self.behind_space(at + 1)
+
+    def behind_pair(self, at, pair="{}"):
+        """The place behind the bracket that closes the one there."""
+        if self.token(at) != pair[0]:
+            self.refuse(at, f"{pair[0]} is missing")
+        depth = 0
+        for place in range(at, len(self.tokens)):
+            depth += (self.tokens[place] == pair[0]) - (self.tokens[place] == pair[1])
+            if not depth:
+                return place + 1
+        self.refuse(at, f"this {pair[0]} isn't closed")
+
+    def behind_ghost(self, at):
+        """The place behind the ghost item there: an import, a member, its type or a fact of a struct."""
+        place = self.behind_word(at)
+        if self.token(place) == "use":
+            while self.token(place) != ";":
+                if place >= len(self.tokens):
+                    self.refuse(at, "this ghost use has no end")
+                place += 1
+            return place + 1
+        place = self.behind_word(place)
+        if self.token(place) not in (":", "="):
+            self.refuse(at, "this ghost item has neither a type nor a value")
+        while self.token(place) in (":", "=", "by"):
+            end = self.behind_pair(self.behind_word(place))
+            place = self.behind_space(end)
+        return place + 1 if self.token(place) in (";", ",") else end
+
+    def behind_clause(self, at):
+        """The place behind the clause there."""
+        place = self.behind_word(at)
+        for pattern in (r"\*", r"\w+", r"\*"):
+            if re.fullmatch(pattern, self.token(place)):
+                place = self.behind_word(place)
+        return self.behind_pair(place)
+
+    def leave_out_visibility(self):
+        """Leaves out the `pub` that stands right before what is left out next."""
+        place = len(self.left) - 1
+        while place >= 0 and self.left[place].isspace():
+            place -= 1
+        if place >= 0 and self.left[place] == "pub":
+            del self.left[place:]
+
+    def leave_out(self, at, end, has_docs=False):
+        """Leaves the tokens out, but for their line ends; an item's comments before it go too."""
+        place = len(self.left) - 1
+        while has_docs and place >= 0 and (self.left[place].isspace() or self.left[place].startswith("///")):
+            if self.left[place].startswith("///"):
+                self.left[place] = ""
+            place -= 1
+        self.left.append("\n" * "".join(self.tokens[at:end]).count("\n"))
+        return end
+
+    def behind_attribute(self, at):
+        """The place behind the attribute there, of which is kept what Rust has too."""
+        begin = at + (self.token(at + 1) == "!")
+        end = self.behind_pair(begin + 1, "[]")
+        name = self.token(begin + 2)
+        if name in ("tactic", "error"):
+            return self.leave_out(at, end)
+        kept = "".join(self.tokens[at:end])
+        if name == "derive":
+            names = [it for it in re.findall(r"\w+", kept[kept.index("(") :]) if it not in ("Drop", "Error")]
+            kept = f"#[derive({', '.join(names)})]" + "\n" * kept.count("\n") if names else ""
+        self.left.append(kept)
+        return end
+
+    def erase(self):
+        """The text that is left."""
+        at = 0
+        while at < len(self.tokens):
+            token = self.tokens[at]
+            if token == "ghost":
+                self.leave_out_visibility()
+                at = self.leave_out(at, self.behind_ghost(at), has_docs=True)
+            elif token in ("requires", "ensures"):
+                at = self.leave_out(at, self.behind_clause(at))
+            elif token == "#" and self.token(at + 1) in ("[", "!"):
+                at = self.behind_attribute(at)
+            else:
+                self.left.append(token)
+                at += 1
+        return "".join(self.left)
+
+
+def check_left(name, left):
+    """Refuses tokens that can be no Rust: words of a clause, and a bracket without its other."""
+
+    def refuse(at, why):
+        raise Refused(f"{name}:{1 + ''.join(left[:at]).count(chr(10))}: {why}")
+
+    opened = []
+    for at, token in enumerate(left):
+        if token in OPEN:
+            opened.append(at)
+        elif token in CLOSED:
+            if not opened or left[opened.pop()] != CLOSED[token]:
+                refuse(at, f"this {token} closes nothing")
+        elif not token.isascii() and not is_space(token) and '"' not in token and "'" not in token:
+            refuse(at, f"{token} stands outside a clause")
+    if opened:
+        refuse(opened[-1], f"this {left[opened[-1]]} isn't closed")
+
+
+def erased(name, text):
+    """A file of Rattle as Rust, with the same lines."""
+    source = Source(name, text)
+    text = source.erase()
+    check_left(name, source.left)
+    for pattern, instead in DIFFERENCES:
+        text = re.sub(pattern, instead, text)
+    return text + "\n#[allow(unused_imports)]\nuse std::prelude::*;\n"
+
+
+# ---- the workspace
+
+MANIFEST = """[workspace]
+resolver = "2"
+members = ["crates/*"]
+
+[profile.dev]
+debug = 0
+incremental = false
+overflow-checks = true
+panic = "abort"
+"""
+
+
+def covered():
+    """The names of the crates that are covered, lowest first."""
+    return stands_on(crates_listed(), TOPS)
+
+
+def manifest(name, below):
+    """The manifest of a crate that stands on these."""
+    text = f'[package]\nname = "{name}"\nversion = "0.1.0"\nedition = "2024"\n\n[dependencies]\n'
+    text += f'std = {{ package = "plain_std", path = "{HERE}/std" }}\n'
+    crates = crates_listed()
+    for other in below:
+        if other in crates:
+            text += f'{other} = {{ path = "../{other}" }}\n'
+        elif (HERE / other / "Cargo.toml").is_file():
+            text += f'{other} = {{ path = "{HERE}/{other}" }}\n'
+        elif other not in OF_RUST:
+            raise Refused(f"crates.txt: {name} stands on {other}, for which nothing stands in below tools/plain")
+    return text
+
+
+def root_of(text, is_program):
+    """The first file of a crate, with the attributes of the whole on its first line."""
+    return f"#![no_std] #![allow(warnings)] {'#![no_main] ' if is_program else ''}{text}"
+
+
+def files_of(name, below):
+    """The files of a crate as Rust, by their places in the workspace."""
+    files = {f"crates/{name}/Cargo.toml": manifest(name, below)}
+    src = TOP / "crates" / name / "src"
+    for file in sorted(src.rglob("*.rt")):
+        if file.name.startswith("."):
+            continue
+        text = erased(str(file.relative_to(TOP)), file.read_text(encoding="utf-8"))
+        if file in (src / "lib.rt", src / "main.rt"):
+            text = root_of(text, file.stem == "main")
+        files[f"crates/{name}/src/{file.relative_to(src).with_suffix('.rs')}"] = text
+    return files
+
+
+def write_workspace(target):
+    """Writes the workspace: only files that change, so that cargo builds only what changed."""
+    below, files = below_by_crate(), {"Cargo.toml": MANIFEST}
+    for name in covered():
+        files.update(files_of(name, below[name]))
+    for file in target.glob("crates/**/*"):
+        if file.is_file() and str(file.relative_to(target)) not in files:
+            file.unlink()
+    for place, text in files.items():
+        file = target / place
+        if not file.is_file() or file.read_text(encoding="utf-8") != text:
+            file.parent.mkdir(parents=True, exist_ok=True)
+            file.write_text(text, encoding="utf-8")
+    return len(files)
+
+
+def main():
+    """Writes the workspace into the folder that is named."""
+    if len(sys.argv) != 2:
+        sys.exit("usage: erase.py TARGET")
+    try:
+        print(f"erase: {write_workspace(Path(sys.argv[1]))} files of {len(covered())} crates")
+        print(f"erase: not covered: {', '.join(sorted(set(crates_listed()) - set(covered())))}")
+    except Refused as refused:
+        sys.exit(f"erase: {refused}")
+
+
+if __name__ == "__main__":
+    main()

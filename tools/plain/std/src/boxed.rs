@@ -1,0 +1,38 @@
+//! Boxes that are made with an allocator.
+
+use crate::alloc::{AllocFailed, Global};
+use std::alloc::Layout;
+
+/// A box of this value: the eraser writes `Box::new` so.
+pub fn boxed<T>(_alloc: Global, value: T) -> Result<Box<T>, AllocFailed<T>> {
+    let layout = Layout::new::<T>();
+    if layout.size() == 0 {
+        return Ok(Box::new(value));
+    }
+    // SAFETY: the layout has a size, and what a box owns was got from the same allocator with that layout.
+    unsafe {
+        let place = std::alloc::alloc(layout).cast::<T>();
+        if place.is_null() {
+            return Err(AllocFailed { value });
+        }
+        place.write(value);
+        Ok(Box::from_raw(place))
+    }
+}
+
+#[cfg(test)]
+mod tests {
+    use super::*;
+
+    #[test]
+    fn a_box_has_its_value_and_may_be_empty() {
+        assert_eq!(*boxed(Global, 7u64).unwrap(), 7);
+        assert_eq!(*boxed(Global, ()).unwrap(), ());
+    }
+
+    #[test]
+    fn a_box_may_be_of_a_trait() {
+        let shown: Box<dyn std::fmt::Debug> = boxed(Global, 7).unwrap();
+        assert_eq!(format!("{shown:?}"), "7");
+    }
+}

@@ -1,0 +1,106 @@
+"""What `headline` starts from, and in which order: the headline and its words, the first hour, and the contracts below it.
+
+A definition is named by its crate and its name. `CASES` has definitions of which the first hour shows one case.
+"""
+
+CALL, SOURCE = "pub fn spin<", "crates/spin_top/src/top.rt"
+# The clauses that the headline is: its condition, and what status 0 means.
+CLAUSES = ["sincere", "whole"]
+
+HEADLINE = (
+    "For every script, capture and interleaving of the lanes, what the program writes is one legal history of the plain "
+    "dispatcher: each deed of each lane stands in it once, in its lane's order and within its segment; each raise answers by "
+    "the bindings in force at its place; each refusal names its rule and changes nothing; and each endpoint has received "
+    "exactly its sends of that history, until retired."
+)
+
+# Each part of the headline, what it means, and the definitions that say it.
+WORDS = [
+    ("For every script", "the text that was read under the script's name is that script, by the language of scripts",
+     ["spin_top:IsLoaded", "spin_script:IsScript"]),
+    ("capture", "the records are those of the capture's file by the grammar of captures, up to a rest that is empty or cut; none "
+     "where no capture is named", ["spin_top:AreRecordsOf", "spin_pcap:IsCapture", "spin_run:IsReadWhole"]),
+    ("and interleaving of the lanes", "the clause has no premise on the order of the lanes' steps", ["spin_top:Row"]),
+    ("what the program writes", "the bytes appended to the sink are the report's text, where shelf and sink tell what they hold; "
+     "standard output tells nothing, and a folder doesn't tell its files by name", ["spin_run:Writes", "spin_report:report_text"]),
+    ("is one legal history of the plain dispatcher", "the entries, segment after segment, are legal from the start; and the "
+     "text, the script and the capture together have one such list",
+     ["spin_run:EndsBy", "spin_run:IsWhole", "spin_report:IsRun", "spin_report:IsLegal"]),
+    ("each deed of each lane stands in it once, in its lane's order and within its segment", "a packet line has as many deeds as "
+     "records are left for it, at most its number, in the order of the text", ["spin_report:IsWoven", "spin_report:asked_in"]),
+    ("each raise answers by the bindings in force at its place", "each entry is a step of the plain dispatcher at the state that "
+     "the entries before it made", ["spin_report:Answers", "spin_proto:IsDeedReply"]),
+    ("each refusal names its rule and changes nothing", "the first refusal that applies is told, and the state stays",
+     ["spin_table:IsStep", "spin_table:refusal_of"]),
+    ("and each endpoint has received exactly its sends of that history, until retired", "each endpoint that tells its pieces has "
+     "gained exactly the pieces sent to its name while it stood, in the order of the entries and then of the jobs; those that "
+     "stand are those that stood and weren't retired",
+     ["spin_report:IsSegmentRun", "spin_endpoint:all_received", "spin_endpoint:all_retired"]),
+    ("where the status is 0 under `run`", "so no count of faults of shelf or sink rose",
+     ["spin_top:RunHasCause", "spin_run:CountsBy"]),
+    ("and the natives do what they were handed in with", "the call's one condition", ["spin_objects:IsSincere"]),
+]
+
+# Of these the first hour shows the cases with this word alone.
+CASES = {
+    "spin_top:HasCause": "other",
+    "spin_top:CommandHasCause": "Run",
+    "spin_top:RunHasCause": "Whole",
+    "spin_top:number": "Whole",
+    "spin_top:stop_line": "Whole",
+    "spin_top:IsSpelled": "Run",
+    "spin_run:EndsBy": "end.Whole",
+    "spin_run:CountsBy": "other",
+    "spin_top:end_of": "run.Whole",
+}
+
+# The first hour: its parts in reading order, each with what it begins with.
+PARTS = [
+    ("From the clause to a run", "What status 0 means under `run`, and what is seen before and after the call.",
+     ["spin_top:Row"]),
+    ("Run", "Which histories are those of a script: segment after segment, with what is retired, sent and lost.",
+     ["spin_report:HistorySeen", "spin_report:Standing", "spin_report:IsRun"]),
+    ("Legal", "Which entries and jobs answer what a segment asks of its lanes.", ["spin_report:IsWoven"]),
+    ("Step", "What becomes of a command at a state.", ["spin_table:IsStep"]),
+    ("Reply", "What a raise, or the call of a job, comes to at a state.", ["spin_proto:IsDeedReply", "spin_proto:IsJobReply"]),
+    ("Report", "The lines of a history's report.", ["spin_report:report_text"]),
+    ("Script", "What was read under the script's name, and what natives it may name.",
+     ["spin_top:IsLoaded", "spin_script:ScriptData", "spin_script:natives_seen", "spin_script:NativeData"]),
+    ("Capture", "The records of the capture that is named.", ["spin_top:HasHeader", "spin_top:AreRecordsOf"]),
+]
+
+# Where the first hour stops: these, and what only they cite, come behind it.
+DEEPER = [
+    "spin_table:refusal_on", "spin_table:event_after", "spin_place:HasLawfulOrder", "spin_place:IsCycle",
+    "spin_place:IsTheOrder", "spin_table:bindings_after",
+    "spin_proto:raised", "spin_proto:raised_after", "spin_proto:job_of", "spin_proto:reply_of", "spin_proto:are_fit",
+    "spin_report:entry_line", "spin_report:job_line",
+    "spin_script:IsScript", "spin_pcap:IsCapture", "spin_pcap:header_of", "spin_run:IsTakenPast", "spin_run:TakesFor",
+    "spin_top:GenHasCause", "spin_top:CheckHasCause", "spin_top:JoinHasCause", "spin_top:VmHasCause",
+    "spin_top:IsTakenUnder", "spin_outside:Keep", "spin_objects:HandlerUnit", "spin_objects:GuardUnit",
+    "spin_objects:native_handlers", "spin_objects:native_guards", "spin_objects:native_authorisers",
+]
+# Types of the sources that come behind the first hour, too: long lists of cases, and what acts and policies are made of.
+LATER_TYPES = ["Asked", "Command", "Refusal", "JobCall", "End", "RunEnd", "PcapFault", "Test", "Rule", "Act", "EventType", "Natives", "Order"]
+
+# The contracts that alone tie what is seen to calls, and how two values are seen: the file, and where the text begins.
+CONTRACTS = [
+    ("Shelf", "crates/spin_outside/src/shelf.rt", "pub trait Shelf"),
+    ("Sink", "crates/spin_outside/src/sink.rt", "pub trait Sink"),
+    ("Endpoint", "crates/spin_endpoint/src/endpoint.rt", "pub trait Endpoint"),
+    ("EndsSeen of Ends", "crates/spin_endpoint/src/ends.rt", "impl EndsSeen for Ends"),
+    ("Handler", "crates/spin_objects/src/object.rt", "pub trait Handler"),
+    ("Guard", "crates/spin_objects/src/object.rt", "pub trait Guard"),
+    ("Authoriser", "crates/spin_policy/src/authoriser.rt", "pub trait Authoriser"),
+    ("Sincere of Natives", "crates/spin_objects/src/natives.rt", "impl Sincere for Natives"),
+]
+
+TRUSTED = """Whoever believes the definitions believes what the clause says. Besides them these are trusted, and no proof here is of them:
+
+- the toolchain and its checker, by which the clause holds of the sources, and the C library;
+- the statements of the standard library and of the kit's crates, whose words the definitions use (`Option`, lists, `map`, sorting): they are left out of this page;
+- that files, standard output and files of endpoints do what `FolderShelf`, `StdSink` and `FileEnd` ask of them. The folder doesn't tell its files by name, and the other two tell nothing of what they took, so of these the clause speaks of counts alone;
+- that `main` hands in the working folder, standard output and the five endpoints, which no clause says.
+
+Nothing is claimed of time, fairness or progress of a lane, nor that memory is there.
+"""

@@ -1,0 +1,69 @@
+"""The counts of a run over a capture, by its report: how packets were answered, what was sent, and what was dropped.
+
+A report has a line for each packet, so what the lines tell is counted by looking for words, many lines at a time.
+"""
+
+from collections import Counter
+
+CHUNK = 1_048_576
+
+# What stands in the line of a packet that was answered so, or refused so.
+ANSWERS = {"value": b" = value ", "done": b" = done\n", "default": b" = default", "nohandler": b" = nohandler\n"}
+REFUSALS = {"unknown_event": b" packet refused 1 ", "wrong_args": b" packet refused 2 ", "spent": b" packet refused 3 "}
+DROPS = ["short", "version", "header_length", "total_length", "checksum", "fragment", "udp_length"]
+
+# What begins the lines that tell of jobs, and of sends that were lost.
+OTHERS = (b"job ", b"lost ")
+
+
+def whole_lines(file):
+    """The text of a file some lines at a time."""
+    while text := file.read(CHUNK):
+        yield text + file.readline()
+
+
+class Report:
+    """What a report says: its counts, its last line, and where it is asked for its lines that tell of sends, in order."""
+
+    def __init__(self, file, endpoints=(), keeps_sends=False):
+        self.counts, self.last, self.sends = Counter(), "", []
+        self.steps = {f"send {number}": f" send {number} ".encode() for number in endpoints}
+        for text in whole_lines(file):
+            self.take(text)
+            if keeps_sends:
+                self.sends += [line for line in text.split(b"\n") if b" send " in line]
+            self.last = text[text[:-1].rfind(b"\n") + 1 :].decode().rstrip("\n")
+
+    def take(self, text):
+        """Counts what some lines tell."""
+        self.count(ANSWERS, text)
+        self.count(self.steps, text)
+        if b" packet refused " in text:
+            self.count(REFUSALS, text)
+        if b" drop " in text:
+            self.count({f"drop {name}": f" drop {name} ".encode() for name in DROPS}, text)
+        if any(b"\n" + begin in text or text.startswith(begin) for begin in OTHERS):
+            self.take_others([line for line in text.split(b"\n") if line.startswith(OTHERS)])
+
+    def count(self, words, text, times=1):
+        """Adds how often the words stand in the text."""
+        for name, what in words.items():
+            self.counts[name] += times * text.count(what)
+
+    def take_others(self, lines):
+        """Takes the lines that are no packets'; the answers of jobs don't count among those of packets."""
+        jobs = b"".join(line + b"\n" for line in lines if line.startswith(b"job "))
+        self.count(ANSWERS, jobs, -1)
+        self.counts["jobs"] += jobs.count(b"\n")
+        for line in lines:
+            if line.startswith(b"lost "):
+                _, endpoint, sends = line.decode().split()
+                self.counts[f"lost {endpoint}"] += int(sends)
+
+
+def summary(counts, endpoints):
+    """The lines that tell counts, in a fixed order, zeros too; endpoints are names by number."""
+    names = ["captures", "records", "cut", "accepted", "refused", *ANSWERS, *REFUSALS, "jobs"]
+    lines = [f"{name} {counts[name]}" for name in names]
+    lines += [f"send {at} {name} {counts[f'send {at}']} lost {counts[f'lost {at}']}" for at, name in endpoints.items()]
+    return lines + [f"drop {name} {counts[f'drop {name}']}" for name in DROPS]

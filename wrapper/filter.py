@@ -1,0 +1,318 @@
+"""filter: runs a script over captures of any length and number, in pieces side by side, and joins what the pieces leave."""
+
+import argparse
+import fcntl
+import hashlib
+import json
+import os
+import queue
+import shutil
+import struct
+import subprocess
+import sys
+import tempfile
+import threading
+import time
+from collections import Counter
+from pathlib import Path
+
+from wrapper import commands, help, reasons
+from wrapper.counts import summary
+from wrapper.pieces import Refused, Walk, find_capture
+from wrapper.program import NOT_RUN, TOP, command, tell
+from wrapper.rounds import InTheWay, read_rounds
+from wrapper.worker import DONE, PLAIN_NAMES
+
+PIECE = 32_768
+INTERRUPTED = 130
+
+
+class Words(argparse.ArgumentParser):
+    """Reads the words of the command line; wrong ones are told as the program's status 1."""
+
+    def error(self, message):
+        """Refuses the words."""
+        raise Refused(1, message, self.usage)
+
+
+def positive(word):
+    """A number from 1 on."""
+    if not word.isdecimal() or int(word) == 0:
+        raise argparse.ArgumentTypeError(f"{word} is no number from 1 on")
+    return int(word)
+
+
+def part(word):
+    """Which part of how many: K and N of K/N."""
+    which, _, of = word.partition("/")
+    if not positive(which) <= positive(of):
+        raise argparse.ArgumentTypeError(f"{word} is no part")
+    return int(which), int(of)
+
+
+def read_words(words):
+    """What the words ask for."""
+    usage = help.usage(commands.named("filter")).rstrip()
+    parser = Words(usage=usage, add_help=False, allow_abbrev=False)
+    parser.add_argument("script", metavar="SCRIPT")
+    parser.add_argument("captures", metavar="CAPTURE", nargs="+")
+    parser.add_argument("--jobs", type=positive, default=len(os.sched_getaffinity(0)))
+    parser.add_argument("--out", type=Path, default=Path("filtered"))
+    parser.add_argument("--pcap", action="store_true")
+    parser.add_argument("--piece", type=positive, default=PIECE)
+    parser.add_argument("--part", type=part)
+    return parser.parse_intermixed_args(words)
+
+
+class Progress:
+    """Tells how many records are done, how fast, and how long it will take: each second on a terminal, else now and then."""
+
+    def __init__(self, size):
+        self.left, self.records, self.done = size, 0, 0
+        self.since = self.told = time.monotonic()
+        self.is_terminal = sys.stderr.isatty()
+
+    def add(self, size, records, is_new):
+        """A piece of that size is done, just now or by an earlier call."""
+        self.left -= size
+        if is_new:
+            self.done += size
+            self.records += records
+        now = time.monotonic()
+        if now - self.told >= (1 if self.is_terminal else 10):
+            self.told = now
+            self.show(now - self.since)
+
+    def show(self, seconds):
+        """Writes the line."""
+        left = f", {seconds * self.left / self.done:.0f} s left" if self.done else ""
+        line = f"{self.records:,} records, {self.records / seconds:,.0f} a second{left}"
+        if self.is_terminal:
+            print(f"\rspin: {line}\x1b[K", end="", file=sys.stderr, flush=True)
+        else:
+            tell(line)
+
+    def end(self):
+        """Leaves the line on a terminal."""
+        if self.is_terminal and self.told > self.since:
+            print(file=sys.stderr)
+
+
+class Workers:
+    """So many workers, each a process, that run tasks side by side."""
+
+    def __init__(self, jobs):
+        self.tasks, self.answers, self.is_stopped = queue.Queue(1), queue.Queue(), False
+        self.threads = [threading.Thread(target=self.work, daemon=True) for _ in range(jobs)]
+        for thread in self.threads:
+            thread.start()
+
+    def work(self):
+        """Hands tasks to one process, one after another; it is begun at the first."""
+        task = self.tasks.get()
+        if task is None:
+            return
+        words = [sys.executable, "-B", "-m", "wrapper.worker"]
+        environment = dict(os.environ, PYTHONPATH=str(TOP))
+        pipes = {"stdin": subprocess.PIPE, "stdout": subprocess.PIPE, "text": True}
+        with subprocess.Popen(words, env=environment, **pipes) as worker:
+            while task is not None:
+                if not self.is_stopped:
+                    self.answers.put((task, self.ask(worker, task)))
+                task = self.tasks.get()
+
+    @staticmethod
+    def ask(worker, task):
+        """The answer of a process to a task."""
+        try:
+            print(json.dumps(task), file=worker.stdin, flush=True)
+            return json.loads(worker.stdout.readline())
+        except (OSError, ValueError):
+            return {"status": NOT_RUN, "why": "a worker ended before its piece was done"}
+
+    def stop(self):
+        """Ends each worker when its piece is done."""
+        self.is_stopped = True
+        for _ in self.threads:
+            self.tasks.put(None)
+        for thread in self.threads:
+            thread.join()
+
+
+class Filter:
+    """One call: its script, its captures, and what is known of their pieces."""
+
+    def __init__(self, options):
+        self.options, self.command = options, command()
+        if self.command is None:
+            raise Refused(NOT_RUN, "the program isn't built, and a trial keeps no endpoint's file; build it first")
+        text, accepted = self.read_script()
+        self.checksum = hashlib.sha256(text).hexdigest()
+        try:
+            self.rounds = read_rounds(text.decode())
+        except InTheWay as found:
+            raise Refused(2, f"{options.script} can't be run in pieces: {found}") from None
+        self.counts = Counter(accepted=accepted, refused=self.rounds.commands - accepted)
+        self.captures = [find_capture(name) for name in options.captures]
+        self.pieces = []  # how many each capture has
+        self.folder = options.out.absolute() / "pieces"
+        self.second = max(capture.second for capture in self.captures) if options.pcap else None
+
+    def read_script(self):
+        """The script's text, and how many of its commands are accepted, by a run without a capture."""
+        name = self.options.script
+        try:
+            text = Path(name).read_bytes()
+        except FileNotFoundError:
+            raise Refused(6, f"there is no script {name}") from None
+        except OSError as error:
+            raise Refused(4, f"{name} can't be read: {error.strerror}") from None
+        with tempfile.TemporaryDirectory() as folder:
+            (Path(folder) / "script").write_bytes(text)
+            how = {"cwd": folder, "stdin": subprocess.DEVNULL, "stdout": subprocess.PIPE}
+            ran = subprocess.run([*self.command, "run", "script"], **how)
+        if ran.returncode:
+            raise Refused(ran.returncode, *reasons.of(self.command, ["run", name], ran.returncode))
+        return text, int(ran.stdout.split()[-1])
+
+    def key(self, piece):
+        """What a finished piece must have been made of, to be kept."""
+        programs = [[word, os.stat(word).st_size, os.stat(word).st_mtime_ns] for word in self.command if os.path.isfile(word)]
+        return {
+            "script": self.checksum, "program": programs, "capture": piece.capture.identity(),
+            "range": [piece.start, piece.end, piece.records], "second": self.second,
+        }
+
+    def task(self, piece, folder):
+        """What a worker is told of a piece."""
+        return {
+            "folder": str(folder), "key": self.key(piece), "command": self.command,
+            "script": self.rounds.script(piece.records), "names": self.rounds.endpoints,
+            "capture": piece.capture.path, "order": piece.capture.order, "captured_second": piece.capture.second,
+            "start": piece.start, "end": piece.end, "records": piece.records, "second": self.second,
+        }
+
+    def folders(self):
+        """The folders of all pieces, in the captures' order."""
+        for at, pieces in enumerate(self.pieces):
+            for number in range(pieces):
+                yield self.folder / f"{at + 1}-{number + 1}"
+
+    def cut(self):
+        """The pieces of all captures, each with its folder; those of another part are left out."""
+        most, which = self.rounds.most(self.options.piece), 0
+        for at, capture in enumerate(self.captures):
+            walk = Walk(capture)
+            self.pieces.append(0)
+            for piece in walk.pieces(most):
+                self.pieces[at] += 1
+                which += 1
+                if not self.options.part or which % self.options.part[1] == self.options.part[0] % self.options.part[1]:
+                    yield piece, self.folder / f"{at + 1}-{self.pieces[at]}"
+            self.counts.update({"captures": 1, "records": walk.records, "cut": capture.size - walk.end})
+
+    def kept(self, piece, folder):
+        """The counts of a piece that an earlier call finished; None where it has to be done, also if it is stale."""
+        try:
+            done = json.loads((folder / DONE).read_text())
+        except FileNotFoundError:
+            return None
+        if done["key"] == json.loads(json.dumps(self.key(piece))):
+            return done["counts"]
+        shutil.rmtree(folder)
+        return None
+
+    def run_pieces(self):
+        """Runs each piece that isn't kept, side by side."""
+        progress = Progress(sum(capture.size for capture in self.captures))
+        workers = Workers(self.options.jobs)
+        under_way = 0
+
+        def add(task, answer, is_new=True):
+            """Adds the counts of a piece."""
+            if "why" in answer:
+                raise Refused(answer["status"], answer["why"])
+            self.counts.update(answer["counts"])
+            progress.add(task["end"] - task["start"], task["records"], is_new)
+
+        try:
+            for piece, folder in self.cut():
+                found = self.kept(piece, folder)
+                if found is not None:
+                    add({"start": piece.start, "end": piece.end, "records": piece.records}, {"counts": found}, False)
+                    continue
+                workers.tasks.put(self.task(piece, folder))
+                under_way += 1
+                while not workers.answers.empty():
+                    add(*workers.answers.get())
+                    under_way -= 1
+            while under_way:
+                add(*workers.answers.get())
+                under_way -= 1
+        finally:
+            progress.end()
+            workers.stop()
+
+    def join(self):
+        """Joins what the endpoints received in the pieces, in the captures' order."""
+        for capture in self.captures:
+            if find_capture(capture.name) != capture:
+                raise Refused(4, f"{capture.name} changed while it was read")
+        for name in (*PLAIN_NAMES, "echo"):
+            found = [folder for folder in self.folders() if (folder / f"{name}.bin").exists()]
+            is_pcap = self.options.pcap and all((folder / f"{name}.pcap").exists() for folder in found)
+            if self.options.pcap and not is_pcap and name in PLAIN_NAMES:
+                tell(f"not all that {name} received is a frame of the capture, so it stands in {name}.bin")
+            for suffix, is_wanted in (("pcap", is_pcap), ("bin", not is_pcap)):
+                self.join_files(f"{name}.{suffix}", found if is_wanted else [])
+        shutil.rmtree(self.folder, ignore_errors=True)
+
+    def join_files(self, name, folders):
+        """Writes the files of that name in the folders as one; without folders there is none."""
+        whole = self.options.out / name
+        if not folders:
+            whole.unlink(missing_ok=True)
+            return
+        with open(f"{whole}.part", "wb") as out:
+            if name.endswith(".pcap"):
+                out.write(self.header())
+            for folder in folders:
+                with open(folder / name, "rb") as file:
+                    shutil.copyfileobj(file, out)
+        os.replace(f"{whole}.part", whole)
+
+    def header(self):
+        """The header of a capture of frames that were received."""
+        magic = 0xA1B23C4D if self.second == 1_000_000_000 else 0xA1B2C3D4
+        snapped = max(capture.snapped for capture in self.captures)
+        return struct.pack("<IHHIIII", magic, 2, 4, 0, 0, snapped, 1)
+
+    def run(self):
+        """Runs the pieces and, if not only a part of them is asked for, joins them and tells the counts."""
+        self.folder.mkdir(parents=True, exist_ok=True)
+        with open(self.options.out / "lock", "w") as lock:
+            try:
+                fcntl.flock(lock, (fcntl.LOCK_SH if self.options.part else fcntl.LOCK_EX) | fcntl.LOCK_NB)
+            except BlockingIOError:
+                raise Refused(NOT_RUN, f"another call works in {self.options.out}") from None
+            self.run_pieces()
+            if not self.options.part:
+                self.join()
+                print("\n".join(summary(self.counts, self.rounds.endpoints)))
+
+
+def main(words):
+    """Filters captures as the words ask for, and answers the exit status."""
+    try:
+        Filter(read_words(words)).run()
+    except Refused as refused:
+        for line in refused.lines:
+            tell(line) if not line.startswith(" ") else print(line, file=sys.stderr)
+        return refused.status
+    except OSError as error:
+        tell(f"{error.filename or 'filter'}: {error.strerror}")
+        return 5
+    except KeyboardInterrupt:
+        tell("stopped; called again with the same words, it goes on")
+        return INTERRUPTED
+    return 0

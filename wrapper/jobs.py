@@ -1,0 +1,75 @@
+"""Which crates are built next, and with how many jobs: the longest chain first, as processors and memory allow."""
+
+import os
+import re
+from pathlib import Path
+
+from wrapper.program import sources
+
+# The memory that a job takes of a large crate, and of any other, in bytes.
+LARGE, SMALL = 3_000_000_000, 1_500_000_000
+
+# A crate is large where its code or its proofs have more lines than this.
+LARGE_CODE, LARGE_PROOFS = 1_000, 3_000
+
+
+def line_counts(name):
+    """The number of lines of a crate's code, and of its definitions and proofs."""
+    counts = {".rt": 0, ".antt": 0}
+    for file in sources(name):
+        with open(file, "rb") as content:
+            counts[os.path.splitext(file)[1]] += content.read().count(b"\n")
+    return counts[".rt"], counts[".antt"]
+
+
+def memory_of(code, proofs):
+    """The memory that a job takes of a crate of so many lines."""
+    return LARGE if code > LARGE_CODE or proofs > LARGE_PROOFS else SMALL
+
+
+def chains(crates, weights):
+    """For each crate the weight of the heaviest chain from it up to a crate on which none stands, its own included.
+
+    `crates` has for each crate those that it stands on, lowest first.
+    """
+    longest = dict(weights)
+    for name in reversed(list(crates)):
+        for below in crates[name]:
+            longest[below] = max(longest[below], weights[below] + longest[name])
+    return longest
+
+
+def chosen(ready, running, processors, memory, chain, need):
+    """The crates of `ready` to begin now, each with its number of jobs.
+
+    `running` has the number of jobs of each crate that is being built. In all there are at most as many jobs as
+    processors, and they take no more than this memory, which is what was free when none was running; but where none is
+    running one always begins. Those of the heaviest chains come first, and where none is left that could begin, they get
+    what processors are left.
+    """
+    free = processors - sum(running.values())
+    left = memory - sum(need[name] * jobs for name, jobs in running.items())
+    begin = {}
+    for name in sorted(ready, key=lambda it: -chain[it]):
+        if free > 0 and (need[name] <= left or not (running or begin)):
+            begin[name] = 1
+            free, left = free - 1, left - need[name]
+    more = list(begin)
+    while free > 0 and more:
+        more = [name for name in more if need[name] <= left]
+        for name in more[:free]:
+            if need[name] <= left:
+                begin[name] += 1
+                free, left = free - 1, left - need[name]
+    return begin
+
+
+def processors_there():
+    """The number of processors that this process may use."""
+    return len(os.sched_getaffinity(0))
+
+
+def memory_free():
+    """The memory that is free, in bytes; what files keep in memory counts, since it is given up."""
+    found = re.search(r"MemAvailable:\s*(\d+) kB", Path("/proc/meminfo").read_text())
+    return int(found[1]) * 1024 if found else 0

@@ -1,0 +1,123 @@
+"""The plain program: the sources as ordinary Rust, as tools/plain writes them, built by cargo. Nothing of it is proved.
+
+What is built lies in out/plain, in a folder named by the checksum of all that it is made from: `work` has the sources as
+Rust, `target` what cargo keeps. Two builds wait for each other; one that was killed is begun again by the next.
+"""
+
+import contextlib
+import os
+import sys
+
+from wrapper.program import NOT_RUN, TOP, crates_listed, stands_on, tell
+
+TOOL = TOP / "tools" / "plain"
+OUT = TOP / "out" / "plain"
+KEPT = 3
+
+
+def inputs():
+    """The files from which the plain program is made, in a fixed order."""
+    folders = [TOOL, *(TOP / "crates" / name / "src" for name in stands_on(crates_listed()))]
+    found = [os.path.join(at, name) for folder in folders for at, _, names in os.walk(folder) for name in names]
+    return [TOP / "crates.txt", *sorted(file for file in found if file.endswith((".rt", ".rs", ".toml", ".py")))]
+
+
+def checksum():
+    """The checksum of these files."""
+    import hashlib
+
+    summed = hashlib.sha256()
+    for file in inputs():
+        with open(file, "rb") as content:
+            text = content.read()
+        summed.update(f"{os.path.relpath(file, TOP)} {len(text)}\n".encode() + text)
+    return summed.hexdigest()[:16]
+
+
+def program():
+    """The file of the plain program, which is built where it isn't there; None where it can't be built on this machine."""
+    file = OUT / checksum() / "spin_main"
+    if os.access(file, os.X_OK):
+        return file
+    from shutil import which
+
+    if not which("cargo"):
+        return None
+    try:
+        with locked():
+            return build()
+    except OSError as fault:
+        tell(f"the plain program can't be built: {fault.filename or OUT}: {fault.strerror}")
+        return None
+
+
+@contextlib.contextmanager
+def locked():
+    """No other build runs while what stands below this runs."""
+    import fcntl
+
+    OUT.mkdir(parents=True, exist_ok=True)
+    with open(OUT / "lock", "w") as lock:
+        try:
+            fcntl.flock(lock, fcntl.LOCK_EX | fcntl.LOCK_NB)
+        except BlockingIOError:
+            tell("waiting for another build to end")
+            fcntl.flock(lock, fcntl.LOCK_EX)
+        yield
+
+
+def build():
+    """Builds the plain program, unless another build has just done so, and answers its file."""
+    told = False
+    while True:
+        key = checksum()
+        file = OUT / key / "spin_main"
+        if os.access(file, os.X_OK):
+            return file
+        if not told:
+            tell("nothing is built: cargo builds the plain program, which takes some ten seconds")
+            told = True
+        write_sources()
+        call_cargo("--package", "spin_main")
+        if checksum() == key:
+            keep(OUT / "target" / "debug" / "spin_main", file)
+
+
+def write_sources():
+    """Writes the sources as Rust; a file that can't be erased ends the process."""
+    sys.path.insert(0, str(TOOL))
+    import erase
+
+    try:
+        erase.write_workspace(OUT / "work")
+    except erase.Refused as refused:
+        tell(f"the sources can't be written as ordinary Rust: {refused}")
+        sys.exit(NOT_RUN)
+
+
+def call_cargo(*words):
+    """Has cargo build these; what it can't build ends the process, with what it says of the sources."""
+    import re
+    import subprocess
+
+    call = ["cargo", "build", "--quiet", "--offline", "--target-dir", str(OUT / "target"), *words]
+    ran = subprocess.run(call, cwd=OUT / "work", stdin=subprocess.DEVNULL, capture_output=True, text=True)
+    if ran.returncode:
+        sys.stderr.write(re.sub(r"(crates/\w+/src/[\w/]+)\.rs\b", r"\1.rt", ran.stderr)[:20_000])
+        tell("cargo can't build the plain program, for what is told above; it wants Rust 1.85 or later, and a linker")
+        sys.exit(NOT_RUN)
+
+
+def keep(built, file):
+    """Puts what was built under its name, whole or not at all, and drops all but the latest few."""
+    import shutil
+
+    making = OUT / "making"
+    shutil.rmtree(making, ignore_errors=True)
+    making.mkdir()
+    shutil.copy2(built, making / file.name)
+    os.rename(making, file.parent)
+    os.utime(file.parent)
+    others = sorted(OUT.glob("[0-9a-f]" * 16), key=lambda it: it.stat().st_mtime)
+    for old in others[:-KEPT]:
+        shutil.rmtree(old, ignore_errors=True)

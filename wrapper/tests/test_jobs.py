@@ -1,0 +1,59 @@
+"""Tests of which crates are built next, and with how many jobs."""
+
+import unittest
+
+from wrapper.jobs import LARGE, SMALL, chains, chosen, memory_of
+
+GB = 10**9
+
+
+class Chains(unittest.TestCase):
+    """The heaviest chain from a crate upwards."""
+
+    def test_the_heavier_of_two_ways_up_counts(self):
+        crates = {"low": [], "thin": ["low"], "thick": ["low"], "top": ["thin", "thick"], "aside": ["low"]}
+        weights = {"low": 1, "thin": 10, "thick": 100, "top": 1_000, "aside": 5}
+        longest = {"low": 1_101, "thin": 1_010, "thick": 1_100, "top": 1_000, "aside": 5}
+        self.assertEqual(chains(crates, weights), longest)
+
+
+class Chosen(unittest.TestCase):
+    """What begins when."""
+
+    chain = {"a": 30, "b": 20, "c": 10}
+
+    def chosen(self, ready, running=None, processors=4, memory=100 * GB, need=SMALL):
+        """What begins of these where each takes so much memory."""
+        return chosen(ready, running or {}, processors, memory, self.chain, dict.fromkeys("abc", need))
+
+    def test_the_heaviest_chain_comes_first(self):
+        self.assertEqual(self.chosen("cba", processors=2), {"a": 1, "b": 1})
+
+    def test_one_alone_gets_all_processors(self):
+        self.assertEqual(self.chosen("b"), {"b": 4})
+
+    def test_what_is_left_goes_to_the_heaviest(self):
+        self.assertEqual(self.chosen("bc", processors=3), {"b": 2, "c": 1})
+
+    def test_what_runs_keeps_its_processors(self):
+        self.assertEqual(self.chosen("bc", {"a": 2}), {"b": 1, "c": 1})
+        self.assertEqual(self.chosen("b", {"a": 4}), {})
+
+    def test_no_more_begins_than_memory_is_there_for(self):
+        self.assertEqual(self.chosen("abc", memory=7 * GB, need=LARGE), {"a": 1, "b": 1})
+        self.assertEqual(self.chosen("a", memory=7 * GB, need=LARGE), {"a": 2})
+        self.assertEqual(self.chosen("b", {"a": 2}, memory=7 * GB, need=LARGE), {})
+
+    def test_one_begins_however_little_memory_there_is(self):
+        self.assertEqual(self.chosen("ab", memory=1, need=LARGE), {"a": 1})
+
+    def test_nothing_begins_where_nothing_is_ready(self):
+        self.assertEqual(self.chosen(""), {})
+
+    def test_a_crate_is_large_by_its_code_or_its_proofs(self):
+        sizes = [(1_000, 3_000), (1_001, 0), (0, 3_001)]
+        self.assertEqual([memory_of(*size) for size in sizes], [SMALL, LARGE, LARGE])
+
+
+if __name__ == "__main__":
+    unittest.main()
