@@ -7,7 +7,8 @@ from collections import namedtuple
 
 from wrapper.program import TOP
 
-# A word of a command line in capitals stands for what the caller gives; one in brackets may be left out; `..` is one or more.
+# A word of a command line in capitals stands for what the caller gives; one in brackets may be left out; `..` is one or
+# more.
 Command = namedtuple("Command", "name words line example")
 
 PROGRAM = [
@@ -27,7 +28,8 @@ WRAPPER = [
     Command("build", "[--all]", "proves the crates of the program and builds it; with --all the two hosts too", "build"),
     Command("session", "[SCRIPT]", "a prompt that keeps a script growing line by line and tells what each line did",
             "session examples/first.spin"),
-    Command("picture", "run|climb SCRIPT REPORT [PACKETS] [--html] [--out FILE]", "draws a run's report, or the climb of its packets, as SVG",
+    Command("picture", "run|climb SCRIPT REPORT [PACKETS] [--html] [--out FILE]",
+            "draws a run's report, or the climb of its packets, as SVG",
             "picture run examples/first.spin examples/first.report"),
     Command("filter", "SCRIPT CAPTURE.. [--jobs N] [--out FOLDER] [--pcap] [--piece N] [--part K/N]",
             "runs a script over captures of any length and number, side by side in pieces",

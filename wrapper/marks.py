@@ -100,7 +100,9 @@ def of_argument(before, words, placed):
     """The first argument that isn't there."""
     there = len(parameters(words))
     at = next((one.at for one, argument, _ in uses(placed) if argument >= there), None)
-    return at, f"an argument that is there: {there} of them are, counted from 0" if there else "nothing, since there is no argument"
+    if not there:
+        return at, "nothing, since there is no argument"
+    return at, f"an argument that is there: {there} of them are, counted from 0"
 
 
 def layer_fits(layer, letters):
@@ -220,7 +222,7 @@ def of_native(before, words, placed):
 def of_repeated(before, words, placed):
     """The name, or the event, that stands already."""
     if words[0] == "endpoint":
-        return 2, f"a name that no endpoint has: {places.either(before.endpoints)} stand{'s' * (len(before.endpoints) == 1)} already"
+        return 2, f"a name that no endpoint before has; there is {places.either(before.endpoints)}"
     what = "a first default" if words[0] == "default" else "an authoriser"
     return 1, f"an event that has no {what.split(' ', 1)[1]} yet"
 
