@@ -124,6 +124,10 @@ def named_or_proved(words, at):
 
 def exit_with(main, words):
     """Ends the process with what `main(words)` answers; an interrupt or a closed pipe ends it in one line or none."""
+    import signal
+
+    if signal.getsignal(signal.SIGINT) is signal.SIG_DFL:
+        signal.signal(signal.SIGINT, signal.default_int_handler)
     try:
         status = main(words)
         sys.stdout.flush()
