@@ -123,7 +123,7 @@ def explain(name, record, fault):
         if fault == 6:
             return told + of_length(name, record)
         if fault == 7:
-            return [*told, f"a capture has at most 1,048,576 records: {made_of(PIECES, name)}"]
+            return [*told, f"./spin filter takes longer captures; this makes pieces: {made_of(PIECES, name)}"]
     except (OSError, KeyError, struct.error):
         return told
     return told
