@@ -43,7 +43,7 @@ STARTED = (
 DIFFERENCES = [
     (r"\bBox::new\(", "::std::boxed::boxed("),
     (r"\.clone\(\)\?", ".clone()"),
-    (r"\.to_vec\((?=[^)])", ".to_vec_in("),
+    (r"\.to_vec\((?=[^)])", ".copied_by("),
     (r"\buse std::ops::DerefSlice;", "use std::ops::Deref;"),
     (r"\bDerefSlice for ([^{]+)\{(\s*)type Elem = (\w+);", r"Deref for \1{\2type Target = [\3];"),
     (r"\bfmt<W: fmt::Write>\(&self, (\w+): &mut fmt::Formatter<W>\)", r"fmt(&self, \1: &mut fmt::Formatter<'_>)"),
