@@ -16,12 +16,16 @@ TOOL = TOP / "tools" / "plain"
 OUT = TOP / "out" / "plain"
 KEPT = 3
 
+# What the files are called from which the plain program is made.
+SUFFIXES = (".rt", ".rs", ".toml", ".py")
+
 
 def inputs():
     """The files from which the plain program is made, in a fixed order."""
     folders = [TOOL, *(TOP / "crates" / name / "src" for name in stands_on(crates_listed()))]
-    found = [os.path.join(at, name) for folder in folders for at, _, names in os.walk(folder) for name in names]
-    return [TOP / "crates.txt", *sorted(file for file in found if file.endswith((".rt", ".rs", ".toml", ".py")))]
+    found = [(at, name) for folder in folders for at, _, names in os.walk(folder) for name in names]
+    ours = [os.path.join(*it) for it in found if it[1].endswith(SUFFIXES) and not it[1].startswith(".")]
+    return [TOP / "crates.txt", *sorted(ours)]
 
 
 def checksum():

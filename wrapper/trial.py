@@ -89,7 +89,8 @@ def run(words, cwd=None, capture_output=False, stdout=None, **_):
     if not has_toolchain(f"{why}, and the command rt isn't found: cargo builds the plain program, rt the proved one"):
         return ended(words, b"", NOT_RUN)
     tell(f"{why}, so this is a trial by rt try: it takes minutes, proves nothing, and keeps no endpoint's file")
-    with tempfile.TemporaryDirectory() as beside, each_minute(lambda: tell("the trial runs")):
+    since = time.monotonic()
+    with tempfile.TemporaryDirectory() as beside, each_minute(lambda: tell(f"the trial runs, {passed(since)}")):
         given, flags = handed_in(words, cwd or os.getcwd(), Path(beside))
         call = ["rt", "try", *flags, "--", *given]
         tried = subprocess.run(call, cwd=CRATE, stdin=subprocess.DEVNULL, capture_output=True)

@@ -133,6 +133,7 @@ class Plain(unittest.TestCase):
         self.assertIn("of which nothing is proved; ./spin build makes the proved one", second[2][0])
         source = self.top / "crates" / "spin_main" / "src" / "main.rt"
         source.with_name("main.rt~").write_text("a backup")
+        source.with_name(".#main.rt").symlink_to("nowhere")
         self.spin()
         self.assertEqual(self.builds(), 1)
         source.write_text("// another\n")
