@@ -10,7 +10,12 @@ exit status is the program's; 126 says that it didn't run. Where it isn't 0, sta
 
 import importlib
 import os
+import signal
 import sys
+
+# Until the first command begins, an interrupt ends this at once.
+if signal.getsignal(signal.SIGINT) is signal.default_int_handler:
+    signal.signal(signal.SIGINT, signal.SIG_DFL)
 from pathlib import Path
 
 TOP = Path(__file__).resolve().parent

@@ -7,6 +7,14 @@ import sys
 TOP = os.path.dirname(os.path.dirname(os.path.realpath(__file__)))
 
 
+def written(path):
+    """The text of a page, none where it isn't there."""
+    if not os.path.isfile(f"{TOP}/{path}"):
+        return None
+    with open(f"{TOP}/{path}", encoding="utf-8") as it:
+        return it.read()
+
+
 def settle(texts, tool):
     """Writes the pages, given by their paths, or under `--check` names each that is another; answers the exit status."""
     stale = []
@@ -14,25 +22,37 @@ def settle(texts, tool):
         if "--check" not in sys.argv[1:]:
             with open(f"{TOP}/{path}", "w", encoding="utf-8") as it:
                 it.write(text)
-        elif not os.path.isfile(f"{TOP}/{path}") or open(f"{TOP}/{path}", encoding="utf-8").read() != text:
+        elif written(path) != text:
             stale.append(path)
     for path in stale:
         print(f"{path} is out of date: run tools/{tool}")
     return 1 if stale else 0
 
 
+def anchors(path):
+    """The anchors of a page's headings."""
+    with open(path, encoding="utf-8") as it:
+        heads = re.findall(r"^#+ (.*)$", it.read(), re.M)
+    return {re.sub(r"[^\w\- ]", "", head.lower()).strip().replace(" ", "-") for head in heads}
+
+
+def is_lost(folder, target):
+    """Whether a link of a page in that folder leads to no file, no line of its file, or no heading of its page."""
+    file, _, anchor = target.partition("#")
+    full = os.path.normpath(f"{folder}/{file}")
+    if not os.path.exists(full):
+        return True
+    line = re.fullmatch(r"L(\d+)(?:-L\d+)?", anchor)
+    if line:
+        with open(full, encoding="utf-8") as it:
+            return int(line[1]) > it.read().count("\n") + 1
+    return bool(anchor) and full.endswith(".md") and anchor not in anchors(full)
+
+
 def lost_links(path):
-    """The links of a page that lead to no file, or to a line that its file hasn't."""
+    """The links of a page that lead to no file of the repository, or to no place in one."""
     with open(f"{TOP}/{path}", encoding="utf-8") as it:
         text = re.sub(r"^```.*?^```", "", it.read(), flags=re.M | re.S)
-    folder = os.path.dirname(f"{TOP}/{path}")
     for target in re.findall(r"\]\(([^)\s]+)\)", text):
-        file, _, anchor = target.partition("#")
-        if re.match(r"[a-z]+:", target) or not file:
-            continue
-        full = os.path.normpath(f"{folder}/{file}")
-        line = re.fullmatch(r"L(\d+)(?:-L\d+)?", anchor)
-        if not os.path.exists(full):
-            yield target
-        elif line and int(line[1]) > open(full, encoding="utf-8").read().count("\n") + 1:
+        if not re.match(r"[a-z]+:|#", target) and is_lost(os.path.dirname(f"{TOP}/{path}"), target):
             yield target

@@ -12,28 +12,37 @@ FORMATS = TOP / "docs" / "FORMATS.md"
 # Why a script is refused: the numbers of a row, the cause, and where it comes.
 SCRIPT = [
     ("1", "too large", "the text is over 1,048,576 bytes"),
-    ("2", "not ASCII", "a byte that is neither a tab nor from 0x20 to 0x7E, but for the carriage return before a line feed"),
+    ("2", "not ASCII",
+     "a byte that is neither a tab nor from 0x20 to 0x7E, but for the carriage return before a line feed"),
     ("3", "version", "the first line that isn't skipped names no version; where there is none, at line 1"),
     ("4", "keyword", "the first word begins no line, or `spin` stands again"),
-    ("5", "order", "the section lies before an earlier line's; a second `modules`; a `retire` that follows neither `barrier` nor "
-     "`retire`"),
-    ("6", "number", "a number in range was wanted, also where the word begins with a digit and an expression or a HANDLER was "
+    ("5", "order",
+     "the section lies before an earlier line's; a second `modules`; a `retire` that follows neither `barrier` nor"
+     " `retire`"),
+    ("6", "number",
+     "a number in range was wanted, also where the word begins with a digit and an expression or a HANDLER was "
      "wanted; behind `before` and `after` in version 3 the number isn't greater than the one before it"),
     ("7", "signature", "a signature, or `native`, was wanted"),
     ("8", "name", "a name was wanted"),
-    ("9", "word", "one of several fixed words, or the only one that can stand there (in version 3 `before`, `after`), an "
+    ("9", "word",
+     "one of several fixed words, or the only one that can stand there (in version 3 `before`, `after`), an "
      "expression, a test, a step or a part was wanted"),
     ("10", "bytes", "a value that begins with `x` isn't bytes"),
-    ("11", "end", "the line ends too early, or a word is left over (in a `handler` line that is cause 9, since another step might "
-     "follow)"),
+    ("11", "end",
+     "the line ends too early, or a word is left over (in a `handler` line that is cause 9, since another step "
+     "might follow)"),
     ("12", "next", "the number of an event, endpoint, handler or guard isn't the next one"),
-    ("13", "limit", "the 17th rule of an event; the 1,001st command line, in version 3 the 4,097th; deeds over 65,536, commands "
+    ("13", "limit",
+     "the 17th rule of an event; the 1,001st command line, in version 3 the 4,097th; deeds over 65,536, commands "
      "among them, a packet line counting its N"),
-    ("14 to 19", "act, test, merge", "the first fault of the line's act, test or merge: too deep (over 8), too long (over 64 "
-     "nodes), no such argument, wrong kind, not var, no result"),
-    ("20", "undeclared", "an owner that is no module; an event, endpoint, handler or guard that isn't declared, in declarations, "
-     "steps and `retire`"),
-    ("21", "mismatch", "parts or a layer that the raised event doesn't take; an imposed guard without the event's kinds; a default "
+    ("14 to 19", "act, test, merge",
+     "the first fault of the line's act, test or merge: too deep (over 8), too long (over 64 nodes), no such "
+     "argument, wrong kind, not var, no result"),
+    ("20", "undeclared",
+     "an owner that is no module; an event, endpoint, handler or guard that isn't declared, in declarations, steps"
+     " and `retire`"),
+    ("21", "mismatch",
+     "parts or a layer that the raised event doesn't take; an imposed guard without the event's kinds; a default "
      "that can't serve the event; a rule for an event with a native authoriser, or the contrary"),
     ("22", "native", "no native of that kind has the name"),
     ("23", "repeated", "an endpoint's name, a default or an authoriser that stands already"),
@@ -58,7 +67,8 @@ CAPTURE = [
 # Why a trace is refused.
 TRACE = [
     ("1", "TooLarge", "the text is over 1,048,576 bytes"),
-    ("2", "NotAscii", "a byte that is neither a tab nor from 0x20 to 0x7E, but for the carriage return before a line feed"),
+    ("2", "NotAscii",
+     "a byte that is neither a tab nor from 0x20 to 0x7E, but for the carriage return before a line feed"),
     ("3", "Version", "the first line that isn't skipped isn't `vm 1`; at line 1 where there is none"),
     ("4", "Form", "the line has none of the forms"),
     ("5", "Next", "a space isn't the next number, or is over 63"),
@@ -69,9 +79,10 @@ TRACE = [
 
 # When a status comes.
 STATUSES = [
-    ("0", "the whole report was written, script and capture read to their ends; under `gen` the whole summary; under `check` "
-     "exactly where the report is that of a run, and `yes` was written; under `vm` the trace's whole output, script and trace read "
-     "to their ends"),
+    ("0",
+     "the whole report was written, script and capture read to their ends; under `gen` the whole summary; under "
+     "`check` exactly where the report is that of a run, and `yes` was written; under `vm` the trace's whole "
+     "output, script and trace read to their ends"),
     ("1", "exactly where the words have none of the forms"),
     ("2", "exactly where the script is found and read, and is refused at line N for cause C"),
     ("3", "exactly where record N of the capture is refused by fault F; record 0 is its header"),
@@ -82,8 +93,9 @@ STATUSES = [
     ("8", "only where endpoint P failed; the sends before that one were delivered"),
     ("9", "under `check`, exactly where the report is read and is that of no run; `no` was written"),
     ("10", "under `check`, exactly where the report is read and has more than 67,108,864 bytes"),
-    ("11", "under `vm`, exactly where the script is one for traces and the trace is found and read, and is refused at line N for "
-     "cause C"),
+    ("11",
+     "under `vm`, exactly where the script is one for traces and the trace is found and read, and is refused at "
+     "line N for cause C"),
     ("12", "under `vm`, exactly where the script is found, read and not refused, and isn't one for traces"),
 ]
 

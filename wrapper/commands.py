@@ -7,30 +7,32 @@ from collections import namedtuple
 
 from wrapper.program import TOP
 
-# A word of a command line in capitals stands for what the caller gives; one in brackets may be left out; `..` is one or more.
+# A word of a command line in capitals stands for what the caller gives; one in brackets may be left out; `..` is one or
+# more.
 Command = namedtuple("Command", "name words line example")
 
 PROGRAM = [
     Command("run", "SCRIPT [PACKETS]", "runs a script, over a capture or none, and writes its report",
             "run examples/first.spin"),
-    Command("check", "SCRIPT REPORT [PACKETS]", "judges a report: yes where it is that of some run, no where of none",
+    Command("check", "SCRIPT REPORT [PACKETS]", "judges a report: yes where it is some run's, no where it is none's",
             "check examples/first.spin examples/first.report"),
-    Command("join", "SCRIPT PACKETS", "runs a script over a capture whose fragmented datagrams are made whole",
+    Command("join", "SCRIPT PACKETS", "runs a script over a capture whose fragments are made whole",
             "join examples/packets.spin packets.pcap"),
     Command("vm", "SCRIPT TRACE", "runs a trace of memory accesses, whose faults are events",
             "vm pager.spin accesses.trace"),
-    Command("gen", "NUMBER", "makes a large script and a capture from a number, runs them and writes six counts",
+    Command("gen", "NUMBER", "runs a large script made from a number, and writes six counts",
             "gen 1"),
 ]
 
 WRAPPER = [
-    Command("build", "[--all]", "proves the crates of the program and builds it; with --all the two hosts too", "build"),
-    Command("session", "[SCRIPT]", "a prompt that keeps a script growing line by line and tells what each line did",
+    Command("build", "[--all]", "proves and builds the program; with --all the two hosts too", "build"),
+    Command("session", "[SCRIPT]", "a prompt that keeps a script growing and tells what each line did",
             "session examples/first.spin"),
-    Command("picture", "run|climb SCRIPT REPORT [PACKETS] [--html] [--out FILE]", "draws a run's report, or the climb of its packets, as SVG",
+    Command("picture", "run|climb SCRIPT REPORT [PACKETS] [--html] [--out FILE]",
+            "draws a run, or the climb of its packets, as SVG",
             "picture run examples/first.spin examples/first.report"),
     Command("filter", "SCRIPT CAPTURE.. [--jobs N] [--out FOLDER] [--pcap] [--piece N] [--part K/N]",
-            "runs a script over captures of any length and number, side by side in pieces",
+            "runs a script over captures of any length, in pieces side by side",
             "filter examples/packets.spin monday.pcap tuesday.pcap"),
     Command("help", "[COMMAND]", "tells of the commands, or of one", "help run"),
     Command("version", "", "tells what this is, and which program would run", "version"),

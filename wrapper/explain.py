@@ -21,6 +21,7 @@ def waited_for(command):
     child = os.posix_spawn(command[0], command, os.environ, setsigmask=mask)
 
     def forward(number, _):
+        """Hands the signal on to the program."""
         # the program may have ended by the same signal, where that came to both
         with contextlib.suppress(ProcessLookupError):
             os.kill(child, number)

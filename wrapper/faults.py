@@ -30,8 +30,8 @@ OTHERS = [
     (b"snoop\x00\x00\x00", "snoop", "editcap -F pcap {0} {1}"),
 ]
 
-# Link types that are met. Of a cooked frame the last 14 of the 16 first bytes read as an Ethernet header, with the type in its
-# place and no addresses.
+# Link types that are met. Of a cooked frame the last 14 of the 16 first bytes read as an Ethernet header, with the type
+# in its place and no addresses.
 COOKED = 113
 LINKS = {
     0: "loopback of BSD", 12: "raw IP", 101: "raw IP", 105: "802.11", 108: "loopback of OpenBSD", 113: "Linux cooked",
@@ -80,7 +80,8 @@ def of_link(name, head):
     known = f" ({LINKS[link]})" if link in LINKS else ""
     told = [f"at offset 20 stands link type {link}{known}, where 1 is read, Ethernet"]
     if link == COOKED:
-        return [*told, made_by("editcap -F pcap -T ether -C 2 {0} {1}", name), "its frames have the type in its place, but no addresses"]
+        made = made_by("editcap -F pcap -T ether -C 2 {0} {1}", name)
+        return [*told, made, "its frames have the type in its place, but no addresses"]
     return [*told, "capture on an interface of Ethernet, as tcpdump -i eth0 -w does"]
 
 
@@ -102,7 +103,8 @@ def of_length(name, record):
         (length,) = struct.unpack(f"{order}I", file.read(4))
     front = made_of(f"head -c {at} {{0}} > {{1}}", name)
     return [
-        f"record {record} begins at offset {at} and says a captured length of {length:,}, where at most {MAX_LENGTH:,} is read",
+        f"record {record} begins at offset {at} and says a captured length of {length:,}, where at most {MAX_LENGTH:,} "
+        "is read",
         f"what stands before it is a capture: {front}",
     ]
 
@@ -121,7 +123,7 @@ def explain(name, record, fault):
         if fault == 6:
             return told + of_length(name, record)
         if fault == 7:
-            return [*told, f"a capture has at most 1,048,576 records: {made_of(PIECES, name)}"]
+            return [*told, f"./spin filter takes longer captures; this makes pieces: {made_of(PIECES, name)}"]
     except (OSError, KeyError, struct.error):
         return told
     return told

@@ -1,6 +1,7 @@
 """filter: runs a script over captures of any length and number, in pieces side by side, and joins what the pieces leave."""
 
 import argparse
+import contextlib
 import fcntl
 import hashlib
 import json
@@ -72,12 +73,16 @@ class Progress:
         self.since = self.told = time.monotonic()
         self.is_terminal = sys.stderr.isatty()
 
-    def add(self, size, records, is_new):
-        """A piece of that size is done, just now or by an earlier call."""
+    def pass_over(self, piece):
+        """A piece was done by an earlier call."""
+        self.left -= piece.end - piece.start
+
+    def add(self, task):
+        """A piece is done."""
+        size = task["end"] - task["start"]
         self.left -= size
-        if is_new:
-            self.done += size
-            self.records += records
+        self.done += size
+        self.records += task["records"]
         now = time.monotonic()
         if now - self.told >= (1 if self.is_terminal else 10):
             self.told = now
@@ -108,27 +113,27 @@ class Workers:
             thread.start()
 
     def work(self):
-        """Hands tasks to one process, one after another; it is begun at the first."""
-        task = self.tasks.get()
-        if task is None:
-            return
-        words = [sys.executable, "-B", "-m", "wrapper.worker"]
-        environment = dict(os.environ, PYTHONPATH=str(TOP))
-        pipes = {"stdin": subprocess.PIPE, "stdout": subprocess.PIPE, "text": True}
-        with subprocess.Popen(words, env=environment, **pipes) as worker:
-            while task is not None:
-                if not self.is_stopped:
-                    self.answers.put((task, self.ask(worker, task)))
-                task = self.tasks.get()
+        """Hands tasks to one process, which is begun at the first of them, one after another."""
+        worker = None
+        while task := self.tasks.get():
+            if self.is_stopped:
+                continue
+            try:
+                worker = worker or self.begin()
+                print(json.dumps(task), file=worker.stdin, flush=True)
+                answer = json.loads(worker.stdout.readline())
+            except (OSError, ValueError) as error:
+                answer = {"status": NOT_RUN, "why": f"a worker didn't do its piece: {error}"}
+            self.answers.put((task, answer))
+        if worker:
+            worker.communicate()
 
     @staticmethod
-    def ask(worker, task):
-        """The answer of a process to a task."""
-        try:
-            print(json.dumps(task), file=worker.stdin, flush=True)
-            return json.loads(worker.stdout.readline())
-        except (OSError, ValueError):
-            return {"status": NOT_RUN, "why": "a worker ended before its piece was done"}
+    def begin():
+        """Begins a process that does pieces."""
+        words = [sys.executable, "-B", "-m", "wrapper.worker"]
+        pipes = {"stdin": subprocess.PIPE, "stdout": subprocess.PIPE, "text": True}
+        return subprocess.Popen(words, env=dict(os.environ, PYTHONPATH=str(TOP)), **pipes)
 
     def stop(self):
         """Ends each worker when its piece is done."""
@@ -213,45 +218,41 @@ class Filter:
 
     def kept(self, piece, folder):
         """The counts of a piece that an earlier call finished; None where it has to be done, also if it is stale."""
-        try:
+        with contextlib.suppress(FileNotFoundError, ValueError):
             done = json.loads((folder / DONE).read_text())
-        except FileNotFoundError:
-            return None
-        if done["key"] == json.loads(json.dumps(self.key(piece))):
-            return done["counts"]
-        shutil.rmtree(folder)
+            if done["key"] == json.loads(json.dumps(self.key(piece))):
+                return done["counts"]
+        shutil.rmtree(folder, ignore_errors=True)
         return None
 
     def run_pieces(self):
         """Runs each piece that isn't kept, side by side."""
         progress = Progress(sum(capture.size for capture in self.captures))
-        workers = Workers(self.options.jobs)
-        under_way = 0
-
-        def add(task, answer, is_new=True):
-            """Adds the counts of a piece."""
-            if "why" in answer:
-                raise Refused(answer["status"], answer["why"])
-            self.counts.update(answer["counts"])
-            progress.add(task["end"] - task["start"], task["records"], is_new)
-
+        workers, under_way = Workers(self.options.jobs), 0
         try:
             for piece, folder in self.cut():
                 found = self.kept(piece, folder)
                 if found is not None:
-                    add({"start": piece.start, "end": piece.end, "records": piece.records}, {"counts": found}, False)
+                    self.counts.update(found)
+                    progress.pass_over(piece)
                     continue
                 workers.tasks.put(self.task(piece, folder))
                 under_way += 1
                 while not workers.answers.empty():
-                    add(*workers.answers.get())
+                    self.take(*workers.answers.get(), progress)
                     under_way -= 1
-            while under_way:
-                add(*workers.answers.get())
-                under_way -= 1
+            for _ in range(under_way):
+                self.take(*workers.answers.get(), progress)
         finally:
             progress.end()
             workers.stop()
+
+    def take(self, task, answer, progress):
+        """Takes what a worker answers to a task."""
+        if "why" in answer:
+            raise Refused(answer["status"], answer["why"])
+        self.counts.update(answer["counts"])
+        progress.add(task)
 
     def join(self):
         """Joins what the endpoints received in the pieces, in the captures' order."""
@@ -288,7 +289,7 @@ class Filter:
         return struct.pack("<IHHIIII", magic, 2, 4, 0, 0, snapped, 1)
 
     def run(self):
-        """Runs the pieces and, if not only a part of them is asked for, joins them and tells the counts."""
+        """Runs the pieces and, if not only a part of them is asked for, joins them; the lines to be written."""
         self.folder.mkdir(parents=True, exist_ok=True)
         with open(self.options.out / "lock", "w") as lock:
             try:
@@ -296,23 +297,25 @@ class Filter:
             except BlockingIOError:
                 raise Refused(NOT_RUN, f"another call works in {self.options.out}") from None
             self.run_pieces()
-            if not self.options.part:
-                self.join()
-                print("\n".join(summary(self.counts, self.rounds.endpoints)))
+            if self.options.part:
+                return []
+            self.join()
+            return summary(self.counts, self.rounds.endpoints)
 
 
 def main(words):
     """Filters captures as the words ask for, and answers the exit status."""
     try:
-        Filter(read_words(words)).run()
+        lines = Filter(read_words(words)).run()
     except Refused as refused:
         for line in refused.lines:
             tell(line) if not line.startswith(" ") else print(line, file=sys.stderr)
         return refused.status
     except OSError as error:
-        tell(f"{error.filename or 'filter'}: {error.strerror}")
+        tell(f"{error.filename or 'writing failed'}: {error.strerror}")
         return 5
     except KeyboardInterrupt:
         tell("stopped; called again with the same words, it goes on")
         return INTERRUPTED
+    print("".join(f"{line}\n" for line in lines), end="")
     return 0

@@ -9,18 +9,20 @@ from wrapper.program import tell
 FLAGS_LINES = [
     ("-h, --help", "this text; behind a command the text of that command"),
     ("--version", "as version"),
-    ("--quiet", "before a command: no word of the wrapper's about what the program answered"),
+    ("--quiet", "before a command: nothing is told of what its status means"),
 ]
 
 BELOW = """\
 Example, on a fresh clone:
   ./spin run examples/first.spin
 
-Standard output and the status of the first five are the program's, byte for byte. Where its status isn't 0, the wrapper
-tells on standard error what that means. Nothing is proved of what the wrapper tells.
+Standard output and the status of the first five are the program's, byte for
+byte. Where its status isn't 0, standard error tells what that means. Nothing
+is proved of what is told there.
 
-To read on: README.md, what there is; docs/FORMATS.md, scripts, reports, captures, causes and statuses; examples/,
-scripts that teach, each with its report; man docs/spin.1.
+To read on: README.md, what there is; docs/FORMATS.md, scripts, reports,
+captures, causes and statuses; examples/, scripts that teach, each with its
+report; man docs/spin.1.
 """
 
 

@@ -7,7 +7,7 @@ Nothing is proved of what is told here.
 import re
 from collections import namedtuple
 
-from wrapper import places
+from wrapper import places, reading
 
 # The words to mark, from the first to the last, and what may stand there; either may be None.
 Mark = namedtuple("Mark", "first last wanted")
@@ -15,51 +15,27 @@ Mark = namedtuple("Mark", "first last wanted")
 WIDTHS = ("1", "2", "4", "8")
 
 
-class Before:
-    """What the lines before a line have declared."""
+def declared(script, name):
+    """How the things of a name are counted: the first number and the first one that isn't declared."""
+    return {
+        "event": (0, len(script.events)), "owner": (0, script.modules), "endpoint": (0, len(script.endpoints)),
+        "handler": (1, 1 + len(script.handlers)), "guard": (1, 1 + len(script.guards)),
+    }[name]
 
-    def __init__(self, lines):
-        """Goes through the lines, each of which stands in the language."""
-        self.version, self.modules, self.section = 0, 1, ""
-        self.events, self.endpoints, self.handlers, self.guards = [], [], [], []
-        self.rules, self.authorised, self.defaults = {}, set(), set()
-        for words in lines:
-            self.add(words)
 
-    def add(self, words):
-        """Adds the words of a line."""
-        first = words[0]
-        if not self.version:
-            self.version = int(words[1])
-            return
-        self.section = first
-        if first == "modules":
-            self.modules = places.number_of(words[1])
-        elif first == "event":
-            self.events.append(words[3])
-        elif first == "endpoint":
-            self.endpoints.append(words[2])
-        elif first in ("handler", "guard"):
-            known = self.handlers if first == "handler" else self.guards
-            known.append("" if words[2] == "native" else words[2])
-        elif first == "rule":
-            event = places.number_of(words[1])
-            self.rules[event] = self.rules.get(event, 0) + 1
-        elif first in ("authoriser", "default"):
-            known = self.authorised if first == "authoriser" else self.defaults
-            known.add(places.number_of(words[1]))
-
-    def declared(self, name):
-        """How the things of a name are counted: the first number and the first one that isn't declared."""
-        return {
-            "event": (0, len(self.events)), "owner": (0, self.modules), "endpoint": (0, len(self.endpoints)),
-            "handler": (1, 1 + len(self.handlers)), "guard": (1, 1 + len(self.guards)),
-        }[name]
+def takes(script, event):
+    """The signature of an event that is declared."""
+    return script.events[event][1]
 
 
 def kinds(signature):
     """The kinds of a signature's parameters, in lower case."""
     return "" if signature.startswith("-") else signature.split(":")[0].lower()
+
+
+def guard_kinds(words):
+    """The kinds that a guard asks of, by its words behind its number; the program's one native guard asks of bytes."""
+    return "b" if words[0] == "native" else kinds(words[0])
 
 
 def parameters(words):
@@ -100,7 +76,9 @@ def of_argument(before, words, placed):
     """The first argument that isn't there."""
     there = len(parameters(words))
     at = next((one.at for one, argument, _ in uses(placed) if argument >= there), None)
-    return at, f"an argument that is there: {there} of them are, counted from 0" if there else "nothing, since there is no argument"
+    if not there:
+        return at, "nothing, since there is no argument"
+    return at, f"an argument that is there: {there} of them are, counted from 0"
 
 
 def layer_fits(layer, letters):
@@ -141,7 +119,7 @@ def of_result(before, words, placed):
 
 def of_next(before, words, placed):
     """The number that isn't the next one."""
-    return 1, f"{before.declared(words[0])[1]}, the next number"
+    return 1, f"{declared(before, words[0])[1]}, the next number"
 
 
 NAMES = {
@@ -152,7 +130,7 @@ NAMES = {
 
 def range_of(name, before):
     """Which numbers of a name are declared, in words."""
-    low, end = before.declared(name)
+    low, end = declared(before, name)
     thing = "module" if name == "owner" else name
     if end - low > 1:
         return f"{low} to {end - 1}, the {thing}s that are declared"
@@ -164,7 +142,7 @@ def of_undeclared(before, words, placed):
     for one in placed:
         name = NAMES.get(one.want.name)
         if name and one.word != "any":
-            low, end = before.declared(name)
+            low, end = declared(before, name)
             if not low <= places.number_of(one.word) < end:
                 return one.at, range_of(name, before)
     return None, None
@@ -191,23 +169,22 @@ def part_kinds(placed):
 def of_mismatch(before, words, placed):
     """What doesn't fit: a raise upwards, an imposed guard, a default, or a rule beside an authoriser."""
     for one, parts in raised(placed):
-        takes = kinds(before.events[places.number_of(one.word)])
-        if takes != parts:
-            return one.at, f"an event of the kinds `{parts or '-'}`; this one takes `{takes or '-'}`"
+        given = kinds(takes(before, places.number_of(one.word)))
+        if given != parts:
+            return one.at, f"an event of the kinds `{parts or '-'}`; this one takes `{given or '-'}`"
     if words[0] not in ("rule", "default", "authoriser"):
         return None, None
     event = places.number_of(words[1])
     if words[0] == "authoriser":
         return 1, "an event without a rule, whose kinds the authoriser's guards have"
     if words[0] == "default":
-        signature = before.events[event]
-        return 2, f"a handler of the signature `{signature}` that sets no argument and raises greater events alone"
-    if event in before.authorised:
+        return 2, f"a handler of the signature `{takes(before, event)}` that sets no argument and raises greater events alone"
+    if event in before.authorisers:
         return 1, "an event without a native authoriser"
-    takes = kinds(before.events[event])
+    wanted = kinds(takes(before, event))
     for one in placed:
-        if one.want is places.GUARD and kinds(before.guards[places.number_of(one.word) - 1]) != takes:
-            return one.at, f"a guard of the kinds `{takes or '-'}`"
+        if one.want is places.GUARD and guard_kinds(before.guards[places.number_of(one.word)]) != wanted:
+            return one.at, f"a guard of the kinds `{wanted or '-'}`"
     return None, None
 
 
@@ -220,7 +197,7 @@ def of_native(before, words, placed):
 def of_repeated(before, words, placed):
     """The name, or the event, that stands already."""
     if words[0] == "endpoint":
-        return 2, f"a name that no endpoint has: {places.either(before.endpoints)} stand{'s' * (len(before.endpoints) == 1)} already"
+        return 2, f"a name that no endpoint before has; there is {places.either(name for name, in before.endpoints.values())}"
     what = "a first default" if words[0] == "default" else "an authoriser"
     return 1, f"an event that has no {what.split(' ', 1)[1]} yet"
 
@@ -253,38 +230,43 @@ def of_version(words):
     return Mark(0, len(words) - 1, wanted)
 
 
-def of_order(before, words):
-    """The mark of a line that stands too late."""
+def of_order(section, words):
+    """The mark of a line that stands too late, behind one that begins with the word of a section."""
     if words[0] == "retire":
         wanted = "`retire` only behind `barrier` or another `retire`"
-    elif words[0] == "modules" and before.section == "modules":
+    elif words[0] == section == "modules":
         wanted = "`modules` only once"
     else:
-        wanted = f"`{before.section}` or what comes behind it; `{words[0]}` comes before: the order is modules, event, "
+        wanted = f"`{section}` or what comes behind it; `{words[0]}` comes before: the order is modules, event, "
         wanted += "endpoint, handler, guard, rule and authoriser, default, lane and barrier"
     return Mark(0, 0, wanted)
 
 
-def find(cause, before, words):
-    """The mark for a cause of the line of these words; None where it can't be told."""
+def of_places(cause, before, words):
+    """The mark of a line whose section fits; None where what is found here has another cause."""
+    placed, fault = places.walk(words, before.version)
+    if fault:
+        return Mark(fault.at, fault.at, places.wanted(fault.want)) if fault.cause == cause else None
+    at, wanted = FINDERS[cause](before, words, placed) if cause in FINDERS else (None, None)
+    if at is None:
+        return None
+    return Mark(at, len(words) - 1 if cause == 13 else at, wanted)
+
+
+def find(cause, lines, number):
+    """The mark for a cause of the line of this number, counted from 1; None where it can't be told."""
+    words = words_of(lines[number - 1])
     if cause == 3:
         return of_version(words)
     if cause == 4:
         return Mark(0, 0, f"a word that begins a line: {places.either(places.lines(1))}")
     if words[0] not in places.lines(1):
         return None
+    before = "\n".join(line.decode("ascii") for line in lines[: number - 1])
     if cause == 5:
-        return of_order(before, words)
-    placed, fault = places.walk(words, before.version)
-    if fault:
-        same = fault.cause == cause
-        return Mark(fault.at, fault.at, places.wanted(fault.want)) if same else None
-    if cause not in FINDERS:
-        return None
-    at, wanted = FINDERS[cause](before, words, placed)
-    if at is None:
-        return None
-    return Mark(at, len(words) - 1 if cause == 13 else at, wanted)
+        *_, (_, last) = reading.numbered_lines(before)
+        return of_order(last[0], words)
+    return of_places(cause, reading.read_script(before), words)
 
 
 def spans(line):
@@ -303,9 +285,3 @@ def lines_of(text):
 def words_of(line):
     """The words of a line."""
     return line.decode("ascii").replace("\t", " ").split()
-
-
-def before_line(lines, number):
-    """What the lines before the one of this number, counted from 1, have declared."""
-    given = (words_of(line) for line in lines[: number - 1])
-    return Before(words for words in given if words and not words[0].startswith("#"))

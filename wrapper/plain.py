@@ -1,5 +1,7 @@
 """The plain program: the sources as ordinary Rust, as tools/plain writes them, built by cargo. Nothing of it is proved.
 
+Where there is rustc and no cargo, rustc builds all crates one after another, each time anew.
+
 What is built lies in out/plain, in a folder named by the checksum of all that it is made from: `work` has the sources as
 Rust, `target` what cargo keeps. Two builds wait for each other; one that was killed is begun again by the next.
 """
@@ -14,12 +16,16 @@ TOOL = TOP / "tools" / "plain"
 OUT = TOP / "out" / "plain"
 KEPT = 3
 
+# What the files are called from which the plain program is made.
+SUFFIXES = (".rt", ".rs", ".toml", ".py")
+
 
 def inputs():
     """The files from which the plain program is made, in a fixed order."""
     folders = [TOOL, *(TOP / "crates" / name / "src" for name in stands_on(crates_listed()))]
-    found = [os.path.join(at, name) for folder in folders for at, _, names in os.walk(folder) for name in names]
-    return [TOP / "crates.txt", *sorted(file for file in found if file.endswith((".rt", ".rs", ".toml", ".py")))]
+    found = [(at, name) for folder in folders for at, _, names in os.walk(folder) for name in names]
+    ours = [os.path.join(*it) for it in found if it[1].endswith(SUFFIXES) and not it[1].startswith(".")]
+    return [TOP / "crates.txt", *sorted(ours)]
 
 
 def checksum():
@@ -39,9 +45,7 @@ def program():
     file = OUT / checksum() / "spin_main"
     if os.access(file, os.X_OK):
         return file
-    from shutil import which
-
-    if not which("cargo"):
+    if not builder():
         return None
     try:
         with locked():
@@ -49,6 +53,13 @@ def program():
     except OSError as fault:
         tell(f"the plain program can't be built: {fault.filename or OUT}: {fault.strerror}")
         return None
+
+
+def builder():
+    """The command that builds it; None where there is none."""
+    from shutil import which
+
+    return next((command for command in ("cargo", "rustc") if which(command)), None)
 
 
 @contextlib.contextmanager
@@ -75,36 +86,52 @@ def build():
         if os.access(file, os.X_OK):
             return file
         if not told:
-            tell("nothing is built: cargo builds the plain program, which takes some ten seconds")
+            tell(f"nothing is built: {builder()} builds the plain program, which takes some ten seconds")
             told = True
-        write_sources()
-        call_cargo("--package", "spin_main")
+        erase = write_sources()
+        built = by_cargo() if builder() == "cargo" else by_rustc(erase)
         if checksum() == key:
-            keep(OUT / "target" / "debug" / "spin_main", file)
+            keep(built, file)
 
 
 def write_sources():
-    """Writes the sources as Rust; a file that can't be erased ends the process."""
+    """Writes the sources as Rust, and answers the eraser; a file that can't be erased ends the process."""
     sys.path.insert(0, str(TOOL))
     import erase
 
     try:
         erase.write_workspace(OUT / "work")
+        return erase
     except erase.Refused as refused:
         tell(f"the sources can't be written as ordinary Rust: {refused}")
         sys.exit(NOT_RUN)
 
 
-def call_cargo(*words):
-    """Has cargo build these; what it can't build ends the process, with what it says of the sources."""
+def by_cargo():
+    """Has cargo build the program, and answers where it lies."""
+    words = ["--quiet", "--offline", "--target-dir", str(OUT / "target"), "--package", "spin_main"]
+    call(["cargo", "build", *words])
+    return OUT / "target" / "debug" / "spin_main"
+
+
+def by_rustc(erase):
+    """Has rustc build the program, and answers where it lies."""
+    target = OUT / "target" / "rustc"
+    target.mkdir(parents=True, exist_ok=True)
+    for words in erase.calls_of_rustc(OUT / "work", target):
+        call(words)
+    return target / "spin_main"
+
+
+def call(words):
+    """Makes a call of a compiler; what it can't build ends the process, with what it says of the sources."""
     import re
     import subprocess
 
-    call = ["cargo", "build", "--quiet", "--offline", "--target-dir", str(OUT / "target"), *words]
-    ran = subprocess.run(call, cwd=OUT / "work", stdin=subprocess.DEVNULL, capture_output=True, text=True)
+    ran = subprocess.run(words, cwd=OUT / "work", stdin=subprocess.DEVNULL, capture_output=True, text=True)
     if ran.returncode:
         sys.stderr.write(re.sub(r"(crates/\w+/src/[\w/]+)\.rs\b", r"\1.rt", ran.stderr)[:20_000])
-        tell("cargo can't build the plain program, for what is told above; it wants Rust 1.85 or later, and a linker")
+        tell(f"{words[0]} can't build the plain program, for what is told above; it wants Rust 1.85 or later, and a linker")
         sys.exit(NOT_RUN)
 
 

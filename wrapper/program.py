@@ -1,5 +1,6 @@
 """Where the program is, whether it is built, and the best way there is to run it."""
 
+import errno
 import os
 import sys
 from pathlib import Path
@@ -123,15 +124,24 @@ def named_or_proved(words, at):
 
 
 def exit_with(main, words):
-    """Ends the process with what `main(words)` answers; an interrupt or a closed pipe ends it in one line or none."""
+    """Ends the process with what `main(words)` answers; an interrupt, a closed pipe or a full disk ends it in one line or none."""
+    import signal
+
+    if signal.getsignal(signal.SIGINT) is signal.SIG_DFL:
+        signal.signal(signal.SIGINT, signal.default_int_handler)
     try:
         status = main(words)
         sys.stdout.flush()
     except KeyboardInterrupt:
         tell("interrupted")
         status = 130
-    except BrokenPipeError:
+    except OSError as error:
+        if error.errno not in (errno.EPIPE, errno.ENOSPC):
+            raise
         # what is left in the list before standard output can go nowhere
         os.dup2(os.open(os.devnull, os.O_WRONLY), 1)
         status = 141
+        if error.errno == errno.ENOSPC:
+            tell("standard output took no more bytes; is the disk full?")
+            status = 5
     sys.exit(status)

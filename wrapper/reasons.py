@@ -10,7 +10,7 @@ import select
 import stat
 import subprocess
 
-from wrapper import causes, commands, faults, marks
+from wrapper import causes, commands, faults, marks, strays
 
 WIDTH = 96
 
@@ -94,7 +94,7 @@ def of_script_line(text, number, cause):
     words = marks.words_of(line)
     if not words:
         return ["    it has no line but blank ones and comments"]
-    mark = marks.find(cause, marks.before_line(lines, number), words)
+    mark = marks.find(cause, lines, number)
     told = marked(line, mark)
     near = nearest_word(mark, words)
     return told[:-1] + [f"{told[-1]}; the nearest is `{near}`"] if near else told
@@ -256,22 +256,33 @@ def of_endpoint(command, words, status):
 def of_no(command, words, status):
     """A report that is judged none: what can be told of it without judging again."""
     script, report, *packets = words[1:]
-    lines = read(report).split(b"\n") if os.path.isfile(report) else []
-    told = []
-    wants = any(re.fullmatch(rb"end \d+ records .*", line) or b" packet " in line for line in lines)
-    if wants and not packets:
-        told.append(f"    it is one of a run over a capture, and none is named: ./spin check {script} {report} PACKETS")
-    if packets and any(re.fullmatch(rb"end \d+", line) for line in lines):
-        told.append(f"    it is one of a run without a capture, and {packets[0]} is named")
-    if lines and lines[0] != b"report 1":
-        told.append("    its first line isn't `report 1`")
-    if lines and lines[-1]:
-        told.append("    its last line lacks its line feed")
-    if len(lines) > 1 and lines[-2].startswith(b"stop "):
-        told.append(f"    it ends in `{lines[-2].decode('ascii', 'replace')}`: it is that of a run that was stopped")
-    if any(line.endswith(b"\r") for line in lines):
-        told.append("    its lines end in a carriage return")
-    return [f"{report} is the report of no run of {script}", *told, meaning(status)]
+    if not os.path.isfile(report) or not os.path.isfile(script):
+        return [f"{report} is the report of no run of {script}", meaning(status)]
+    text = read(report).decode("ascii", "replace")
+    told = of_capture_named(text, script, report, packets)
+    if "\r\n" in text:
+        told.append("its lines end in a carriage return")
+    elif not text.startswith("report 1\n"):
+        told.append("its first line isn't `report 1`")
+    elif not text.endswith("\n"):
+        told.append("its last line lacks its line feed")
+    elif re.search(r"^stop .*\n\Z", text, re.MULTILINE):
+        told.append(f"it ends in `{text.splitlines()[-1]}`: it is that of a run that was stopped")
+    elif not re.search(r"^end .*\n\Z", text, re.MULTILINE):
+        told.append("its last line is no `end`")
+    elif stray := strays.first(read(script).decode("ascii", "replace"), text):
+        told.append(stray)
+    return [f"{report} is the report of no run of {script}", *(f"    {one}" for one in told), meaning(status)]
+
+
+def of_capture_named(text, script, report, packets):
+    """What is told where a report is of a run over a capture and none is named, or the contrary."""
+    end = re.search(r"^end [0-9]+( records .*)?$", text, re.MULTILINE)
+    if not packets and (end and end[1] or re.search(r"^[0-9]+ [0-9]+ [0-9]+\.[0-9]+ packet ", text, re.MULTILINE)):
+        return [f"it is one of a run over a capture, and none is named: ./spin check {script} {report} PACKETS"]
+    if packets and end and not end[1]:
+        return [f"it is one of a run without a capture, and {packets[0]} is named"]
+    return []
 
 
 REASONS = {

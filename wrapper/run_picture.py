@@ -27,7 +27,7 @@ def constraints(one):
 def chip_text(one):
     """A binding as its chip says it."""
     guards = [f"guard {one.guard}"] if one.guard else []
-    guards += [f"imposed {which}" for which in one.imposed]
+    guards += [f"imposed guard {which}" for which in one.imposed]
     return " ".join([f"#{one.number} handler {one.handler}{MARKS[one.mode]}", *guards, constraints(one)]).strip()
 
 

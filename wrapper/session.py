@@ -236,6 +236,8 @@ def inputs(prompt):
         try:
             yield input(prompt)
         except EOFError:
+            if prompt:
+                print()
             return
         except KeyboardInterrupt:
             print()

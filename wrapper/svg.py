@@ -159,16 +159,16 @@ label{margin-right:14px}output{color:GrayText}</style></head><body>
 %(picture)s
 <script>
 const form = document.querySelector("form"), items = [...document.querySelectorAll(".item")];
+const boxes = items.filter(item => item.tagName === "g");
 const names = [...form.querySelectorAll("select")].map(one => one.name);
 function choose() {
-  let shown = 0;
   for (const item of items) {
     const fits = names.every(name => form[name].value === "" ||
       (item.dataset[name] || "").split(" ").includes(form[name].value));
     item.classList.toggle("dim", !fits);
-    shown += fits;
   }
-  form.querySelector("output").textContent = shown + " of " + items.length + " stand out";
+  const shown = boxes.filter(box => !box.classList.contains("dim")).length;
+  form.querySelector("output").textContent = shown + " of " + boxes.length + " boxes stand out";
 }
 form.addEventListener("change", choose);
 form.addEventListener("reset", () => setTimeout(choose));

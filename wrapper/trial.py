@@ -8,7 +8,6 @@ be read by that of a folder, and one that names nothing by a name that is nothin
 import contextlib
 import os
 import re
-import shutil
 import subprocess
 import sys
 import tempfile
@@ -16,6 +15,7 @@ import threading
 import time
 from pathlib import Path
 
+from wrapper import plain
 from wrapper.program import CRATE, NOT_RUN, tell
 
 # The commands whose further words name files.
@@ -85,11 +85,12 @@ def ended(words, stdout, status):
 def run(words, cwd=None, capture_output=False, stdout=None, **_):
     """Runs the words on the program as it stands, with no proof, and answers what `subprocess.run` would."""
     keeps = capture_output or stdout == subprocess.PIPE
-    why = "the plain program can't be built" if shutil.which("cargo") else "cargo isn't found"
+    why = "the plain program can't be built" if plain.builder() else "cargo isn't found"
     if not has_toolchain(f"{why}, and the command rt isn't found: cargo builds the plain program, rt the proved one"):
         return ended(words, b"", NOT_RUN)
     tell(f"{why}, so this is a trial by rt try: it takes minutes, proves nothing, and keeps no endpoint's file")
-    with tempfile.TemporaryDirectory() as beside, each_minute(lambda: tell("the trial runs")):
+    since = time.monotonic()
+    with tempfile.TemporaryDirectory() as beside, each_minute(lambda: tell(f"the trial runs, {passed(since)}")):
         given, flags = handed_in(words, cwd or os.getcwd(), Path(beside))
         call = ["rt", "try", *flags, "--", *given]
         tried = subprocess.run(call, cwd=CRATE, stdin=subprocess.DEVNULL, capture_output=True)

@@ -43,7 +43,7 @@ STARTED = (
 DIFFERENCES = [
     (r"\bBox::new\(", "::std::boxed::boxed("),
     (r"\.clone\(\)\?", ".clone()"),
-    (r"\.to_vec\((?=[^)])", ".to_vec_in("),
+    (r"\.to_vec\((?=[^)])", ".copied_by("),
     (r"\buse std::ops::DerefSlice;", "use std::ops::Deref;"),
     (r"\bDerefSlice for ([^{]+)\{(\s*)type Elem = (\w+);", r"Deref for \1{\2type Target = [\3];"),
     (r"\bfmt<W: fmt::Write>\(&self, (\w+): &mut fmt::Formatter<W>\)", r"fmt(&self, \1: &mut fmt::Formatter<'_>)"),
@@ -219,19 +219,48 @@ def covered():
     return stands_on(crates_listed(), TOPS)
 
 
+def stands_in(name):
+    """The folder of what stands in for a library of the kit; None where nothing does."""
+    return HERE / name if (HERE / name / "Cargo.toml").is_file() else None
+
+
+def packages(name, below):
+    """The packages that a crate stands on, by the names that it calls them, each with its folder."""
+    found, crates = {"std": ("plain_std", HERE / "std")}, crates_listed()
+    for other in below:
+        folder = Path(f"../{other}") if other in crates else stands_in(other)
+        if folder:
+            found[other] = (other, folder)
+        elif other not in OF_RUST:
+            raise Refused(f"crates.txt: {name} stands on {other}, for which nothing stands in below tools/plain")
+    return found
+
+
 def manifest(name, below):
     """The manifest of a crate that stands on these."""
     text = f'[package]\nname = "{name}"\nversion = "0.1.0"\nedition = "2024"\n\n[dependencies]\n'
-    text += f'std = {{ package = "plain_std", path = "{HERE}/std" }}\n'
-    crates = crates_listed()
-    for other in below:
-        if other in crates:
-            text += f'{other} = {{ path = "../{other}" }}\n'
-        elif (HERE / other / "Cargo.toml").is_file():
-            text += f'{other} = {{ path = "{HERE}/{other}" }}\n'
-        elif other not in OF_RUST:
-            raise Refused(f"crates.txt: {name} stands on {other}, for which nothing stands in below tools/plain")
+    for alias, (package, folder) in packages(name, below).items():
+        text += f'{alias} = {{ package = "{package}", path = "{folder}" }}\n'
     return text
+
+
+def calls_of_rustc(work, target):
+    """The calls that build the program without cargo, one after another: of what stands in, then of each crate."""
+    below = below_by_crate()
+    needed = {other for name in stands_on(crates_listed()) for other in below[name] if stands_in(other)}
+    builds = [("plain_std", HERE / "std" / "src" / "lib.rs", {})]
+    builds += [(name, HERE / name / "src" / "lib.rs", {"plain_std": ("plain_std", None)}) for name in sorted(needed)]
+    for name in stands_on(crates_listed()):
+        src = work / "crates" / name / "src"
+        root = src / "main.rs" if (src / "main.rs").is_file() else src / "lib.rs"
+        builds.append((name, root, packages(name, below[name])))
+    for name, root, others in builds:
+        is_program = root.stem == "main"
+        call = ["rustc", "--edition", "2024", "--crate-name", name, "--crate-type", "bin" if is_program else "rlib"]
+        call += ["-A", "warnings", "-C", "overflow-checks=on", "-C", "panic=abort", "-L", str(target), str(root)]
+        for alias, (package, _) in others.items():
+            call += ["--extern", f"{alias}={target}/lib{package}.rlib"]
+        yield [*call, "-o", f"{target}/{name if is_program else f'lib{name}.rlib'}"]
 
 
 def root_of(text, is_program):

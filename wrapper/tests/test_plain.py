@@ -22,6 +22,13 @@ printf '#!/bin/sh\\necho "the program on $*"\\n' > "$2/debug/spin_main"
 chmod +x "$2/debug/spin_main"
 """
 
+RUSTC = """#!/bin/sh
+for last in "$@"; do :; done
+echo "rustc ${last##*/}" >> "$(dirname "$0")/../journal"
+printf '#!/bin/sh\\necho "the program on $*"\\n' > "$last"
+chmod +x "$last"
+"""
+
 RATTLE = """//! A crate.
 #![tactic(auto)]
 ghost use Rattle.std.specs.Prelude.{◌≡◌,
@@ -126,11 +133,19 @@ class Plain(unittest.TestCase):
         self.assertIn("of which nothing is proved; ./spin build makes the proved one", second[2][0])
         source = self.top / "crates" / "spin_main" / "src" / "main.rt"
         source.with_name("main.rt~").write_text("a backup")
+        source.with_name(".#main.rt").symlink_to("nowhere")
         self.spin()
         self.assertEqual(self.builds(), 1)
         source.write_text("// another\n")
         self.spin()
         self.assertEqual(self.builds(), 2)
+
+    def test_rustc_builds_it_where_there_is_no_cargo(self):
+        (self.top / "bin" / "cargo").unlink()
+        (self.top / "bin" / "rustc").write_text(RUSTC)
+        (self.top / "bin" / "rustc").chmod(0o755)
+        self.assertEqual(self.spin()[:2], (0, "the program on run x\n"))
+        self.assertEqual((self.top / "journal").read_text(), "rustc libplain_std.rlib\nrustc spin_main\n")
 
     def test_two_builds_wait_for_each_other(self):
         first = self.begin(SLEEP="2")

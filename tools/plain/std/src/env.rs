@@ -34,7 +34,7 @@ mod tests {
 
     #[test]
     fn words_that_are_not_text_are_an_error() {
-        assert_eq!(texts(vec!["a".into(), "b".into()]).unwrap().collect::<Vec<_>>(), ["a", "b"]);
-        assert_eq!(texts(vec![OsString::from_vec(vec![0xff])]).err().unwrap().kind(), ErrorKind::InvalidData);
+        assert_eq!(texts(Vec::from(["a".into(), "b".into()])).unwrap().collect::<Vec<_>>(), ["a", "b"]);
+        assert_eq!(texts(Vec::from([OsString::from_vec(Vec::from([0xff]))])).err().unwrap().kind(), ErrorKind::InvalidData);
     }
 }

@@ -181,13 +181,13 @@ impl<'a, T> IntoIterator for &'a mut Vec<T> {
 
 /// A slice's copy as a list: the eraser writes `to_vec(alloc)` so.
 pub trait SliceToVec<T> {
-    fn to_vec_in(&self, alloc: Global) -> Result<Vec<T>, AllocError>
+    fn copied_by(&self, alloc: Global) -> Result<Vec<T>, AllocError>
     where
         T: Clone;
 }
 
 impl<T> SliceToVec<T> for [T] {
-    fn to_vec_in(&self, alloc: Global) -> Result<Vec<T>, AllocError>
+    fn copied_by(&self, alloc: Global) -> Result<Vec<T>, AllocError>
     where
         T: Clone,
     {
@@ -226,7 +226,7 @@ mod tests {
 
     #[test]
     fn a_slice_is_copied() {
-        assert_eq!([1u8, 2].to_vec_in(Global).unwrap().as_slice(), [1, 2]);
+        assert_eq!([1u8, 2].copied_by(Global).unwrap().as_slice(), [1, 2]);
     }
 
     #[test]
