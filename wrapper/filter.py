@@ -131,9 +131,8 @@ class Workers:
     @staticmethod
     def begin():
         """Begins a process that does pieces."""
-        words = [sys.executable, "-B", "-m", "wrapper.worker"]
-        pipes = {"stdin": subprocess.PIPE, "stdout": subprocess.PIPE, "text": True}
-        return subprocess.Popen(words, env=dict(os.environ, PYTHONPATH=str(TOP)), **pipes)
+        words = [sys.executable, "-IS", "-X", f"pycache_prefix={TOP / 'out' / 'python'}", str(TOP / "wrapper" / "worker.py")]
+        return subprocess.Popen(words, stdin=subprocess.PIPE, stdout=subprocess.PIPE, text=True)
 
     def stop(self):
         """Ends each worker when its piece is done."""

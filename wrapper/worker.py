@@ -14,6 +14,7 @@ import subprocess
 import sys
 from pathlib import Path
 
+sys.path.insert(0, str(Path(__file__).resolve().parent.parent))
 from wrapper.counts import Report
 from wrapper.pieces import HEADER, RECORD_HEADER, Refused, places
 from wrapper.program import NOT_RUN
