@@ -5,6 +5,7 @@ pub mod Gen
 pub mod Held
 pub mod Inner
 pub mod Join
+pub mod Limits
 pub mod Loading
 pub mod Outside
 pub mod Run

@@ -6,17 +6,20 @@
 //! - [`commands`] has a module for each command;
 //! - [`load`] reads a file and the script whole, [`capture`] finds and opens a capture, [`records`] reads one whole;
 //! - [`held`] is a source over bytes in memory, and reads the header of a capture there;
-//! - [`end`] has the ends of a call, their statuses and lines.
+//! - [`end`] has the ends of a call, their statuses and lines;
+//! - [`limits_are_stated`] gives the limit of a report its number.
 #![tactic(auto)]
 
 mod capture;
 mod commands;
 mod end;
 mod held;
+mod limits;
 mod load;
 mod records;
 mod top;
 mod words;
 
 pub use end::{End, Input, stop};
+pub use limits::limits_are_stated;
 pub use top::spin;
