@@ -14,12 +14,11 @@
 
 mod natives;
 
-ghost use Rattle.std.specs.Prelude.{IfOk};
 ghost use Rattle.spin_main.specs.Natives as program;
 ghost use Rattle.spin_top.specs.Outside.{outside};
 ghost use Rattle.spin_top.specs.Statuses.{Call, IsStatus};
 
-use crate::natives::{IsIpv4, first_word_object, natives_of, own_two_object};
+use crate::natives::{boxed_objects, natives_of};
 use spin_endpoint::{Endpoint, Ends, EndsSeen, FileEnd};
 use spin_objects::{Guard, Handler};
 use spin_outside::{FolderShelf, OpenGate, Shelf, Sink, StdSink};
@@ -51,7 +50,7 @@ fn words_of<R: Env + AllocGlobal>(rt: &R) -> Result<Vec<Text>, NoMemory> {
     }
 }
 
-/// Does what the words say, with the natives of the program.
+/// Does what the words say, with the natives of the program, and answers the status.
 fn run_with_natives<R: Threads + Sync, F: Shelf, K: Sink>(
     rt: &R,
     alloc: Global,
@@ -59,30 +58,39 @@ fn run_with_natives<R: Threads + Sync, F: Shelf, K: Sink>(
     shelf: &mut F,
     out: &mut K,
     ends: &mut Ends,
-) -> Result<u8, NoMemory>
-    ensures { IfOk result (λ status. let call : Call = record {
+) -> u8
+    ensures { let call : Call = record {
       natives = program.natives;
       words = words.now;
       before = outside (F.seen shelf.old) (K.seen out.old) (⟦<Ends as EndsSeen>⟧.all ends.old);
       after = outside (F.seen shelf.new) (K.seen out.new) (⟦<Ends as EndsSeen>⟧.all ends.new);
-      status = status;
+      status = result;
     } in
-        IsStatus call) }
+        IsStatus call }
 {
-    let handler: Box<dyn Handler + Send + Sync> = Box::new(alloc, first_word_object(alloc)?)?;
-    let guard: Box<dyn Guard + Send + Sync> = Box::new(alloc, IsIpv4)?;
-    let authoriser: Box<dyn Authoriser + Send + Sync> = Box::new(alloc, own_two_object(alloc)?)?;
-    let natives = natives_of(alloc, handler, guard, authoriser)?;
-    Ok(spin(rt, alloc, words, shelf, out, natives, ends, &OpenGate))
+    let (handler, guard, authoriser) = match boxed_objects(alloc) {
+        Ok(objects) => objects,
+        Err(NoMemory) => return stop(out, End::NoMemory),
+    };
+    let handler: Box<dyn Handler + Send + Sync> = handler;
+    let guard: Box<dyn Guard + Send + Sync> = guard;
+    let authoriser: Box<dyn Authoriser + Send + Sync> = authoriser;
+    let natives = match natives_of(alloc, handler, guard, authoriser) {
+        Ok(natives) => natives,
+        Err(NoMemory) => return stop(out, End::NoMemory),
+    };
+    spin(rt, alloc, words, shelf, out, natives, ends, &OpenGate)
 }
 
-/// Does what the words of the command line say, over the working folder.
+/// Does what the words of the command line say, over the working folder, and answers the status.
 fn run<R: Env + Files + Threads + Sync + AllocGlobal, K: Sink>(
     rt: &R,
     out: &mut K,
     ends: &mut Ends,
-) -> Result<u8, NoMemory> {
-    let words = words_of(rt)?;
+) -> u8 {
+    let Ok(words) = words_of(rt) else {
+        return stop(out, End::NoMemory);
+    };
     let mut shelf = FolderShelf::new(rt.alloc(), rt);
     run_with_natives(rt, rt.alloc(), &words, &mut shelf, out, ends)
 }
@@ -141,8 +149,5 @@ fn main(rt: HostRuntime) -> ExitCode {
     if let Err(_) = ends.add(name, end) {
         return ExitCode::from(stop(&mut out, End::NoMemory));
     }
-    match run(&rt, &mut out, &mut ends) {
-        Ok(status) => ExitCode::from(status),
-        Err(NoMemory) => ExitCode::from(stop(&mut out, End::NoMemory)),
-    }
+    ExitCode::from(run(&rt, &mut out, &mut ends))
 }

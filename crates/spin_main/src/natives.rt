@@ -92,7 +92,7 @@ fn first_word(alloc: Global) -> Result<Act, NoMemory>
 }
 
 /// The object that is handed in as `first_word`.
-pub fn first_word_object(alloc: Global) -> Result<Doer, NoMemory>
+fn first_word_object(alloc: Global) -> Result<Doer, NoMemory>
     ensures { IfOk result (λ doer. doer.act ≡ specs.first_word) }
 {
     Ok(Doer {
@@ -120,12 +120,23 @@ fn own_two(alloc: Global) -> Result<Policy, NoMemory>
 }
 
 /// The object that is handed in as `own_two`.
-pub fn own_two_object(alloc: Global) -> Result<Follower, NoMemory>
+fn own_two_object(alloc: Global) -> Result<Follower, NoMemory>
     ensures { IfOk result (λ follower. follower.policy ≡ specs.own_two) }
 {
     Ok(Follower {
         policy: own_two(alloc)?,
     })
+}
+
+/// The objects that are handed in, each in its box: the handler, the guard and the authoriser.
+pub fn boxed_objects(alloc: Global) -> Result<(Box<Doer>, Box<IsIpv4>, Box<Follower>), NoMemory>
+    ensures handler { IfOk result (λ objects. objects.0.value.act ≡ specs.first_word) }
+    ensures authoriser { IfOk result (λ objects. objects.2.value.policy ≡ specs.own_two) }
+{
+    let handler = Box::new(alloc, first_word_object(alloc)?)?;
+    let guard = Box::new(alloc, IsIpv4)?;
+    let authoriser = Box::new(alloc, own_two_object(alloc)?)?;
+    Ok((handler, guard, authoriser))
 }
 
 /// The answer to a native that nothing but want of memory refuses.

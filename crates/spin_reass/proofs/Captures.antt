@@ -1,5 +1,5 @@
 -- The joined capture is a capture.
-use Rattle.std.proofs.Common.{◌≡◌, ◌≤◌, ◌<◌, ◌+◌, ◌-◌, ◌^◌, ℕ, true, false, cond, nat_lt, not, List, [], ◌∷◌, ◌++◌, length, take, drop, max, replicate, Option, Some, None, Ok, refl, sym, ap, subst, ◌∙◌, arith, append_assoc, inl, inr}
+use Rattle.std.proofs.Common.{◌≡◌, ◌≢◌, ◌≤◌, ◌<◌, ◌+◌, ◌-◌, ◌^◌, ℕ, true, false, cond, nat_lt, not, List, [], ◌∷◌, ◌++◌, length, take, drop, max, replicate, Option, Some, None, Ok, refl, sym, ap, subst, ◌∙◌, arith, append_assoc, inl, inr}
 use Rattle.std.proofs.lemmas.Bool.{cases_Bool, cond-true, cond-false, cond_both, le-ltb, ltb-false, not-false}
 use Rattle.std.proofs.lemmas.List.{length-append, length-take, length-replicate}
 use Rattle.std.specs.Bool.{⊤}
@@ -13,6 +13,7 @@ use Rattle.spin_pcap.specs.declared.next.Next.TheVariants as next
 use Rattle.spin_pcap.specs.declared.order.Order.{Order}
 use Rattle.spin_pcap.specs.declared.order.Order.TheVariants as order
 use Rattle.spin_pcap.specs.Captures.{captured, header_of, fields_of, order_of, IsRecord, IsRest, IsBody}
+use Rattle.spin_pcap.specs.Passing.{IsCutShort}
 use Rattle.spin_reass.specs.declared.piece.Key.{Key}
 use Rattle.spin_reass.specs.declared.piece.Part.{Part}
 use Rattle.spin_reass.specs.declared.piece.Piece.{Piece}
@@ -111,7 +112,7 @@ says n other l = little_number-reads_back 4 n (little_bytes 4 other) l
 record_size : (n other : ℕ) → length (record_header n other) ≡ 16
 record_size n other = refl
 
-is_record : (given : ℕ) (frame rest : List ℕ) → given < MAX_RECORDS → length frame ≤ MAX_CAPTURED → IsRecord order.Little given (record_of frame ++ rest) frame rest
+pub is_record : (given : ℕ) (frame rest : List ℕ) → given < MAX_RECORDS → length frame ≤ MAX_CAPTURED → IsRecord order.Little given (record_of frame ++ rest) frame rest
 is_record given frame rest few small = record {
   few = few;
   header = record_header (length frame) (length frame);
@@ -153,6 +154,17 @@ is_rest way given bytes (next.Cut count) h = record {
   begun = λ le. (let s = rest_says count le in let b = h.begun le in (omega arith, omega (arith, b.0, b.1)));
 }
 
+-- a rest that a reader may answer, as it is written
+pub cut_is_rest : (given : ℕ) (ending : Next) → ending ≢ next.Packet → IsCutShort given (Ok ending) → IsRest order.Little given (rest_of ending) (Ok ending)
+cut_is_rest given next.Packet end short = absurd (end refl)
+cut_is_rest given next.End end short = refl
+cut_is_rest given (next.Cut count) end short = record {
+  some = short.1;
+  size = rest_length count;
+  few = short.0;
+  begun = λ le. (let s = rest_says count le in (omega arith, omega (arith, short.2)));
+}
+
 is_body : (way : Order) (given : ℕ) (bytes : List ℕ) (frames : List (List ℕ)) (ending : Next) (datagrams : List OpenDatagram) → AllOrderly datagrams → IsBody way given bytes frames (Ok ending) → IsBody order.Little given (flat_map record_of (joined_frames datagrams frames) ++ rest_of ending) (joined_frames datagrams frames) (Ok ending)
 is_body way given bytes [] ending datagrams h b = is_rest way given bytes ending b
 is_body way given bytes (frame ∷ frames) ending datagrams h b =
@@ -169,7 +181,7 @@ is_body way given bytes (frame ∷ frames) ending datagrams h b =
 
 -- ---- the header
 
-is_header : (rest : List ℕ) → header_of (file_header ++ rest) ≡ Ok order.Little
+pub is_header : (rest : List ℕ) → header_of (file_header ++ rest) ≡ Ok order.Little
 is_header rest =
     let long = length-append file_header rest in
     cond-false (nat_lt (length (file_header ++ rest)) 24) _ (fields_of (order_of (file_header ++ rest)) (file_header ++ rest)) (le-ltb (length (file_header ++ rest)) 24 (omega arith))

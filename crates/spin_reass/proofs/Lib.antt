@@ -3,6 +3,7 @@ mod Covers
 mod Frames
 mod Gathering
 mod Gathers
+mod Given
 mod Opens
 mod Orders
 mod Positions

@@ -30,7 +30,7 @@ pub told_more : {X : Type 0} (P Q : X → Type 0) (o : Option X) → IfSome o P 
 told_more P Q None p h = tt
 told_more P Q (Some x) p h = h x p
 
-flat_push : (f : List ℕ → List ℕ) (xs : List (List ℕ)) (y : List ℕ) → flat_map f (xs ++ y ∷ []) ≡ flat_map f xs ++ f y
+pub flat_push : (f : List ℕ → List ℕ) (xs : List (List ℕ)) (y : List ℕ) → flat_map f (xs ++ y ∷ []) ≡ flat_map f xs ++ f y
 flat_push f [] y = append-nil (f y)
 flat_push f (x ∷ xs) y = ap (λ z. f x ++ z) (flat_push f xs y) ∙ sym (append_assoc (f x) (flat_map f xs) (f y))
 
@@ -132,10 +132,10 @@ capture_stopped file way header out stop.NoMemory h b = tt
 
 -- ---- one call of the reader
 
-reading : (st : State) (X Y : Type 0) → st ≡ state.Reading → IfReading st X Y → X
+pub reading : (st : State) (X Y : Type 0) → st ≡ state.Reading → IfReading st X Y → X
 reading st X Y e h = subst (λ (s : State). IfReading s X Y) e h
 
-abbrev after : ReaderState → ReaderState → Result Next PcapFault → ReaderState
+abbrev pub after : ReaderState → ReaderState → Result Next PcapFault → ReaderState
 after reader reader' answer = record reader { held = reader'.held; given = given_after reader.given answer; state = state_after answer }
 
 pub after_packet : (reader reader' : ReaderState) (answer : Next) (B : Type 0) → reader.state ≡ state.Reading → answer ≡ next.Packet → IfReading reader.state (reader' ≡ after reader reader' (Ok answer)) B → (reader'.state ≡ state.Reading) × (reader'.order ≡ reader.order) × (reader'.given ≡ reader.given + 1)

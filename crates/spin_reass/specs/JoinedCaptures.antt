@@ -70,6 +70,10 @@ IsJoined file (Err (stop.Capture at fault)) = IsRefused file at fault
 IsJoined file (Err stop.ReadFault) = ⊤
 IsJoined file (Err stop.NoMemory) = ⊤
 
+-- The bytes are the joined capture of some good capture.
+abbrev pub IsJoinedCapture : List ℕ → Type 0
+IsJoinedCapture bytes = (file : List ℕ) × IsJoined file (Ok bytes)
+
 -- Only a failed read raises the source's count of faults.
 abbrev pub JoinsByCount : {T : Type 0} → ℕ → ℕ → Result T JoinFault → Type 0
 JoinsByCount before now (Ok bytes) = now ≡ before

@@ -1,9 +1,9 @@
 //! Captures in which fragmented datagrams are made whole.
 
-ghost use Rattle.std.specs.Prelude.{◌≡◌, IfSome};
+ghost use Rattle.std.specs.Prelude.{◌≡◌, IfOk, IfSome};
 ghost use Rattle.spin_pcap.specs.Passing.{left_for};
-ghost use Rattle.spin_reass.specs.Inner.Reading.{IsFreshReader, JoinsBody};
-ghost use Rattle.spin_reass.specs.JoinedCaptures.{IsJoined, JoinsByCount};
+ghost use Rattle.spin_reass.specs.Inner.Reading.{IsFreshReader, JoinsBody, JoinsSome};
+ghost use Rattle.spin_reass.specs.JoinedCaptures.{IsJoined, IsJoinedCapture, JoinsByCount};
 
 use crate::fault::JoinFault;
 use crate::joiner::Joiner;
@@ -23,6 +23,7 @@ fn join_records<S: Source>(
     requires { IsFreshReader reader.old }
     ensures joined { IfSome (left_for reader.old.held (S.seen source.old).left)
         (λ bytes. JoinsBody reader.old.order bytes out.old.items out.new.items result) }
+    ensures some { JoinsSome out.old.items out.new.items result }
     ensures keep { (S.seen source.new).keep ≡ (S.seen source.old).keep }
     ensures cause { JoinsByCount (S.seen source.old).faults (S.seen source.new).faults result }
 {
@@ -42,7 +43,8 @@ fn join_records<S: Source>(
 }
 
 /// The joined capture of the capture that the source gives, which is read to its end: its records in order, with the
-/// fragmented datagrams made whole, and a rest that is as long as the capture's.
+/// fragmented datagrams made whole, and a rest that is as long as the capture's. What it answers is a joined capture also
+/// where the source doesn't tell what it has left.
 ///
 /// [`JoinFault::Capture`] comes exactly where the capture is bad, at the record of that number from 1, or 0 for the
 /// header. [`JoinFault::ReadFault`] comes only where the source's count of faults rose, and [`JoinFault::NoMemory`]
@@ -53,6 +55,7 @@ fn join_records<S: Source>(
 /// the parts of at most 64 datagrams of at most 65,515 bytes each.
 pub fn join_capture<S: Source>(alloc: Global, source: &mut S) -> Result<Octets, JoinFault>
     ensures joined { IfSome (S.seen source.old).left (λ file. IsJoined file result) }
+    ensures capture { IfOk result IsJoinedCapture }
     ensures keep { (S.seen source.new).keep ≡ (S.seen source.old).keep }
     ensures cause { JoinsByCount (S.seen source.old).faults (S.seen source.new).faults result }
 {

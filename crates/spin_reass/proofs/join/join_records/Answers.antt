@@ -1,5 +1,6 @@
-use Rattle.std.proofs.Common.{◌≡◌, length, rules, ap, refl, ◌∙◌, arith}
+use Rattle.std.proofs.Common.{◌≡◌, Ok, length, rules, ap, refl, ◌∙◌, arith}
 use Rattle.spin_pcap.specs.Passing.{left_for}
+use Rattle.spin_reass.proofs.Given.{given_none, given_packet, given_end, given_cut}
 use Rattle.spin_reass.proofs.Reading.{told_each, told_more, joined_none, after_packet, packet_few, next_packet, ends_joined, cuts_joined, stops_joined}
 use Rattle.spin_reass.proofs.join.join_records.Goals as goal
 
@@ -8,6 +9,7 @@ records-init g c = record {
   reading = c.requires.1;
   order = refl;
   joined = told_each _ (left_for c.args.reader.now.held (g.S.Source.seen c.args.source.now).left) (λ bytes told. joined_none _ bytes _ _ _ _ c.requires.0 c.new-joiner.ensures told);
+  given = given_none _ _ _ c.requires.0 c.new-joiner.ensures;
   keep = refl;
   stood = refl;
 }
@@ -27,6 +29,7 @@ records-preserved g c =
       order = after.1 ∙ i.order;
       joined = told_more _ _ (left_for c.args.reader.now.held (g.S.Source.seen c.args.source.now).left) i.joined (λ bytes h.
           next_packet _ bytes _ c.records.reader c.next.new.self c.in-Ok-Packet.field-0 _ _ c.records.joiner c.join.new.self c.records.out.items _ c.next.new.frame c.join.new.frame _ _ i.reading i.order c.in-Ok-Packet.field-0-is c.in-Ok-Packet.ensures.answer c.in-Ok-Packet.ensures.reader c.in_ok-join-in-Ok-Packet.ensures.datagrams c.in_ok-join-in-Ok-Packet.ensures.frame (search rules) h);
+      given = given_packet _ c.records.reader c.next.new.self c.in-Ok-Packet.field-0 c.records.joiner c.join.new.self c.records.out.items _ _ c.next.new.frame c.join.new.frame _ i.reading c.in-Ok-Packet.field-0-is c.in-Ok-Packet.ensures.passed.2 (c.in-Ok-Packet.ensures.few (ap Ok c.in-Ok-Packet.field-0-is)) c.in-Ok-Packet.ensures.reader c.in_ok-join-in-Ok-Packet.ensures.datagrams c.in_ok-join-in-Ok-Packet.ensures.frame (search rules) i.given;
       keep = c.next.ensures.passed.1.keep ∙ i.keep;
       stood = c.in-Ok-Packet.ensures.cause ∙ i.stood;
     }
@@ -36,6 +39,14 @@ returns-in-Ok-End-clause-joined g c =
     let i = c.records.invariant in
     told_more _ _ (left_for c.args.reader.now.held (g.S.Source.seen c.args.source.now).left) i.joined (λ bytes h.
     ends_joined _ bytes _ c.records.reader c.in-Ok-End.field-0 _ _ c.records.joiner c.records.out.items c.next.new.frame _ i.reading i.order c.in-Ok-End.field-0-is c.in-Ok-End.ensures.answer h)
+
+pub returns-in-Ok-End-clause-some : goal.returns-in-Ok-End-clause-some
+returns-in-Ok-End-clause-some g c = given_end _ _ _ _ c.records.invariant.given
+
+pub returns-in-Ok-Cut-clause-some : goal.returns-in-Ok-Cut-clause-some
+returns-in-Ok-Cut-clause-some g c =
+    let i = c.records.invariant in
+    given_cut _ c.records.reader c.in-Ok-Cut.field-0 c.in-Ok-Cut.count _ _ i.reading c.in-Ok-Cut.field-0-is c.in-Ok-Cut.ensures.cut i.given
 
 pub returns-in-Ok-Cut-clause-joined : goal.returns-in-Ok-Cut-clause-joined
 returns-in-Ok-Cut-clause-joined g c =
