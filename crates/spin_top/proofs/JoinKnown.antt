@@ -20,7 +20,7 @@ use Rattle.spin_top.specs.Join.{IsJoinedFile, JoinHasCause, JoinKnows, KnowsBadC
 use Rattle.spin_top.specs.Loading.{KnowsNoScript, KnowsRefused}
 use Rattle.spin_top.specs.Outside.{Outside}
 use Rattle.spin_top.specs.Run.{IsComplete, KnowsNoCapture}
-use Rattle.spin_top.proofs.OneReading.{good_header, headers_differ, lacking_at, loaded_nothing, loaded_text, neither, refused_nothing, script_good, script_there}
+use Rattle.spin_top.proofs.OneReading.{good_header, headers_differ, lacking_at, loaded_nothing, loaded_text, refused_nothing, script_good, script_there}
 use Rattle.spin_top.proofs.RunKnown.{endpoint_rose}
 
 some_not_none : {X : Type 0} (x : X) → Some x ≡ None → ⊥
@@ -68,9 +68,6 @@ bad_at files held name at fault told is = subst (λ f. IfSome f (λ held. IsBadA
 file_at : (natives : NativeData) (before after : Outside) (held : List File) (name packets : List ℕ) (ended : RunEnd) → before.shelf.files ≡ Some held → (ran : RanJoined natives before after name packets ended) → IsJoinedFile held packets ran.bytes
 file_at natives before after held name packets ended told ran = subst (λ f. IfSome f (λ held. IsJoinedFile held packets ran.bytes)) told ran.joined
 
-untold : (files : Option (List File)) (held : List File) → files ≡ Some held → files ≡ None → ⊥
-untold files held told none = some_not_none held (sym told ∙ none)
-
 -- ---- a text that is no script
 
 refused_at : (natives : NativeData) (before after : Outside) (name packets : List ℕ) (status : ℕ) (end : End) → status ≡ number end → JoinHasCause natives before after name packets end → KnowsRefused natives before after name status
@@ -78,9 +75,7 @@ refused_at natives before after name packets status Whole is cause held text hol
     absurd (none (loaded_text natives before.shelf held name text cause.2.over.script holds cause.2.over.loaded))
 refused_at natives before after name packets status (Refused line number) is cause held text holds none calm = inl is
 refused_at natives before after name packets status (Capture number fault) is cause held text holds none calm =
-    absurd (neither cause.1
-    (λ by. none (loaded_text natives before.shelf held name text by.0 holds by.1))
-    (λ ran. untold before.shelf.files held holds.told ran.0))
+    absurd (none (loaded_text natives before.shelf held name text cause.1 holds cause.2))
 refused_at natives before after name packets status (Unread Script) is cause held text holds none calm = absurd (calm cause.0.faults)
 refused_at natives before after name packets status (Unread Packets) is cause held text holds none calm = absurd (calm cause.0.faults)
 refused_at natives before after name packets status WriteFault is cause held text holds none calm =
@@ -102,9 +97,7 @@ absent_at natives before after name packets status Whole is cause held lacks cal
 absent_at natives before after name packets status (Refused line number) is cause held lacks calm =
     absurd (refused_nothing natives before.shelf held name line number lacks cause.1)
 absent_at natives before after name packets status (Capture number fault) is cause held lacks calm =
-    absurd (neither cause.1
-    (λ by. loaded_nothing natives before.shelf held name by.0 lacks by.1)
-    (λ ran. untold before.shelf.files held lacks.told ran.0))
+    absurd (loaded_nothing natives before.shelf held name cause.1 lacks cause.2)
 absent_at natives before after name packets status (Unread Script) is cause held lacks calm = absurd (calm cause.0.faults)
 absent_at natives before after name packets status (Unread Packets) is cause held lacks calm = absurd (calm cause.0.faults)
 absent_at natives before after name packets status WriteFault is cause held lacks calm =
@@ -132,9 +125,7 @@ lost_at natives before after name packets status Whole is cause held text captur
 lost_at natives before after name packets status (Refused line number) is cause held text capture holds script named lacking calm =
     absurd (script_good natives before.shelf held name text line number holds script cause.1)
 lost_at natives before after name packets status (Capture number fault) is cause held text capture holds script named lacking calm =
-    absurd (neither cause.1
-    (λ by. some_not_none _ (sym (bad_at before.shelf.files held packets number fault holds.told by.2).found ∙ ap (content held) (some_is packets capture named) ∙ lacking))
-    (λ ran. untold before.shelf.files held holds.told ran.0))
+    absurd (some_not_none _ (sym (bad_at before.shelf.files held packets number fault holds.told cause.3).found ∙ ap (content held) (some_is packets capture named) ∙ lacking))
 lost_at natives before after name packets status (Unread Script) is cause held text capture holds script named lacking calm = absurd (calm cause.0.faults)
 lost_at natives before after name packets status (Unread Packets) is cause held text capture holds script named lacking calm = absurd (calm cause.0.faults)
 lost_at natives before after name packets status WriteFault is cause held text capture holds script named lacking calm =
@@ -182,9 +173,7 @@ complete_at natives before after name packets status Whole is cause held text ho
 complete_at natives before after name packets status (Refused line number) is cause held text holds script good calm =
     absurd (script_good natives before.shelf held name text line number holds script cause.1)
 complete_at natives before after name packets status (Capture number fault) is cause held text holds script good calm =
-    absurd (neither cause.1
-    (λ by. good_bad_at held packets good.0 good.1 number fault good.2 (bad_at before.shelf.files held packets number fault holds.told by.2))
-    (λ ran. untold before.shelf.files held holds.told ran.0))
+    absurd (good_bad_at held packets good.0 good.1 number fault good.2 (bad_at before.shelf.files held packets number fault holds.told cause.3))
 complete_at natives before after name packets status (Unread Script) is cause held text holds script good calm = absurd (calm.faults cause.0.faults)
 complete_at natives before after name packets status (Unread Packets) is cause held text holds script good calm = absurd (calm.faults cause.0.faults)
 complete_at natives before after name packets status WriteFault is cause held text holds script good calm = absurd (calm.sink cause.1)

@@ -1,3 +1,4 @@
+pub mod Ascii
 pub mod CheckCauses
 pub mod CheckKnown
 pub mod Exactly

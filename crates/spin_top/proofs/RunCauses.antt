@@ -2,7 +2,7 @@
 use Rattle.std.proofs.Common.{◌≡◌, ◌+◌, ℕ, Option, Some, None, List, [], length, drop, refl, sym, ap, subst, ◌∙◌, arith, inl, inr, IfSome}
 use Rattle.std.specs.Prelude.{Result, Ok, ◌≢◌}
 use Rattle.spin_outside.specs.Counts.{Rose}
-use Rattle.spin_outside.specs.Files.{File, OthersKeep}
+use Rattle.spin_outside.specs.Files.{File, content, OthersKeep}
 use Rattle.spin_outside.specs.Seen.{ShelfSeen, SinkSeen}
 use Rattle.spin_outside.specs.Sources.{SourceSeen, file_seen, taken_more, told_reads}
 use Rattle.spin_endpoint.specs.Named.{NamedEnd}
@@ -20,7 +20,7 @@ use Rattle.spin_run.specs.Records.{AreLeftBy, AreRecords, IsTakenPast, room_of}
 use Rattle.spin_top.specs.declared.end.End.{End}
 use Rattle.spin_top.specs.declared.end.End.TheVariants.{Refused, Capture, Unread, Absent, NoMemory}
 use Rattle.spin_top.specs.declared.end.Input.TheVariants.{Script, Packets}
-use Rattle.spin_top.specs.Captures.{AreOpened, AreRecordsOf, HasBadHeader, HasHeader, IsBehindHeader, IsCaptureFile, IsLackingCapture, IsOpened, IsTakenUnder, NoCaptureBy}
+use Rattle.spin_top.specs.Captures.{AreOpened, AreRecordsOf, HasBadHeader, HasHeader, IsGoodHeader, IsBehindHeader, IsCaptureFile, IsLackingCapture, IsOpened, IsTakenUnder, NoCaptureBy}
 use Rattle.spin_top.specs.Ends.{Tells, stop_line}
 use Rattle.spin_top.specs.Inner.Running.{RunsOver}
 use Rattle.spin_top.specs.Loading.{IsLoaded, NoScriptBy}
@@ -28,6 +28,7 @@ use Rattle.spin_top.specs.Shelves.{ReadsOnly, ShelfStood}
 use Rattle.spin_top.specs.Outside.{OnlyStops, Outside, outside}
 use Rattle.spin_top.specs.Run.{Ran, RunHasCause, end_of}
 use Rattle.spin_pcap.proofs.Passed.{more_none, more_twice}
+use Rattle.spin_top.proofs.Ascii.{script_no_capture}
 use Rattle.spin_top.proofs.Opening.{still_named}
 use Rattle.spin_top.proofs.Shelf.{stood_failed, stood_lacked, stood_stood}
 
@@ -136,14 +137,23 @@ taken_to : (after : ShelfSeen) (source : SourceSeen) (packets : Option (List ℕ
 taken_to after source None = tt
 taken_to after source (Some name) = told_in after.files name after.reads (after.reads name) refl
 
-kept_reads_of : (before loaded : ShelfSeen) (name capture : List ℕ) (files : Option (List File)) → loaded.files ≡ files → Some capture ≢ Some name → IfSome files (λ _. OthersKeep before.reads loaded.reads name) → IfSome files (λ _. told_reads loaded.files (Some capture) loaded.reads ≡ Some (before.reads capture))
+kept_reads_of : (before loaded : ShelfSeen) (name capture : List ℕ) (files : Option (List File)) → loaded.files ≡ files → ((held : List File) → files ≡ Some held → Some capture ≢ Some name) → IfSome files (λ _. OthersKeep before.reads loaded.reads name) → IfSome files (λ _. told_reads loaded.files (Some capture) loaded.reads ≡ Some (before.reads capture))
 kept_reads_of before loaded name capture None told other reads = tt
 kept_reads_of before loaded name capture (Some held) told other reads =
-    ap (λ f. told_reads f (Some capture) loaded.reads) told ∙ ap Some (reads capture (λ same. other (ap Some same)))
+    ap (λ f. told_reads f (Some capture) loaded.reads) told ∙ ap Some (reads capture (λ same. other held refl (ap Some same)))
 
-taken_from : (before loaded : ShelfSeen) (source : SourceSeen) (name : List ℕ) (packets : Option (List ℕ)) → loaded.files ≡ before.files → packets ≢ Some name → ReadsOnly before loaded name → IsTakenUnder packets before (from_of loaded source packets)
+taken_from : (before loaded : ShelfSeen) (source : SourceSeen) (name : List ℕ) (packets : Option (List ℕ)) → loaded.files ≡ before.files → ((held : List File) → before.files ≡ Some held → packets ≢ Some name) → ReadsOnly before loaded name → IsTakenUnder packets before (from_of loaded source packets)
 taken_from before loaded source name None files other reads = tt
 taken_from before loaded source name (Some capture) files other reads = kept_reads_of before loaded name capture before.files files other reads
+
+-- where the shelf tells its files, the script and the capture aren't one file
+apart : (natives : NativeData) (files : Option (List File)) (held : List File) (name : List ℕ) (packets : Option (List ℕ)) (script : ScriptData) → files ≡ Some held → IsLoaded natives files name script → HasHeader files packets → packets ≢ Some name
+apart natives files held name None script told loaded header same = cc
+apart natives files held name (Some capture) script told loaded header same =
+    let read : content held name ≡ Some loaded.text = subst (λ f. IfSome f (λ held. content held name ≡ Some loaded.text)) told loaded.read in
+    let good : IsGoodHeader held capture = subst (λ f. IfSome f (λ held. IsGoodHeader held capture)) told header in
+    let text : good.bytes ≡ loaded.text = some_is _ _ (sym good.found ∙ ap (content held) (some_is capture name same) ∙ read) in
+    script_no_capture natives loaded.text script good.order loaded.reads (subst (λ b. header_of b ≡ Ok good.order) text good.header)
 
 pub none_taken : (past : ℕ) (a b : Option ℕ) (from to : SourceSeen) (frames : List (List ℕ)) → from.taken ≡ a → to.taken ≡ b → b ≡ taken_more a 0 → IsTakenPast past from to frames
 none_taken past a b from to frames is is' same = record {
@@ -215,11 +225,12 @@ counts_moved names a b from to (run.Endpoint p) is is' h = (is' ∙ h.0 ∙ sym 
 
 pub was_run : (natives : NativeData) (before after : Outside) (loaded_shelf opened_shelf : ShelfSeen) (sink : SinkSeen) (name : List ℕ) (packets : Option (List ℕ)) (script : ScriptData) (file : ℕ) (reader : Option ReaderState) (ended : RunEnd) → ShelfStood before.shelf loaded_shelf → IsLoaded natives before.shelf.files name script → AreOpened loaded_shelf opened_shelf packets file reader → ReadsOnly before.shelf loaded_shelf name → RunsOver script file reader (outside opened_shelf before.sink before.ends) (outside after.shelf sink after.ends) ended → Tells sink after.sink (stop_line (end_of ended)) → RunHasCause natives before after name packets (end_of ended)
 was_run natives before after loaded_shelf opened_shelf sink name packets script file reader ended stood loaded opened reads over line =
+    let header : HasHeader before.shelf.files packets = subst (λ files. HasHeader files packets) stood.files (has_header loaded_shelf opened_shelf packets file reader opened) in
     let ran : Ran natives before after name packets ended = record {
-      header = subst (λ files. HasHeader files packets) stood.files (has_header loaded_shelf opened_shelf packets file reader opened);
+      header = header;
       from = from_of loaded_shelf (file_seen opened_shelf file over.reference) packets;
       to = from_of after.shelf (file_seen after.shelf over.file' over.reference') packets;
-      taken = λ other. (taken_from before.shelf loaded_shelf (file_seen opened_shelf file over.reference) name packets stood.files other reads, taken_to after.shelf (file_seen after.shelf over.file' over.reference') packets);
+      taken = (taken_from before.shelf loaded_shelf (file_seen opened_shelf file over.reference) name packets stood.files (λ held told. apart natives before.shelf.files held name packets script told loaded header) reads, taken_to after.shelf (file_seen after.shelf over.file' over.reference') packets);
       over = record {
         script = script;
         loaded = loaded;

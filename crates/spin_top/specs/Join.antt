@@ -37,10 +37,13 @@ AreRecordsIn bytes frames rest =
     (ending : Result Next PcapFault) × (rest ≡ Some ending)
     × (order : Order) × IsCapture bytes order frames ending
 
--- The whole file of that name was read, and these bytes are its joined capture.
+-- The whole file of that name was read, and these bytes are its joined capture. Where the shelf tells nothing they are the
+-- joined capture of some good one.
 abbrev pub IsJoinedBy : ShelfSeen → ShelfSeen → List ℕ → List ℕ → Type 0
 IsJoinedBy before after name bytes =
-    ShelfStood before after × IfSome before.files (λ held. IsJoinedFile held name bytes)
+    ShelfStood before after
+    × IfSome before.files (λ held. IsJoinedFile held name bytes)
+    × joined.IsJoinedCapture bytes
 
 -- ---- why
 
@@ -51,13 +54,15 @@ pub record RanJoined (natives : NativeData) (before after : Outside) (name packe
   -- the joined capture
   pub bytes : List ℕ
   pub joined : IfSome before.shelf.files (λ held. IsJoinedFile held packets bytes)
+  pub good : joined.IsJoinedCapture bytes
   -- what contracts see of it in memory, behind its header and when the run ended
   pub from : SourceSeen
   pub to : SourceSeen
   pub over : RanOver natives before after name (AreRecordsIn bytes) from to ended
 
 -- Why a run of this script over the joined capture ended so, what was written, and what the endpoints received. A
--- capture that isn't read or is bad stops before the run; that it is bad is known of a shelf that tells its files.
+-- capture that isn't read or is bad stops before the run, and nothing of the report was written; that it is bad is known of
+-- a shelf that tells its files.
 abbrev pub JoinHasCause : NativeData → Outside → Outside → List ℕ → List ℕ → End → Type 0
 JoinHasCause natives before after name packets Whole =
     ShelfStood before.shelf after.shelf × (after.sink.faults ≡ before.sink.faults)
@@ -68,11 +73,9 @@ JoinHasCause natives before after name packets (Refused line cause) =
     × OnlyStops before after (Refused line cause)
 JoinHasCause natives before after name packets (Capture at fault) =
     ShelfStood before.shelf after.shelf
-    × (((script : ScriptData) × IsLoaded natives before.shelf.files name script
+    × (script : ScriptData) × IsLoaded natives before.shelf.files name script
     × IfSome before.shelf.files (λ held. IsBadAt held packets at fault)
-    × OnlyStops before after (Capture at fault))
-    ⊎ ((before.shelf.files ≡ None)
-    × RanJoined natives before after name packets (run.Capture at fault)))
+    × OnlyStops before after (Capture at fault)
 JoinHasCause natives before after name packets (Unread Script) =
     ShelfFailed before.shelf after.shelf × OnlyStops before after (Unread Script)
 JoinHasCause natives before after name packets (Unread Packets) =

@@ -1,5 +1,5 @@
 -- The command `run`: why it ends so, and what its status tells.
-use Rattle.std.specs.Prelude.{◌≡◌, ◌≢◌, ◌+◌, ◌⊎◌, ℕ, Option, Some, None, List, Result}
+use Rattle.std.specs.Prelude.{◌≡◌, ◌+◌, ◌⊎◌, ℕ, Option, Some, None, List, Result}
 use Rattle.spin_outside.specs.Counts.{Rose}
 use Rattle.spin_outside.specs.Files.{File, content, IsLacking}
 use Rattle.spin_outside.specs.Seen.{SinkSeen}
@@ -56,8 +56,7 @@ pub record Ran (natives : NativeData) (before after : Outside) (name : List ℕ)
   -- the capture's file when it was found, and when the run ended
   pub from : SourceSeen
   pub to : SourceSeen
-  pub taken : packets ≢ Some name
-      → IsTakenUnder packets before.shelf from × IsTakenUnder packets after.shelf to
+  pub taken : IsTakenUnder packets before.shelf from × IsTakenUnder packets after.shelf to
   pub over : RanOver natives before after name (AreRecordsOf before.shelf.files packets) from to ended
 
 -- Why a run of these files ended so, what was written, and what the endpoints received.
