@@ -19,8 +19,8 @@ do_job-requires-clause-belongs g c =
     (call_belongs (data_of c.args.setup.now) s c.args.entry c.args.out.now c.args.sends.now c.in-Some.call now.calls.items c.pop_front.new.self.items now.index now.out now.sends
     c.in-Some.ensures.items c.requires.belong c.requires.few now.invariant).0
 
-pub loop-call-preserved-in_ok-do_job : goal.loop-call-preserved-in_ok-do_job
-loop-call-preserved-in_ok-do_job g c =
+pub loop-call-preserved-else-len-room : goal.loop-call-preserved-else-len-room
+loop-call-preserved-else-len-room g c =
     let d = data_of c.args.setup.now in
     let s = arc_value c.args.version.now in
     let now = c.loop-call in
