@@ -1,4 +1,4 @@
-use Rattle.std.proofs.Common.{◌≡◌, ◌<◌, ◌≤◌, ℕ, List, length, get_or, sym, ap, subst, ◌∙◌, arith}
+use Rattle.std.proofs.Common.{◌≡◌, ◌<◌, length, get_or, sym, subst, arith}
 use Rattle.std.specs.Prelude.{All, Decides}
 use Rattle.std.specs.Option.{option_map, option_copied}
 use Rattle.std.proofs.lemmas.Option.{get_or_from_slice_get}
@@ -8,9 +8,9 @@ use Rattle.spin_script.specs.Scripts.{script_seen}
 use Rattle.spin_script.specs.Segments.{IsOnLane}
 use Rattle.spin_script.specs.Soundness.{IsValidWork}
 use Rattle.spin_report.specs.Histories.{end_line}
-use Rattle.spin_report.specs.Runs.{frames_of, counts_of}
+use Rattle.spin_report.specs.Runs.{counts_of}
 use Rattle.spin_check.specs.RunTexts.{capture_of}
-use Rattle.spin_check.specs.Inner.Segments.{Mark, Goes, IsGoodMark, gone_to}
+use Rattle.spin_check.specs.Inner.Segments.{Goes, IsGoodMark, gone_to}
 use Rattle.spin_check.specs.Inner.Remains.{AreLeft}
 use Rattle.spin_check.proofs.Reporting.{on_whole_none, on_whole_more, room_here, no_more, whole_end, all_here}
 use Rattle.spin_check.proofs.check.are_left.Goals as goal
@@ -94,8 +94,8 @@ loop-number-preserved g c =
     (λ names ends are. subst (λ went. Goes script.setup script.lanes names number segment mark ends (gone_to went next)) c.if-not-went.false (c.in_ok-went.ensures.goes names ends are))
     (subst (λ went. IsGoodMark script.setup segment mark (gone_to went next)) c.if-not-went.false c.in_ok-went.ensures.good) c.loop-number.invariant
 
-pub is_end-requires-clause-left : goal.is_end-requires-clause-left
-is_end-requires-clause-left g c = c.loop-number.invariant.left
+pub is_end-requires : goal.is_end-requires
+is_end-requires g c = record { left = c.loop-number.invariant.left }
 
 pub returns : goal.returns
 returns g c = λ start flags.

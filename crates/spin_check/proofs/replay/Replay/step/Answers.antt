@@ -5,7 +5,7 @@ use Rattle.spin_word.specs.declared.command.TheConstants.{MAX_LANES, MAX_PLACE}
 use Rattle.spin_table.specs.SetupOf.{data_of}
 use Rattle.spin_table.specs.Soundness.{IsSound}
 use Rattle.spin_check.specs.Inner.Asks.{IsValid, commands_left}
-use Rattle.spin_check.specs.Inner.Replays.{At, DidJobs, AreLonger, IsFound, GoesOn}
+use Rattle.spin_check.specs.Inner.Replays.{At, DidJobs, IsFound, GoesOn}
 use Rattle.spin_check.proofs.Few.{entry_few}
 use Rattle.spin_check.proofs.Stepping.{no_room, goes_on}
 use Rattle.spin_check.proofs.replay.Replay.step.Goals as goal
@@ -28,7 +28,7 @@ returns-in_default g c =
     let i = c.self.inside in
     let now : At = record { state = arc_value i.version; queues = i.deeds; last = i.last; rest = i.rest.now; owed = i.owed; sends = i.sends; job_sends = i.job_sends } in
     let none : IsFound d now c.next_entry.new.deeds None = subst (IsFound d now c.next_entry.new.deeds) c.in_default.is (c.in_ok-next.ensures i.owed i.sends i.job_sends) in
-    subst (λ (a : At). GoesOn d a None) c.self.view_is none
+    subst (λ (a : At). GoesOn d a None) c.self.view_is (λ e next more h own jobs. absurd (none e next more h))
 
 pub do_jobs-requires-clause-sound : goal.do_jobs-requires-clause-sound
 do_jobs-requires-clause-sound g c =
@@ -63,11 +63,10 @@ returns-then-not-fits g c =
     let now : At = record { state = arc_value i.version; queues = i.deeds; last = i.last; rest = i.rest.now; owed = i.owed; sends = i.sends; job_sends = i.job_sends } in
     let found : IsFound d now c.next_entry.new.deeds (Some (c.in-Some.answered, c.in-Some.rest)) = subst (IsFound d now c.next_entry.new.deeds) c.in-Some.is (c.in_ok-next.ensures i.owed i.sends i.job_sends) in
     let answered = c.in-Some.answered in
-    let short : DidJobs d (arc_value answered.version) answered.entry c.len.result (i.owed, i.job_sends) (c.do_jobs.new.out, c.do_jobs.new.sends) false =
-    subst (DidJobs d (arc_value answered.version) answered.entry c.len.result (i.owed, i.job_sends) (c.do_jobs.new.out, c.do_jobs.new.sends)) c.if-not-fits.true c.in_ok-fits.ensures in
+    let short : DidJobs d (arc_value answered.version) answered.entry (length c.in-Some.rest.now) (i.owed, i.job_sends) (c.do_jobs.new.out, c.do_jobs.new.sends) false =
+    subst (DidJobs d (arc_value answered.version) answered.entry (length c.in-Some.rest.now) (i.owed, i.job_sends) (c.do_jobs.new.out, c.do_jobs.new.sends)) c.if-not-fits.true c.in_ok-fits.ensures in
     subst (λ (a : At). GoesOn d a None) c.self.view_is
-    (no_room d now c.next_entry.new.deeds answered c.in-Some.rest found
-    (λ own are. subst (λ n. AreLonger n now.owed own) c.len.ensures (short own are)))
+    (no_room d now c.next_entry.new.deeds answered c.in-Some.rest found short)
 
 pub returns : goal.returns
 returns g c =
@@ -85,7 +84,7 @@ returns g c =
       sends = c.add_of_entry.new.sends;
       job_sends = c.do_jobs.new.sends;
     } in
-    let jobs : DidJobs d (arc_value answered.version) answered.entry c.len.result (i.owed, i.job_sends) (c.do_jobs.new.out, c.do_jobs.new.sends) true =
-    subst (DidJobs d (arc_value answered.version) answered.entry c.len.result (i.owed, i.job_sends) (c.do_jobs.new.out, c.do_jobs.new.sends)) c.if-not-fits.false c.in_ok-fits.ensures in
+    let jobs : DidJobs d (arc_value answered.version) answered.entry (length c.in-Some.rest.now) (i.owed, i.job_sends) (c.do_jobs.new.out, c.do_jobs.new.sends) true =
+    subst (DidJobs d (arc_value answered.version) answered.entry (length c.in-Some.rest.now) (i.owed, i.job_sends) (c.do_jobs.new.out, c.do_jobs.new.sends)) c.if-not-fits.false c.in_ok-fits.ensures in
     subst (λ (a : At). GoesOn d a (Some after)) c.self.view_is
     (goes_on d now after answered c.in-Some.rest jobs.0 found refl (ap Some c.moment.ensures) refl jobs.1 jobs.2 c.in_ok-add_of_entry.ensures jobs.3)
