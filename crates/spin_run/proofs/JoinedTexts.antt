@@ -34,10 +34,8 @@ pub pieces_are : (retired first pieces : List (List ℕ)) (head : List ℕ) (ent
 pieces_are retired first pieces head entries jobs lost text text' text'' begun a b c pushed =
     let rest = entries ++ jobs ++ lost in
     let all : text'' ≡ text_of rest =
-    c ∙ ap (λ t. t ++ text_of lost) (b ∙ ap (λ t. t ++ text_of jobs) a)
-    ∙ append_assoc (text_of entries) (text_of jobs) (text_of lost)
-    ∙ ap (λ t. text_of entries ++ t) (sym (text_of-append jobs lost))
-    ∙ sym (text_of-append entries (jobs ++ lost)) in
+    c ∙ ap (λ t. t ++ text_of lost) (b ∙ ap (λ t. t ++ text_of jobs) a ∙ sym (text_of-append entries jobs))
+    ∙ sym (text_of-append (entries ++ jobs) lost) in
     let front : joined first ≡ joined retired ++ ended head =
     ap joined begun ∙ joined-append retired (ended head ∷ []) ∙ ap (λ t. joined retired ++ t) (append-nil (ended head)) in
     let made : joined pieces ≡ (joined retired ++ ended head) ++ text_of rest =

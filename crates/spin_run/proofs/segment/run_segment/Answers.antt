@@ -1,4 +1,4 @@
-use Rattle.std.proofs.Common.{◌≡◌, List, length, sym, ap, subst, ◌+◌, ◌++◌, ◌≤◌, ◌∙◌}
+use Rattle.std.proofs.Common.{◌≡◌, List, length, sym, ap, subst, ◌+◌, ◌≤◌, ◌∙◌}
 use Rattle.std.specs.Prelude.{All}
 use Rattle.std.specs.List.{AllZip}
 use Rattle.std.proofs.lemmas.Slice.Zip.{AllZip-long}
@@ -9,7 +9,7 @@ use Rattle.spin_table.specs.States.{State}
 use Rattle.spin_jobs.specs.Jobs.{CanRun, IsReplyTo}
 use Rattle.spin_report.specs.Segments.{asked_in, IsWoven}
 use Rattle.spin_run.specs.Lanes.{AreJobsOf}
-use Rattle.spin_run.specs.Segments.{front_of, state_of, jobs_seen}
+use Rattle.spin_run.specs.Segments.{front_of, jobs_seen}
 use Rattle.spin_run.proofs.Segmenting.{Facts, Wove, some_lane, known, trails_lanes, trails_order, jobs_lanes, jobs_order, few_jobs, jobs_can_run, woven_made, first, replay_first, jobs_left, front_told, front_after, state_after, ready_again, room_taken}
 use Rattle.spin_run.proofs.segment.run_segment.Goals as goal
 use Rattle.spin_script.specs.Soundness.{commands_in}
