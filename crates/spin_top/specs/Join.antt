@@ -8,7 +8,7 @@ use Rattle.spin_pcap.specs.declared.fault.PcapFault.{PcapFault}
 use Rattle.spin_pcap.specs.declared.next.Next.{Next}
 use Rattle.spin_pcap.specs.declared.order.Order.{Order}
 use Rattle.spin_pcap.specs.Captures.{IsCapture}
-use Rattle.spin_reass.specs.JoinedCaptures as joined
+use Rattle.spin_reass.specs.JoinedCaptures.{joined_capture, IsJoinedCapture}
 use Rattle.spin_script.specs.States.{NativeData, ScriptData}
 use Rattle.spin_run.specs.declared.end.RunEnd.{RunEnd}
 use Rattle.spin_run.specs.declared.end.RunEnd.TheVariants as run
@@ -29,7 +29,7 @@ pub record IsJoinedFile (held : List File) (name bytes : List ℕ) : Type 0 wher
   pub frames : List (List ℕ)
   pub last : Next
   pub file : IsCaptureFile held name frames (Ok last)
-  pub bytes_are : bytes ≡ joined.joined_capture frames last
+  pub bytes_are : bytes ≡ joined_capture frames last
 
 -- The bytes are a capture with these records, and its rest is answered so.
 abbrev pub AreRecordsIn : List ℕ → List (List ℕ) → Option (Result Next PcapFault) → Type 0
@@ -43,7 +43,7 @@ abbrev pub IsJoinedBy : ShelfSeen → ShelfSeen → List ℕ → List ℕ → Ty
 IsJoinedBy before after name bytes =
     ShelfStood before after
     × IfSome before.files (λ held. IsJoinedFile held name bytes)
-    × joined.IsJoinedCapture bytes
+    × IsJoinedCapture bytes
 
 -- ---- why
 
@@ -54,7 +54,7 @@ pub record RanJoined (natives : NativeData) (before after : Outside) (name packe
   -- the joined capture
   pub bytes : List ℕ
   pub joined : IfSome before.shelf.files (λ held. IsJoinedFile held packets bytes)
-  pub good : joined.IsJoinedCapture bytes
+  pub good : IsJoinedCapture bytes
   -- what contracts see of it in memory, behind its header and when the run ended
   pub from : SourceSeen
   pub to : SourceSeen
