@@ -5,7 +5,7 @@ A definition is named by its crate and its name. `CASES` has definitions of whic
 
 CALL, SOURCE = "pub fn spin<", "crates/spin_top/src/top.rt"
 # The clauses that the headline is: its condition, and what status 0 means.
-CLAUSES = ["sincere", "whole"]
+CLAUSES = ["sincere", "headline"]
 
 HEADLINE = (
     "For every script, capture and interleaving of the lanes, what the program writes is one legal history of the plain "
@@ -17,15 +17,14 @@ HEADLINE = (
 # Each part of the headline, what it means, and the definitions that say it.
 WORDS = [
     ("For every script", "the text that was read under the script's name is that script, by the language of scripts",
-     ["spin_top:IsLoaded", "spin_script:IsScript"]),
+     ["spin_top:IsRunTold", "spin_script:IsScript"]),
     ("capture", "the records are those of the capture's file by the grammar of captures, up to a rest that is empty or cut; none "
-     "where no capture is named", ["spin_top:AreRecordsOf", "spin_pcap:IsCapture", "spin_run:IsReadWhole"]),
-    ("and interleaving of the lanes", "the clause has no premise on the order of the lanes' steps", ["spin_top:Row"]),
+     "where no capture is named", ["spin_top:IsCaptured", "spin_pcap:IsCapture", "spin_run:IsReadWhole"]),
+    ("and interleaving of the lanes", "the clause has no premise on the order of the lanes' steps", ["spin_top:Headline"]),
     ("what the program writes", "the bytes appended to the sink are the report's text, where shelf and sink tell what they hold; "
-     "standard output tells nothing, and a folder doesn't tell its files by name", ["spin_run:Writes", "spin_report:report_text"]),
-    ("is one legal history of the plain dispatcher", "the entries, segment after segment, are legal from the start; and the "
-     "text, the script and the capture together have one such list",
-     ["spin_run:EndsBy", "spin_run:IsWhole", "spin_report:IsRun", "spin_report:IsLegal"]),
+     "standard output tells nothing, and a folder doesn't tell its files by name", ["spin_top:IsRunTold", "spin_report:report_text"]),
+    ("is one legal history of the plain dispatcher", "the entries, segment after segment, are legal from the start",
+     ["spin_report:IsRun", "spin_report:IsLegal"]),
     ("each deed of each lane stands in it once, in its lane's order and within its segment", "a packet line has as many deeds as "
      "records are left for it, at most its number, in the order of the text", ["spin_report:IsWoven", "spin_report:asked_in"]),
     ("each raise answers by the bindings in force at its place", "each entry is a step of the plain dispatcher at the state that "
@@ -36,28 +35,20 @@ WORDS = [
      "gained exactly the pieces sent to its name while it stood, in the order of the entries and then of the jobs; those that "
      "stand are those that stood and weren't retired",
      ["spin_report:IsSegmentRun", "spin_endpoint:all_received", "spin_endpoint:all_retired"]),
-    ("where the status is 0 under `run`", "so no count of faults of shelf or sink rose",
-     ["spin_top:RunHasCause", "spin_run:CountsBy"]),
+    ("where the status is 0 under `run`", "the words are `run NAME` or `run NAME PACKETS`, and the shelf tells its files",
+     ["spin_top:Headline", "spin_top:IsSpelled"]),
     ("and the natives do what they were handed in with", "the call's one condition", ["spin_objects:IsSincere"]),
 ]
 
 # Of these the first hour shows the cases with this word alone.
 CASES = {
-    "spin_top:HasCause": "other",
-    "spin_top:CommandHasCause": "Run",
-    "spin_top:RunHasCause": "Whole",
-    "spin_top:number": "Whole",
-    "spin_top:stop_line": "Whole",
     "spin_top:IsSpelled": "Run",
-    "spin_run:EndsBy": "end.Whole",
-    "spin_run:CountsBy": "other",
-    "spin_top:end_of": "run.Whole",
 }
 
 # The first hour: its parts in reading order, each with what it begins with.
 PARTS = [
     ("From the clause to a run", "What status 0 means under `run`, and what is seen before and after the call.",
-     ["spin_top:Row"]),
+     ["spin_top:Headline"]),
     ("Run", "Which histories are those of a script: segment after segment, with what is retired, sent and lost.",
      ["spin_report:HistorySeen", "spin_report:Standing", "spin_report:IsRun"]),
     ("Legal", "Which entries and jobs answer what a segment asks of its lanes.", ["spin_report:IsWoven"]),
@@ -65,8 +56,8 @@ PARTS = [
     ("Reply", "What a raise, or the call of a job, comes to at a state.", ["spin_proto:IsDeedReply", "spin_proto:IsJobReply"]),
     ("Report", "The lines of a history's report.", ["spin_report:report_text"]),
     ("Script", "What was read under the script's name, and what natives it may name.",
-     ["spin_top:IsLoaded", "spin_script:ScriptData", "spin_script:natives_seen", "spin_script:NativeData"]),
-    ("Capture", "The records of the capture that is named.", ["spin_top:HasHeader", "spin_top:AreRecordsOf"]),
+     ["spin_script:ScriptData", "spin_script:natives_seen", "spin_script:NativeData"]),
+    ("Capture", "The records of the capture that is named.", ["spin_top:IsCaptured"]),
 ]
 
 # Where the first hour stops: these, and what only they cite, come behind it.
@@ -75,9 +66,7 @@ DEEPER = [
     "spin_place:IsTheOrder", "spin_table:bindings_after",
     "spin_proto:raised", "spin_proto:raised_after", "spin_proto:job_of", "spin_proto:reply_of", "spin_proto:are_fit",
     "spin_report:entry_line", "spin_report:job_line",
-    "spin_script:IsScript", "spin_pcap:IsCapture", "spin_pcap:header_of", "spin_run:IsTakenPast", "spin_run:TakesFor",
-    "spin_top:GenHasCause", "spin_top:CheckHasCause", "spin_top:JoinHasCause", "spin_top:VmHasCause",
-    "spin_top:IsTakenUnder", "spin_outside:Keep", "spin_objects:HandlerUnit", "spin_objects:GuardUnit",
+    "spin_script:IsScript", "spin_pcap:IsCapture", "spin_pcap:header_of", "spin_outside:Keep", "spin_objects:HandlerUnit", "spin_objects:GuardUnit",
     "spin_objects:native_handlers", "spin_objects:native_guards", "spin_objects:native_authorisers",
 ]
 # Types of the sources that come behind the first hour, too: long lists of cases, and what acts and policies are made of.

@@ -1,13 +1,12 @@
 -- No text is both a script and a capture: the bytes of a script are at most 126, and a magic has a greater one.
-use Rattle.std.proofs.Common.{◌≡◌, ◌≤◌, ◌<◌, ◌+◌, ◌-◌, ◌*◌, ℕ, zero, suc, Bool, true, false, cond, ◌&&◌, ◌||◌, eqb, nat_le, nat_lt, List, [], ◌∷◌, length, take, get_or, Option, Some, None, refl, sym, ap, subst, ◌∙◌, arith, inl, inr}
+use Rattle.std.proofs.Common.{◌≡◌, ◌≤◌, ◌<◌, ◌+◌, ◌-◌, ℕ, zero, suc, Bool, true, false, cond, ◌&&◌, eqb, nat_le, nat_lt, List, [], ◌∷◌, length, take, None, refl, ap, subst, ◌∙◌, arith, inl, inr}
 use Rattle.std.specs.Prelude.{Result, Ok, Err, slice_index}
-use Rattle.std.specs.Bool.{⊤, MatchBool}
+use Rattle.std.specs.Bool.{MatchBool}
 use Rattle.std.specs.List.{list_all, slice_split, onto_first, AllByRecursion}
 use Rattle.std.specs.Str.Lines.{lines, lines_of_parts, strip_carriage_return}
-use Rattle.std.proofs.lemmas.Bool.{cases_Bool, cond-true, cond-false, cond_both}
+use Rattle.std.proofs.lemmas.Bool.{cases_Bool, cond-true, cond-false}
 use Rattle.std.proofs.lemmas.Bool.Decides.{nat_tests}
 use Rattle.std.proofs.lemmas.List.Splits.{length-slice_split}
-use Rattle.byteorder.specs.Endian.{big_number, little_number}
 use Rattle.spin_pcap.specs.declared.fault.PcapFault.{PcapFault}
 use Rattle.spin_pcap.specs.declared.fault.PcapFault.TheVariants as fault
 use Rattle.spin_pcap.specs.declared.order.Order.{Order}
@@ -15,7 +14,7 @@ use Rattle.spin_pcap.specs.declared.order.Order.TheVariants as order
 use Rattle.spin_pcap.specs.Captures.{is_magic, number, order_of, fields_of, header_of}
 use Rattle.spin_grammar.specs.declared.cause.Cause.TheVariants as cause
 use Rattle.spin_grammar.specs.Words.{words}
-use Rattle.spin_script.specs.Language.{is_allowed, words_head, head, Passes, IsRefused, ComesTo, IsScript, most_bytes}
+use Rattle.spin_script.specs.Language.{is_allowed, words_head, head, Passes, ComesTo, IsScript, most_bytes}
 use Rattle.spin_script.specs.States.{NativeData, ScriptData, State, start}
 
 -- ---- the bytes of a script

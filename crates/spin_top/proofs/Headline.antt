@@ -1,20 +1,19 @@
 -- The headline, from the cause of status 0.
 use Rattle.std.proofs.Common.{◌≡◌, ℕ, Option, Some, None, List, [], refl, sym, subst}
-use Rattle.std.specs.Prelude.{Result}
+use Rattle.std.specs.Prelude.{Result, Ok, Err}
 use Rattle.spin_outside.specs.Files.{File}
-use Rattle.spin_outside.specs.Sources.{SourceSeen}
 use Rattle.spin_pcap.specs.declared.fault.PcapFault.{PcapFault}
 use Rattle.spin_pcap.specs.declared.next.Next.{Next}
+use Rattle.spin_pcap.specs.declared.next.Next.TheVariants as next
 use Rattle.spin_pcap.proofs.Totals.{each_is_capture}
 use Rattle.spin_report.specs.Histories.{report_text}
 use Rattle.spin_report.specs.Runs.{Captured}
 use Rattle.spin_run.specs.Ends.{IsReadWhole}
 use Rattle.spin_script.specs.States.{NativeData}
 use Rattle.spin_top.specs.declared.end.End.TheVariants.{Whole}
-use Rattle.spin_top.specs.declared.words.Asked.{Asked}
 use Rattle.spin_top.specs.declared.words.Asked.TheVariants.{Run}
-use Rattle.spin_top.specs.Captures.{AreRecordsOf, HasHeader}
-use Rattle.spin_top.specs.Headline.{Headline, IsCaptured, IsRunTold}
+use Rattle.spin_top.specs.Captures.{AreRecordsOf, HasHeader, IsCaptured, IsCaptureFile}
+use Rattle.spin_top.specs.Headline.{Headline, IsRunTold}
 use Rattle.spin_top.specs.Outside.{Outside}
 use Rattle.spin_top.specs.Run.{RunHasCause}
 use Rattle.spin_top.specs.Statuses.{Call, CommandHasCause, Row}
@@ -30,12 +29,21 @@ some_records files held (Some name) told header =
     let body = each_is_capture good.bytes good.order good.header in
     (body.0, Some body.1, records_at files held name body.0 body.1 told (record { bytes = good.bytes; found = good.found; order = good.order; capture = body.2 }))
 
-captured_from : (files : Option (List File)) (held : List File) (packets : Option (List ℕ)) (frames : List (List ℕ)) (rest : Option (Result Next PcapFault)) (captured : Option Captured) → files ≡ Some held → AreRecordsOf files packets frames rest → IsReadWhole frames rest captured → IsCaptured held packets captured
-captured_from files held None frames rest captured told are whole = subst (λ r. IsReadWhole frames r captured) are.1 whole
+-- a capture that was read whole is that of its file
+whole_file : (held : List File) (name : List ℕ) (frames : List (List ℕ)) (ending : Result Next PcapFault) (captured : Option Captured) → IsCaptureFile held name frames ending → IsReadWhole frames (Some ending) captured → IsCaptured (Some held) (Some name) captured
+whole_file held name frames (Ok next.Packet) captured file is = absurd is
+whole_file held name frames (Ok next.End) captured file is = subst (λ c. IsCaptured (Some held) (Some name) c) (sym is) (next.End, file, refl)
+whole_file held name frames (Ok (next.Cut count)) captured file is = subst (λ c. IsCaptured (Some held) (Some name) c) (sym is) (next.Cut count, file, refl)
+whole_file held name frames (Err wrong) captured file is = absurd is
+
+captured_from : (files : Option (List File)) (held : List File) (packets : Option (List ℕ)) (frames : List (List ℕ)) (rest : Option (Result Next PcapFault)) (captured : Option Captured) → files ≡ Some held → AreRecordsOf files packets frames rest → IsReadWhole frames rest captured → IsCaptured (Some held) packets captured
+captured_from files held None frames rest captured told are whole =
+    let none : captured ≡ None = subst (λ r. IsReadWhole frames r captured) are.1 whole in
+    subst (λ c. IsCaptured (Some held) None c) (sym none) tt
 captured_from files held (Some name) frames rest captured told are whole =
     let P : Option (List File) → Type 0 = λ f. AreRecordsOf f (Some name) frames rest in
     let is = subst P told are in
-    (frames, is.0, is.2, subst (λ r. IsReadWhole frames r captured) is.1 whole)
+    whole_file held name frames is.0 captured is.2 (subst (λ r. IsReadWhole frames r captured) is.1 whole)
 
 run_told : (natives : NativeData) (held : List File) (before after : Outside) (name : List ℕ) (packets : Option (List ℕ)) → before.shelf.files ≡ Some held → RunHasCause natives before after name packets Whole → IsRunTold natives held before after name packets
 run_told natives held before after name packets told cause =

@@ -2,7 +2,7 @@
 use Rattle.std.proofs.Common.{◌≡◌, ◌+◌, ℕ, Option, Some, None, List, [], refl, sym, subst, ◌∙◌, inl, inr, IfSome}
 use Rattle.std.specs.Prelude.{Result, Ok, Err}
 use Rattle.spin_outside.specs.Counts.{Rose}
-use Rattle.spin_outside.specs.Files.{File, IsLacking}
+use Rattle.spin_outside.specs.Files.{File, IsLacking, IsWholeFile}
 use Rattle.spin_outside.specs.Seen.{ShelfSeen, SinkSeen}
 use Rattle.spin_endpoint.specs.Named.{NamedEnd}
 use Rattle.spin_pcap.specs.Captures.{IsCapture, header_of}
@@ -12,7 +12,7 @@ use Rattle.spin_pcap.specs.declared.limits.TheConstants.{MAX_HELD}
 use Rattle.spin_pcap.specs.declared.next.Next.{Next}
 use Rattle.spin_pcap.specs.declared.order.Order.TheVariants as order
 use Rattle.spin_reass.proofs.Captures.{joined_is_capture}
-use Rattle.spin_reass.specs.JoinedCaptures.{IsJoinedCapture}
+use Rattle.spin_reass.specs.JoinedCaptures.{IsJoined, IsJoinedCapture}
 use Rattle.spin_reass.specs.Joining.{joined_frames}
 use Rattle.spin_script.specs.States.{NativeData, ScriptData}
 use Rattle.spin_run.specs.declared.end.RunEnd.{RunEnd}
@@ -55,6 +55,24 @@ not_joined natives before after mid name packets script (Absent Packets) stood l
 not_joined natives before after mid name packets script NoMemory stood loaded by only = (stood_stood before.shelf mid after.shelf stood by, inl only)
 not_joined natives before after mid name packets script other stood loaded by only = absurd by
 
+file_joined : (files : Option (List File)) (name : List ℕ) (left : Option (List ℕ)) (bytes : List ℕ) → IsWholeFile files name left → IfSome left (λ file. IsJoined file (Ok bytes)) → IfSome files (λ held. IsJoinedFile held name bytes)
+file_joined None name left bytes whole joined = tt
+file_joined (Some held) name left bytes whole joined =
+    let P : Option (List ℕ) → Type 0 = λ o. IfSome o (λ file. IsJoined file (Ok bytes)) in
+    let is = subst P whole.2 joined in
+    record {
+      frames = is.1;
+      last = is.2;
+      file = record { bytes = whole.0; found = whole.1; order = is.0; capture = is.3 };
+      bytes_are = is.4;
+    }
+
+-- a file that was found, and read whole
+pub joined_by : (before mid after : ShelfSeen) (file : ℕ) (name bytes : List ℕ) → ShelfStood before mid → IsWholeFile before.files name (mid.left file) → IfSome (mid.left file) (λ text. IsJoined text (Ok bytes))
+    → after.files ≡ mid.files → after.absences ≡ mid.absences → after.faults ≡ mid.faults → IsJoinedBy before after name bytes
+joined_by before mid after file name bytes stood whole joined files absences faults =
+    (record { files = files ∙ stood.files; faults = faults ∙ stood.faults; absences = absences ∙ stood.absences }, file_joined before.files name (mid.left file) bytes whole joined)
+
 -- a joined capture is a good capture
 pub joined_good : (bytes : List ℕ) (is : IsJoinedCapture bytes) → IsCapture bytes order.Little (joined_frames [] is.1.1) (Ok is.1.2)
 joined_good bytes is =
@@ -63,12 +81,12 @@ joined_good bytes is =
 joined_at : (mid shelf : ShelfSeen) (files : Option (List File)) (packets bytes : List ℕ) → mid.files ≡ files → IsJoinedBy mid shelf packets bytes → IfSome files (λ held. IsJoinedFile held packets bytes)
 joined_at mid shelf files packets bytes same by = subst (λ f. IfSome f (λ held. IsJoinedFile held packets bytes)) same by.1
 
-pub not_behind : (natives : NativeData) (before after : Outside) (mid : ShelfSeen) (name packets bytes : List ℕ) (script : ScriptData) (end : End) → ShelfStood before.shelf mid → IsLoaded natives before.shelf.files name script → IsJoinedBy mid after.shelf packets bytes → HeaderRefuses bytes end → OnlyStops before after end → JoinHasCause natives before after name packets end
-not_behind natives before after mid name packets bytes script (Capture number fault) stood loaded joined refused only =
-    absurd (good_not_bad order.Little refused.1 (header_of bytes) (joined_good bytes joined.2).header refused.3)
-not_behind natives before after mid name packets bytes script NoMemory stood loaded joined refused only =
+pub not_behind : (natives : NativeData) (before after : Outside) (mid : ShelfSeen) (name packets bytes : List ℕ) (script : ScriptData) (end : End) → ShelfStood before.shelf mid → IsLoaded natives before.shelf.files name script → IsJoinedBy mid after.shelf packets bytes → IsJoinedCapture bytes → HeaderRefuses bytes end → OnlyStops before after end → JoinHasCause natives before after name packets end
+not_behind natives before after mid name packets bytes script (Capture number fault) stood loaded joined good refused only =
+    absurd (good_not_bad order.Little refused.1 (header_of bytes) (joined_good bytes good).header refused.3)
+not_behind natives before after mid name packets bytes script NoMemory stood loaded joined good refused only =
     (stood_stood before.shelf mid after.shelf stood joined.0, inl only)
-not_behind natives before after mid name packets bytes script other stood loaded joined refused only = absurd refused
+not_behind natives before after mid name packets bytes script other stood loaded joined good refused only = absurd refused
 
 -- ---- the run
 
@@ -95,14 +113,14 @@ not_bad natives before after name packets number fault ended is ran =
     (ran.over.ended_so frames (Some (Ok last)) (Ok last, refl, order.Little, joined_good ran.bytes ran.good)) in
     ok_not_err last by.0 (Some (Ok last)) refl by.1
 
-pub was_joined : (natives : NativeData) (before after : Outside) (mid : ShelfSeen) (sink : SinkSeen) (name packets bytes left : List ℕ) (script : ScriptData) (reader : ReaderState) (ended : RunEnd) → ShelfStood before.shelf mid → IsLoaded natives before.shelf.files name script → IsJoinedBy mid after.shelf packets bytes → IsBehind bytes left reader → RunsJoined script left reader before.sink before.ends sink after.ends ended → Tells sink after.sink (stop_line (end_of ended)) → JoinHasCause natives before after name packets (end_of ended)
-was_joined natives before after mid sink name packets bytes left script reader ended stood loaded joined behind over line =
+pub was_joined : (natives : NativeData) (before after : Outside) (mid : ShelfSeen) (sink : SinkSeen) (name packets bytes left : List ℕ) (script : ScriptData) (reader : ReaderState) (ended : RunEnd) → ShelfStood before.shelf mid → IsLoaded natives before.shelf.files name script → IsJoinedBy mid after.shelf packets bytes → IsJoinedCapture bytes → IsBehind bytes left reader → RunsJoined script left reader before.sink before.ends sink after.ends ended → Tells sink after.sink (stop_line (end_of ended)) → JoinHasCause natives before after name packets (end_of ended)
+was_joined natives before after mid sink name packets bytes left script reader ended stood loaded joined good behind over line =
     let from = held_seen left in
     let to = held_seen over.left' in
     let ran : RanJoined natives before after name packets ended = record {
       bytes = bytes;
       joined = joined_at mid after.shelf before.shelf.files packets bytes stood.files joined;
-      good = joined.2;
+      good = good;
       from = from;
       to = to;
       over = record {

@@ -1,27 +1,16 @@
 -- The headline: what stands, and what the endpoints have received, where `run` ends with status 0.
-use Rattle.std.specs.Prelude.{◌≡◌, ℕ, Option, Some, None, List, Result, Ok}
+use Rattle.std.specs.Prelude.{◌≡◌, ℕ, Option, Some, List, Ok}
 use Rattle.std.specs.Io.KnownBytes.{Appends}
 use Rattle.spin_outside.specs.Files.{File, content}
-use Rattle.spin_pcap.specs.declared.fault.PcapFault.{PcapFault}
-use Rattle.spin_pcap.specs.declared.next.Next.{Next}
 use Rattle.spin_script.specs.Language.{IsScript}
 use Rattle.spin_script.specs.States.{NativeData, ScriptData}
 use Rattle.spin_report.specs.Histories.{HistorySeen, report_text}
 use Rattle.spin_report.specs.Runs.{Captured, IsRun, Standing}
-use Rattle.spin_run.specs.Ends.{IsReadWhole}
 use Rattle.spin_top.specs.declared.words.Asked.TheVariants.{Run}
-use Rattle.spin_top.specs.Captures.{IsCaptureFile}
+use Rattle.spin_top.specs.Captures.{IsCaptured}
 use Rattle.spin_top.specs.Outside.{Outside}
 use Rattle.spin_top.specs.Statuses.{Call}
 use Rattle.spin_top.specs.Words.{IsSpelled}
-
--- No capture is named, and there is none; or this is the capture under that name: its records, and how many bytes of one
--- that is cut stand behind them.
-abbrev pub IsCaptured : List File → Option (List ℕ) → Option Captured → Type 0
-IsCaptured held None captured = captured ≡ None
-IsCaptured held (Some name) captured =
-    (frames : List (List ℕ)) × (ending : Result Next PcapFault)
-    × IsCaptureFile held name frames ending × IsReadWhole frames (Some ending) captured
 
 -- What the run of a script leaves that was run to its end, over a shelf with these files.
 pub record IsRunTold (natives : NativeData) (held : List File) (before after : Outside) (name : List ℕ)
@@ -33,7 +22,7 @@ pub record IsRunTold (natives : NativeData) (held : List File) (before after : O
   pub read : IsScript natives text (Ok script)
   -- and the capture, if one is named, has these records
   pub captured : Option Captured
-  pub capture : IsCaptured held packets captured
+  pub capture : IsCaptured (Some held) packets captured
   -- There is a legal history that answers what the script asks, over these records,
   pub history : HistorySeen
   pub last : Standing

@@ -1,5 +1,5 @@
 -- The command `join`: why it ends so, and what its status tells.
-use Rattle.std.specs.Prelude.{◌≡◌, ◌⊎◌, ℕ, Option, Some, None, List, Result, Ok, IfSome}
+use Rattle.std.specs.Prelude.{◌≡◌, ◌⊎◌, ℕ, Option, Some, List, Result, Ok, IfSome}
 use Rattle.spin_outside.specs.Counts.{Rose}
 use Rattle.spin_outside.specs.Files.{File, IsLacking}
 use Rattle.spin_outside.specs.Seen.{ShelfSeen}
@@ -37,13 +37,10 @@ AreRecordsIn bytes frames rest =
     (ending : Result Next PcapFault) × (rest ≡ Some ending)
     × (order : Order) × IsCapture bytes order frames ending
 
--- The whole file of that name was read, and these bytes are its joined capture. Where the shelf tells nothing they are the
--- joined capture of some good one.
+-- The whole file of that name was read, and where the shelf tells its files these bytes are its joined capture.
 abbrev pub IsJoinedBy : ShelfSeen → ShelfSeen → List ℕ → List ℕ → Type 0
 IsJoinedBy before after name bytes =
-    ShelfStood before after
-    × IfSome before.files (λ held. IsJoinedFile held name bytes)
-    × IsJoinedCapture bytes
+    ShelfStood before after × IfSome before.files (λ held. IsJoinedFile held name bytes)
 
 -- ---- why
 

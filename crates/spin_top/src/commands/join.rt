@@ -1,6 +1,6 @@
 //! The command `join`: a script, over a capture in which fragmented datagrams are made whole.
 
-ghost use Rattle.std.specs.Prelude.{◌≤◌, IfOk, IfErr, Some};
+ghost use Rattle.std.specs.Prelude.{◌≡◌, ◌≤◌, IfOk, IfErr, IfSome, Some};
 ghost use Rattle.spin_word.specs.declared.command.TheConstants.{MAX_PLACE};
 ghost use Rattle.spin_pcap.specs.Passing.{IsFresh};
 ghost use Rattle.spin_script.specs.States.{natives_seen};
@@ -9,6 +9,7 @@ ghost use Rattle.spin_script.specs.Segments.{IsOrderly};
 ghost use Rattle.spin_script.specs.Soundness.{AreValid, command_lines};
 ghost use Rattle.spin_top.specs.Captures.{NoWholeBy};
 ghost use Rattle.spin_top.specs.Inner.Joining.{RunsJoined};
+ghost use Rattle.spin_reass.specs.JoinedCaptures.{IsJoined, IsJoinedCapture, JoinsByCount};
 ghost use Rattle.spin_top.specs.Join.{IsJoinedBy, IsJoinStatus};
 ghost use Rattle.spin_top.specs.Outside.{outside};
 
@@ -28,14 +29,26 @@ use spin_values::{Octets, Text};
 use std::alloc::Global;
 use std::thread::Threads;
 
+/// The joined capture of the file of that number, which is read to its end.
+fn join_file<F: Shelf>(alloc: Global, shelf: &mut F, file: u32) -> Result<Octets, JoinFault>
+    ensures joined { IfSome ((F.seen shelf.old).left file) (λ text. IsJoined text result) }
+    ensures good { IfOk result IsJoinedCapture }
+    ensures files { (F.seen shelf.new).files ≡ (F.seen shelf.old).files }
+    ensures absences { (F.seen shelf.new).absences ≡ (F.seen shelf.old).absences }
+    ensures cause { JoinsByCount (F.seen shelf.old).faults (F.seen shelf.new).faults result }
+{
+    let mut source = ShelfSource { shelf, file };
+    join_capture(alloc, &mut source)
+}
+
 /// The joined capture of the file of that name, which is read to its end.
 fn joined_of<F: Shelf>(alloc: Global, shelf: &mut F, name: &Text) -> Result<Octets, End>
     ensures joined { IfOk result (IsJoinedBy (F.seen shelf.old) (F.seen shelf.new) name.now) }
+    ensures good { IfOk result IsJoinedCapture }
     ensures refused { IfErr result (NoWholeBy (F.seen shelf.old) (F.seen shelf.new) (Some name.now)) }
 {
     let file = find_packets(shelf, name)?;
-    let mut source = ShelfSource { shelf, file };
-    match join_capture(alloc, &mut source) {
+    match join_file(alloc, shelf, file) {
         Ok(bytes) => Ok(bytes),
         Err(JoinFault::Capture { number, fault }) => Err(End::Capture { number, fault }),
         Err(JoinFault::ReadFault) => Err(End::Unread(Input::Packets)),

@@ -15,9 +15,9 @@ returns-in-Err-joined_of g c =
 
 pub returns-in-Err-behind_header : goal.returns-in-Err-behind_header
 returns-in-Err-behind_header g c =
-    (c.in-Err-behind_header.end, c.stop-in-Err-behind_header.ensures.status, not_behind _ _ _ _ _ _ _ (script_seen c.in-Ok.script) c.in-Err-behind_header.end c.in-Ok.ensures.stood c.in-Ok.ensures.loaded c.in-Ok-joined_of.ensures.joined c.in-Err-behind_header.ensures.refused (record { ends = refl; tells = c.stop-in-Err-behind_header.ensures.line }))
+    (c.in-Err-behind_header.end, c.stop-in-Err-behind_header.ensures.status, not_behind _ _ _ _ _ _ _ (script_seen c.in-Ok.script) c.in-Err-behind_header.end c.in-Ok.ensures.stood c.in-Ok.ensures.loaded c.in-Ok-joined_of.ensures.joined c.in-Ok-joined_of.ensures.good c.in-Err-behind_header.ensures.refused (record { ends = refl; tells = c.stop-in-Err-behind_header.ensures.line }))
 
 pub returns : goal.returns
 returns g c =
     let line = rw c.end_of.ensures at c.stop-2.ensures.line in
-    (end_of c.run_over-ended.result, c.stop-2.ensures.status ∙ ap number c.end_of.ensures, was_joined _ _ _ _ _ _ _ _ _ _ _ c.run_over-ended.result c.in-Ok.ensures.stood c.in-Ok.ensures.loaded c.in-Ok-joined_of.ensures.joined c.in-Ok-behind_header.ensures.behind c.run_over-ended.ensures line)
+    (end_of c.run_over-ended.result, c.stop-2.ensures.status ∙ ap number c.end_of.ensures, was_joined _ _ _ _ _ _ _ _ _ _ _ c.run_over-ended.result c.in-Ok.ensures.stood c.in-Ok.ensures.loaded c.in-Ok-joined_of.ensures.joined c.in-Ok-joined_of.ensures.good c.in-Ok-behind_header.ensures.behind c.run_over-ended.ensures line)
