@@ -271,7 +271,11 @@ fn an_endpoint_that_opens_no_file(rt: HostRuntime) -> Result<(), NoMemory> {
 #[test]
 fn an_endpoint_that_takes_nothing(rt: HostRuntime) -> Result<(), NoMemory> {
     let _ = fs::remove_file(&rt, "unused.bin");
-    let mut end = FileEnd::new(rt.alloc(), rt.clone()?, Text::from_bytes(rt.alloc(), b"unused.bin")?)?;
+    let mut end = FileEnd::new(
+        rt.alloc(),
+        rt.clone()?,
+        Text::from_bytes(rt.alloc(), b"unused.bin")?,
+    )?;
     end.finish();
     assert!(rt; fs::read(&rt, "unused.bin").is_err());
     Ok(())
