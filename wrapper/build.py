@@ -13,7 +13,7 @@ import subprocess
 import sys
 import time
 
-from wrapper import jobs
+from wrapper import jobs, rooms
 from wrapper.program import CRATE, NOT_RUN, PROGRAM, TOP, crates_listed, is_built, stands_on, tell
 from wrapper.trial import has_toolchain, passed
 
@@ -74,16 +74,22 @@ def words_for(name, count):
 
 
 class Run:
-    """A crate that is being built."""
+    """A crate that is being built, in a room of its own."""
 
-    def __init__(self, name, count):
+    def __init__(self, name, count, below):
         self.name, self.count, self.began = name, count, time.monotonic()
         self.log = LOGS / f"{name}.log"
+        folder = rooms.furnish(name, below)
         with open(self.log, "wb") as log:
             self.child = subprocess.Popen(
-                words_for(name, count), cwd=TOP / "crates" / name, stdin=subprocess.DEVNULL,
+                words_for(name, count), cwd=folder, stdin=subprocess.DEVNULL,
                 stdout=log, stderr=subprocess.STDOUT, start_new_session=True,
             )
+
+    def close(self):
+        """Once it has ended: gives the crate's folder what was built, and answers whether it was."""
+        rooms.clear(self.name, self.child.returncode == 0)
+        return self.child.returncode == 0
 
     def kill(self, how):
         """Signals the call and all that it has started."""
@@ -99,6 +105,7 @@ class Run:
             pass
         self.kill(signal.SIGKILL)
         self.child.wait()
+        rooms.clear(self.name, False)
 
 
 def tell_failure(run):
@@ -122,11 +129,11 @@ def build_all(crates):
             counts = {name: run.count for name, run in running.items()}
             for name, count in jobs.chosen(ready, counts, processors, memory, chain, need).items():
                 del waiting[name]
-                running[name] = Run(name, count)
+                running[name] = Run(name, count, rooms.below_all(crates, name))
                 progress.event(f"{name} begins, {count} job{'s' * (count > 1)}", times(running))
             for run in [run for run in running.values() if run.child.poll() is not None]:
                 del running[run.name]
-                if run.child.returncode:
+                if not run.close():
                     progress.close()
                     tell_failure(run)
                     return False

@@ -18,6 +18,8 @@ CRATES = {"low": [], "left": ["low"], "right": ["low"], "spin_main": ["left", "r
 RT = """#!/bin/sh
 [ "$1" = version ] && exit 0
 name=$(basename "$PWD")
+for it in $(sed "s/:.*//" ../../crates.txt); do [ -d ../$it/src ] || exit 2; done
+[ "$name" = low ] || { exec 8< ../low && flock 8; }
 echo "begin $name $*" >> "$JOURNAL"
 echo "the checker on $name"
 sleep "${SLEEP:-0.1}"
@@ -74,6 +76,12 @@ class Build(unittest.TestCase):
         self.assertIn("left begins", told)
         self.assertIn("spin_main is built", told)
         self.assertIn("spin: built: crates/spin_main/out/spin_main", told)
+
+    def test_crates_that_share_one_below_them_do_not_wait_for_each_other(self):
+        self.assertEqual(self.build(SLEEP="1")[0], 0)
+        begun = [at for at, line in enumerate(self.lines()) if line.startswith(("begin left", "begin right"))]
+        ended = [at for at, line in enumerate(self.lines()) if line.startswith(("end left", "end right"))]
+        self.assertLess(max(begun), min(ended))
 
     def test_what_is_built_is_not_built_again(self):
         self.build()
