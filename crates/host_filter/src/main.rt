@@ -19,7 +19,7 @@ use std::process::ExitCode;
 use std::rc::Rc;
 use std::thread::Threads;
 
-/// Frames climb from Ethernet over IPv4 to UDP; what is for port 53 is sent to the endpoint `dns`.
+// Frames climb from Ethernet over IPv4 to UDP; what is for port 53 is sent to the endpoint `dns`.
 const SCRIPT: &[u8] = b"spin 1
 event 0 0 b last
 event 1 0 bwww last
@@ -38,14 +38,14 @@ barrier
 lane 0 packet 0 1000
 ";
 
-/// How many pieces an endpoint took, and how many bytes in all.
+// How many pieces an endpoint took, and how many bytes in all.
 #[derive(Drop)]
 struct Tally {
     pieces: Cell<u64>,
     bytes: Cell<u64>,
 }
 
-/// Counts what it takes, and keeps nothing of it.
+// Counts what it takes, and keeps nothing of it.
 #[derive(Drop)]
 struct Counter {
     tally: Rc<Tally>,
@@ -67,7 +67,7 @@ impl Endpoint for Counter {
     }
 }
 
-/// Appends a record of the capture: an Ethernet frame with a datagram of eight bytes to that port.
+// Appends a record of the capture: an Ethernet frame with a datagram of eight bytes to that port.
 fn add_record(capture: &mut Octets, port: u16) -> Result<(), NoMemory> {
     let (from, to) = (0x0a00_0001, 0x0a00_0002);
     let mut packet = [0u8; 20];
@@ -81,7 +81,7 @@ fn add_record(capture: &mut Octets, port: u16) -> Result<(), NoMemory> {
     capture.extend_from_slice(&datagram)
 }
 
-/// A capture of datagrams to these ports, whose numbers have the lowest byte first (classic pcap 2.4).
+// A capture of datagrams to these ports, whose numbers have the lowest byte first (classic pcap 2.4).
 fn capture_of(alloc: Global, ports: &[u16]) -> Result<Octets, NoMemory> {
     let mut capture = Octets::from_bytes(alloc, &[0xd4, 0xc3, 0xb2, 0xa1, 2, 0, 4, 0])?;
     capture.extend_from_slice(&[0; 8])?;
@@ -92,7 +92,7 @@ fn capture_of(alloc: Global, ports: &[u16]) -> Result<Octets, NoMemory> {
     Ok(capture)
 }
 
-/// A tally of nothing.
+// A tally of nothing.
 fn no_tally(alloc: Global) -> Result<Rc<Tally>, NoMemory> {
     let tally = Tally {
         pieces: Cell::new(0),
@@ -101,7 +101,7 @@ fn no_tally(alloc: Global) -> Result<Rc<Tally>, NoMemory> {
     Ok(Rc::new(alloc, tally)?)
 }
 
-/// Whether the run of the script over five datagrams, two of them for other ports, came to its end.
+// Whether the run of the script over five datagrams, two of them for other ports, came to its end.
 fn is_run_whole<R: Print + Threads + Sync>(
     rt: &R,
     alloc: Global,

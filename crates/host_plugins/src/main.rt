@@ -26,20 +26,20 @@ use std::io::Print;
 use std::process::ExitCode;
 use std::thread::{Threads, join};
 
-/// One event, which gives a word, and the two versions of the plug-in as its handlers 1 and 2.
+// One event, which gives a word, and the two versions of the plug-in as its handlers 1 and 2.
 const SCRIPT: &[u8] = b"spin 1
 event 0 0 -:w last
 handler 1 native first
 handler 2 native second
 ";
 
-/// How often the event is raised.
+// How often the event is raised.
 const RAISES: u32 = 2_000;
 
-/// The status where there is no memory.
+// The status where there is no memory.
 const OUT_OF_MEMORY: u8 = 7;
 
-/// A version of the plug-in: it gives its number.
+// A version of the plug-in: it gives its number.
 #[derive(Drop)]
 struct Plugin {
     version: u64,
@@ -53,7 +53,7 @@ impl Handler for Plugin {
     }
 }
 
-/// Adds a version of the plug-in under that name; none where it is refused.
+// Adds a version of the plug-in under that name; none where it is refused.
 fn add(
     alloc: Global,
     natives: &mut Natives,
@@ -73,7 +73,7 @@ fn add(
     natives.add_handler(name, sig, Act { steps }, object).ok()
 }
 
-/// Binds the first version, and replaces it by the second.
+// Binds the first version, and replaces it by the second.
 fn bind(alloc: Global, hub: &Hub, mut seat: Seat) -> Result<Seat, SeatFault>
     requires sincere { ⟦<Catalogue as Sincere>⟧.sincere hub.now.setup.catalogue }
     requires log { seat.pen.log ≡ hub.now.log.id }
@@ -96,8 +96,8 @@ fn bind(alloc: Global, hub: &Hub, mut seat: Seat) -> Result<Seat, SeatFault>
     Ok(seat)
 }
 
-/// Raises the event again and again, and counts the raises that are answered by the version in force at their place:
-/// none at place 0, the first at place 1, the second at place 2.
+// Raises the event again and again, and counts the raises that are answered by the version in force at their place:
+// none at place 0, the first at place 1, the second at place 2.
 fn raise(alloc: Global, hub: &Hub, mut seat: Seat) -> Result<(Seat, u32), SeatFault>
     requires sincere { ⟦<Catalogue as Sincere>⟧.sincere hub.now.setup.catalogue }
     requires log { seat.pen.log ≡ hub.now.log.id }
@@ -121,7 +121,7 @@ fn raise(alloc: Global, hub: &Hub, mut seat: Seat) -> Result<(Seat, u32), SeatFa
     Ok((seat, right))
 }
 
-/// Both threads at once: the one binds on its seat, the other raises on its own.
+// Both threads at once: the one binds on its seat, the other raises on its own.
 fn take_turns<R: Threads + Sync>(
     rt: &R,
     alloc: Global,
@@ -159,7 +159,7 @@ fn take_turns<R: Threads + Sync>(
     )
 }
 
-/// The hub of the script, and its two seats; none where memory is lacking.
+// The hub of the script, and its two seats; none where memory is lacking.
 fn open(alloc: Global, natives: Natives) -> Option<(Hub, Seat, Seat)>
     requires sincere { ⟦<Natives as Sincere>⟧.sincere natives }
     ensures sincere { IfSome result (λ made. ⟦<Catalogue as Sincere>⟧.sincere made.0.setup.catalogue) }
@@ -186,7 +186,7 @@ fn open(alloc: Global, natives: Natives) -> Option<(Hub, Seat, Seat)>
     Some((hub, a, b))
 }
 
-/// The rows of both seats' history; none where memory is lacking.
+// The rows of both seats' history; none where memory is lacking.
 fn close(alloc: Global, hub: Hub, a: Seat, b: Seat) -> Option<Rows>
     requires lanes { hub.log.lanes ≡ 2 }
     requires logs { (a.pen.log ≡ hub.log.id) × (b.pen.log ≡ hub.log.id) }
@@ -198,7 +198,7 @@ fn close(alloc: Global, hub: Hub, a: Seat, b: Seat) -> Option<Rows>
     hub.close(alloc, seats).ok()
 }
 
-/// Both seats, and how many raises were answered as owed, where both threads came to their end.
+// Both seats, and how many raises were answered as owed, where both threads came to their end.
 fn both(
     bound: Result<Seat, SeatFault>,
     raised: Result<(Seat, u32), SeatFault>,
@@ -212,8 +212,8 @@ fn both(
     }
 }
 
-/// The commands of the history that both threads made, and how many raises were answered as owed; none where memory
-/// is lacking.
+// The commands of the history that both threads made, and how many raises were answered as owed; none where memory
+// is lacking.
 fn play<R: Threads + Sync>(rt: &R, alloc: Global, natives: Natives) -> Option<(Rows, u32)>
     requires sincere { ⟦<Natives as Sincere>⟧.sincere natives }
 {
@@ -223,7 +223,7 @@ fn play<R: Threads + Sync>(rt: &R, alloc: Global, natives: Natives) -> Option<(R
     Some((close(alloc, hub, a, b)?, right))
 }
 
-/// Tells each command of the history with its place.
+// Tells each command of the history with its place.
 fn tell<R: Print>(rt: &R, rows: &[Row]) {
     for (place, row) in rows.iter().enumerate() {
         if let Some(command) = unpack(row) {

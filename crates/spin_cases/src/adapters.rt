@@ -11,7 +11,7 @@ use std::process::Abort;
 use std::rt::Files;
 use std::test::Fail;
 
-/// A writer that takes so many bytes of a piece at most, and fails at the calls from one on.
+// A writer that takes so many bytes of a piece at most, and fails at the calls from one on.
 #[derive(Drop)]
 struct Narrow {
     most: usize,
@@ -47,12 +47,12 @@ impl Write for Narrow {
     }
 }
 
-/// Whether the file comes to have this text.
+// Whether the file comes to have this text.
 fn put(files: &impl Files, name: &str, text: &str) -> bool {
     fs::write(files, name, text).is_ok()
 }
 
-/// The number under which a file is found.
+// The number under which a file is found.
 fn found<F: Shelf>(alloc: Global, shelf: &mut F, name: &[u8]) -> Result<u32, Fail> {
     match shelf.find(&Text::from_bytes(alloc, name)?) {
         Ok(file) => Ok(file),
@@ -60,7 +60,7 @@ fn found<F: Shelf>(alloc: Global, shelf: &mut F, name: &[u8]) -> Result<u32, Fai
     }
 }
 
-/// The bytes of a file of the folder, or those of a word where it can't be read.
+// The bytes of a file of the folder, or those of a word where it can't be read.
 fn bytes_of<R: Files + AllocGlobal>(
     rt: &R,
     alloc: Global,
@@ -76,14 +76,14 @@ fn bytes_of<R: Files + AllocGlobal>(
     }
 }
 
-/// The numbers of two files, and of the first once more.
+// The numbers of two files, and of the first once more.
 fn three_found<F: Shelf>(alloc: Global, shelf: &mut F) -> Result<[u32; 3], Fail> {
     let a = found(alloc, shelf, b"turns_a.txt")?;
     let b = found(alloc, shelf, b"turns_b.txt")?;
     Ok([a, b, found(alloc, shelf, b"turns_a.txt")?])
 }
 
-/// Whether the next read of the file, into room for three bytes, gives these.
+// Whether the next read of the file, into room for three bytes, gives these.
 fn gives<F: Shelf>(shelf: &mut F, file: u32, bytes: &[u8]) -> bool {
     let mut buf = [0u8; 3];
     match shelf.read(file, &mut buf) {
@@ -92,7 +92,7 @@ fn gives<F: Shelf>(shelf: &mut F, file: u32, bytes: &[u8]) -> bool {
     }
 }
 
-/// Files by number, and what each gives in turn.
+// Files by number, and what each gives in turn.
 const TURNS: [(u32, &[u8]); 10] = [
     (0, b"abc"),
     (1, b"ABC"),
@@ -106,7 +106,7 @@ const TURNS: [(u32, &[u8]); 10] = [
     (3, b""),
 ];
 
-/// Three files are found, and each read gives what it should.
+// Three files are found, and each read gives what it should.
 fn read_in_turns<F: Shelf>(rt: &impl Abort, alloc: Global, shelf: &mut F) -> Result<(), Fail> {
     assert_eq!(rt; three_found(alloc, shelf)?, [0, 1, 2]);
     for (file, bytes) in TURNS {
@@ -122,12 +122,12 @@ fn files_of_a_folder_are_read_in_turns(rt: HostRuntime) -> Result<(), Fail> {
     read_in_turns(&rt, rt.alloc(), &mut FolderShelf::new(rt.alloc(), &rt))
 }
 
-/// Whether the shelf has no such file.
+// Whether the shelf has no such file.
 fn is_absent<F: Shelf>(alloc: Global, shelf: &mut F, name: &[u8]) -> Result<bool, NoMemory> {
     Ok(shelf.find(&Text::from_bytes(alloc, name)?) == Err(FindFault::Absent))
 }
 
-/// Names that are no file's are absent.
+// Names that are no file's are absent.
 fn are_absent<F: Shelf>(rt: &impl Abort, alloc: Global, shelf: &mut F) -> Result<(), NoMemory> {
     for name in [b"not there".as_slice(), b"no folder/a", b"\xff"] {
         assert!(rt; is_absent(alloc, shelf, name)?);
@@ -140,7 +140,7 @@ fn what_a_folder_lacks(rt: HostRuntime) -> Result<(), NoMemory> {
     are_absent(&rt, rt.alloc(), &mut FolderShelf::new(rt.alloc(), &rt))
 }
 
-/// A folder is opened as a file is, and each read of it fails.
+// A folder is opened as a file is, and each read of it fails.
 #[test]
 fn a_folder_is_no_file(rt: HostRuntime) -> Result<(), Fail> {
     let mut shelf = FolderShelf::new(rt.alloc(), &rt);
@@ -153,7 +153,7 @@ fn a_folder_is_no_file(rt: HostRuntime) -> Result<(), Fail> {
     Ok(())
 }
 
-/// How many bytes are taken of the file of that name, where it has no more than the limit.
+// How many bytes are taken of the file of that name, where it has no more than the limit.
 fn taken<F: Shelf>(
     alloc: Global,
     shelf: &mut F,
@@ -167,7 +167,7 @@ fn taken<F: Shelf>(
     }
 }
 
-/// Names, limits, and how many bytes are taken.
+// Names, limits, and how many bytes are taken.
 const LIMITS: [(&[u8], u32, Option<usize>); 4] = [
     (b"limit.txt", 7, Some(6)),
     (b"limit.txt", 6, Some(6)),
@@ -175,7 +175,7 @@ const LIMITS: [(&[u8], u32, Option<usize>); 4] = [
     (b"empty.txt", 0, Some(0)),
 ];
 
-/// Of each file as many bytes are taken as should be.
+// Of each file as many bytes are taken as should be.
 fn are_taken<F: Shelf>(rt: &impl Abort, alloc: Global, shelf: &mut F) -> Result<(), Fail> {
     for (name, limit, length) in LIMITS {
         assert_eq!(rt; taken(alloc, shelf, name, limit)?, length);
@@ -190,7 +190,7 @@ fn files_of_a_folder_are_taken_up_to_a_limit(rt: HostRuntime) -> Result<(), Fail
     are_taken(&rt, rt.alloc(), &mut FolderShelf::new(rt.alloc(), &rt))
 }
 
-/// How many bytes a call takes, at how many calls, and what `write_all` of four bytes answers.
+// How many bytes a call takes, at how many calls, and what `write_all` of four bytes answers.
 const WRITERS: [(usize, u32, Result<(), Failed>); 5] = [
     (1, 4, Ok(())),
     (3, 2, Ok(())),
@@ -220,21 +220,21 @@ fn a_narrow_writer_in_turns(rt: HostRuntime) {
     }
 }
 
-/// Whether the endpoint takes two bytes and then none; it is finished.
+// Whether the endpoint takes two bytes and then none; it is finished.
 fn takes_two<E: Endpoint>(end: &mut E) -> bool {
     let takes = end.take(b"ab").is_ok() && end.take(b"").is_ok();
     end.finish();
     takes
 }
 
-/// Whether the endpoint fails twice; it is finished.
+// Whether the endpoint fails twice; it is finished.
 fn fails_twice<E: Endpoint>(end: &mut E) -> bool {
     let fails = end.take(b"ab").is_err() && end.take(b"ab").is_err();
     end.finish();
     fails
 }
 
-/// Two endpoints in turn over one name, one over another, and what lies in the file after each.
+// Two endpoints in turn over one name, one over another, and what lies in the file after each.
 const ROUNDS: [(&[u8], &str, &[u8]); 3] = [
     (b"stood.bin", "stood.bin", b"stood\0\0\0\x02ab\0\0\0\0"),
     (
@@ -267,7 +267,7 @@ fn an_endpoint_that_opens_no_file(rt: HostRuntime) -> Result<(), NoMemory> {
     Ok(())
 }
 
-/// No file is made before the first piece.
+// No file is made before the first piece.
 #[test]
 fn an_endpoint_that_takes_nothing(rt: HostRuntime) -> Result<(), NoMemory> {
     let _ = fs::remove_file(&rt, "unused.bin");

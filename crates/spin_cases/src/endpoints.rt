@@ -7,14 +7,14 @@ use std::alloc::Global;
 use std::process::Abort;
 use std::test::Fail;
 
-/// An endpoint with room for one piece of three bytes, whose call of that number fails.
+// An endpoint with room for one piece of three bytes, whose call of that number fails.
 fn keep(alloc: Global, failing: u32) -> Result<KeepEnd, NoMemory> {
     let mut keep = KeepEnd::new(alloc, 1, 3)?;
     keep.fail_at(failing)?;
     Ok(keep)
 }
 
-/// Pieces, and what an endpoint with room for one of three bytes answers, whose second call fails.
+// Pieces, and what an endpoint with room for one of three bytes answers, whose second call fails.
 const PIECES: [(&[u8], Result<(), Failed>); 4] = [
     (b"four", Err(Failed)),
     (b"abc", Err(Failed)),
@@ -32,7 +32,7 @@ fn keeps_what_fits(rt: HostRuntime) -> Result<(), NoMemory> {
     Ok(())
 }
 
-/// The answers to a piece, two retirements and another piece.
+// The answers to a piece, two retirements and another piece.
 fn answers(ends: &mut Ends, name: &Text) -> bool {
     ends.deliver(name, b"ab") == Ok(())
         && ends.retire(name) == Ok(())
@@ -57,7 +57,7 @@ fn two_names(alloc: Global) -> Result<[Text; 2], NoMemory> {
     Ok([gone, Text::from_bytes(alloc, b"kept")?])
 }
 
-/// What the endpoints answer to three sends, of which two are lost.
+// What the endpoints answer to three sends, of which two are lost.
 fn sends(ends: &mut Ends, names: &[Text; 2]) -> bool {
     let sends = [Sent::new(0, b"a"), Sent::new(0, b"b"), Sent::new(1, b"c")];
     let first = ends.deliver_all(names, &sends);
@@ -66,12 +66,12 @@ fn sends(ends: &mut Ends, names: &[Text; 2]) -> bool {
         && second.is_ok_and(|lost| lost.to(0) == 2 && lost.to(1) == 0)
 }
 
-/// The endpoint of the second name alone.
+// The endpoint of the second name alone.
 fn keeping_ends(alloc: Global) -> Result<Ends, Fail> {
     ends_of(alloc, b"kept", Box::new(alloc, keep(alloc, 0)?)?)
 }
 
-/// Which of three retirements found an endpoint.
+// Which of three retirements found an endpoint.
 fn retired(ends: &mut Ends, names: &[Text; 2]) -> [bool; 3] {
     let mut stood = [false; 3];
     ends.retire_all(names, &[1, 0, 1], &mut stood);
@@ -88,7 +88,7 @@ fn sends_in_one_call(rt: HostRuntime) -> Result<(), Fail> {
     Ok(())
 }
 
-/// Why no endpoint is added under the name.
+// Why no endpoint is added under the name.
 fn added(alloc: Global, ends: &mut Ends, name: &[u8]) -> Result<Option<EndsFault>, NoMemory> {
     let end: Box<dyn Endpoint> = Box::new(alloc, keep(alloc, 0)?)?;
     match ends.add(Text::from_bytes(alloc, name)?, end) {
@@ -97,12 +97,12 @@ fn added(alloc: Global, ends: &mut Ends, name: &[u8]) -> Result<Option<EndsFault
     }
 }
 
-/// What a retirement is answered.
+// What a retirement is answered.
 fn retire(alloc: Global, ends: &mut Ends, name: &[u8]) -> Result<Result<(), Unknown>, NoMemory> {
     Ok(ends.retire(&Text::from_bytes(alloc, name)?))
 }
 
-/// Endpoints are added up to the 64th, one of which is retired, and none under a name that another has.
+// Endpoints are added up to the 64th, one of which is retired, and none under a name that another has.
 fn add_64(rt: &impl Abort, alloc: Global, ends: &mut Ends) -> Result<(), NoMemory> {
     for number in 0..66u8 {
         let fault = (number >= 64).then_some(EndsFault::TooMany);

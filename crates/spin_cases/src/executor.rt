@@ -26,14 +26,14 @@ use std::sync::{Arc, Wait};
 use std::test::Fail;
 use std::thread::Threads;
 
-/// A script of one event and no handler.
+// A script of one event and no handler.
 const EMPTY: &[u8] = b"spin 1\nevent 0 0 - last\n";
 
-/// Which party moves; whether it puts a task, or takes one; and the sender and number of the task that this comes to,
-/// where the queue has room for it, or has it.
+// Which party moves; whether it puts a task, or takes one; and the sender and number of the task that this comes to,
+// where the queue has room for it, or has it.
 type Move = (u8, bool, Option<(u8, u32)>);
 
-/// A queue of one task: it is full, is taken from by the other party, and is empty.
+// A queue of one task: it is full, is taken from by the other party, and is empty.
 const ONE: [Move; 4] = [
     (0, true, Some((0, 0))),
     (0, true, None),
@@ -41,7 +41,7 @@ const ONE: [Move; 4] = [
     (1, false, None),
 ];
 
-/// A queue of three tasks of both parties, of which two are left.
+// A queue of three tasks of both parties, of which two are left.
 const THREE: [Move; 6] = [
     (0, true, Some((0, 0))),
     (1, true, Some((1, 0))),
@@ -51,7 +51,7 @@ const THREE: [Move; 6] = [
     (0, false, Some((1, 0))),
 ];
 
-/// Each party in turn puts a task, which the other one takes, so that the queue is empty again.
+// Each party in turn puts a task, which the other one takes, so that the queue is empty again.
 const IN_TURN: [Move; 4] = [
     (0, true, Some((0, 0))),
     (1, false, Some((0, 0))),
@@ -59,7 +59,7 @@ const IN_TURN: [Move; 4] = [
     (0, false, Some((1, 0))),
 ];
 
-/// How many tasks the queue holds, the moves, how often they are made, and what is left then.
+// How many tasks the queue holds, the moves, how often they are made, and what is left then.
 type Case = (u32, &'static [Move], u32, &'static [(u8, u32)]);
 
 const CASES: [Case; 3] = [
@@ -68,18 +68,18 @@ const CASES: [Case; 3] = [
     (1, &IN_TURN, 1001, &[]),
 ];
 
-/// The version at the start of a setup.
+// The version at the start of a setup.
 fn start_of(alloc: Global, setup: &Setup) -> Result<Arc<Version>, NoMemory> {
     Ok(Arc::new(alloc, Version::start(alloc, setup)?)?)
 }
 
-/// The version at the start of the script's setup.
+// The version at the start of the script's setup.
 fn version_of(alloc: Global) -> Result<Arc<Version>, Fail> {
     let script = read_script(alloc, EMPTY, Natives::new(alloc))?;
     Ok(start_of(alloc, &script.setup)?)
 }
 
-/// Puts a task, and gives its sender and number.
+// Puts a task, and gives its sender and number.
 fn put<R: Wait + Abort + Sync>(
     rt: &R,
     queue: &Queue,
@@ -97,7 +97,7 @@ fn put<R: Wait + Abort + Sync>(
     Some((sender, number))
 }
 
-/// Takes a task, and gives its sender and number.
+// Takes a task, and gives its sender and number.
 fn take<R: Wait + Sync>(rt: &R, queue: &Queue, party: &mut Party) -> Option<(u8, u32)>
     requires { IsPartyOf queue.now party.old }
     ensures { IsSameParty party.old party.new }
@@ -106,7 +106,7 @@ fn take<R: Wait + Sync>(rt: &R, queue: &Queue, party: &mut Party) -> Option<(u8,
     Some((task.sender, task.number))
 }
 
-/// Makes the move, and gives what it comes to.
+// Makes the move, and gives what it comes to.
 fn make<R: Wait + Abort + Sync>(
     rt: &R,
     alloc: Global,
@@ -126,7 +126,7 @@ fn make<R: Wait + Abort + Sync>(
     }
 }
 
-/// What is left when both parties have ended.
+// What is left when both parties have ended.
 fn close<R: Wait + Sync>(
     rt: &R,
     alloc: Global,
@@ -144,13 +144,13 @@ fn close<R: Wait + Sync>(
     queue.close(rt, alloc, parties)
 }
 
-/// What the move should come to in this round.
+// What the move should come to in this round.
 fn wanted_in(round: u32, wanted: Option<(u8, u32)>) -> Option<(u8, u32)> {
     let (sender, number) = wanted?;
     Some((sender, number.wrapping_add(round)))
 }
 
-/// Makes the moves, each of which comes to what it should in this round.
+// Makes the moves, each of which comes to what it should in this round.
 fn make_all<R: Wait + Abort + Sync>(
     rt: &R,
     alloc: Global,
@@ -177,7 +177,7 @@ fn make_all<R: Wait + Abort + Sync>(
     Ok(())
 }
 
-/// Makes the moves so often.
+// Makes the moves so often.
 fn make_rounds<R: Wait + Abort + Sync>(
     rt: &R,
     alloc: Global,
@@ -199,7 +199,7 @@ fn make_rounds<R: Wait + Abort + Sync>(
     Ok(())
 }
 
-/// The tasks that are left when the moves were made so often in a queue of this capacity.
+// The tasks that are left when the moves were made so often in a queue of this capacity.
 fn left_after<R: Wait + Abort + Sync>(
     rt: &R,
     alloc: Global,
@@ -220,7 +220,7 @@ fn left_after<R: Wait + Abort + Sync>(
     Ok(close(rt, alloc, queue, first, second)?)
 }
 
-/// The senders and numbers of tasks.
+// The senders and numbers of tasks.
 fn names_of(alloc: Global, tasks: &Tasks) -> Result<Vec<(u8, u32)>, NoMemory> {
     let mut names = Vec::new(alloc);
     for task in tasks {
@@ -239,10 +239,10 @@ fn tasks_come_once_and_in_order(rt: HostRuntime) -> Result<(), Fail> {
     Ok(())
 }
 
-/// A script of one event and one handler, which gives 1.
+// A script of one event and one handler, which gives 1.
 const ONE_HANDLER: &[u8] = b"spin 1\nevent 0 0 w:w last\nhandler 1 w:w result 1\n";
 
-/// How many batches there are, how many calls each has, and how many tasks the queue holds.
+// How many batches there are, how many calls each has, and how many tasks the queue holds.
 const TEAMS: [(u8, u32, u32); 4] = [
     // One party, which finds its own tasks.
     (1, 10, 1),
@@ -254,7 +254,7 @@ const TEAMS: [(u8, u32, u32); 4] = [
     (8, 20, 65_536),
 ];
 
-/// The version on which the handler is bound.
+// The version on which the handler is bound.
 fn bound<R: Abort>(rt: &R, alloc: Global, setup: &Setup) -> Result<Arc<Version>, Fail>
     requires { ⟦<Catalogue as Sincere>⟧.sincere setup.now.catalogue }
     ensures { IfOk result (λ version. IsSound (data_of setup.now) (arc_value version)) }
@@ -270,7 +270,7 @@ fn bound<R: Abort>(rt: &R, alloc: Global, setup: &Setup) -> Result<Arc<Version>,
     Ok(Arc::new(alloc, version)?)
 }
 
-/// The call of event 0 with 9 on this version.
+// The call of event 0 with 9 on this version.
 fn call_of(alloc: Global, setup: &Setup, version: &Arc<Version>) -> Result<Call, NoMemory>
     requires sound { IsSound (data_of setup.now) (arc_value version.now) }
     requires there { 0 < length (data_of setup.now).events }
@@ -284,7 +284,7 @@ fn call_of(alloc: Global, setup: &Setup, version: &Arc<Version>) -> Result<Call,
     })
 }
 
-/// So many such calls.
+// So many such calls.
 fn batch_of(
     alloc: Global,
     setup: &Setup,
@@ -303,7 +303,7 @@ fn batch_of(
     Ok(batch)
 }
 
-/// So many batches of so many such calls.
+// So many batches of so many such calls.
 fn batches_of(
     alloc: Global,
     setup: &Setup,
@@ -324,7 +324,7 @@ fn batches_of(
     Ok(batches)
 }
 
-/// The replies to so many batches of so many such calls, of an event of this setup.
+// The replies to so many batches of so many such calls, of an event of this setup.
 fn replies_in<R: Threads + Wait + Sync + Abort>(
     rt: &R,
     alloc: Global,
@@ -343,7 +343,7 @@ fn replies_in<R: Threads + Wait + Sync + Abort>(
     Ok(run_background(rt, rt, alloc, setup, &batches, capacity)?)
 }
 
-/// The replies to so many batches of so many such calls.
+// The replies to so many batches of so many such calls.
 fn replies_to<R: Threads + Wait + Sync + Abort>(
     rt: &R,
     alloc: Global,
@@ -358,7 +358,7 @@ fn replies_to<R: Threads + Wait + Sync + Abort>(
     replies_in(rt, alloc, &script.setup, count, calls, capacity)
 }
 
-/// Whether the reply is that the handler gave 1.
+// Whether the reply is that the handler gave 1.
 fn is_one(reply: &Reply) -> bool {
     matches!(
         reply,

@@ -9,7 +9,7 @@ use std::marker::Brand;
 use std::process::Abort;
 use std::sync::ledger::{Blank, Ledger};
 
-/// The word 5, and 20 bytes.
+// The word 5, and 20 bytes.
 fn arguments(alloc: Global) -> Result<Args, NoMemory> {
     let mut args = Args::new(alloc);
     args.push(Value::Word(5))?;
@@ -17,7 +17,7 @@ fn arguments(alloc: Global) -> Result<Args, NoMemory> {
     Ok(args)
 }
 
-/// Words that aren't there are 0.
+// Words that aren't there are 0.
 fn have_no_words(rt: &impl Abort, args: &Args) {
     for number in [1, 2, 255] {
         assert_eq!(rt; value(&Expr::Arg(number), args), 0);
@@ -30,7 +30,7 @@ fn words_that_are_not_there(rt: HostRuntime) -> Result<(), NoMemory> {
     Ok(())
 }
 
-/// Fields that aren't there are 0.
+// Fields that aren't there are 0.
 fn have_no_fields(rt: &impl Abort, args: &Args) {
     for (arg, width) in [(1, 0), (1, 3), (1, 255), (0, 1), (2, 1)] {
         let field = Expr::Field {
@@ -48,7 +48,7 @@ fn fields_that_are_not_there(rt: HostRuntime) -> Result<(), NoMemory> {
     Ok(())
 }
 
-/// Whether the argument has at least so many bytes, by a counter of its own.
+// Whether the argument has at least so many bytes, by a counter of its own.
 fn has_bytes<L: Ledger>(args: &Args, arg: u8, length: u16, blank: Blank) -> bool
     requires name { blank.name ≡ L.name }
     requires parts { blank.parts ≡ L.parts }
@@ -58,7 +58,7 @@ fn has_bytes<L: Ledger>(args: &Args, arg: u8, length: u16, blank: Blank) -> bool
     holds(&Test::HasBytes { arg, length }, args, &mut steps)
 }
 
-/// Arguments that have no bytes have 0 of them at least.
+// Arguments that have no bytes have 0 of them at least.
 fn have_no_bytes(rt: &impl Abort, args: &Args) {
     for (arg, length, wanted) in [(0, 1, false), (0, 0, true), (9, 0, true)] {
         let has = has_bytes::<Brand>(args, arg, length, Blank::new(1));

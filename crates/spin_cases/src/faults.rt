@@ -15,7 +15,7 @@ use std::process::Abort;
 use std::test::Fail;
 use std::thread::Threads;
 
-/// A script whose endpoint is retired between two sends, each from the second byte on.
+// A script whose endpoint is retired between two sends, each from the second byte on.
 const RETIRING: &[u8] = b"\
 spin 1
 event 0 0 b last
@@ -28,7 +28,7 @@ retire 0
 lane 0 raise 0 x2d63
 ";
 
-/// Its report where the endpoint is there.
+// Its report where the endpoint is there.
 const RETIRED: &[u8] = b"\
 report 1
 segment 0 at 0
@@ -41,14 +41,14 @@ lost 0 1
 end 1
 ";
 
-/// What is run.
+// What is run.
 #[derive(Clone, Copy)]
 enum Row {
-    /// The filter, over its 40 records.
+    // The filter, over its 40 records.
     Filter,
-    /// The filter, over the first two of them and a rest of five bytes.
+    // The filter, over the first two of them and a rest of five bytes.
     Cut,
-    /// The script with a retirement, over no capture.
+    // The script with a retirement, over no capture.
     Retiring,
 }
 
@@ -60,7 +60,7 @@ impl Row {
         }
     }
 
-    /// The bytes of the capture; none where there is no capture.
+    // The bytes of the capture; none where there is no capture.
     fn capture(self, alloc: Global) -> Result<Octets, NoMemory> {
         match self {
             Row::Filter => capture(alloc, 40),
@@ -69,7 +69,7 @@ impl Row {
         }
     }
 
-    /// The words that run it.
+    // The words that run it.
     fn words(self) -> &'static [&'static [u8]] {
         match self {
             Row::Filter | Row::Cut => &[b"run", b"script", b"packets"],
@@ -77,7 +77,7 @@ impl Row {
         }
     }
 
-    /// What a whole run writes.
+    // What a whole run writes.
     fn report(self, alloc: Global) -> Result<Octets, NoMemory> {
         match self {
             Row::Filter => filter::report_of(alloc, 40, b"end 4 records 40 used 40 cut 0\n"),
@@ -86,7 +86,7 @@ impl Row {
         }
     }
 
-    /// What the endpoint notes of a whole run.
+    // What the endpoint notes of a whole run.
     fn notes(self, alloc: Global) -> Result<Octets, NoMemory> {
         match self {
             Row::Filter => filter::payloads(alloc, 10),
@@ -102,7 +102,7 @@ fn cut_capture(alloc: Global) -> Result<Octets, NoMemory> {
     Ok(file)
 }
 
-/// The calls of which one fails.
+// The calls of which one fails.
 #[derive(Clone, Copy)]
 enum Kind {
     Find,
@@ -111,20 +111,20 @@ enum Kind {
     Delivery,
 }
 
-/// One call fails: that of this number among those of its kind, counted from 0.
+// One call fails: that of this number among those of its kind, counted from 0.
 #[derive(Clone, Copy)]
 struct Failing {
     kind: Kind,
     call: u32,
 }
 
-/// No run comes to that call.
+// No run comes to that call.
 const NONE_FAILS: Failing = Failing {
     kind: Kind::Find,
     call: u32::MAX,
 };
 
-/// A shelf with the row's files, of which a read moves at most so many bytes.
+// A shelf with the row's files, of which a read moves at most so many bytes.
 fn shelf_of(alloc: Global, row: Row, failing: Failing, size: u32) -> Result<MemShelf, NoMemory>
     requires { 0 < size }
 {
@@ -144,8 +144,8 @@ fn shelf_of(alloc: Global, row: Row, failing: Failing, size: u32) -> Result<MemS
     Ok(shelf)
 }
 
-/// A sink with room for each report, of which a write moves at most so many bytes; one whose call fails takes whole
-/// pieces before.
+// A sink with room for each report, of which a write moves at most so many bytes; one whose call fails takes whole
+// pieces before.
 fn sink_of(alloc: Global, failing: Failing, size: u32) -> Result<MemSink, NoMemory>
     requires { 0 < size }
 {
@@ -157,7 +157,7 @@ fn sink_of(alloc: Global, failing: Failing, size: u32) -> Result<MemSink, NoMemo
     Ok(sink)
 }
 
-/// The delivery that fails.
+// The delivery that fails.
 fn failing_delivery(failing: Failing) -> u32 {
     match failing.kind {
         Kind::Delivery => failing.call,
@@ -165,7 +165,7 @@ fn failing_delivery(failing: Failing) -> u32 {
     }
 }
 
-/// What a run came to.
+// What a run came to.
 #[derive(Drop)]
 struct Outcome {
     status: u8,
@@ -173,7 +173,7 @@ struct Outcome {
     notes: Notes,
 }
 
-/// Runs the row over an outside that moves at most so many bytes in a call, and of which that call fails.
+// Runs the row over an outside that moves at most so many bytes in a call, and of which that call fails.
 fn run<R: Threads + Sync>(
     rt: &R,
     alloc: Global,
@@ -205,7 +205,7 @@ fn run<R: Threads + Sync>(
     })
 }
 
-/// What a whole run of a row writes and delivers.
+// What a whole run of a row writes and delivers.
 #[derive(Drop)]
 struct Whole {
     report: Octets,
@@ -220,7 +220,7 @@ impl Whole {
     }
 }
 
-/// So many parts from the front, each of which ends by the mark; all where there are no more.
+// So many parts from the front, each of which ends by the mark; all where there are no more.
 fn front(bytes: &[u8], mark: u8, parts: u32) -> &[u8] {
     let mut left = parts;
     let mut len = 0usize;
@@ -236,7 +236,7 @@ fn front(bytes: &[u8], mark: u8, parts: u32) -> &[u8] {
     &bytes[..len.min(bytes.len())]
 }
 
-/// How much of what a whole run writes, or delivers: so many lines or notes, or as many as the failing call's number.
+// How much of what a whole run writes, or delivers: so many lines or notes, or as many as the failing call's number.
 #[derive(Clone, Copy)]
 enum Part {
     Just(u32),
@@ -254,7 +254,7 @@ impl Part {
     }
 }
 
-/// How a run ends.
+// How a run ends.
 #[derive(Clone, Copy)]
 enum End {
     Whole,
@@ -274,7 +274,7 @@ impl End {
         }
     }
 
-    /// The stop line.
+    // The stop line.
     fn line(self) -> &'static [u8] {
         match self {
             End::Whole | End::NoWrite => b"",
@@ -285,11 +285,11 @@ impl End {
     }
 }
 
-/// What a run comes to: its end, the lines that it writes before its stop line, and what the endpoint notes.
+// What a run comes to: its end, the lines that it writes before its stop line, and what the endpoint notes.
 type Wanted = (End, Part, Part);
 
 impl Outcome {
-    /// Whether the run in which the call of that number failed came to this.
+    // Whether the run in which the call of that number failed came to this.
     fn is(&self, wanted: Wanted, whole: &Whole, call: u32) -> bool {
         let (end, lines, notes) = wanted;
         let lines = front(whole.report.as_slice(), b'\n', lines.of(call));
@@ -300,13 +300,13 @@ impl Outcome {
     }
 }
 
-/// The calls of a kind from one number to before another, and what each run comes to in which one of them fails.
+// The calls of a kind from one number to before another, and what each run comes to in which one of them fails.
 type Stops = (Row, Kind, u32, u32, Wanted);
 
-/// How many bytes a call moves at most where calls fail: more than a line has, and fewer than a capture.
+// How many bytes a call moves at most where calls fail: more than a line has, and fewer than a capture.
 const PIECE: u32 = 500;
 
-/// The first of the calls whose failure comes to something else.
+// The first of the calls whose failure comes to something else.
 fn first_wrong<R: Threads + Sync>(
     rt: &R,
     alloc: Global,
@@ -327,7 +327,7 @@ const WHOLE: Wanted = (End::Whole, Part::All, Part::All);
 
 const NO_SCRIPT: Wanted = (End::NoScript, Part::Just(0), Part::Just(0));
 
-/// For each row and kind the calls from 0 on, up to the first number that no run comes to.
+// For each row and kind the calls from 0 on, up to the first number that no run comes to.
 const STOPS: [Stops; 28] = [
     (Row::Filter, Kind::Find, 0, 1, NO_SCRIPT),
     (
@@ -469,7 +469,7 @@ fn each_call_fails_in_turn(rt: HostRuntime) -> Result<(), Fail> {
     Ok(())
 }
 
-/// Rows, and how many bytes a call moves at most.
+// Rows, and how many bytes a call moves at most.
 const PIECES: [(Row, u32); 6] = [
     (Row::Filter, 1),
     (Row::Filter, 7),
@@ -489,7 +489,7 @@ fn runs_in_pieces(rt: HostRuntime) -> Result<(), Fail> {
     Ok(())
 }
 
-/// The row's capture as a source of which a read moves at most so many bytes.
+// The row's capture as a source of which a read moves at most so many bytes.
 fn source_of(alloc: Global, row: Row, size: u32) -> Result<MemSource, NoMemory>
     requires { 0 < size }
 {
@@ -498,7 +498,7 @@ fn source_of(alloc: Global, row: Row, size: u32) -> Result<MemSource, NoMemory>
     Ok(source)
 }
 
-/// What the filter writes over the row's capture, of which a read moves at most so many bytes.
+// What the filter writes over the row's capture, of which a read moves at most so many bytes.
 fn report_in_pieces<R: Threads + Sync + Abort>(
     rt: &R,
     alloc: Global,

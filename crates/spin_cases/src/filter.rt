@@ -34,7 +34,7 @@ barrier
 lane 0 packet 0 40
 ";
 
-/// What stands in the report before the packets.
+// What stands in the report before the packets.
 const INSTALLED: &[u8] = b"\
 report 1
 segment 0 at 0
@@ -44,7 +44,7 @@ segment 0 at 0
 4 0 16 install ok
 ";
 
-/// What is told of a frame, by its number modulo 4.
+// What is told of a frame, by its number modulo 4.
 const TOLD: [&[u8]; 4] = [
     b"run 0 1 up 1 run 1 2 up 2 run 2 4 send 0 35 back done back done = done\n",
     b"= nohandler\n",
@@ -52,10 +52,10 @@ const TOLD: [&[u8]; 4] = [
     b"run 0 1 up 1 run 1 2 up 2 run 2 3 send 0 19 back done back done = done\n",
 ];
 
-/// How many bytes the 40 records have.
+// How many bytes the 40 records have.
 const RECORDS: u64 = 3180;
 
-/// The 40 records in turn, and so many copies of the first one behind them.
+// The 40 records in turn, and so many copies of the first one behind them.
 fn capture_and_copies(alloc: Global, copies: u32) -> Result<Octets, NoMemory> {
     let mut file = capture(alloc, 40)?;
     for _ in 0..copies {
@@ -64,7 +64,7 @@ fn capture_and_copies(alloc: Global, copies: u32) -> Result<Octets, NoMemory> {
     Ok(file)
 }
 
-/// Adds the line of the packet of that number.
+// Adds the line of the packet of that number.
 fn put_packet(report: &mut Octets, number: u8) -> Result<(), NoMemory> {
     report.extend_from_slice(b"4 0 18.")?;
     if number >= 10 {
@@ -75,7 +75,7 @@ fn put_packet(report: &mut Octets, number: u8) -> Result<(), NoMemory> {
     report.extend_from_slice(TOLD[usize::from(number % 4)])
 }
 
-/// The report of a whole run over so many records, which has this last line.
+// The report of a whole run over so many records, which has this last line.
 pub(crate) fn report_of(alloc: Global, records: u8, end: &[u8]) -> Result<Octets, NoMemory> {
     let mut report = Octets::from_bytes(alloc, INSTALLED)?;
     report.extend_from_slice(b"segment 1 at 4\n")?;
@@ -86,12 +86,12 @@ pub(crate) fn report_of(alloc: Global, records: u8, end: &[u8]) -> Result<Octets
     Ok(report)
 }
 
-/// The report of a whole run over the 40 records.
+// The report of a whole run over the 40 records.
 fn whole_report(alloc: Global) -> Result<Octets, NoMemory> {
     report_of(alloc, 40, b"end 4 records 40 used 40 cut 0\n")
 }
 
-/// What is sent of so many queries and their answers in turn, with a comma behind each.
+// What is sent of so many queries and their answers in turn, with a comma behind each.
 pub(crate) fn payloads(alloc: Global, queries: u8) -> Result<Octets, NoMemory> {
     let mut bytes = Octets::new(alloc);
     for _ in 0..queries {
@@ -103,7 +103,7 @@ pub(crate) fn payloads(alloc: Global, queries: u8) -> Result<Octets, NoMemory> {
     Ok(bytes)
 }
 
-/// An endpoint `out0` that has room for so many pieces, and so many bytes of them.
+// An endpoint `out0` that has room for so many pieces, and so many bytes of them.
 fn kept(alloc: Global, pieces: u32, bytes: u32) -> Result<Ends, Fail> {
     ends_of(
         alloc,
@@ -112,7 +112,7 @@ fn kept(alloc: Global, pieces: u32, bytes: u32) -> Result<Ends, Fail> {
     )
 }
 
-/// Runs the filter over the capture, with an endpoint that has room for so many pieces, and so many bytes of them.
+// Runs the filter over the capture, with an endpoint that has room for so many pieces, and so many bytes of them.
 pub(crate) fn filtered<R: Threads + Sync>(
     rt: &R,
     alloc: Global,
@@ -136,8 +136,8 @@ pub(crate) fn filtered<R: Threads + Sync>(
     ))
 }
 
-/// How the filter ends over so many copies of a record more than its capture, with an endpoint of such room; what it
-/// writes; and how many bytes it takes.
+// How the filter ends over so many copies of a record more than its capture, with an endpoint of such room; what it
+// writes; and how many bytes it takes.
 fn filtered_to<R: Threads + Sync>(
     rt: &R,
     alloc: Global,
@@ -151,7 +151,7 @@ fn filtered_to<R: Threads + Sync>(
     Ok((end, report, source.taken()))
 }
 
-/// What is written of a run that ends so.
+// What is written of a run that ends so.
 fn written_by(alloc: Global, end: RunEnd) -> Result<Octets, NoMemory> {
     match end {
         RunEnd::Whole => whole_report(alloc),

@@ -4,10 +4,10 @@ use spin_outside::Gate;
 use std::hint;
 use std::sync::atomic::{AtomicBool, Ordering};
 
-/// The most turns for which a gate holds a lane or a worker.
+// The most turns for which a gate holds a lane or a worker.
 const TURNS: u64 = 100_000_000;
 
-/// A pass of the gate: the number of the deed or job, and whose it may be.
+// A pass of the gate: the number of the deed or job, and whose it may be.
 #[derive(Clone, Copy)]
 pub(crate) struct Pass {
     first: u8,
@@ -15,7 +15,7 @@ pub(crate) struct Pass {
     deed: u32,
 }
 
-/// A lane's pass before its deed.
+// A lane's pass before its deed.
 pub(crate) const fn lane(number: u8, deed: u32) -> Pass {
     Pass {
         first: number,
@@ -24,7 +24,7 @@ pub(crate) const fn lane(number: u8, deed: u32) -> Pass {
     }
 }
 
-/// Any worker's pass before the job.
+// Any worker's pass before the job.
 pub(crate) const fn worker(job: u32) -> Pass {
     Pass {
         first: 8,
@@ -39,7 +39,7 @@ impl Pass {
     }
 }
 
-/// Holds a pass until another was called for, and notes whether that took too long.
+// Holds a pass until another was called for, and notes whether that took too long.
 #[derive(Drop)]
 pub(crate) struct Hold {
     held: Pass,
@@ -80,7 +80,7 @@ impl Hold {
         }
     }
 
-    /// Whether the pass was let through in time, or never came.
+    // Whether the pass was let through in time, or never came.
     pub(crate) fn is_in_time(&self) -> bool {
         !self.late.load(Ordering::SeqCst)
     }

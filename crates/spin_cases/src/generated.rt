@@ -4,10 +4,10 @@ use md5::{Digest, Md5};
 use spin_gen::generate;
 use spin_values::NoMemory;
 
-/// How many bytes the script has before the first line for which is drawn.
+// How many bytes the script has before the first line for which is drawn.
 const HEAD: usize = 771;
 
-/// The digest of the bytes, as a number.
+// The digest of the bytes, as a number.
 fn digest(bytes: &[u8]) -> u128 {
     let mut hasher = Md5::new();
     hasher.update(bytes);

@@ -8,13 +8,13 @@ const SOURCE: u32 = 0x0a00_0001;
 
 const DESTINATION: u32 = 0x0a00_0002;
 
-/// A TCP segment's header, for 40 bytes of payload.
+// A TCP segment's header, for 40 bytes of payload.
 const TCP: [u8; 20] = [
     0x45, 0, 0, 0x3c, 0x1c, 0x46, 0x40, 0, 0x40, 6, 0xb1, 0xe6, 0xac, 0x10, 0x0a, 0x63, 0xac, 0x10,
     0x0a, 0x0c,
 ];
 
-/// Bytes, and the complement of their sum.
+// Bytes, and the complement of their sum.
 const SUMS: [(&[u8], u16); 7] = [
     (
         b"\x45\0\0\x3c\x1c\x46\x40\0\x40\x06\0\0\xac\x10\x0a\x63\xac\x10\x0a\x0c",
@@ -56,7 +56,7 @@ fn frames(rt: HostRuntime) {
     }
 }
 
-/// The header of a packet of 24 bytes, whose last 4 are options.
+// The header of a packet of 24 bytes, whose last 4 are options.
 const WITH_OPTIONS: Ipv4 = Ipv4 {
     header_len: 24,
     total_len: 24,
@@ -67,7 +67,7 @@ const WITH_OPTIONS: Ipv4 = Ipv4 {
     destination: DESTINATION,
 };
 
-/// Packets, and their headers.
+// Packets, and their headers.
 const PACKETS: [(&[u8], Ipv4); 2] = [
     (
         b"\x46\0\0\x18\0\x01\x40\0\x40\x11\x23\xd0\x0a\0\0\x01\x0a\0\0\x02\x01\x01\x01\x01",
@@ -94,14 +94,14 @@ fn packets(rt: HostRuntime) {
     assert_eq!(rt; out, TCP);
 }
 
-/// Payloads from port 53 to port 1024, and their datagrams: the last has a sum whose complement is 0.
+// Payloads from port 53 to port 1024, and their datagrams: the last has a sum whose complement is 0.
 const DATAGRAMS: [(&[u8], &[u8]); 3] = [
     (b"ab", b"\0\x35\x04\0\0\x0a\x86\x40ab"),
     (b"abc", b"\0\x35\x04\0\0\x0b\x23\x3eabc"),
     (b"\xe7\xa2", b"\0\x35\x04\0\0\x0a\xff\xff\xe7\xa2"),
 ];
 
-/// Whether the payload's datagram is this one.
+// Whether the payload's datagram is this one.
 fn is_written(payload: &[u8], datagram: &[u8]) -> bool {
     let mut out = [0xffu8; 11];
     if payload.len() > 3 {

@@ -23,10 +23,10 @@ use std::sync::atomic::{AtomicU64, Ordering};
 use std::test::Fail;
 use std::thread::Threads;
 
-/// One event, whose default gives the word that it is raised with.
+// One event, whose default gives the word that it is raised with.
 const ECHO: &[u8] = b"spin 1\nevent 0 0 w:w last\nhandler 1 w:w result a0\ndefault 0 1\n";
 
-/// Holds job 0 until job 1 has passed. Counts the passes, and those of numbers that are no worker's.
+// Holds job 0 until job 1 has passed. Counts the passes, and those of numbers that are no worker's.
 #[derive(Drop)]
 struct Counting {
     hold: Hold,
@@ -54,7 +54,7 @@ impl Gate for Counting {
     }
 }
 
-/// The job of raising event 0 with this word on this version.
+// The job of raising event 0 with this word on this version.
 fn job_of(
     alloc: Global,
     setup: &Setup,
@@ -78,7 +78,7 @@ fn job_of(
     })
 }
 
-/// So many such jobs with the words from 0 on, all on the version at the start.
+// So many such jobs with the words from 0 on, all on the version at the start.
 fn jobs_of(alloc: Global, setup: &Setup, count: u32) -> Result<Jobs, NoMemory>
     requires { 0 < length (data_of setup.now).events }
     ensures { IfOk result (All (CanRun (data_of setup.now))) }
@@ -91,7 +91,7 @@ fn jobs_of(alloc: Global, setup: &Setup, count: u32) -> Result<Jobs, NoMemory>
     Ok(jobs)
 }
 
-/// The replies to so many jobs of an event of this setup.
+// The replies to so many jobs of an event of this setup.
 fn replies_in<R: Threads + Sync + Abort, G: Gate>(
     rt: &R,
     alloc: Global,
@@ -110,7 +110,7 @@ fn replies_in<R: Threads + Sync + Abort, G: Gate>(
     run_all(rt, alloc, setup, &jobs, workers, gate)
 }
 
-/// The replies to so many jobs of the script's event.
+// The replies to so many jobs of the script's event.
 fn replies_of<R: Threads + Sync + Abort, G: Gate>(
     rt: &R,
     alloc: Global,
@@ -126,12 +126,12 @@ fn replies_of<R: Threads + Sync + Abort, G: Gate>(
     Ok(replies_in(rt, alloc, &script.setup, count, workers, gate)?)
 }
 
-/// Whether these are the steps of one handler that gives this word.
+// Whether these are the steps of one handler that gives this word.
 fn gives(trace: &Trace, word: u64) -> bool {
     trace.len() == 2 && *trace.get(1) == Step::Result(word)
 }
 
-/// Whether the jobs gave the words from 0 on.
+// Whether the jobs gave the words from 0 on.
 fn are_in_order(replies: &[Reply]) -> bool {
     let mut next = 0;
     for reply in replies {
@@ -146,7 +146,7 @@ fn are_in_order(replies: &[Reply]) -> bool {
     true
 }
 
-/// How many jobs there are, and how many workers.
+// How many jobs there are, and how many workers.
 const CASES: [(u32, u8); 3] = [
     // No job has no reply.
     (0, 8),
@@ -171,13 +171,13 @@ fn jobs_are_done_at_once_and_answered_in_order(rt: HostRuntime) -> Result<(), Fa
     Ok(())
 }
 
-/// One event, whose default is the native.
+// One event, whose default is the native.
 const TALLY: &[u8] = b"spin 1\nevent 0 0 w last\nhandler 1 native own\ndefault 0 1\n";
 
-/// What a run of job 1 counts; one of job 0 counts 1.
+// What a run of job 1 counts; one of job 0 counts 1.
 const SECOND: u64 = 65_536;
 
-/// Counts the runs of jobs 0 and 1.
+// Counts the runs of jobs 0 and 1.
 struct Tally {
     runs: Arc<AtomicU64>,
 }
@@ -202,7 +202,7 @@ impl Handler for Tally {
     }
 }
 
-/// The native that counts, under its name.
+// The native that counts, under its name.
 fn tally_natives(alloc: Global, object: Box<dyn Handler + Send + Sync>) -> Result<Natives, Fail>
     requires { does object ≡ record { steps = [] } }
     ensures { IfOk result (λ natives. ⟦<Natives as Sincere>⟧.sincere natives) }
@@ -222,7 +222,7 @@ fn tally_natives(alloc: Global, object: Box<dyn Handler + Send + Sync>) -> Resul
     Ok(natives)
 }
 
-/// Holds job 0 until job 1 has passed, and notes who passed, and each pass of a job that was done already.
+// Holds job 0 until job 1 has passed, and notes who passed, and each pass of a job that was done already.
 #[derive(Drop)]
 struct Watching {
     hold: Hold,

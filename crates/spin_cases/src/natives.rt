@@ -15,7 +15,7 @@ use std::sync::atomic::{AtomicU64, Ordering};
 use std::test::Fail;
 use std::thread::Threads;
 
-/// How often objects were asked and dropped, each time counted by the worth of the object.
+// How often objects were asked and dropped, each time counted by the worth of the object.
 #[derive(Drop)]
 struct Counts {
     asked: AtomicU64,
@@ -32,7 +32,7 @@ fn no_counts(alloc: Global) -> Result<Arc<Counts>, Fail> {
     )?)
 }
 
-/// Does nothing, admits everything and denies everything.
+// Does nothing, admits everything and denies everything.
 struct Counted {
     worth: u64,
     counts: Arc<Counts>,
@@ -72,7 +72,7 @@ impl Authoriser for Counted {
     }
 }
 
-/// An object that counts so much here.
+// An object that counts so much here.
 fn object_of(worth: u64, counts: &Arc<Counts>) -> Result<Counted, Fail> {
     Ok(Counted {
         worth,
@@ -80,7 +80,7 @@ fn object_of(worth: u64, counts: &Arc<Counts>) -> Result<Counted, Fail> {
     })
 }
 
-/// The signature without parameters.
+// The signature without parameters.
 fn bare(alloc: Global) -> EventType {
     EventType {
         params: Params::new(alloc),
@@ -88,7 +88,7 @@ fn bare(alloc: Global) -> EventType {
     }
 }
 
-/// The natives of these objects, one of each kind, without names.
+// The natives of these objects, one of each kind, without names.
 fn natives_of(
     alloc: Global,
     handler: Box<dyn Handler + Send + Sync>,
@@ -109,7 +109,7 @@ fn natives_of(
     Ok(natives)
 }
 
-/// A native of each kind: the handler counts 1, the guard 10, and the authoriser 100.
+// A native of each kind: the handler counts 1, the guard 10, and the authoriser 100.
 fn three_natives(alloc: Global, counts: &Arc<Counts>) -> Result<Natives, Fail>
     ensures { IfOk result (λ natives. ⟦<Natives as Sincere>⟧.sincere natives) }
 {
@@ -119,7 +119,7 @@ fn three_natives(alloc: Global, counts: &Arc<Counts>) -> Result<Natives, Fail>
     natives_of(alloc, handler, guard, authoriser)
 }
 
-/// A run of the script with the three natives: its status, and what was written.
+// A run of the script with the three natives: its status, and what was written.
 fn run_counted<R: Threads + Sync>(
     rt: &R,
     alloc: Global,
@@ -130,7 +130,7 @@ fn run_counted<R: Threads + Sync>(
     Ok(run_with(rt, alloc, script, natives)?)
 }
 
-/// Scripts, the status of a run of each, what it writes, and what the natives that it asks count.
+// Scripts, the status of a run of each, what it writes, and what the natives that it asks count.
 const RUNS: [(&[u8], u8, &[u8], u64); 3] = [
     (
         b"spin 1\nmodules 2\nevent 0 0 - last\nevent 1 0 - last\nhandler 1 native own\nguard 1 native own\nauthoriser 1 own\nlane 0 install 0 0 1 1 free plain\nlane 0 raise 0\nlane 0 install 1 1 1 0 free plain\n",
@@ -160,7 +160,7 @@ fn each_native_is_asked_and_dropped_once(rt: HostRuntime) -> Result<(), Fail> {
     Ok(())
 }
 
-/// The answer to one more guard of that name.
+// The answer to one more guard of that name.
 fn added_guard(
     alloc: Global,
     natives: &mut Natives,

@@ -8,7 +8,7 @@ use std::alloc::Global;
 use std::process::Abort;
 use std::test::Fail;
 
-/// The files of a shelf, of which one is put twice.
+// The files of a shelf, of which one is put twice.
 const FILES: [(&[u8], &[u8]); 3] = [(b"a", b"old"), (b"b", b"xyz"), (b"a", b"first")];
 
 fn put(alloc: Global, shelf: &mut MemShelf, name: &[u8], bytes: &[u8]) -> Result<(), NoMemory> {
@@ -24,7 +24,7 @@ fn shelf_of_two(alloc: Global) -> Result<MemShelf, NoMemory> {
     Ok(shelf)
 }
 
-/// Pieces, what `write_all` answers, and what the sink has then.
+// Pieces, what `write_all` answers, and what the sink has then.
 const WRITES: [(&[u8], Result<(), Failed>, &[u8]); 4] = [
     (b"abcd", Ok(()), b"abcd"),
     (b"lost", Err(Failed), b"abcd"),
@@ -32,7 +32,7 @@ const WRITES: [(&[u8], Result<(), Failed>, &[u8]); 4] = [
     (b"", Ok(()), b"abcdef"),
 ];
 
-/// Each piece is answered, and the sink has what it should.
+// Each piece is answered, and the sink has what it should.
 fn are_written(rt: &impl Abort, sink: &mut MemSink) {
     for (piece, answer, bytes) in WRITES {
         assert_eq!(rt; write_all(sink, piece), answer);
@@ -48,7 +48,7 @@ fn sink_in_memory(rt: HostRuntime) -> Result<(), NoMemory> {
     Ok(())
 }
 
-/// The number under which a file is found, or why it isn't.
+// The number under which a file is found, or why it isn't.
 fn found(
     alloc: Global,
     shelf: &mut MemShelf,
@@ -57,14 +57,14 @@ fn found(
     Ok(shelf.find(&Text::from_bytes(alloc, name)?))
 }
 
-/// Names, and why they aren't found.
+// Names, and why they aren't found.
 const FINDS: [(&[u8], Option<FindFault>); 3] = [
     (b"a", None),
     (b"a", Some(FindFault::Failed)),
     (b"c", Some(FindFault::Absent)),
 ];
 
-/// Each name is found, or not for its fault. The second find fails.
+// Each name is found, or not for its fault. The second find fails.
 fn are_found(rt: &impl Abort, alloc: Global, shelf: &mut MemShelf) -> Result<(), NoMemory> {
     shelf.fail_find(1)?;
     for (name, fault) in FINDS {
@@ -78,7 +78,7 @@ fn files_of_a_shelf_are_found(rt: HostRuntime) -> Result<(), NoMemory> {
     are_found(&rt, rt.alloc(), &mut shelf_of_two(rt.alloc())?)
 }
 
-/// The number of file a.
+// The number of file a.
 fn first_file(alloc: Global, shelf: &mut MemShelf) -> Result<u32, Fail> {
     match found(alloc, shelf, b"a")? {
         Ok(file) => Ok(file),
@@ -86,13 +86,13 @@ fn first_file(alloc: Global, shelf: &mut MemShelf) -> Result<u32, Fail> {
     }
 }
 
-/// Why the file's rest isn't taken up to this limit, or whether it is the word "first".
+// Why the file's rest isn't taken up to this limit, or whether it is the word "first".
 fn taken(alloc: Global, shelf: &mut MemShelf, file: u32, limit: u32) -> Result<bool, TakeFault> {
     let bytes = read_up_to(alloc, shelf, file, limit)?;
     Ok(bytes.as_slice() == b"first".as_slice())
 }
 
-/// File a is taken whole; of the file that is found again a read fails, and then it is too large.
+// File a is taken whole; of the file that is found again a read fails, and then it is too large.
 fn are_taken(rt: &impl Abort, alloc: Global, shelf: &mut MemShelf) -> Result<(), Fail> {
     shelf.fail_read(2)?;
     let file = first_file(alloc, shelf)?;
@@ -109,7 +109,7 @@ fn files_of_a_shelf_are_taken(rt: HostRuntime) -> Result<(), Fail> {
     are_taken(&rt, rt.alloc(), &mut shelf_of_two(rt.alloc())?)
 }
 
-/// Reads to the end, and over failed calls; answers what was read and the numbers of the calls that failed.
+// Reads to the end, and over failed calls; answers what was read and the numbers of the calls that failed.
 fn read_over_faults<S: Source>(alloc: Global, source: &mut S) -> Result<(Octets, Vec<u32>), Fail> {
     let mut bytes = Octets::new(alloc);
     let mut failed = Vec::new(alloc);
@@ -124,7 +124,7 @@ fn read_over_faults<S: Source>(alloc: Global, source: &mut S) -> Result<(Octets,
     Err(Fail::new("a source doesn't end"))
 }
 
-/// Whether these bytes are read, over failed calls of these numbers.
+// Whether these bytes are read, over failed calls of these numbers.
 fn are_read<S: Source>(
     alloc: Global,
     source: &mut S,
@@ -135,7 +135,7 @@ fn are_read<S: Source>(
     Ok(read.as_slice() == bytes && failed.as_slice() == calls)
 }
 
-/// A source of ten bytes, whose second and fourth call fail.
+// A source of ten bytes, whose second and fourth call fail.
 fn source_of_ten(alloc: Global) -> Result<MemSource, NoMemory> {
     let mut source = MemSource::new(Octets::from_bytes(alloc, b"abcdefghij")?);
     source.fail_at(1)?;
@@ -143,7 +143,7 @@ fn source_of_ten(alloc: Global) -> Result<MemSource, NoMemory> {
     Ok(source)
 }
 
-/// Four bytes are read, and then the others in pieces and over two faults.
+// Four bytes are read, and then the others in pieces and over two faults.
 fn is_read(rt: &impl Abort, alloc: Global, source: &mut MemSource) -> Result<(), Fail> {
     let mut buf = [0u8; 4];
     assert_eq!(rt; source.read(&mut buf), Ok(4));
@@ -159,7 +159,7 @@ fn source_in_memory(rt: HostRuntime) -> Result<(), Fail> {
     is_read(&rt, rt.alloc(), &mut source_of_ten(rt.alloc())?)
 }
 
-/// Whether file a is read, and over a fault.
+// Whether file a is read, and over a fault.
 fn first_is_read(alloc: Global, shelf: &mut MemShelf) -> Result<bool, Fail> {
     shelf.fail_read(1)?;
     let file = first_file(alloc, shelf)?;

@@ -15,7 +15,7 @@ use std::process::Abort;
 use std::sync::atomic::{AtomicU64, Ordering};
 use std::sync::ledger::{Blank, Ledger};
 
-/// Guards that count how often they are asked.
+// Guards that count how often they are asked.
 #[derive(Drop)]
 struct CountingGuards {
     tests: Sequence<Test>,
@@ -46,7 +46,7 @@ impl Guards for CountingGuards {
     }
 }
 
-/// Guards the first of which asks whether argument 0 is 0, the next whether it is 1, and so on.
+// Guards the first of which asks whether argument 0 is 0, the next whether it is 1, and so on.
 fn guards_of_numbers(alloc: Global) -> Result<CountingGuards, NoMemory> {
     let mut tests = Sequence::new(alloc);
     for number in 0..32 {
@@ -58,7 +58,7 @@ fn guards_of_numbers(alloc: Global) -> Result<CountingGuards, NoMemory> {
     })
 }
 
-/// Guard 1 asks whether argument 0 is 5, and guard 2 whether it is under 9.
+// Guard 1 asks whether argument 0 is 5, and guard 2 whether it is under 9.
 fn two_guards(alloc: Global) -> Result<CountingGuards, NoMemory> {
     let mut tests = Sequence::new(alloc);
     tests.push(Test::Compare(Cmp::Eq, Expr::Arg(0), Expr::Const(5)))?;
@@ -69,7 +69,7 @@ fn two_guards(alloc: Global) -> Result<CountingGuards, NoMemory> {
     })
 }
 
-/// A binding with this number, own guard and imposed guard, 0 being none.
+// A binding with this number, own guard and imposed guard, 0 being none.
 fn binding(alloc: Global, number: u16, own_guard: u16, imposed: u16) -> Result<Binding, NoMemory> {
     let mut guards = Numbers::new(alloc);
     if imposed != 0 {
@@ -88,7 +88,7 @@ fn binding(alloc: Global, number: u16, own_guard: u16, imposed: u16) -> Result<B
     })
 }
 
-/// A binding for each of these numbers, own guards and imposed guards.
+// A binding for each of these numbers, own guards and imposed guards.
 fn bindings_of(alloc: Global, rows: &[(u16, u16, u16)]) -> Result<Sequence<Binding>, NoMemory> {
     let mut bindings = Sequence::new(alloc);
     for &(number, own_guard, imposed) in rows {
@@ -97,7 +97,7 @@ fn bindings_of(alloc: Global, rows: &[(u16, u16, u16)]) -> Result<Sequence<Bindi
     Ok(bindings)
 }
 
-/// Whether the guard is there, or is none.
+// Whether the guard is there, or is none.
 fn is_guard(guard: u16, count: u16) -> bool
     ensures { IsTrue result → IsGuard count guard }
 {
@@ -122,7 +122,7 @@ fn is_guarded(binding: &Binding, count: u16) -> bool
     is_guard(binding.own_guard, count) && are_guards(binding.imposed.as_slice(), count)
 }
 
-/// Whether the guards of the bindings are there.
+// Whether the guards of the bindings are there.
 fn are_guarded(bindings: &[Binding], count: u16) -> bool
     ensures own { IsTrue result → All (λ b. IsGuard count b.own_guard) bindings.now }
     ensures imposed { IsTrue result → All (λ b. All (IsGuard count) b.imposed) bindings.now }
@@ -135,7 +135,7 @@ fn are_guarded(bindings: &[Binding], count: u16) -> bool
     true
 }
 
-/// The number of the next binding of the plan of these; `None` also where a guard isn't there.
+// The number of the next binding of the plan of these; `None` also where a guard isn't there.
 fn next_of<L: Ledger>(
     alloc: Global,
     bindings: &[Binding],
@@ -162,7 +162,7 @@ fn next_of<L: Ledger>(
     }
 }
 
-/// What is next on this number, and how often a guard was asked for it.
+// What is next on this number, and how often a guard was asked for it.
 fn asked_on(
     alloc: Global,
     bindings: &[Binding],
@@ -177,10 +177,10 @@ fn asked_on(
     Ok((next, guards.asked.load(Ordering::SeqCst)))
 }
 
-/// A word, the number of a binding from which on one is looked for, what is next, and how often a guard is asked.
+// A word, the number of a binding from which on one is looked for, what is next, and how often a guard is asked.
 type Asking = (u64, u32, Option<u16>, u64);
 
-/// Each asking comes to what it should.
+// Each asking comes to what it should.
 fn are_asked(
     rt: &impl Abort,
     alloc: Global,
@@ -195,7 +195,7 @@ fn are_asked(
     Ok(())
 }
 
-/// Askings of four bindings.
+// Askings of four bindings.
 const FOUR: [Asking; 9] = [
     (5, 0, Some(4), 1),
     (5, 1, Some(2), 1),
@@ -216,7 +216,7 @@ fn guards_are_asked_until_one_does_not_hold(rt: HostRuntime) -> Result<(), NoMem
     are_asked(&rt, alloc, bindings.as_slice(), &guards, &FOUR)
 }
 
-/// So many bindings, each with the own guard of its number.
+// So many bindings, each with the own guard of its number.
 fn own_guarded(alloc: Global, count: u16) -> Result<Sequence<Binding>, NoMemory> {
     let mut bindings = Sequence::new(alloc);
     for number in 1..=count {
@@ -234,7 +234,7 @@ fn candidates_alone_are_asked(rt: HostRuntime) -> Result<(), NoMemory> {
     are_asked(&rt, alloc, bindings.as_slice(), &guards, &askings)
 }
 
-/// So many bindings, of which those with odd numbers have guard 2, and the others none.
+// So many bindings, of which those with odd numbers have guard 2, and the others none.
 fn half_guarded(alloc: Global, count: u16) -> Result<Sequence<Binding>, NoMemory> {
     let mut bindings = Sequence::new(alloc);
     for number in 1..=count {
@@ -253,7 +253,7 @@ fn bindings_without_a_guard_are_candidates(rt: HostRuntime) -> Result<(), NoMemo
     are_asked(&rt, alloc, bindings.as_slice(), &guards, &askings)
 }
 
-/// So many bytes of argument 0, from the third on.
+// So many bytes of argument 0, from the third on.
 fn field(width: u8) -> Expr {
     Expr::Field {
         arg: 0,

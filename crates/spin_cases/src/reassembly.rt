@@ -16,16 +16,16 @@ const SOURCE: u32 = 0x0a00_0001;
 
 const DESTINATION: u32 = 0x0a00_0002;
 
-/// The header of each frame.
+// The header of each frame.
 const ETHER: &[u8; 14] = b"\x02\0\0\0\0\x02\x02\0\0\0\0\x01\x08\0";
 
-/// What the datagrams carry, from its front on.
+// What the datagrams carry, from its front on.
 const PAYLOAD: &[u8; 24] = b"\x00\x35\x04\x00\x00\x18\0\0abcdefghijklmnop";
 
-/// A fragment: its offset in units of 8 bytes, whether more follow, its time to live, and its bytes.
+// A fragment: its offset in units of 8 bytes, whether more follow, its time to live, and its bytes.
 type Fragment = (u16, bool, u8, &'static [u8]);
 
-/// The packet's header of a fragment.
+// The packet's header of a fragment.
 fn header_of(ident: u16, fragment: Fragment) -> [u8; 20] {
     let (offset, more, ttl, bytes) = fragment;
     let len = u16::try_from(bytes.len()).unwrap_or(0).min(65_515);
@@ -43,7 +43,7 @@ fn header_of(ident: u16, fragment: Fragment) -> [u8; 20] {
     header
 }
 
-/// The frame of a packet with this header.
+// The frame of a packet with this header.
 fn framed(alloc: Global, header: &[u8], bytes: &[u8]) -> Result<Octets, NoMemory> {
     let mut frame = Octets::from_bytes(alloc, ETHER)?;
     frame.extend_from_slice(header)?;
@@ -51,20 +51,20 @@ fn framed(alloc: Global, header: &[u8], bytes: &[u8]) -> Result<Octets, NoMemory
     Ok(frame)
 }
 
-/// The frame of a fragment.
+// The frame of a fragment.
 fn frame_of(alloc: Global, ident: u16, fragment: Fragment) -> Result<Octets, NoMemory> {
     let (_, _, _, bytes) = fragment;
     framed(alloc, &header_of(ident, fragment), bytes)
 }
 
-/// The frame of the whole datagram.
+// The frame of the whole datagram.
 fn whole_frame(alloc: Global, ttl: u8) -> Result<Octets, NoMemory> {
     let mut header = [0u8; 20];
     write_ipv4(1, ttl, 17, SOURCE, DESTINATION, 24, &mut header);
     framed(alloc, &header, PAYLOAD)
 }
 
-/// Adds the record of a fragment.
+// Adds the record of a fragment.
 fn push_fragment(
     alloc: Global,
     file: &mut Octets,
@@ -75,20 +75,20 @@ fn push_fragment(
     push_frame(file, 0, frame.as_slice())
 }
 
-/// Adds the record of the whole datagram.
+// Adds the record of the whole datagram.
 fn push_whole(alloc: Global, file: &mut Octets, ttl: u8) -> Result<(), NoMemory> {
     let frame = whole_frame(alloc, ttl)?;
     push_frame(file, 0, frame.as_slice())
 }
 
-/// The joined capture of these bytes, which come in pieces.
+// The joined capture of these bytes, which come in pieces.
 fn join(alloc: Global, file: &Octets) -> Result<Result<Octets, JoinFault>, NoMemory> {
     let mut source = MemSource::new(file.copy()?);
     source.in_pieces(11);
     Ok(join_capture(alloc, &mut source))
 }
 
-/// Adds the fragments' records to the capture, and to the wanted one the records that are to become of them.
+// Adds the fragments' records to the capture, and to the wanted one the records that are to become of them.
 fn push_both(
     alloc: Global,
     fragments: &[Fragment],
@@ -106,7 +106,7 @@ fn push_both(
     Ok(())
 }
 
-/// Whether the capture is joined, and to this one.
+// Whether the capture is joined, and to this one.
 fn is_joined_to(alloc: Global, file: &Octets, wanted: &[u8]) -> Result<bool, NoMemory> {
     match join(alloc, file)? {
         Ok(joined) => Ok(joined.as_slice() == wanted),
@@ -114,8 +114,8 @@ fn is_joined_to(alloc: Global, file: &Octets, wanted: &[u8]) -> Result<bool, NoM
     }
 }
 
-/// Whether the capture of these fragments is joined so: the one of that number, from 0, becomes the whole datagram
-/// with that time to live, and the others stay; or all stay, where there is none.
+// Whether the capture of these fragments is joined so: the one of that number, from 0, becomes the whole datagram
+// with that time to live, and the others stay; or all stay, where there is none.
 fn joins(
     alloc: Global,
     fragments: &[Fragment],
@@ -127,12 +127,12 @@ fn joins(
     is_joined_to(alloc, &file, wanted.as_slice())
 }
 
-/// The first 16 bytes, and the last 8.
+// The first 16 bytes, and the last 8.
 const FRONT: Fragment = (0, true, 64, b"\x00\x35\x04\x00\x00\x18\0\0abcdefgh");
 
 const BACK: Fragment = (2, false, 64, b"ijklmnop");
 
-/// Fragments, and what becomes of them.
+// Fragments, and what becomes of them.
 const CASES: [(&[Fragment], Option<(usize, u8)>); 16] = [
     (&[FRONT, BACK], Some((1, 64))),
     (&[BACK, FRONT], Some((1, 64))),
@@ -179,7 +179,7 @@ fn fragments_are_joined(rt: HostRuntime) -> Result<(), NoMemory> {
     Ok(())
 }
 
-/// A capture of the fronts of so many datagrams, and then the back of the one of that number.
+// A capture of the fronts of so many datagrams, and then the back of the one of that number.
 fn many(alloc: Global, fronts: u16, back: u16) -> Result<Octets, NoMemory> {
     let mut file = Octets::from_bytes(alloc, &LITTLE)?;
     for ident in 0..fronts {
@@ -189,11 +189,11 @@ fn many(alloc: Global, fronts: u16, back: u16) -> Result<Octets, NoMemory> {
     Ok(file)
 }
 
-/// A rest that is no record: a header of 16 bytes that announces 262,144 more, and the first of these.
+// A rest that is no record: a header of 16 bytes that announces 262,144 more, and the first of these.
 const REST: &[u8; 40] =
     b"\0\0\0\0\0\0\0\0\0\0\x04\0\0\0\0\0\0\0\0\0\0\0\0\0\0\0\0\0\0\0\0\0\0\0\0\0\0\0\0\0";
 
-/// How much longer the joined capture is than the capture, where so many bytes of the rest stand behind this.
+// How much longer the joined capture is than the capture, where so many bytes of the rest stand behind this.
 fn longer_by(alloc: Global, file: &Octets, cut: usize) -> Result<Option<usize>, NoMemory> {
     let mut cut_file = file.copy()?;
     cut_file.extend_from_slice(&REST[..cut.min(REST.len())])?;
@@ -225,7 +225,7 @@ fn a_rest_stays_as_long(rt: HostRuntime) -> Result<(), NoMemory> {
     Ok(())
 }
 
-/// Whether the capture is refused, and so.
+// Whether the capture is refused, and so.
 fn is_refused(alloc: Global, file: &Octets, refused: JoinFault) -> Result<bool, NoMemory> {
     match join(alloc, file)? {
         Ok(_) => Ok(false),
@@ -250,7 +250,7 @@ fn bad_captures_are_refused(rt: HostRuntime) -> Result<(), NoMemory> {
     Ok(())
 }
 
-/// The packet of a fragment's frame is read as that fragment, and as a packet of its own where it is a whole one.
+// The packet of a fragment's frame is read as that fragment, and as a packet of its own where it is a whole one.
 fn is_read(rt: &impl Abort, alloc: Global, fragment: Fragment) -> Result<(), Fail> {
     let frame = frame_of(alloc, 1, fragment)?;
     let (offset, more, _, _) = fragment;
@@ -282,12 +282,12 @@ fn fragments_are_read(rt: HostRuntime) -> Result<(), Fail> {
     Ok(())
 }
 
-/// An echo request, and its reply.
+// An echo request, and its reply.
 const REQUEST: &[u8; 10] = b"\x08\0\x84\x68\x12\x34\0\x01ab";
 
 const REPLY: &[u8; 10] = b"\0\0\x8c\x68\x12\x34\0\x01ab";
 
-/// Messages, and why they get no reply.
+// Messages, and why they get no reply.
 const MESSAGES: [(&[u8], EchoFault); 5] = [
     (b"\x08\0\xf7\xff", EchoFault::Short),
     (REPLY, EchoFault::NotEcho),
@@ -310,12 +310,12 @@ fn requests_are_answered(rt: HostRuntime) {
     }
 }
 
-/// An endpoint that answers, and notes the replies here.
+// An endpoint that answers, and notes the replies here.
 fn echo_end(alloc: Global, notes: &Notes) -> Result<EchoEnd<Noting>, NoMemory> {
     EchoEnd::new(alloc, noting_end(notes, NEVER)?)
 }
 
-/// The endpoint takes a request and three pieces that are none, and is finished.
+// The endpoint takes a request and three pieces that are none, and is finished.
 fn takes_each<E: Endpoint>(rt: &impl Abort, end: &mut E) {
     for piece in [
         &REQUEST[..],

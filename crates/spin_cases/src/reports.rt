@@ -10,7 +10,7 @@ use spin_values::{Octets, Texts};
 use std::alloc::Global;
 use std::test::Fail;
 
-/// A raise that one handler answers, and a conflict of three bindings.
+// A raise that one handler answers, and a conflict of three bindings.
 const FIRST: &[u8] = b"\
 spin 3
 modules 1
@@ -28,7 +28,7 @@ segment 0 at 0
 end 1
 ";
 
-/// Three bindings that go before each other, and a fourth command that would close a cycle.
+// Three bindings that go before each other, and a fourth command that would close a cycle.
 const CYCLE: &[u8] = b"\
 spin 3
 event 0 0 - last
@@ -49,7 +49,7 @@ segment 0 at 0
 end 3
 ";
 
-/// Two lanes.
+// Two lanes.
 const LANES: &[u8] = b"\
 spin 1
 event 0 0 - last
@@ -70,7 +70,7 @@ segment 0 at 0
 end 1
 ";
 
-/// The smallest run.
+// The smallest run.
 const SMALLEST: &[u8] = b"\
 spin 1
 event 0 0 w:w last
@@ -87,13 +87,13 @@ segment 0 at 0
 end 1
 ";
 
-/// Whether the text is a report of the script, over no capture and where no endpoint stands.
+// Whether the text is a report of the script, over no capture and where no endpoint stands.
 fn is_report(alloc: Global, script: &[u8], text: &[u8]) -> Result<bool, Fail> {
     let script = read_script(alloc, script, Natives::new(alloc))?;
     Ok(check_report(alloc, &script, &Texts::new(alloc), None, text)?)
 }
 
-/// Whole reports, each behind its script. No two lines beside each other are the same.
+// Whole reports, each behind its script. No two lines beside each other are the same.
 const WHOLE: [(&[u8], &[u8]); 6] = [
     (SMALLEST, SMALLEST_REPORT),
     (FIRST, FIRST_REPORT),
@@ -103,7 +103,7 @@ const WHOLE: [(&[u8], &[u8]); 6] = [
     (QUOTA_OF_ONE, LANE_0_FIRST),
 ];
 
-/// The text with another byte at that place.
+// The text with another byte at that place.
 fn with_byte_changed(alloc: Global, text: &[u8], at: usize) -> Result<Octets, Fail>
     requires { at < length text.now }
 {
@@ -112,7 +112,7 @@ fn with_byte_changed(alloc: Global, text: &[u8], at: usize) -> Result<Octets, Fa
     Ok(changed)
 }
 
-/// Whether the report is one no more, whichever byte of it is changed.
+// Whether the report is one no more, whichever byte of it is changed.
 fn each_byte_counts(alloc: Global, script: &[u8], report: &[u8]) -> Result<bool, Fail> {
     for at in 0..report.len() {
         let changed = with_byte_changed(alloc, report, at)?;
@@ -131,7 +131,7 @@ fn each_byte_of_a_report_counts(rt: HostRuntime) -> Result<(), Fail> {
     Ok(())
 }
 
-/// The lines of a text, without their ends.
+// The lines of a text, without their ends.
 fn lines_of<'a>(alloc: Global, text: &'a [u8]) -> Result<Vec<&'a [u8]>, Fail> {
     let mut lines = Vec::new(alloc);
     for line in text.split(|byte: &u8| -> bool { *byte == b'\n' }) {
@@ -142,7 +142,7 @@ fn lines_of<'a>(alloc: Global, text: &'a [u8]) -> Result<Vec<&'a [u8]>, Fail> {
     Ok(lines)
 }
 
-/// Adds a line, where there is one.
+// Adds a line, where there is one.
 fn put_line(text: &mut Octets, line: Option<&&[u8]>) -> Result<(), Fail> {
     if let Some(line) = line {
         text.extend_from_slice(line)?;
@@ -151,7 +151,7 @@ fn put_line(text: &mut Octets, line: Option<&&[u8]>) -> Result<(), Fail> {
     Ok(())
 }
 
-/// The lines with the last of two left out, or with these two exchanged.
+// The lines with the last of two left out, or with these two exchanged.
 fn with_lines_changed(
     alloc: Global,
     lines: &[&[u8]],
@@ -172,7 +172,7 @@ fn with_lines_changed(
     Ok(text)
 }
 
-/// Whether the report is one no more, whichever line of it is left out, or exchanged with the line before it.
+// Whether the report is one no more, whichever line of it is left out, or exchanged with the line before it.
 fn each_line_counts(alloc: Global, script: &[u8], report: &[u8]) -> Result<bool, Fail> {
     let lines = lines_of(alloc, report)?;
     for second in 1..lines.len() {

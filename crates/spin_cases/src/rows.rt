@@ -4,7 +4,7 @@ use spin_word::{Command, NO_BINDING, NO_BINDINGS, Op, Row, is_valid, pack, unpac
 
 const NONE: u64 = 18446744073709551615;
 
-/// A row with these words, which names no binding after.
+// A row with these words, which names no binding after.
 fn row(a: u64, b: u64, c: u64) -> Row {
     Row { a, b, c, d: NONE }
 }

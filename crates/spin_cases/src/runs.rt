@@ -13,13 +13,13 @@ use std::process::Abort;
 use std::test::Fail;
 use std::thread::Threads;
 
-/// Room for each of the reports.
+// Room for each of the reports.
 const ROOM: u32 = 1000;
 
-/// How often two lanes compete.
+// How often two lanes compete.
 const ROUNDS: u32 = 20;
 
-/// Both holds at one gate.
+// Both holds at one gate.
 #[derive(Drop)]
 struct Both {
     one: Hold,
@@ -35,7 +35,7 @@ impl Gate for Both {
     }
 }
 
-/// What a run of the script writes.
+// What a run of the script writes.
 fn report_of<R: Threads + Sync + Abort, G: Gate>(
     rt: &R,
     alloc: Global,
@@ -107,7 +107,7 @@ fn each_lane_sees_what_the_other_installs(rt: HostRuntime) -> Result<(), Fail> {
     Ok(())
 }
 
-/// Lets both lanes go at once, as soon as both are there.
+// Lets both lanes go at once, as soon as both are there.
 fn both_at_once() -> Both {
     Both {
         one: Hold::new(lane(0, 0), lane(1, 0)),

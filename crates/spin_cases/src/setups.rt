@@ -10,7 +10,7 @@ use spin_values::{EventType, Kind, NoMemory, Numbers, Param, Params};
 use std::alloc::Global;
 use std::test::Fail;
 
-/// The signature of one parameter.
+// The signature of one parameter.
 fn sig(alloc: Global, kind: Kind) -> Result<EventType, NoMemory> {
     let mut params = Params::new(alloc);
     params.push(Param { kind, var: false })?;
@@ -20,7 +20,7 @@ fn sig(alloc: Global, kind: Kind) -> Result<EventType, NoMemory> {
     })
 }
 
-/// A handler of a word, which raises this event with nothing where it is no more than 63.
+// A handler of a word, which raises this event with nothing where it is no more than 63.
 fn handler(alloc: Global, event: u8) -> Result<Body, NoMemory> {
     let mut steps = Steplist::new(alloc);
     if event <= 63 {
@@ -30,7 +30,7 @@ fn handler(alloc: Global, event: u8) -> Result<Body, NoMemory> {
     Ok(Body::Coded(sig(alloc, Kind::Word)?, Act { steps }))
 }
 
-/// One handler of a word and one guard of bytes.
+// One handler of a word and one guard of bytes.
 fn units(alloc: Global, up: u8) -> Result<Catalogue, Fail>
     ensures { IfOk result (λ catalogue. ⟦<Catalogue as Sincere>⟧.sincere catalogue) }
 {
@@ -40,7 +40,7 @@ fn units(alloc: Global, up: u8) -> Result<Catalogue, Fail>
     Ok(catalogue)
 }
 
-/// The rule that imposes these guards on all.
+// The rule that imposes these guards on all.
 fn imposes(guards: Numbers) -> Rule {
     Rule {
         low: 0,
@@ -52,7 +52,7 @@ fn imposes(guards: Numbers) -> Rule {
     }
 }
 
-/// The policy of one rule, which imposes this guard; of none where it is 0.
+// The policy of one rule, which imposes this guard; of none where it is 0.
 fn policy(alloc: Global, guard: u16) -> Result<Policy, Fail> {
     let mut policy = Policy::new(alloc);
     if guard != 0 {
@@ -61,7 +61,7 @@ fn policy(alloc: Global, guard: u16) -> Result<Policy, Fail> {
     Ok(policy)
 }
 
-/// What one event of one parameter and its setup have; the guard is imposed.
+// What one event of one parameter and its setup have; the guard is imposed.
 #[derive(Clone, Copy)]
 struct Row {
     modules: u16,
@@ -74,7 +74,7 @@ struct Row {
     up: u8,
 }
 
-/// A sound setup of one event of bytes.
+// A sound setup of one event of bytes.
 const SOUND: Row = Row {
     modules: 2,
     live: 32,
@@ -86,7 +86,7 @@ const SOUND: Row = Row {
     up: 64,
 };
 
-/// The one event of the setup.
+// The one event of the setup.
 fn events(alloc: Global, row: &Row) -> Result<EventList, Fail> {
     let event = EventDef {
         sig: sig(alloc, row.kind)?,
@@ -98,7 +98,7 @@ fn events(alloc: Global, row: &Row) -> Result<EventList, Fail> {
     Ok(EventList::from_vec(vec![in alloc; event]?))
 }
 
-/// Why there is no such setup.
+// Why there is no such setup.
 fn fault_of(alloc: Global, row: &Row) -> Result<Option<SetupFault>, Fail> {
     let units = units(alloc, row.up)?;
     match Setup::build(row.modules, row.live, events(alloc, row)?, units) {
@@ -107,7 +107,7 @@ fn fault_of(alloc: Global, row: &Row) -> Result<Option<SetupFault>, Fail> {
     }
 }
 
-/// Setups that differ from the sound one, and why there are none.
+// Setups that differ from the sound one, and why there are none.
 const ROWS: [(Row, Option<SetupFault>); 12] = [
     (SOUND, None),
     (

@@ -1,6 +1,6 @@
 //! Scripts and reports of which several files of tests speak.
 
-/// Two lanes ask for the one binding that the owner grants.
+// Two lanes ask for the one binding that the owner grants.
 pub(crate) const QUOTA_OF_ONE: &[u8] = b"\
 spin 1
 modules 2
@@ -11,7 +11,7 @@ lane 0 install 0 1 1 0 free plain
 lane 1 install 0 1 1 0 free plain
 ";
 
-/// Its report where the first lane is granted it.
+// Its report where the first lane is granted it.
 pub(crate) const LANE_0_FIRST: &[u8] = b"\
 report 1
 segment 0 at 0
@@ -20,7 +20,7 @@ segment 0 at 0
 end 1
 ";
 
-/// Its report where the second is.
+// Its report where the second is.
 pub(crate) const LANE_1_FIRST: &[u8] = b"\
 report 1
 segment 0 at 0
@@ -29,7 +29,7 @@ segment 0 at 0
 end 1
 ";
 
-/// Raises of two lanes at one place.
+// Raises of two lanes at one place.
 pub(crate) const TWO_RAISES: &[u8] = b"\
 spin 1
 event 0 0 - last
@@ -37,7 +37,7 @@ lane 0 raise 0
 lane 1 raise 0
 ";
 
-/// Its report.
+// Its report.
 pub(crate) const TWO_RAISED: &[u8] = b"\
 report 1
 segment 0 at 0

@@ -36,7 +36,7 @@ pub(crate) fn shelf_with(alloc: Global, script: &[u8]) -> Result<MemShelf, NoMem
     Ok(shelf)
 }
 
-/// The status of a call with these natives.
+// The status of a call with these natives.
 pub(crate) fn status_with<R: Threads + Sync>(
     rt: &R,
     alloc: Global,
@@ -52,7 +52,7 @@ pub(crate) fn status_with<R: Threads + Sync>(
     Ok(spin(rt, alloc, &words, shelf, out, natives, ends, &OpenGate))
 }
 
-/// A call with these natives and without endpoints: its status, and what was written.
+// A call with these natives and without endpoints: its status, and what was written.
 fn call<R: Threads + Sync>(
     rt: &R,
     alloc: Global,
@@ -68,7 +68,7 @@ fn call<R: Threads + Sync>(
     Ok((status, out))
 }
 
-/// A run of the script with these natives: its status, and what was written.
+// A run of the script with these natives: its status, and what was written.
 pub(crate) fn run_with<R: Threads + Sync>(
     rt: &R,
     alloc: Global,
@@ -93,7 +93,7 @@ fn a_shelf_is_empty(rt: HostRuntime) -> Result<(), NoMemory> {
     Ok(())
 }
 
-/// A call with words that are none of a command, over a shelf with a script: its status, and what was written.
+// A call with words that are none of a command, over a shelf with a script: its status, and what was written.
 fn misspelled<R: Threads + Sync>(
     rt: &R,
     alloc: Global,
@@ -103,7 +103,7 @@ fn misspelled<R: Threads + Sync>(
     call(rt, alloc, texts, &mut shelf, Natives::new(alloc))
 }
 
-/// Words of no command.
+// Words of no command.
 const MISSPELLED: [&[&[u8]]; 9] = [
     &[],
     &[b"run"],

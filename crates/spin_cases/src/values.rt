@@ -8,7 +8,7 @@ use std::marker::Brand;
 use std::process::Abort;
 use std::sync::ledger::{Blank, Ledger};
 
-/// The word 7, and three bytes.
+// The word 7, and three bytes.
 fn word_and_bytes(alloc: Global) -> Result<Args, NoMemory> {
     let mut args = Args::new(alloc);
     args.push(Value::Word(7))?;
@@ -16,7 +16,7 @@ fn word_and_bytes(alloc: Global) -> Result<Args, NoMemory> {
     Ok(args)
 }
 
-/// Sets the word, the bytes and an argument that isn't there to 5.
+// Sets the word, the bytes and an argument that isn't there to 5.
 fn set_each(rt: &impl Abort, args: &mut Args) {
     for (at, answer) in [
         (0, Ok(())),
@@ -27,7 +27,7 @@ fn set_each(rt: &impl Abort, args: &mut Args) {
     }
 }
 
-/// The arguments begin with 5, and the copy differs.
+// The arguments begin with 5, and the copy differs.
 fn is_set(rt: &impl Abort, args: &mut Args, copy: &Args) {
     assert!(rt; *copy != *args);
     assert!(rt; args.take_first() == Some(Value::Word(5)));
@@ -42,14 +42,14 @@ fn arguments(rt: HostRuntime) -> Result<(), NoMemory> {
     Ok(())
 }
 
-/// Adds a list and two numbers.
+// Adds a list and two numbers.
 fn fill(numbers: &mut Numbers, others: &mut Numbers) -> Result<(), NoMemory> {
     others.push(4)?;
     numbers.append(others)?;
     numbers.extend_from_slice(&[1, 5])
 }
 
-/// The numbers are the five that were put.
+// The numbers are the five that were put.
 fn are_five(rt: &impl Abort, numbers: &Numbers) {
     assert_eq!(rt; numbers.as_slice(), [3, 1, 4, 1, 5].as_slice());
     assert_eq!(rt; numbers.iter().max(), Some(&5));
@@ -64,14 +64,14 @@ fn lists(rt: HostRuntime) -> Result<(), NoMemory> {
     Ok(())
 }
 
-/// Puts two texts, the first of which is a copy.
+// Puts two texts, the first of which is a copy.
 fn put_two(alloc: Global, text: &mut Text, texts: &mut Texts) -> Result<(), NoMemory> {
     text.push(b'a')?;
     texts.push(text.copy()?)?;
     texts.push(Text::from_bytes(alloc, b"bc")?)
 }
 
-/// The length of the last text.
+// The length of the last text.
 fn last_length(texts: Texts) -> usize {
     let mut bytes = 0;
     for text in texts {

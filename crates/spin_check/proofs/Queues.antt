@@ -1,11 +1,13 @@
 -- What lanes are to do, asked one after another.
-use Rattle.std.proofs.Common.{◌≡◌, ℕ, ◌+◌, ◌*◌, ◌<◌, ◌≤◌, true, false, cond, List, [], ◌∷◌, ◌++◌, map, length, take, drop, get_or, set, replicate, refl, sym, ap, subst, ◌∙◌, append_assoc, inl, inr, arith}
+use Rattle.std.proofs.Common.{◌≡◌, ℕ, ◌+◌, ◌*◌, ◌<◌, ◌≤◌, true, false, cond, List, [], ◌∷◌, ◌++◌, map, length, take}
+use Rattle.std.proofs.Common.{drop, get_or, set, replicate, refl, sym, ap, subst, ◌∙◌, append_assoc, inl, inr, arith}
 use Rattle.std.specs.Prelude.{◌==◌, All, count_by, Option, None, Some, MatchOption}
 use Rattle.std.specs.List.{enumerate_from, AllWithin}
 use Rattle.std.specs.Option.{option_to_list}
 use Rattle.std.proofs.lemmas.Bool.{cases_eq}
 use Rattle.std.proofs.lemmas.Bool.Decides.{nat_tests}
-use Rattle.std.proofs.lemmas.List.{append-nil, map-append, map-set, get_or-map, length-map, length-take, length-set, get_or-set_same, get_or-set_other, get_or-replicate, length-replicate, drop_more, drop-drop, take_more}
+use Rattle.std.proofs.lemmas.List.{append-nil, map-append, map-set, get_or-map, length-map, length-take, length-set, get_or-set_same}
+use Rattle.std.proofs.lemmas.List.{get_or-set_other, get_or-replicate, length-replicate, drop_more, drop-drop, take_more}
 use Rattle.std.proofs.lemmas.List.Elements.{filter-append, All-push}
 use Rattle.std.proofs.lemmas.List.Sums.{sum_by-append, sum_by-set, sum_by-cons}
 use Rattle.std.proofs.lemmas.List.Folds.{sum_by-replicate}
@@ -52,7 +54,8 @@ pub adds_one : (ask : Ask) (queues : List (List Ask)) → ask.lane < length queu
 adds_one ask queues lt valid =
     let old = queue_of ask.lane queues in
     let new = old ++ ask ∷ [] in
-    let sums : commands_left (with_ask ask queues) + count_by asks_command old ≡ commands_left queues + count_by asks_command new = sum_by-set (λ queue. count_by asks_command queue) queues ask.lane new [] lt in
+    let sums : commands_left (with_ask ask queues) + count_by asks_command old ≡ commands_left queues + count_by asks_command new =
+    sum_by-set (λ queue. count_by asks_command queue) queues ask.lane new [] lt in
     let grown : count_by asks_command new ≡ count_by asks_command old + count_by asks_command (ask ∷ []) = sum_by-append (λ (a : Ask). cond (asks_command a) 1 0) old (ask ∷ []) in
     record {
       lanes = length-set queues ask.lane new;
@@ -61,7 +64,8 @@ adds_one ask queues lt valid =
             | inl is ↦
                 let here : (ask.lane == k) ≡ true = grind (arith, nat_tests, is) in
                 let mine : asked_of_lane k (numbered ask ∷ []) ≡ numbered ask ∷ [] = ap (λ b. cond b (numbered ask ∷ []) []) here in
-                let read : queue_of k (with_ask ask queues) ≡ queue_of k queues ++ ask ∷ [] = ap (λ i. get_or (with_ask ask queues) i []) is ∙ get_or-set_same queues ask.lane new [] lt ∙ ap (λ i. queue_of i queues ++ ask ∷ []) (sym is) in
+                let read : queue_of k (with_ask ask queues) ≡ queue_of k queues ++ ask ∷ [] =
+                ap (λ i. get_or (with_ask ask queues) i []) is ∙ get_or-set_same queues ask.lane new [] lt ∙ ap (λ i. queue_of i queues ++ ask ∷ []) (sym is) in
                 ap (map numbered) read ∙ map-append numbered (queue_of k queues) (ask ∷ []) ∙ ap (λ x. left_of k queues ++ x) (sym mine)
             | inr other ↦
                 let apart : (ask.lane == k) ≡ false = grind (arith, nat_tests, other) in
@@ -92,7 +96,8 @@ asked_packets line event count records is =
 
 enumerate_more : {X : Type 0} (n : ℕ) (xs : List X) (x : X) → enumerate_from n (xs ++ x ∷ []) ≡ enumerate_from n xs ++ (n + length xs, x) ∷ []
 enumerate_more n [] x = ap (λ (k : ℕ). (k, x) ∷ []) (let e : n ≡ n + 0 = omega arith in e)
-enumerate_more n (y ∷ xs) x = ap (λ z. (n, y) ∷ z) (enumerate_more (n + 1) xs x ∙ ap (λ (k : ℕ). enumerate_from (n + 1) xs ++ (k, x) ∷ []) (let e : n + 1 + length xs ≡ n + length (y ∷ xs) = omega arith in e))
+enumerate_more n (y ∷ xs) x =
+    ap (λ z. (n, y) ∷ z) (enumerate_more (n + 1) xs x ∙ ap (λ (k : ℕ). enumerate_from (n + 1) xs ++ (k, x) ∷ []) (let e : n + 1 + length xs ≡ n + length (y ∷ xs) = omega arith in e))
 
 -- one record more
 pub packets_more : (line : Line) (event : ℕ) (records : List (List ℕ)) (record' : List ℕ) (ask : Ask) → ask.lane ≡ line.lane → ask.line ≡ line.number → ask.part ≡ length records + 1

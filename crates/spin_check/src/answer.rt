@@ -26,21 +26,21 @@ use spin_word::Command;
 use std::alloc::Global;
 use std::sync::Arc;
 
-/// An entry, and the version that it leads to.
+// An entry, and the version that it leads to.
 #[derive(Drop)]
 pub(crate) struct Answered {
     pub(crate) entry: Entry,
     pub(crate) version: Arc<Version>,
 }
 
-/// What became of a command, and the version after it.
+// What became of a command, and the version after it.
 #[derive(Drop)]
 struct Judged {
     verdict: Verdicted,
     version: Arc<Version>,
 }
 
-/// What is answered, and the version that it leads to.
+// What is answered, and the version that it leads to.
 #[derive(Drop)]
 struct Done {
     what: What,
@@ -201,8 +201,8 @@ fn do_asked(
     }
 }
 
-/// The entry that answers this at the version, where the report can begin with its line: each that it can begin with
-/// is this one. The version that it leads to is sound.
+// The entry that answers this at the version, where the report can begin with its line: each that it can begin with
+// is this one. The version that it leads to is sound.
 pub(crate) fn answer(
     alloc: Global,
     setup: &Setup,

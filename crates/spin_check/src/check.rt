@@ -1,6 +1,7 @@
 //! Whether a text is a report of a script.
 
-ghost use Rattle.std.specs.Prelude.{◌≡◌, ◌<◌, ◌≤◌, ◌+◌, ◌++◌, ℕ, List, All, Decides, IfOk, OnOk, Option, length, bytes_eq, slice_index_or, false};
+ghost use Rattle.std.specs.Prelude.{◌≡◌, ◌<◌, ◌≤◌, ◌+◌, ◌++◌, ℕ, List, All, Decides, IfOk};
+ghost use Rattle.std.specs.Prelude.{OnOk, Option, length, bytes_eq, slice_index_or, false};
 ghost use Rattle.std.specs.Option.{option_map, option_copied};
 ghost use Rattle.std.specs.List.{list_any};
 ghost use Rattle.spin_word.specs.declared.command.TheConstants.{MAX_PLACE};

@@ -1,10 +1,12 @@
 //! What the lanes of a segment are to do.
 
-ghost use Rattle.std.specs.Prelude.{◌≡◌, ◌<◌, ◌≤◌, ◌^◌, ◌∷◌, [], Decides, All, MatchOption, IfOk, OnOk, length, drop, replicate, slice_set};
+ghost use Rattle.std.specs.Prelude.{◌≡◌, ◌<◌, ◌≤◌, ◌^◌, ◌∷◌, [], Decides, All, MatchOption};
+ghost use Rattle.std.specs.Prelude.{IfOk, OnOk, length, drop, replicate, slice_set};
 ghost use Rattle.spin_word.specs.declared.command.TheConstants.{MAX_LANES};
 ghost use Rattle.spin_script.specs.Soundness.{IsValidWork, commands_in};
 ghost use Rattle.spin_report.specs.Segments.{asked_at, asked_in, wanted_by};
-ghost use Rattle.spin_check.specs.Inner.Asks.{AreAsked, Adds, work_of, queue_of, with_ask, commands_left, packets_at, whole_at};
+ghost use Rattle.spin_check.specs.Inner.Asks.{AreAsked, Adds, work_of, queue_of, with_ask};
+ghost use Rattle.spin_check.specs.Inner.Asks.{commands_left, packets_at, whole_at};
 
 use spin_report::split_records;
 use spin_script::{Deed, Line, Work};
@@ -14,16 +16,16 @@ use std::alloc::Global;
 use std::collections::VecDeque;
 use std::marker::Model;
 
-/// What a lane is to do at once.
+// What a lane is to do at once.
 #[derive(Drop)]
 pub(crate) enum Asked {
-    /// To give a command.
+    // To give a command.
     Command(Command),
-    /// To do a deed.
+    // To do a deed.
     Deed(Deed),
 }
 
-/// What a lane is to do, by its line and its part of the line.
+// What a lane is to do, by its line and its part of the line.
 #[derive(Drop)]
 pub(crate) struct Ask {
     pub(crate) lane: u8,
@@ -32,7 +34,7 @@ pub(crate) struct Ask {
     pub(crate) asked: Asked,
 }
 
-/// What each lane is still to do, in its order. Contracts see a list for each lane.
+// What each lane is still to do, in its order. Contracts see a list for each lane.
 #[derive(Drop)]
 pub(crate) struct Deeds {
     lanes: Vec<VecDeque<Ask>>,
@@ -48,7 +50,7 @@ impl Model for Deeds {
 }
 
 impl Deeds {
-    /// Nothing for so many lanes.
+    // Nothing for so many lanes.
     fn none(alloc: Global, lanes: u8) -> Result<Deeds, NoMemory>
         ensures { IfOk result (λ deeds. deeds ≡ replicate lanes []) }
     {
@@ -59,7 +61,7 @@ impl Deeds {
         Ok(Deeds { lanes: queues })
     }
 
-    /// Adds what a lane is to do behind what it is to do already.
+    // Adds what a lane is to do behind what it is to do already.
     fn add(&mut self, ask: Ask) -> Result<(), NoMemory>
         requires { ask.lane < length self.old }
         ensures { OnOk result (self.new ≡ with_ask ask self.old) }
@@ -69,7 +71,7 @@ impl Deeds {
         Ok(())
     }
 
-    /// Takes out what the lane is to do next.
+    // Takes out what the lane is to do next.
     pub(crate) fn take_next(&mut self, lane: u8) -> Option<Ask>
         ensures { MatchOption result (queue_of lane self.old ≡ []) (λ ask.
             (lane < length self.old) × (queue_of lane self.old ≡ ask ∷ drop 1 (queue_of lane self.old))
@@ -82,7 +84,7 @@ impl Deeds {
         self.lanes[at].pop_front()
     }
 
-    /// Whether no lane is to do anything more.
+    // Whether no lane is to do anything more.
     pub(crate) fn are_done(&self) -> bool
         ensures { Decides result (All (λ queue. queue ≡ []) self.now) }
     {
@@ -94,7 +96,7 @@ impl Deeds {
         true
     }
 
-    /// Adds a raise of the event with each of the records, by parts from 1 on.
+    // Adds a raise of the event with each of the records, by parts from 1 on.
     fn add_packets(
         &mut self,
         alloc: Global,
@@ -121,7 +123,7 @@ impl Deeds {
         Ok(())
     }
 
-    /// Adds what a line asks as its one deed.
+    // Adds what a line asks as its one deed.
     fn add_whole(&mut self, line: &Line, asked: Asked) -> Result<(), NoMemory>
         requires lane { line.now.lane < length self.old }
         requires lanes { length self.old ≤ MAX_LANES }
@@ -136,7 +138,7 @@ impl Deeds {
         })
     }
 
-    /// Adds what a line asks with these records.
+    // Adds what a line asks with these records.
     fn add_line(&mut self, alloc: Global, line: &Line, records: &[Octets]) -> Result<(), NoMemory>
         requires lane { line.now.lane < length self.old }
         requires lanes { length self.old ≤ MAX_LANES }
@@ -155,8 +157,8 @@ impl Deeds {
     }
 }
 
-/// What so many lanes are to do by these lines, where these are the records left, and the records that are left then.
-/// It takes time linear in the lines and in the bytes of the records that they take.
+// What so many lanes are to do by these lines, where these are the records left, and the records that are left then.
+// It takes time linear in the lines and in the bytes of the records that they take.
 pub(crate) fn deeds_of<'a>(
     alloc: Global,
     lanes: u8,

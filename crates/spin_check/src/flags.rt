@@ -12,7 +12,7 @@ ghost use Rattle.spin_check.specs.Inner.Standings.{AreFlags, numbers_of};
 use spin_report::{lost_text, retire_text};
 use spin_values::{NoMemory, Octets};
 
-/// Retires the endpoints of these numbers one after another, and appends the line of each.
+// Retires the endpoints of these numbers one after another, and appends the line of each.
 pub(crate) fn retire_all(
     flags: &mut [bool],
     numbers: &[u16],
@@ -37,8 +37,8 @@ fn count_of(sends: &[u8], number: u8) -> u64
     sends.iter().filter(|sent| **sent == number).count() as u64
 }
 
-/// Appends the line of each endpoint to which sends are lost, these being the numbers of all that are sent to. It goes
-/// over the sends once for each endpoint that doesn't stand.
+// Appends the line of each endpoint to which sends are lost, these being the numbers of all that are sent to. It goes
+// over the sends once for each endpoint that doesn't stand.
 pub(crate) fn lost_all(flags: &[bool], sends: &[u8], out: &mut Octets) -> Result<(), NoMemory>
     requires { length flags.now ≤ MAX_ENDPOINTS }
     ensures { (names : List (List ℕ)) (ends : List NamedEnd) (sent : List SentSeen) → AreFlags names ends flags.now

@@ -8,7 +8,7 @@ ghost use Rattle.spin_proto.specs.Replies.{IsJobReply, BelongsTo};
 ghost use Rattle.spin_proto.specs.declared.reply.Reply.{Reply};
 ghost use Rattle.spin_text.specs.Words.{ended};
 ghost use Rattle.spin_report.specs.Lines.{job_seen, job_line};
-ghost use Rattle.spin_report.specs.Jobs.{calls_of};
+ghost use Rattle.spin_report.specs.Jobs.{answer_calls};
 ghost use Rattle.spin_report.specs.Runs.{sends_of_reply};
 ghost use Rattle.spin_check.specs.Inner.Standings.{numbers_of};
 ghost use Rattle.spin_check.specs.Inner.Replays.{DidJobs};
@@ -26,7 +26,7 @@ use std::sync::Arc;
 
 // The calls that an answer leaves to jobs.
 fn into_calls(alloc: Global, what: What) -> Result<Vec<JobCall>, NoMemory>
-    ensures { IfOk result (λ calls. calls.items ≡ calls_of what) }
+    ensures { IfOk result (λ calls. calls.items ≡ answer_calls what) }
 {
     let mut calls = Vec::new(alloc);
     let What::Deed(_deed, reply) = what else {
@@ -65,9 +65,9 @@ fn do_job(
     add_of_reply(sends, &reply)
 }
 
-/// Does the jobs that an entry leaves, on the version of its place. It appends the line of each, and the numbers of the
-/// endpoints that they send to. A call is moved into its job. False, with the last line appended, as soon as the lines
-/// are longer than the room for them.
+// Does the jobs that an entry leaves, on the version of its place. It appends the line of each, and the numbers of the
+// endpoints that they send to. A call is moved into its job. False, with the last line appended, as soon as the lines
+// are longer than the room for them.
 pub(crate) fn do_jobs(
     alloc: Global,
     setup: &Setup,
@@ -79,8 +79,8 @@ pub(crate) fn do_jobs(
 ) -> Result<bool, NoMemory>
     requires sincere { ⟦<Catalogue as Sincere>⟧.sincere setup.now.catalogue }
     requires sound { IsSound (data_of setup.now) (arc_value version.now) }
-    requires belong { All (BelongsTo (arc_value version.now)) (calls_of entry.what) }
-    requires few { length (calls_of entry.what) < 2 ^ 32 }
+    requires belong { All (BelongsTo (arc_value version.now)) (answer_calls entry.what) }
+    requires few { length (answer_calls entry.what) < 2 ^ 32 }
     ensures { let d = data_of setup.now in
         IfOk result (DidJobs d (arc_value version.now) entry room (out.old, sends.old) (out.new, sends.new)) }
 {

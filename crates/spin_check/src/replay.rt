@@ -26,21 +26,21 @@ use std::alloc::Global;
 use std::marker::Model;
 use std::sync::Arc;
 
-/// Where the replay of a segment stands.
+// Where the replay of a segment stands.
 #[derive(Drop)]
 pub(crate) struct Replay<'a> {
-    /// What is left of the report.
+    // What is left of the report.
     pub(crate) rest: &'a [u8],
     pub(crate) version: Arc<Version>,
-    /// What the lanes are still to do.
+    // What the lanes are still to do.
     pub(crate) deeds: Deeds,
-    /// Where the last entry stands.
+    // Where the last entry stands.
     pub(crate) last: Option<Moment>,
-    /// The lines of the jobs so far, which aren't longer than what is left of the report.
+    // The lines of the jobs so far, which aren't longer than what is left of the report.
     pub(crate) owed: Octets,
-    /// The numbers of the endpoints that entries send to.
+    // The numbers of the endpoints that entries send to.
     pub(crate) sends: Octets,
-    /// And of those that jobs send to.
+    // And of those that jobs send to.
     pub(crate) job_sends: Octets,
 }
 
@@ -65,7 +65,7 @@ impl<'a> Model for Replay<'a> {
     } };
 }
 
-/// Whether the entry doesn't stand before the last one.
+// Whether the entry doesn't stand before the last one.
 fn follows(last: &Option<Moment>, entry: &Entry) -> bool
     ensures { Decides result (Follows last.now entry.now) }
 {
@@ -75,7 +75,7 @@ fn follows(last: &Option<Moment>, entry: &Entry) -> bool
     }
 }
 
-/// The report behind the line of the entry, where it begins with it.
+// The report behind the line of the entry, where it begins with it.
 fn behind_entry<'a>(
     alloc: Global,
     entry: &Entry,
@@ -89,8 +89,8 @@ fn behind_entry<'a>(
     Ok(behind(report, line.as_slice()))
 }
 
-/// The one entry that may come next, the version that it leads to, and the report behind its line. What it answers is
-/// taken out of what its lane is to do.
+// The one entry that may come next, the version that it leads to, and the report behind its line. What it answers is
+// taken out of what its lane is to do.
 fn next_entry<'a>(
     alloc: Global,
     setup: &Setup,
@@ -127,7 +127,7 @@ fn next_entry<'a>(
 }
 
 impl<'a> Replay<'a> {
-    /// A replay that begins at this version and front of the report, with all of the deeds still to do.
+    // A replay that begins at this version and front of the report, with all of the deeds still to do.
     pub(crate) fn new(
         alloc: Global,
         rest: &'a [u8],
@@ -150,8 +150,8 @@ impl<'a> Replay<'a> {
         }
     }
 
-    /// Goes on by the one entry that may come next, with its jobs, while what is left of the report has room for their
-    /// lines.
+    // Goes on by the one entry that may come next, with its jobs, while what is left of the report has room for their
+    // lines.
     fn step(self, alloc: Global, setup: &Setup) -> Result<Option<Replay<'a>>, NoMemory>
         requires sincere { ⟦<Catalogue as Sincere>⟧.sincere setup.now.catalogue }
         requires sound { IsSound (data_of setup.now) self.state }
@@ -199,7 +199,7 @@ impl<'a> Replay<'a> {
         }))
     }
 
-    /// Goes on to the last entry of the segment.
+    // Goes on to the last entry of the segment.
     pub(crate) fn run(self, alloc: Global, setup: &Setup) -> Result<Option<Replay<'a>>, NoMemory>
         requires sincere { ⟦<Catalogue as Sincere>⟧.sincere setup.now.catalogue }
         requires sound { IsSound (data_of setup.now) self.state }

@@ -29,15 +29,15 @@ use std::alloc::Global;
 use std::marker::Model;
 use std::sync::Arc;
 
-/// Where a check stands between two segments.
+// Where a check stands between two segments.
 #[derive(Drop)]
 pub(crate) struct Mark<'a> {
-    /// What is left of the report.
+    // What is left of the report.
     pub(crate) rest: &'a [u8],
     pub(crate) version: Arc<Version>,
-    /// The records of the capture that are left.
+    // The records of the capture that are left.
     pub(crate) left: &'a [Octets],
-    /// Whether an endpoint stands under the name of each number.
+    // Whether an endpoint stands under the name of each number.
     pub(crate) flags: Vec<bool>,
 }
 
@@ -59,8 +59,8 @@ impl<'a> Model for Mark<'a> {
     } };
 }
 
-/// What is left of the report behind the head of a segment: the line of each endpoint that it retires, and the line of
-/// its number and of the place where it begins. None where the report doesn't begin with the head.
+// What is left of the report behind the head of a segment: the line of each endpoint that it retires, and the line of
+// its number and of the place where it begins. None where the report doesn't begin with the head.
 fn behind_head<'a>(
     alloc: Global,
     report: &'a [u8],
@@ -80,8 +80,8 @@ fn behind_head<'a>(
     Ok(behind(report, head.as_slice()))
 }
 
-/// What is left of the report behind the lines that are owed behind a segment's entries: those of its jobs, and one for
-/// each endpoint to which sends are lost. None where the report doesn't begin with them.
+// What is left of the report behind the lines that are owed behind a segment's entries: those of its jobs, and one for
+// each endpoint to which sends are lost. None where the report doesn't begin with them.
 fn behind_tail<'a>(
     report: &'a [u8],
     flags: &[bool],
@@ -100,9 +100,9 @@ fn behind_tail<'a>(
 }
 
 impl<'a> Mark<'a> {
-    /// Goes over a segment: its endpoints are retired, its lanes' deeds are replayed along the report, its jobs are done
-    /// and its lost sends counted. False where the report goes on with no history of the segment. It is linear in the
-    /// segment's part of the report and in its lines, beside the work of the raises.
+    // Goes over a segment: its endpoints are retired, its lanes' deeds are replayed along the report, its jobs are done
+    // and its lost sends counted. False where the report goes on with no history of the segment. It is linear in the
+    // segment's part of the report and in its lines, beside the work of the raises.
     pub(crate) fn pass(
         &mut self,
         alloc: Global,
@@ -120,8 +120,10 @@ impl<'a> Mark<'a> {
         requires few { length self.old.flags ≤ MAX_ENDPOINTS }
         requires room { self.old.state.place + commands_in segment.now.lines ≤ MAX_PLACE }
         ensures goes { (names : List (List ℕ)) (ends : List NamedEnd) → AreFlags names ends self.old.flags
-            → IfOk result (λ went. Goes (data_of setup.now) lanes names number segment.now self.old ends (gone_to went self.new)) }
-        ensures good { IfOk result (λ went. IsGoodMark (data_of setup.now) segment.now self.old (gone_to went self.new)) }
+            → IfOk result
+            (λ went. Goes (data_of setup.now) lanes names number segment.now self.old ends (gone_to went self.new)) }
+        ensures good { IfOk result
+            (λ went. IsGoodMark (data_of setup.now) segment.now self.old (gone_to went self.new)) }
     {
         let place = self.version.place();
         let flags = self.flags.as_mut_slice();

@@ -9,7 +9,7 @@ use spin_proto::{Reply, Step};
 use spin_report::What;
 use spin_values::{NoMemory, Octets};
 
-/// Adds the number of the endpoint that a step sends to, if it is a send.
+// Adds the number of the endpoint that a step sends to, if it is a send.
 fn add_of_step(sends: &mut Octets, step: &Step) -> Result<(), NoMemory>
     ensures { OnOk result (sends.new ≡ sends.old ++ numbers_of (filter_map sent_by (step.now ∷ []))) }
 {
@@ -20,7 +20,7 @@ fn add_of_step(sends: &mut Octets, step: &Step) -> Result<(), NoMemory>
     Ok(())
 }
 
-/// Adds the numbers of the endpoints that steps send to.
+// Adds the numbers of the endpoints that steps send to.
 fn add_of_trace(sends: &mut Octets, trace: &[Step]) -> Result<(), NoMemory>
     ensures { OnOk result (sends.new ≡ sends.old ++ numbers_of (filter_map sent_by trace.now)) }
 {
@@ -30,7 +30,7 @@ fn add_of_trace(sends: &mut Octets, trace: &[Step]) -> Result<(), NoMemory>
     Ok(())
 }
 
-/// Adds the numbers of the endpoints that a reply sends to.
+// Adds the numbers of the endpoints that a reply sends to.
 pub(crate) fn add_of_reply(sends: &mut Octets, reply: &Reply) -> Result<(), NoMemory>
     ensures { OnOk result (sends.new ≡ sends.old ++ numbers_of (sends_of_reply reply.now)) }
 {
@@ -40,7 +40,7 @@ pub(crate) fn add_of_reply(sends: &mut Octets, reply: &Reply) -> Result<(), NoMe
     }
 }
 
-/// Adds the numbers of the endpoints that an entry sends to.
+// Adds the numbers of the endpoints that an entry sends to.
 pub(crate) fn add_of_entry(sends: &mut Octets, what: &What) -> Result<(), NoMemory>
     ensures { OnOk result (sends.new ≡ sends.old ++ numbers_of (sends_of what.now)) }
 {

@@ -2,7 +2,8 @@
 //!
 //! Nothing is said of a report that begins with no such line: who asks makes the whole line anew, and compares it.
 
-ghost use Rattle.std.specs.Prelude.{◌≡◌, ◌<◌, ◌≤◌, ◌^◌, ◌++◌, ◌∷◌, true, false, ℕ, List, Some, All, IfOk, decimal, length, map, slice_index};
+ghost use Rattle.std.specs.Prelude.{◌≡◌, ◌<◌, ◌≤◌, ◌^◌, ◌++◌, ◌∷◌, true, false, ℕ, List};
+ghost use Rattle.std.specs.Prelude.{Some, All, IfOk, decimal, length, map, slice_index};
 ghost use Rattle.spin_report.specs.declared.entry.Entry.{Entry};
 ghost use Rattle.spin_text.specs.Words.{Word, spaced};
 ghost use Rattle.spin_check.specs.Inner.Told.{is_plain, IsWord, Begins, TellsVerdict, conflict};
@@ -58,7 +59,7 @@ fn number_told(word: &[u8]) -> Option<u16>
     }
 }
 
-/// The lane of the entry whose line the report begins with.
+// The lane of the entry whose line the report begins with.
 pub(crate) fn lane_told(report: &[u8]) -> Option<u8>
     ensures { (entry : Entry) → entry.lane < 10 → Begins report.now entry → result ≡ Some entry.lane }
 {
@@ -109,7 +110,7 @@ fn behind_words(report: &[u8], count: u8) -> &[u8]
     rest
 }
 
-/// The cycle of the conflict whose entry's line the report begins with. Its numbers stand behind seven words.
+// The cycle of the conflict whose entry's line the report begins with. Its numbers stand behind seven words.
 pub(crate) fn cycle_told(alloc: Global, report: &[u8]) -> Result<Option<Numbers>, NoMemory>
     ensures { (cycle : List ℕ) → All (λ n. n < 2 ^ 16) cycle → TellsVerdict report.now (conflict cycle)
         → IfOk result (λ told. told ≡ Some cycle) }

@@ -1,5 +1,6 @@
 -- What is wrong with a test, an act or a merge: the first of a list of faults with their conditions.
-use Rattle.std.specs.Prelude.{ℕ, Bool, true, false, not, ◌&&◌, List, [], ◌∷◌, Option, Some, None, Result, Ok, nat_lt, slice_get, sum_by}
+use Rattle.std.specs.Prelude.{ℕ, Bool, true, false, not, ◌&&◌, List, [], ◌∷◌, Option}
+use Rattle.std.specs.Prelude.{Some, None, Result, Ok, nat_lt, slice_get, sum_by}
 use Rattle.std.specs.List.{list_all, list_any}
 use Rattle.spin_values.specs.First.{unless}
 use Rattle.spin_values.specs.declared.types.Kind.TheVariants as kind

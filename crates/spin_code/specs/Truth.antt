@@ -1,5 +1,6 @@
 -- Whether a test holds.
-use Rattle.std.specs.Prelude.{ℕ, Bool, true, false, not, ◌&&◌, ◌||◌, List, ◌==◌, nat_lt, nat_le, length, ◌-◌, Option, Some, None, slice_get}
+use Rattle.std.specs.Prelude.{ℕ, Bool, true, false, not, ◌&&◌, ◌||◌, List, ◌==◌, nat_lt}
+use Rattle.std.specs.Prelude.{nat_le, length, ◌-◌, Option, Some, None, slice_get}
 use Rattle.spin_values.specs.declared.values.Value.{Value}
 use Rattle.spin_code.specs.declared.test.Cmp.{Cmp}
 use Rattle.spin_code.specs.declared.test.Cmp.TheVariants.{Eq, Ne, Lt, Le}

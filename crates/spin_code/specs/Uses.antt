@@ -1,5 +1,6 @@
 -- How expressions, tests and steps use arguments, and whether parameters allow it.
-use Rattle.std.specs.Prelude.{ℕ, Bool, true, false, ◌&&◌, ◌==◌, List, [], ◌∷◌, ◌++◌, Option, Some, None, nat_lt, length, slice_get}
+use Rattle.std.specs.Prelude.{ℕ, Bool, true, false, ◌&&◌, ◌==◌, List, [], ◌∷◌}
+use Rattle.std.specs.Prelude.{◌++◌, Option, Some, None, nat_lt, length, slice_get}
 use Rattle.std.specs.List.{list_all, flat_map}
 use Rattle.spin_values.specs.declared.types.Kind.{Kind}
 use Rattle.spin_values.specs.declared.types.Kind.TheVariants as kind

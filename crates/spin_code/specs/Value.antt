@@ -1,5 +1,6 @@
 -- The value of an expression.
-use Rattle.std.specs.Prelude.{ℕ, ◌+◌, ◌*◌, ◌%◌, ◌^◌, ◌||◌, ◌&&◌, Bool, List, [], ◌==◌, Option, Some, None, nat_le, if◌then◌else◌, length, drop, take, fold, slice_get, bit_and, bit_or}
+use Rattle.std.specs.Prelude.{ℕ, ◌+◌, ◌*◌, ◌%◌, ◌^◌, ◌||◌, ◌&&◌, Bool, List, [], ◌==◌, Option, Some, None}
+use Rattle.std.specs.Prelude.{nat_le, if◌then◌else◌, length, drop, take, fold, slice_get, bit_and, bit_or}
 use Rattle.spin_values.specs.declared.values.Value.{Value}
 use Rattle.spin_values.specs.declared.values.Value.TheVariants.{Word, Bytes}
 use Rattle.spin_code.specs.declared.expr.Expr.{Expr}

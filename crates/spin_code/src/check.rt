@@ -38,7 +38,7 @@ pub enum ActFault {
     NoResult,
 }
 
-/// Whether a step sets no parameter but one that may be changed.
+// Whether a step sets no parameter but one that may be changed.
 fn sets_var(step: &ActStep, params: &[Param]) -> bool
     ensures { result ≡ specs.sets_var params.now step.now }
 {
@@ -51,21 +51,21 @@ fn sets_var(step: &ActStep, params: &[Param]) -> bool
     }
 }
 
-/// Whether a step gives a result.
+// Whether a step gives a result.
 fn is_result(step: &ActStep) -> bool
     ensures { result ≡ specs.is_result step.now }
 {
     matches!(step, ActStep::Result(_))
 }
 
-/// Whether the steps set no parameter but those that may be changed.
+// Whether the steps set no parameter but those that may be changed.
 fn set_only_vars(steps: &[ActStep], params: &[Param]) -> bool
     ensures { result ≡ list_all (specs.sets_var params.now) steps.now }
 {
     steps.iter().all(|step| sets_var(step, params))
 }
 
-/// Whether any of the steps gives a result.
+// Whether any of the steps gives a result.
 fn is_any_result(steps: &[ActStep]) -> bool
     ensures { result ≡ list_any specs.is_result steps.now }
 {

@@ -13,7 +13,7 @@ use crate::test::Test;
 /// its parts.
 pub const MAX_DEPTH: u8 = 8;
 
-/// Whether an expression is deeper than the limit. It goes no deeper into the stack than the limit.
+// Whether an expression is deeper than the limit. It goes no deeper into the stack than the limit.
 #[tactic(auto, using(crate::proofs::Sizes::expr_depth_positive, std::proofs::lemmas::Bool::Decides::nat_tests))]
 pub(crate) fn is_expr_deeper(e: &Expr, limit: u8) -> bool
     ensures { result ≡ nat_lt limit (expr_depth e.now) }
@@ -31,7 +31,7 @@ pub(crate) fn is_expr_deeper(e: &Expr, limit: u8) -> bool
     }
 }
 
-/// Whether a test is deeper than the limit. It goes no deeper into the stack than the limit.
+// Whether a test is deeper than the limit. It goes no deeper into the stack than the limit.
 #[tactic(auto, using(crate::proofs::Sizes::test_depth_positive, std::proofs::lemmas::Bool::Decides::nat_tests))]
 pub(crate) fn is_test_deeper(t: &Test, limit: u8) -> bool
     ensures { result ≡ nat_lt limit (test_depth t.now) }
@@ -49,7 +49,7 @@ pub(crate) fn is_test_deeper(t: &Test, limit: u8) -> bool
     }
 }
 
-/// Whether an expression of a part is too deep.
+// Whether an expression of a part is too deep.
 fn is_part_deep(part: &Part) -> bool
     ensures { result ≡ specs.is_part_deep part.now }
 {
@@ -59,14 +59,14 @@ fn is_part_deep(part: &Part) -> bool
     }
 }
 
-/// Whether an expression of any of the parts is too deep.
+// Whether an expression of any of the parts is too deep.
 fn is_any_deep(parts: &[Part]) -> bool
     ensures { result ≡ list_any specs.is_part_deep parts.now }
 {
     parts.iter().any(|part| is_part_deep(part))
 }
 
-/// Whether an expression of a step is too deep.
+// Whether an expression of a step is too deep.
 fn is_step_deep(step: &ActStep) -> bool
     ensures { result ≡ specs.is_step_deep step.now }
 {
@@ -79,7 +79,7 @@ fn is_step_deep(step: &ActStep) -> bool
     }
 }
 
-/// Whether an expression of any of the steps is too deep.
+// Whether an expression of any of the steps is too deep.
 pub(crate) fn is_any_step_deep(steps: &[ActStep]) -> bool
     ensures { result ≡ list_any specs.is_step_deep steps.now }
 {

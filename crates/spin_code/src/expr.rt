@@ -61,8 +61,8 @@ pub fn argument_bytes(args: &Args, arg: u8) -> &[u8]
     }
 }
 
-/// The number that stands at an offset, most significant byte first: 0 where it reaches past the end or its width
-/// isn't a listed one.
+// The number that stands at an offset, most significant byte first: 0 where it reaches past the end or its width
+// isn't a listed one.
 fn field(bytes: &[u8], offset: u16, width: u8) -> u64
     ensures { result ≡ field_of bytes.now offset width }
 {

@@ -12,7 +12,7 @@ use crate::test::Test;
 /// expression or test within another counts too.
 pub const MAX_NODES: u8 = 64;
 
-/// The room for nodes that is left after an expression, if it has room.
+// The room for nodes that is left after an expression, if it has room.
 #[tactic(auto, using(crate::proofs::Sizes::expr_nodes_positive, std::proofs::lemmas::Bool::Decides::nat_tests))]
 pub(crate) fn after_expr(e: &Expr, room: u8) -> Option<u8>
     ensures { result ≡ left_after (expr_nodes e.now) room }
@@ -30,7 +30,7 @@ pub(crate) fn after_expr(e: &Expr, room: u8) -> Option<u8>
     }
 }
 
-/// The room for nodes that is left after a test, if it has room.
+// The room for nodes that is left after a test, if it has room.
 #[tactic(auto, using(crate::proofs::Sizes::test_nodes_positive, std::proofs::lemmas::Bool::Decides::nat_tests))]
 pub(crate) fn after_test(t: &Test, room: u8) -> Option<u8>
     ensures { result ≡ left_after (test_nodes t.now) room }
@@ -48,7 +48,7 @@ pub(crate) fn after_test(t: &Test, room: u8) -> Option<u8>
     }
 }
 
-/// The room for nodes that is left after a part, if it has room.
+// The room for nodes that is left after a part, if it has room.
 fn after_part(part: &Part, room: u8) -> Option<u8>
     ensures { result ≡ left_after (part_nodes part.now) room }
 {
@@ -61,7 +61,7 @@ fn after_part(part: &Part, room: u8) -> Option<u8>
     }
 }
 
-/// The room for nodes that is left after parts, if they have room.
+// The room for nodes that is left after parts, if they have room.
 fn after_parts(parts: &[Part], room: u8) -> Option<u8>
     ensures { result ≡ left_after (sum_by part_nodes parts.now) room }
 {
@@ -72,7 +72,7 @@ fn after_parts(parts: &[Part], room: u8) -> Option<u8>
     Some(left)
 }
 
-/// The room for nodes that is left after a step, if it has room.
+// The room for nodes that is left after a step, if it has room.
 fn after_step(step: &ActStep, room: u8) -> Option<u8>
     ensures { result ≡ left_after (step_nodes step.now) room }
 {
@@ -88,7 +88,7 @@ fn after_step(step: &ActStep, room: u8) -> Option<u8>
     }
 }
 
-/// The room for nodes that is left after steps, if they have room.
+// The room for nodes that is left after steps, if they have room.
 pub(crate) fn after_steps(steps: &[ActStep], room: u8) -> Option<u8>
     ensures { result ≡ left_after (sum_by step_nodes steps.now) room }
 {

@@ -22,7 +22,7 @@ pub fn is_same_read(d: &Expr, e: &Expr) -> bool
     }
 }
 
-/// The constant that an equation requires for `e`: its right side, where its left side is `e`.
+// The constant that an equation requires for `e`: its right side, where its left side is `e`.
 fn constant(left: &Expr, right: &Expr, e: &Expr) -> Option<u64>
     ensures { result ≡ constant_beside left.now right.now e.now }
 {

@@ -44,7 +44,7 @@ pub enum Test {
     Any(Box<Test>, Box<Test>),
 }
 
-/// Whether two numbers compare so.
+// Whether two numbers compare so.
 fn compare(cmp: Cmp, a: u64, b: u64) -> bool
     ensures { result ≡ compares cmp a b }
 {
@@ -56,7 +56,7 @@ fn compare(cmp: Cmp, a: u64, b: u64) -> bool
     }
 }
 
-/// Whether a test holds, without a count.
+// Whether a test holds, without a count.
 fn is_true(t: &Test, args: &Args) -> bool
     ensures { result ≡ truth_of t.now args.now }
 {

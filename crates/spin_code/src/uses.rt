@@ -3,7 +3,8 @@
 ghost use Rattle.std.specs.Prelude.{◌≡◌, slice_get};
 ghost use Rattle.std.specs.List.{list_all};
 ghost use Rattle.spin_code.specs.Value.{is_width};
-ghost use Rattle.spin_code.specs.Uses.{AsWord, AsBytes, AsField, is_of_kind, expr_uses, test_uses, part_uses, step_uses};
+ghost use Rattle.spin_code.specs.Uses.{AsWord, AsBytes, AsField, is_of_kind};
+ghost use Rattle.spin_code.specs.Uses.{expr_uses, test_uses, part_uses, step_uses};
 ghost use Rattle.spin_code.specs.Uses as specs;
 ghost use Rattle.spin_code.specs.Inner.Asked.{passes};
 
@@ -12,17 +13,17 @@ use crate::expr::Expr;
 use crate::test::Test;
 use spin_values::{Kind, Param};
 
-/// What is asked of each argument that is used.
+// What is asked of each argument that is used.
 #[derive(Clone, Copy, Debug)]
 pub(crate) enum Asked {
-    /// Whether there is a parameter of its number.
+    // Whether there is a parameter of its number.
     Known,
-    /// Whether that has the kind that is wanted, and a field's width is a listed one.
+    // Whether that has the kind that is wanted, and a field's width is a listed one.
     Right,
 }
 
-/// Whether the parameter is there and has this kind.
-#[tactic(auto, using(crate::proofs::Equals::same_kind_is))]
+// Whether the parameter is there and has this kind.
+#[tactic(auto, using(crate::proofs::KindEquality::same_kind_is))]
 fn has_kind(params: &[Param], arg: u8, kind: Kind) -> bool
     ensures { result ≡ is_of_kind (slice_get params.now arg) kind }
 {
@@ -33,7 +34,7 @@ fn has_kind(params: &[Param], arg: u8, kind: Kind) -> bool
 }
 
 impl Asked {
-    /// What is asked of an argument that is wanted as a word.
+    // What is asked of an argument that is wanted as a word.
     fn of_word(self, params: &[Param], arg: u8) -> bool
         ensures { result ≡ passes self params.now (AsWord arg) }
     {
@@ -43,7 +44,7 @@ impl Asked {
         }
     }
 
-    /// What is asked of an argument that is wanted as bytes.
+    // What is asked of an argument that is wanted as bytes.
     fn of_bytes(self, params: &[Param], arg: u8) -> bool
         ensures { result ≡ passes self params.now (AsBytes arg) }
     {
@@ -53,7 +54,7 @@ impl Asked {
         }
     }
 
-    /// What is asked of an argument that is wanted as bytes with a field of this width.
+    // What is asked of an argument that is wanted as bytes with a field of this width.
     fn of_field(self, params: &[Param], arg: u8, width: u8) -> bool
         ensures { result ≡ passes self params.now (AsField arg width) }
     {
@@ -64,14 +65,14 @@ impl Asked {
     }
 }
 
-/// Whether a field may have this width.
+// Whether a field may have this width.
 fn is_listed(width: u8) -> bool
     ensures { result ≡ is_width width }
 {
     width == 1 || width == 2 || width == 4 || width == 8
 }
 
-/// Whether each argument that an expression reads passes.
+// Whether each argument that an expression reads passes.
 pub(crate) fn expr_passes(e: &Expr, params: &[Param], asked: Asked) -> bool
     ensures { result ≡ list_all (passes asked params.now) (expr_uses e.now) }
 {
@@ -85,7 +86,7 @@ pub(crate) fn expr_passes(e: &Expr, params: &[Param], asked: Asked) -> bool
     }
 }
 
-/// Whether each argument that a test reads passes.
+// Whether each argument that a test reads passes.
 pub(crate) fn test_passes(t: &Test, params: &[Param], asked: Asked) -> bool
     ensures { result ≡ list_all (passes asked params.now) (test_uses t.now) }
 {
@@ -99,7 +100,7 @@ pub(crate) fn test_passes(t: &Test, params: &[Param], asked: Asked) -> bool
     }
 }
 
-/// Whether each argument that a part reads passes.
+// Whether each argument that a part reads passes.
 fn part_passes(part: &Part, params: &[Param], asked: Asked) -> bool
     ensures { result ≡ list_all (passes asked params.now) (part_uses part.now) }
 {
@@ -109,7 +110,7 @@ fn part_passes(part: &Part, params: &[Param], asked: Asked) -> bool
     }
 }
 
-/// Whether each argument that the parts read passes.
+// Whether each argument that the parts read passes.
 fn parts_pass(parts: &[Part], params: &[Param], asked: Asked) -> bool
     ensures { result
         ≡ list_all (λ part. list_all (passes asked params.now) (part_uses part)) parts.now }
@@ -117,7 +118,7 @@ fn parts_pass(parts: &[Part], params: &[Param], asked: Asked) -> bool
     parts.iter().all(|part| part_passes(part, params, asked))
 }
 
-/// Whether each argument that a step reads or sets passes.
+// Whether each argument that a step reads or sets passes.
 #[tactic(auto, using(crate::proofs::Sizes::all_of_all))]
 fn step_passes(step: &ActStep, params: &[Param], asked: Asked) -> bool
     ensures { result ≡ list_all (passes asked params.now) (step_uses step.now) }
@@ -131,7 +132,7 @@ fn step_passes(step: &ActStep, params: &[Param], asked: Asked) -> bool
     }
 }
 
-/// Whether the parameters are those that the headers need.
+// Whether the parameters are those that the headers need.
 fn is_layer_right(layer: Layer, params: &[Param]) -> bool
     ensures { result ≡ specs.is_layer_right params.now layer }
 {
@@ -147,7 +148,7 @@ fn is_layer_right(layer: Layer, params: &[Param]) -> bool
     }
 }
 
-/// Whether each argument that a step reads or sets has the kind that is wanted, and each width is a listed one.
+// Whether each argument that a step reads or sets has the kind that is wanted, and each width is a listed one.
 fn is_step_right(step: &ActStep, params: &[Param]) -> bool
     ensures { result ≡ specs.is_step_right params.now step.now }
 {
@@ -157,7 +158,7 @@ fn is_step_right(step: &ActStep, params: &[Param]) -> bool
     }
 }
 
-/// Whether each argument that the steps read or set is there.
+// Whether each argument that the steps read or set is there.
 pub(crate) fn are_steps_known(steps: &[ActStep], params: &[Param]) -> bool
     ensures { result ≡ list_all (specs.is_step_known params.now) steps.now }
 {
@@ -166,7 +167,7 @@ pub(crate) fn are_steps_known(steps: &[ActStep], params: &[Param]) -> bool
         .all(|step| step_passes(step, params, Asked::Known))
 }
 
-/// Whether each argument that the steps read or set has the kind that is wanted, and each width is a listed one.
+// Whether each argument that the steps read or set has the kind that is wanted, and each width is a listed one.
 pub(crate) fn are_steps_right(steps: &[ActStep], params: &[Param]) -> bool
     ensures { result ≡ list_all (specs.is_step_right params.now) steps.now }
 {

@@ -1,4 +1,4 @@
-pub mod Changes
-pub mod Cutting
-pub mod Received
-pub mod Retired
+pub mod EndpointChanges
+pub mod PieceCuts
+pub mod ReceivedSends
+pub mod RetiredEndpoints

@@ -102,7 +102,7 @@ impl Ends {
         }
     }
 
-    /// The place of the endpoint that stands under the name.
+    // The place of the endpoint that stands under the name.
     fn find(&self, name: &Text) -> Option<usize>
         ensures none { IfNone result
             (stands name.now (⟦<Ends as EndsSeen>⟧.all self.now) ≡ false) }

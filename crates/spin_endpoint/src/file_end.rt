@@ -13,12 +13,12 @@ use std::io;
 use std::io::{ErrorKind, Write};
 use std::rt::Files;
 
-/// How many bytes there is room for from the start: a piece of 65,536 bytes, and its length.
+// How many bytes there is room for from the start: a piece of 65,536 bytes, and its length.
 const ROOM: usize = 65_540;
 
 /// Appends each piece to a file by one write: its length in four bytes, the highest first, and then its bytes. The file
-/// is opened at the first `take`, and made where it isn't there. After a failed `take` a part of the piece may be in the
-/// file. That the file then holds what was written is trusted to the system.
+/// is opened at the first `take`, and made where it isn't there. After a failed `take` a part of the piece may be in
+/// the file. That the file then holds what was written is trusted to the system.
 #[derive(Drop)]
 pub struct FileEnd<R: Files + Drop> {
     runtime: R,
@@ -30,8 +30,8 @@ pub struct FileEnd<R: Files + Drop> {
 }
 
 impl<R: Files + Drop> FileEnd<R> {
-    /// An endpoint over the file of that name, which it doesn't open yet. It takes the memory for a piece of 65,536 bytes
-    /// now; a longer one is `Failed` where there is no memory for it.
+    /// An endpoint over the file of that name, which it doesn't open yet. It takes the memory for a piece of 65,536
+    /// bytes now; a longer one is `Failed` where there is no memory for it.
     pub fn new(alloc: Global, runtime: R, name: Text) -> Result<FileEnd<R>, NoMemory>
         ensures finishes { IfOk result (λ end. end.finishes ≡ 0) }
         ensures faults { IfOk result (λ end. end.faults.number ≡ 0) }
@@ -47,7 +47,7 @@ impl<R: Files + Drop> FileEnd<R> {
         })
     }
 
-    /// Appends the piece, and its length before it, to the file, which is opened where it isn't open.
+    // Appends the piece, and its length before it, to the file, which is opened where it isn't open.
     fn append(&mut self, bytes: &[u8]) -> io::Result<()>
         ensures finishes { self.new.finishes ≡ self.old.finishes }
         ensures faults { self.new.faults ≡ self.old.faults }
@@ -62,7 +62,7 @@ impl<R: Files + Drop> FileEnd<R> {
     }
 }
 
-/// Opens a file at whose end is written, and makes it where it isn't there.
+// Opens a file at whose end is written, and makes it where it isn't there.
 fn open_to_append<R: Files>(runtime: &R, name: &[u8]) -> io::Result<R::File> {
     let Ok(path) = std::str::from_utf8(name) else {
         return Err(io::Error::from(ErrorKind::InvalidInput));
@@ -73,8 +73,8 @@ fn open_to_append<R: Files>(runtime: &R, name: &[u8]) -> io::Result<R::File> {
         .open(runtime, path)
 }
 
-/// Writes the length of the piece and the piece, which are laid out in the buffer first. So a file that takes what it is
-/// given whole gets them by one write.
+// Writes the length of the piece and the piece, which are laid out in the buffer first. So a file that takes what it is
+// given whole gets them by one write.
 fn write_piece<W: Write>(file: &mut W, buffer: &mut Vec<u8>, bytes: &[u8]) -> io::Result<()>
     ensures { OnOk result (Appends (W.contents file.old) (W.contents file.new) (framed bytes.now)) }
 {

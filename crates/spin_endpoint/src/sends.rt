@@ -61,7 +61,7 @@ impl Model for Lost {
 }
 
 impl Lost {
-    /// None was lost.
+    // None was lost.
     fn none() -> Lost
         ensures { result ≡ replicate MAX_ENDPOINTS 0 }
     {
@@ -78,7 +78,7 @@ impl Lost {
         self.counts[number as usize]
     }
 
-    /// Counts one more to the number.
+    // Counts one more to the number.
     fn add(&mut self, number: u8)
         requires there { number < MAX_ENDPOINTS }
         requires room { slice_index_or self.old number 0 < 2 ^ 64 - 1 }
@@ -111,7 +111,7 @@ impl Ends {
         Ok(lost)
     }
 
-    /// Retires the endpoint that stands under the name, if one does, and answers whether one did.
+    // Retires the endpoint that stands under the name, if one does, and answers whether one did.
     fn retire_if(&mut self, name: &Text) -> bool
         ensures stood { result ≡ stands name.now (⟦<Ends as EndsSeen>⟧.all self.old) }
         ensures ends { ⟦<Ends as EndsSeen>⟧.all self.new

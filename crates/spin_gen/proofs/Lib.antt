@@ -1,5 +1,5 @@
-pub mod Drawing
-pub mod Written
-pub mod Fitting
-pub mod Leading
-pub mod Captured
+pub mod DrawLemmas
+pub mod ScriptText
+pub mod LineOrder
+pub mod ScriptLines
+pub mod CaptureLemmas

@@ -12,7 +12,7 @@ use Rattle.spin_code.specs.declared.act.Layer.TheVariants as layer
 use Rattle.spin_code.specs.declared.act.ActStep.TheVariants as step
 use Rattle.spin_code.specs.declared.merge.Merge.TheVariants as merge
 use Rattle.spin_grammar.specs.Bare.{nowhere}
-use Rattle.spin_grammar.specs.Lines.{Line, Modules, Event, Endpoint, Handler, Guard}
+use Rattle.spin_grammar.specs.Lines.{LineMeaning, Modules, Event, Endpoint, Handler, Guard}
 
 -- ---- signatures, all by value
 
@@ -57,23 +57,23 @@ and a b = And' nowhere a nowhere b
 -- ---- declarations
 
 -- an event of words, which adds up the results
-abbrev pub sum_event : ℕ → Line
+abbrev pub sum_event : ℕ → LineMeaning
 sum_event number = Event number 0 word_to_word (merge.Fold (plus (Arg 0) (Arg 1)))
 
 -- adds its own number to the word
-abbrev pub adding_handler : ℕ → Line
+abbrev pub adding_handler : ℕ → LineMeaning
 adding_handler number =
     Handler number word_to_word (step.Result (plus (Arg 0) (Const number)) ∷ [])
 
 -- admits a word whose two low bits are the guard's number less 1
-abbrev pub low_bits_guard : ℕ → Line
+abbrev pub low_bits_guard : ℕ → LineMeaning
 low_bits_guard number =
     Guard number of_word (Compare cmp.Eq (and (Arg 0) (Const 3)) (Const (number - 1)))
 
 -- Events 0 to 7 are of words, 8 of frames, 9 of packets, 10 of datagrams. Handlers 5, 6 and 7 hand a frame up to a
 -- packet, a packet to a datagram, and a datagram's bytes to the endpoint. Guards 5, 6 and 7 admit frames of IPv4,
 -- packets of UDP, and datagrams to a port below 512.
-abbrev pub declarations : List Line
+abbrev pub declarations : List LineMeaning
 declarations =
     Modules 1 ∷ (map sum_event (range_with_len 0 8) ++ Event 8 0 of_frame merge.Last
     ∷ Event 9 0 of_packet merge.Last

@@ -3,7 +3,7 @@
 ghost use Rattle.std.specs.Prelude.{◌≡◌};
 ghost use Rattle.spin_gen.specs.Inner.Writing.{head_text};
 
-/// The declarations, and the installs of the first segment.
+// The declarations, and the installs of the first segment.
 const HEAD: &[u8] = b"spin 1
 modules 1
 event 0 0 w:w fold + a0 a1
@@ -37,7 +37,7 @@ lane 0 install 9 0 6 6 free plain
 lane 0 install 10 0 7 7 free plain
 ";
 
-/// The text of the script up to its first barrier.
+// The text of the script up to its first barrier.
 pub(crate) fn head() -> &'static [u8]
     ensures { result.now ≡ head_text }
 {

@@ -12,28 +12,28 @@ use crate::draws::Draws;
 use spin_text::{end_line, put_number, put_word};
 use spin_values::{NoMemory, Octets};
 
-/// Of a lane's lines in a segment, each that has a multiple of this number is an install.
+// Of a lane's lines in a segment, each that has a multiple of this number is an install.
 const INSTALL_EACH: u16 = 20;
 
-/// The event of frames.
+// The event of frames.
 const FRAMES: u64 = 8;
 
-/// How many records each lane takes of the capture.
+// How many records each lane takes of the capture.
 const PACKETS: u64 = 125;
 
-/// The number of places that are drawn from.
+// The number of places that are drawn from.
 const PLACES: u64 = 3;
 
-/// The number of handlers that are drawn from, those of words.
+// The number of handlers that are drawn from, those of words.
 const HANDLERS: u64 = 4;
 
-/// The number of guards that are drawn from, those of words and none.
+// The number of guards that are drawn from, those of words and none.
 const GUARDS: u64 = 5;
 
-/// Each value that is drawn lies below this one.
+// Each value that is drawn lies below this one.
 const VALUES: u64 = 65_536;
 
-/// The word of the place that was drawn.
+// The word of the place that was drawn.
 #[tactic(auto, unfolding(crate::specs::Drafts::drawn_place))]
 fn place_word(place: u64) -> &'static [u8]
     requires { place < 3 }
@@ -46,7 +46,7 @@ fn place_word(place: u64) -> &'static [u8]
     }
 }
 
-/// What is drawn for an install.
+// What is drawn for an install.
 #[derive(Drop)]
 struct Choice {
     place: u64,
@@ -54,8 +54,8 @@ struct Choice {
     guard: u64,
 }
 
-/// Draws the place, the handler and the guard of an install, in this order.
-#[tactic(auto, using(crate::proofs::Drawing::drawn_second, crate::proofs::Drawing::drawn_third, crate::proofs::Drawing::after_three))]
+// Draws the place, the handler and the guard of an install, in this order.
+#[tactic(auto, using(crate::proofs::DrawLemmas::drawn_second, crate::proofs::DrawLemmas::drawn_third, crate::proofs::DrawLemmas::after_three))]
 fn choose(draws: &mut Draws) -> Choice
     ensures place { result.place ≡ drawn 3 0 draws.old }
     ensures handler { result.handler ≡ 1 + drawn 4 1 draws.old }
@@ -73,7 +73,7 @@ fn choose(draws: &mut Draws) -> Choice
     }
 }
 
-/// Appends the front of a lane's line: what is asked, and the event of the lane's number.
+// Appends the front of a lane's line: what is asked, and the event of the lane's number.
 fn put_front(out: &mut Octets, lane: u8, asked: &[u8]) -> Result<(), NoMemory>
     ensures { OnOk result (out.new ≡ out.old
         ++ line_of (codes "lane" ∷ decimal lane ∷ asked.now ∷ decimal lane ∷ [])) }
@@ -84,7 +84,7 @@ fn put_front(out: &mut Octets, lane: u8, asked: &[u8]) -> Result<(), NoMemory>
     put_number(out, u64::from(lane))
 }
 
-/// Appends what was drawn for an install, and that it is plain.
+// Appends what was drawn for an install, and that it is plain.
 fn put_choice(out: &mut Octets, choice: &Choice) -> Result<(), NoMemory>
     requires { choice.now.place < 3 }
     ensures { OnOk result (out.new ≡ out.old
@@ -97,7 +97,7 @@ fn put_choice(out: &mut Octets, choice: &Choice) -> Result<(), NoMemory>
     put_word(out, b"plain")
 }
 
-/// Appends an install on the lane's own event.
+// Appends an install on the lane's own event.
 fn put_install(out: &mut Octets, lane: u8, choice: &Choice) -> Result<(), NoMemory>
     requires { choice.now.place < 3 }
     ensures { let place = drawn_place choice.now.place in
@@ -110,7 +110,7 @@ fn put_install(out: &mut Octets, lane: u8, choice: &Choice) -> Result<(), NoMemo
     end_line(out)
 }
 
-/// Appends a raise of the lane's own event.
+// Appends a raise of the lane's own event.
 fn put_raise(out: &mut Octets, lane: u8, value: u64) -> Result<(), NoMemory>
     ensures { OnOk result (out.new ≡ out.old ++ line_text (raise_line lane value)) }
 {
@@ -119,7 +119,7 @@ fn put_raise(out: &mut Octets, lane: u8, value: u64) -> Result<(), NoMemory>
     end_line(out)
 }
 
-/// Appends the line of a lane that has this number among its lines in a segment, counted from 0.
+// Appends the line of a lane that has this number among its lines in a segment, counted from 0.
 pub(crate) fn put_line(
     out: &mut Octets,
     draws: &mut Draws,
@@ -139,7 +139,7 @@ pub(crate) fn put_line(
     }
 }
 
-/// Appends a line by which a lane takes records of the capture.
+// Appends a line by which a lane takes records of the capture.
 pub(crate) fn put_packets(out: &mut Octets, lane: u8) -> Result<(), NoMemory>
     ensures { OnOk result (out.new ≡ out.old ++ line_text (packet_line lane)) }
 {

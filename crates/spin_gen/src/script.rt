@@ -14,19 +14,19 @@ use spin_text::end_line;
 use spin_values::{NoMemory, Octets};
 use std::alloc::Global;
 
-/// The number of lanes.
+// The number of lanes.
 const LANES: u8 = 8;
 
-/// How many lines a lane has in a segment.
+// How many lines a lane has in a segment.
 const LINES: u16 = 500;
 
-/// The number of segments whose lines are drawn.
+// The number of segments whose lines are drawn.
 const SEGMENTS: u8 = 4;
 
-/// As many bytes as the script has at most: those of the longest lines that can be drawn, and some more.
+// As many bytes as the script has at most: those of the longest lines that can be drawn, and some more.
 const ROOM: usize = 350_000;
 
-/// Appends the lines of a lane in a segment.
+// Appends the lines of a lane in a segment.
 fn put_lane(out: &mut Octets, draws: &mut Draws, lane: u8) -> Result<(), NoMemory>
     ensures { OnOk result (Writes out.old draws.old (lane_drafts 500 lane) out.new draws.new) }
 {
@@ -36,7 +36,7 @@ fn put_lane(out: &mut Octets, draws: &mut Draws, lane: u8) -> Result<(), NoMemor
     Ok(())
 }
 
-/// Appends a line that ends a segment.
+// Appends a line that ends a segment.
 fn put_barrier(out: &mut Octets) -> Result<(), NoMemory>
     ensures { OnOk result (out.new ≡ out.old ++ line_text Barrier) }
 {
@@ -44,7 +44,7 @@ fn put_barrier(out: &mut Octets) -> Result<(), NoMemory>
     end_line(out)
 }
 
-/// Appends a barrier, and behind it the lines of a segment, lane by lane.
+// Appends a barrier, and behind it the lines of a segment, lane by lane.
 fn put_segment(out: &mut Octets, draws: &mut Draws) -> Result<(), NoMemory>
     ensures { OnOk result
         (Writes out.old draws.old (Stated Barrier ∷ segment_drafts 8) out.new draws.new) }
@@ -56,7 +56,7 @@ fn put_segment(out: &mut Octets, draws: &mut Draws) -> Result<(), NoMemory>
     Ok(())
 }
 
-/// Appends the segments whose lines are drawn.
+// Appends the segments whose lines are drawn.
 fn put_segments(out: &mut Octets, draws: &mut Draws) -> Result<(), NoMemory>
     ensures { OnOk result (Writes out.old draws.old (segments_drafts 4) out.new draws.new) }
 {
@@ -66,7 +66,7 @@ fn put_segments(out: &mut Octets, draws: &mut Draws) -> Result<(), NoMemory>
     Ok(())
 }
 
-/// Appends a barrier, and behind it the segment in which all lanes take records.
+// Appends a barrier, and behind it the segment in which all lanes take records.
 fn put_last(out: &mut Octets) -> Result<(), NoMemory>
     ensures { OnOk result (out.new ≡ out.old ++ line_text Barrier ++ packets_text 8) }
 {
@@ -77,7 +77,7 @@ fn put_last(out: &mut Octets) -> Result<(), NoMemory>
     Ok(())
 }
 
-/// The script, for which is drawn in the order of its lines. Its memory is taken at once.
+// The script, for which is drawn in the order of its lines. Its memory is taken at once.
 pub(crate) fn script(alloc: Global, draws: &mut Draws) -> Result<Octets, NoMemory>
     ensures text { IfOk result (λ script. script ≡ script_of draws.old) }
     ensures state { OnOk result (draws.new ≡ state_behind draws.old drafts) }

@@ -1,5 +1,6 @@
 -- Signatures and bytes that are spelled canonically are those that they were.
-use Rattle.std.proofs.Common.{◌≡◌, ℕ, zero, suc, ◌+◌, ◌-◌, ◌*◌, ◌/◌, ◌%◌, ◌<◌, ◌≤◌, ◌&&◌, ◌⊎◌, inl, inr, Bool, true, false, cond, eqb, leb, ltb, List, [], ◌∷◌, ◌++◌, length, take, drop, map, Option, Some, None, codes, bytes_eq, refl, ap, ◌∙◌, arith, length-append}
+use Rattle.std.proofs.Common.{◌≡◌, ℕ, zero, suc, ◌+◌, ◌-◌, ◌*◌, ◌/◌, ◌%◌, ◌<◌, ◌≤◌, ◌&&◌, ◌⊎◌, inl, inr, Bool, true, false, cond, eqb, leb, ltb}
+use Rattle.std.proofs.Common.{List, [], ◌∷◌, ◌++◌, length, take, drop, map, Option, Some, None, codes, bytes_eq, refl, ap, ◌∙◌, arith, length-append}
 use Rattle.std.specs.List.{list_all}
 use Rattle.std.specs.Option.{option_map}
 use Rattle.std.specs.Char.{digit_value, digit_char}
@@ -240,7 +241,8 @@ hex_back : (bs : List ℕ) → AreBytes bs → hex_bytes (hex_digits bs) ≡ Som
 hex_back [] h = refl
 hex_back (b ∷ bs) h = rw (hex_pair b (hex_digits bs) h.0, hex_back bs h.1) refl
 
-read_pair : (b d : Bool) (n : ℕ) (o : Option (List ℕ)) (bs : List ℕ) → cond (b && d) (option_map (λ (xs : List ℕ). n ∷ xs) o) None ≡ Some bs → (b ≡ true) × (d ≡ true) × (more : List ℕ) × (o ≡ Some more) × (n ∷ more ≡ bs)
+read_pair : (b d : Bool) (n : ℕ) (o : Option (List ℕ)) (bs : List ℕ) → cond (b && d) (option_map (λ (xs : List ℕ). n ∷ xs) o) None ≡ Some bs
+    → (b ≡ true) × (d ≡ true) × (more : List ℕ) × (o ≡ Some more) × (n ∷ more ≡ bs)
 read_pair true true n (Some more) bs e = (refl, refl, more, refl, some_same (n ∷ more) bs e)
 read_pair true true n None bs e = absurd cc
 read_pair true false n o bs e = absurd cc

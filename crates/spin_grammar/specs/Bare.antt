@@ -12,7 +12,7 @@ use Rattle.spin_code.specs.declared.act.ActStep.{ActStep}
 use Rattle.spin_code.specs.declared.act.ActStep.TheVariants as step
 use Rattle.spin_code.specs.declared.merge.Merge.{Merge}
 use Rattle.spin_code.specs.declared.merge.Merge.TheVariants as merge
-use Rattle.spin_grammar.specs.Lines.{Line, Modules, Event, Endpoint, Handler, NativeHandler, Guard}
+use Rattle.spin_grammar.specs.Lines.{LineMeaning, Modules, Event, Endpoint, Handler, NativeHandler, Guard}
 use Rattle.spin_grammar.specs.Lines.{NativeGuard, Rules, Authoriser, Default, Lane, Barrier}
 use Rattle.spin_grammar.specs.Lines.{Retire}
 
@@ -51,7 +51,7 @@ abbrev pub bare_merge : Merge → Merge
 bare_merge merge.Last = merge.Last
 bare_merge (merge.Fold e) = merge.Fold (bare_expr e)
 
-abbrev pub bare_line : Line → Line
+abbrev pub bare_line : LineMeaning → LineMeaning
 bare_line (Modules n) = Modules n
 bare_line (Event e owner sig m) = Event e owner sig (bare_merge m)
 bare_line (Endpoint p name) = Endpoint p name

@@ -213,16 +213,16 @@ deeds version =
 -- ---- one word at its place
 
 -- what a word comes to at its place: what it says with what is wanted behind it, or why it can't stand there
-abbrev pub Step : Type 0
-Step = Result (Atom × List Want) Cause
+abbrev pub WordStep : Type 0
+WordStep = Result (Atom × List Want) Cause
 
 -- the number that the word is, with this wanted behind it; else a number is missing
-abbrev pub as_number : Option ℕ → List Want → Step
+abbrev pub as_number : Option ℕ → List Want → WordStep
 as_number None more = Err cause.Number
 as_number (Some n) more = Ok (Numeral n, more)
 
 -- one of the fixed words, and what it is followed by
-abbrev pub chosen : List ℕ → Choices → Step
+abbrev pub chosen : List ℕ → Choices → WordStep
 chosen w [] = Err cause.Word
 chosen w (c ∷ cs) = if bytes_eq w c.0 then Ok (Fixed w, c.1) else chosen w cs
 
@@ -233,17 +233,17 @@ is_argument w =
     (slice_index w 1) 55))
 
 -- the signature that the word is, with this wanted behind it; else a signature is missing
-abbrev pub as_signature : Option EventType → List Want → Step
+abbrev pub as_signature : Option EventType → List Want → WordStep
 as_signature None more = Err cause.Signature
 as_signature (Some sig) more = Ok (Typed sig, more)
 
 -- the bytes that the word is, with this wanted behind it; else bytes are missing
-abbrev pub as_blob : Option (List ℕ) → List Want → Step
+abbrev pub as_blob : Option (List ℕ) → List Want → WordStep
 as_blob None more = Err cause.Bytes
 as_blob (Some bytes) more = Ok (Blob bytes, more)
 
 -- the count that the word is, with so many of the same wanted behind it; else a number is missing
-abbrev pub as_count : Option ℕ → Want → Step
+abbrev pub as_count : Option ℕ → Want → WordStep
 as_count None want = Err cause.Number
 as_count (Some n) want = Ok (Numeral n, replicate n want)
 
@@ -253,17 +253,17 @@ rising low zero = []
 rising low (suc more) = Rising low more ∷ []
 
 -- the count that the word is, with so many rising numbers wanted behind it; else a number is missing
-abbrev pub as_rising : Option ℕ → Step
+abbrev pub as_rising : Option ℕ → WordStep
 as_rising None = Err cause.Number
 as_rising (Some n) = Ok (Numeral n, rising 0 n)
 
 -- the number that the word is, with so many greater ones wanted behind it; else a number is missing
-abbrev pub as_rise : Option ℕ → ℕ → Step
+abbrev pub as_rise : Option ℕ → ℕ → WordStep
 as_rise None more = Err cause.Number
 as_rise (Some n) more = Ok (Numeral n, rising (n + 1) more)
 
 -- what a word comes to where this is wanted
-unfoldable pub accepts : Want → List ℕ → Step
+unfoldable pub accepts : Want → List ℕ → WordStep
 accepts (Number low high) w = as_number (within low high (number w)) []
 accepts Name w = if is_name w then Ok (Called w, []) else Err cause.Name
 accepts Signature w = as_signature (signature w) []

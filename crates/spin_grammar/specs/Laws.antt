@@ -6,13 +6,13 @@ use Rattle.spin_code.specs.declared.act.ActStep.{ActStep}
 use Rattle.spin_code.specs.declared.merge.Merge.{Merge}
 use Rattle.spin_code.specs.Check.{act_check, test_check, merge_check}
 use Rattle.spin_grammar.specs.declared.kind.Kind.{Kind}
-use Rattle.spin_grammar.specs.Lines.{Line, form, kind_of, Spells}
+use Rattle.spin_grammar.specs.Lines.{LineMeaning, form, line_kind, Spells}
 use Rattle.spin_grammar.specs.Canonical.{spell}
 use Rattle.spin_grammar.specs.Bare.{bare_line, bare_step, bare_test, bare_merge}
 
 -- The words of a line of some kind are those of one line, but for where its boxes lie.
 abbrev pub OneLine : Type 0
-OneLine = (l m : Line) → kind_of l ≡ kind_of m → form l ≡ form m → bare_line l ≡ bare_line m
+OneLine = (l m : LineMeaning) → line_kind l ≡ line_kind m → form l ≡ form m → bare_line l ≡ bare_line m
 
 -- What is wrong with an act, a test or a merge doesn't depend on where its boxes lie.
 pub record ChecksAreBare : Type 0 where
@@ -25,5 +25,5 @@ pub record ChecksAreBare : Type 0 where
 -- What a line's words say, its canonical words say too.
 abbrev pub LinesAreRespelled : Type 0
 LinesAreRespelled =
-    (version : ℕ) (k : Kind) (ws : List (List ℕ)) (l : Line) → Spells version k ws l
+    (version : ℕ) (k : Kind) (ws : List (List ℕ)) (l : LineMeaning) → Spells version k ws l
     → Spells version k (map spell (form l)) l

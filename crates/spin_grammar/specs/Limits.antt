@@ -1,6 +1,10 @@
 -- The limits that the definitions cite, in numbers.
 use Rattle.std.specs.Prelude.{◌≡◌}
-use Rattle.spin_grammar.specs.declared.limits.TheConstants.{MAX_TEXT, MAX_NAME, MAX_MODULES, LAST_MODULE, LAST_EVENT, LAST_ENDPOINT, LAST_HANDLER, LAST_GUARD, LAST_LANE, LAST_PLACE, LAST_TARGET, MAX_NAMED, LAST_ARGUMENT, MAX_PARTS, MAX_OFFSET, MAX_WIDTH, MAX_QUOTA, MAX_IMPOSED, MAX_PACKETS}
+use Rattle.spin_grammar.specs.declared.limits.TheConstants.{MAX_TEXT, MAX_NAME, MAX_MODULES, LAST_MODULE}
+use Rattle.spin_grammar.specs.declared.limits.TheConstants.{LAST_EVENT, LAST_ENDPOINT, LAST_HANDLER}
+use Rattle.spin_grammar.specs.declared.limits.TheConstants.{LAST_GUARD, LAST_LANE, LAST_PLACE, LAST_TARGET}
+use Rattle.spin_grammar.specs.declared.limits.TheConstants.{MAX_NAMED, LAST_ARGUMENT, MAX_PARTS, MAX_OFFSET}
+use Rattle.spin_grammar.specs.declared.limits.TheConstants.{MAX_WIDTH, MAX_QUOTA, MAX_IMPOSED, MAX_PACKETS}
 
 -- each constant of the sources has its value
 pub record AreStated : Type 0 where

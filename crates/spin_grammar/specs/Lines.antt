@@ -27,24 +27,24 @@ use Rattle.spin_grammar.specs.Forms.{Task, steps_form, test_form, merge_form, ru
 use Rattle.spin_grammar.specs.Tasks.{Asks, IsValidOn}
 
 -- what a line says
-pub data Line : Type 0 where
-  Modules : ℕ → Line
-  Event : (event owner : ℕ) → EventType → Merge → Line
-  Endpoint : ℕ → List ℕ → Line
-  Handler : ℕ → EventType → List ActStep → Line
-  NativeHandler : ℕ → List ℕ → Line
-  Guard : ℕ → EventType → Test → Line
-  NativeGuard : ℕ → List ℕ → Line
+pub data LineMeaning : Type 0 where
+  Modules : ℕ → LineMeaning
+  Event : (event owner : ℕ) → EventType → Merge → LineMeaning
+  Endpoint : ℕ → List ℕ → LineMeaning
+  Handler : ℕ → EventType → List ActStep → LineMeaning
+  NativeHandler : ℕ → List ℕ → LineMeaning
+  Guard : ℕ → EventType → Test → LineMeaning
+  NativeGuard : ℕ → List ℕ → LineMeaning
   -- a rule of an event's policy
-  Rules : ℕ → Rule → Line
-  Authoriser : ℕ → List ℕ → Line
-  Default : (event handler : ℕ) → Line
-  Lane : ℕ → Task → Line
-  Barrier : Line
-  Retire : ℕ → Line
+  Rules : ℕ → Rule → LineMeaning
+  Authoriser : ℕ → List ℕ → LineMeaning
+  Default : (event handler : ℕ) → LineMeaning
+  Lane : ℕ → Task → LineMeaning
+  Barrier : LineMeaning
+  Retire : ℕ → LineMeaning
 
 -- the words behind a line's first
-abbrev pub form : Line → List Atom
+abbrev pub form : LineMeaning → List Atom
 form (Modules n) = Numeral n ∷ []
 form (Event e owner sig m) = Numeral e ∷ Numeral owner ∷ Typed sig ∷ merge_form m
 form (Endpoint p name) = Numeral p ∷ Called name ∷ []
@@ -60,20 +60,20 @@ form Barrier = []
 form (Retire p) = Numeral p ∷ []
 
 -- the kind of a line, which its first word names: native handlers and guards are of the kind of the others
-abbrev pub kind_of : Line → Kind
-kind_of (Modules n) = kind.Modules
-kind_of (Event e owner sig m) = kind.Event
-kind_of (Endpoint p name) = kind.Endpoint
-kind_of (Handler h sig steps) = kind.Handler
-kind_of (NativeHandler h name) = kind.Handler
-kind_of (Guard g sig t) = kind.Guard
-kind_of (NativeGuard g name) = kind.Guard
-kind_of (Rules e r) = kind.Rule
-kind_of (Authoriser e name) = kind.Authoriser
-kind_of (Default e h) = kind.Default
-kind_of (Lane l t) = kind.Lane
-kind_of Barrier = kind.Barrier
-kind_of (Retire p) = kind.Retire
+abbrev pub line_kind : LineMeaning → Kind
+line_kind (Modules n) = kind.Modules
+line_kind (Event e owner sig m) = kind.Event
+line_kind (Endpoint p name) = kind.Endpoint
+line_kind (Handler h sig steps) = kind.Handler
+line_kind (NativeHandler h name) = kind.Handler
+line_kind (Guard g sig t) = kind.Guard
+line_kind (NativeGuard g name) = kind.Guard
+line_kind (Rules e r) = kind.Rule
+line_kind (Authoriser e name) = kind.Authoriser
+line_kind (Default e h) = kind.Default
+line_kind (Lane l t) = kind.Lane
+line_kind Barrier = kind.Barrier
+line_kind (Retire p) = kind.Retire
 
 -- what is wanted behind the first word of a line, in a script of this version
 abbrev pub wanted : ℕ → Kind → List Want
@@ -93,8 +93,8 @@ wanted version kind.Barrier = []
 wanted version kind.Retire = Number 0 LAST_ENDPOINT ∷ []
 
 -- The words behind a line's first say this, in a script of this version.
-pub record Spells (version : ℕ) (k : Kind) (ws : List (List ℕ)) (l : Line) : Type 0 where
-  pub kind : kind_of l ≡ k
+pub record Spells (version : ℕ) (k : Kind) (ws : List (List ℕ)) (l : LineMeaning) : Type 0 where
+  pub kind : line_kind l ≡ k
   pub words : reads (wanted version k) ws ≡ Ok (form l)
 
 -- ---- what is kept of a line
@@ -116,7 +116,7 @@ is_merge_deep (merge.Fold e) = nat_lt MAX_DEPTH (expr_depth e)
 
 -- What was read of a line stands for what the line says: it is that, but for what is too deep,
 -- which wasn't kept.
-abbrev pub Stands : Said → Line → Type 0
+abbrev pub Stands : Said → LineMeaning → Type 0
 Stands (said.Modules n) l = l ≡ Modules n
 Stands (said.Event e owner sig o) l =
     (m : Merge) × (l ≡ Event e owner sig m) × IsKept is_merge_deep o m
@@ -136,7 +136,7 @@ Stands (said.Retire p) l = l ≡ Retire p
 -- all words say a line of this kind, for which what was read stands, or this is the cause why they
 -- don't
 abbrev pub GivesLine : ℕ → Kind → List (List ℕ) → Result Said Fault → Type 0
-GivesLine version k ws (Ok s) = (l : Line) × Spells version k ws l × Stands s l
+GivesLine version k ws (Ok s) = (l : LineMeaning) × Spells version k ws l × Stands s l
 GivesLine version k ws (Err f) = (c : Cause) → f ≡ fault.Bad c → reads (wanted version k) ws ≡ Err c
 
 -- what a line declares has the number of such a thing, and what it asks for is valid

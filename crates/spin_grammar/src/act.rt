@@ -17,8 +17,8 @@ use crate::words::Words;
 use spin_code::{ActStep, MAX_DEPTH, Merge, Part, Parts, Steplist};
 use std::alloc::Global;
 
-/// Reads a part of a raise upwards, and keeps it where its expression isn't too deep.
-#[tactic(auto, using(crate::proofs::Parts::failing))]
+// Reads a part of a raise upwards, and keeps it where its expression isn't too deep.
+#[tactic(auto, using(crate::proofs::ReadingParts::failing))]
 fn read_part(alloc: Global, words: &mut Words) -> Result<Option<Part>, Fault>
     requires { length words.old < 2 ^ 31 }
     ensures gives { GivesSome (IsKept is_part_deep) part_form (grammar.Part ∷ []) result words.old
@@ -38,7 +38,7 @@ fn read_part(alloc: Global, words: &mut Words) -> Result<Option<Part>, Fault>
     }
 }
 
-/// Reads so many parts, and keeps them where no expression is too deep.
+// Reads so many parts, and keeps them where no expression is too deep.
 fn read_parts(alloc: Global, words: &mut Words, count: u64) -> Result<Option<Parts>, Fault>
     requires { length words.old < 2 ^ 31 }
     ensures gives { GivesParts count result words.old words.new }
@@ -58,9 +58,9 @@ fn read_parts(alloc: Global, words: &mut Words, count: u64) -> Result<Option<Par
     Ok(Some(parts))
 }
 
-/// Reads the rest of a step that begins with this word, and keeps the step where no expression of
-/// it is too deep.
-#[tactic(auto, using(crate::proofs::Parts::failing))]
+// Reads the rest of a step that begins with this word, and keeps the step where no expression of
+// it is too deep.
+#[tactic(auto, using(crate::proofs::ReadingParts::failing))]
 fn read_step(alloc: Global, words: &mut Words, word: StepWord) -> Result<Option<ActStep>, Fault>
     requires { length words.old < 2 ^ 31 }
     ensures gives { GivesStep word result words.old words.new }
@@ -104,7 +104,7 @@ fn read_step(alloc: Global, words: &mut Words, word: StepWord) -> Result<Option<
     }
 }
 
-/// Reads all steps up to the line's end, and keeps them where no expression is too deep.
+// Reads all steps up to the line's end, and keeps them where no expression is too deep.
 pub(crate) fn read_steps(alloc: Global, words: &mut Words) -> Result<Option<Steplist>, Fault>
     requires { length words.old < 2 ^ 31 }
     ensures { GivesSome (IsKept (list_any is_step_deep)) steps_form (grammar.Steps ∷ []) result
@@ -124,8 +124,8 @@ pub(crate) fn read_steps(alloc: Global, words: &mut Words) -> Result<Option<Step
     Ok(Some(steps))
 }
 
-/// Reads a merge, and keeps it where its expression isn't too deep.
-#[tactic(auto, using(crate::proofs::Parts::failing))]
+// Reads a merge, and keeps it where its expression isn't too deep.
+#[tactic(auto, using(crate::proofs::ReadingParts::failing))]
 pub(crate) fn read_merge(alloc: Global, words: &mut Words) -> Result<Option<Merge>, Fault>
     requires { length words.old < 2 ^ 31 }
     ensures { GivesSome (IsKept is_merge_deep) merge_form (grammar.Merge ∷ []) result words.old

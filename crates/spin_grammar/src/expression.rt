@@ -18,8 +18,8 @@ use crate::words::Words;
 use spin_code::Expr;
 use std::alloc::Global;
 
-/// Reads what follows the word `f`: an argument, an offset and a width.
-#[tactic(auto, using(crate::proofs::Parts::failing))]
+// Reads what follows the word `f`: an argument, an offset and a width.
+#[tactic(auto, using(crate::proofs::ReadingParts::failing))]
 pub(crate) fn field(words: &mut Words) -> Result<(u8, u16, u8), Fault>
     ensures gives { Gives (λ f. Numeral f.0 ∷ Numeral f.1 ∷ Numeral f.2 ∷ [])
         (Number 0 LAST_ARGUMENT ∷ Number 0 MAX_OFFSET ∷ Number 0 MAX_WIDTH ∷ []) result words.old
@@ -32,10 +32,10 @@ pub(crate) fn field(words: &mut Words) -> Result<(u8, u16, u8), Fault>
     Ok((arg, offset, width))
 }
 
-/// Reads the first word of an expression, and what belongs to it alone, where so many expressions
-/// are wanted.
-/// Answers how many are wanted then.
-#[tactic(auto, using(crate::proofs::Parts::failing))]
+// Reads the first word of an expression, and what belongs to it alone, where so many expressions
+// are wanted.
+// Answers how many are wanted then.
+#[tactic(auto, using(crate::proofs::ReadingParts::failing))]
 fn skip_head(words: &mut Words, wanted: u64) -> Result<u64, Fault>
     requires some { 0 < wanted }
     requires room { wanted + length words.old < 2 ^ 64 }
@@ -55,8 +55,8 @@ fn skip_head(words: &mut Words, wanted: u64) -> Result<u64, Fault>
     }
 }
 
-/// Reads an expression of any depth, and keeps nothing of it. It takes no stack: it counts what is
-/// still wanted.
+// Reads an expression of any depth, and keeps nothing of it. It takes no stack: it counts what is
+// still wanted.
 pub(crate) fn skip_expression(words: &mut Words) -> Result<(), Fault>
     requires { length words.old < 2 ^ 32 }
     ensures gives { GivesSome IsThere expr_form (grammar.Expression ∷ []) result words.old
@@ -70,7 +70,7 @@ pub(crate) fn skip_expression(words: &mut Words) -> Result<(), Fault>
     Ok(())
 }
 
-/// The two joined, where both are there.
+// The two joined, where both are there.
 fn join(
     alloc: Global,
     operator: Operator,
@@ -92,10 +92,10 @@ fn join(
     }))
 }
 
-/// Reads an expression, and keeps it where it has at most so many levels. It goes no deeper into
-/// the stack than
-/// that, however deep the expression is.
-#[tactic(auto, using(crate::proofs::Parts::failing))]
+// Reads an expression, and keeps it where it has at most so many levels. It goes no deeper into
+// the stack than
+// that, however deep the expression is.
+#[tactic(auto, using(crate::proofs::ReadingParts::failing))]
 pub(crate) fn read_expression(
     alloc: Global,
     words: &mut Words,

@@ -147,14 +147,14 @@ pub enum DeedWord {
     Packet,
 }
 
-/// What a word stands for, by the first row of a table that has the word.
+// What a word stands for, by the first row of a table that has the word.
 fn meaning<A: Copy>(word: &[u8], rows: &[(&[u8], A)]) -> Result<A, Cause>
     ensures { result ≡ known (look_up word.now (map (λ row. (row.0.now, row.1)) rows.now)) }
 {
     look_up(word, rows).ok_or(Cause::Word)
 }
 
-/// The first word of an expression.
+// The first word of an expression.
 #[tactic(auto, unfolding(crate::specs::Grammar::accepts))]
 pub(crate) fn expr_word(word: &[u8]) -> Result<ExprWord, Cause>
     ensures { step_of expr_next result ≡ accepts grammar.Expression word.now }
@@ -173,7 +173,7 @@ pub(crate) fn expr_word(word: &[u8]) -> Result<ExprWord, Cause>
     }
 }
 
-/// The first words of tests.
+// The first words of tests.
 const TESTS: [(&[u8], TestWord); 9] = [
     (b"true", TestWord::True),
     (b"==", TestWord::Compare(Cmp::Eq)),
@@ -186,7 +186,7 @@ const TESTS: [(&[u8], TestWord); 9] = [
     (b"any", TestWord::Pair(Joint::Any)),
 ];
 
-/// The first word of a test.
+// The first word of a test.
 #[tactic(auto, unfolding(crate::specs::Grammar::accepts))]
 pub(crate) fn test_word(word: &[u8]) -> Result<TestWord, Cause>
     ensures { step_of test_next result ≡ accepts grammar.Test word.now }
@@ -194,10 +194,10 @@ pub(crate) fn test_word(word: &[u8]) -> Result<TestWord, Cause>
     meaning(word, TESTS.as_slice())
 }
 
-/// The first words of parts.
+// The first words of parts.
 const PARTS: [(&[u8], PartWord); 2] = [(b"w", PartWord::Word), (b"b", PartWord::Bytes)];
 
-/// The first word of a part.
+// The first word of a part.
 #[tactic(auto, unfolding(crate::specs::Grammar::accepts))]
 pub(crate) fn part_word(word: &[u8]) -> Result<PartWord, Cause>
     ensures { step_of part_next result ≡ accepts grammar.Part word.now }
@@ -205,7 +205,7 @@ pub(crate) fn part_word(word: &[u8]) -> Result<PartWord, Cause>
     meaning(word, PARTS.as_slice())
 }
 
-/// The first words of steps.
+// The first words of steps.
 const STEPS: [(&[u8], StepWord); 5] = [
     (b"set", StepWord::Set),
     (b"send", StepWord::Send),
@@ -214,7 +214,7 @@ const STEPS: [(&[u8], StepWord); 5] = [
     (b"layer", StepWord::Layer),
 ];
 
-/// The first word of a step.
+// The first word of a step.
 #[tactic(auto, unfolding(crate::specs::Grammar::accepts))]
 pub(crate) fn step_word(word: &[u8]) -> Result<StepWord, Cause>
     ensures { step_of step_next result ≡ accepts grammar.Steps word.now }
@@ -222,10 +222,10 @@ pub(crate) fn step_word(word: &[u8]) -> Result<StepWord, Cause>
     meaning(word, STEPS.as_slice())
 }
 
-/// The headers that a layer step may read.
+// The headers that a layer step may read.
 const LAYERS: [(&[u8], Layer); 2] = [(b"ipv4", Layer::Ipv4), (b"udp", Layer::Udp)];
 
-/// The headers that a layer step reads.
+// The headers that a layer step reads.
 #[tactic(auto, unfolding(crate::specs::Grammar::accepts))]
 pub(crate) fn layer_word(word: &[u8]) -> Result<Layer, Cause>
     ensures { step_of layer_next result ≡ accepts grammar.LayerKind word.now }
@@ -233,10 +233,10 @@ pub(crate) fn layer_word(word: &[u8]) -> Result<Layer, Cause>
     meaning(word, LAYERS.as_slice())
 }
 
-/// The first words of merges.
+// The first words of merges.
 const MERGES: [(&[u8], MergeWord); 2] = [(b"last", MergeWord::Last), (b"fold", MergeWord::Fold)];
 
-/// The first word of a merge.
+// The first word of a merge.
 #[tactic(auto, unfolding(crate::specs::Grammar::accepts))]
 pub(crate) fn merge_word(word: &[u8]) -> Result<MergeWord, Cause>
     ensures { step_of merge_next result ≡ accepts grammar.Merge word.now }
@@ -244,7 +244,7 @@ pub(crate) fn merge_word(word: &[u8]) -> Result<MergeWord, Cause>
     meaning(word, MERGES.as_slice())
 }
 
-/// The ops that a rule may speak of.
+// The ops that a rule may speak of.
 const OPS: [(&[u8], OpMatch); 6] = [
     (b"install", OpMatch::One(Op::Install)),
     (b"remove", OpMatch::One(Op::Remove)),
@@ -254,7 +254,7 @@ const OPS: [(&[u8], OpMatch); 6] = [
     (b"any", OpMatch::Any),
 ];
 
-/// The ops that a rule speaks of.
+// The ops that a rule speaks of.
 #[tactic(auto, unfolding(crate::specs::Grammar::accepts))]
 pub(crate) fn op_word(word: &[u8]) -> Result<OpMatch, Cause>
     ensures { step_of op_next result ≡ accepts grammar.Op word.now }
@@ -262,7 +262,7 @@ pub(crate) fn op_word(word: &[u8]) -> Result<OpMatch, Cause>
     meaning(word, OPS.as_slice())
 }
 
-/// The handler that a rule speaks of.
+// The handler that a rule speaks of.
 #[tactic(auto, unfolding(crate::specs::Grammar::accepts))]
 pub(crate) fn handler_word(word: &[u8]) -> Result<Option<u16>, Cause>
     ensures { step_of handler_next result ≡ accepts grammar.HandlerOrAny word.now }
@@ -277,10 +277,10 @@ pub(crate) fn handler_word(word: &[u8]) -> Result<Option<u16>, Cause>
     }
 }
 
-/// Whether a rule may speak of own bindings only.
+// Whether a rule may speak of own bindings only.
 const OWN: [(&[u8], bool); 2] = [(b"own", true), (b"all", false)];
 
-/// Whether a rule speaks of own bindings only.
+// Whether a rule speaks of own bindings only.
 #[tactic(auto, unfolding(crate::specs::Grammar::accepts))]
 pub(crate) fn own_word(word: &[u8]) -> Result<bool, Cause>
     ensures { step_of own_next result ≡ accepts grammar.Own word.now }
@@ -288,7 +288,7 @@ pub(crate) fn own_word(word: &[u8]) -> Result<bool, Cause>
     meaning(word, OWN.as_slice())
 }
 
-/// The first words of effects.
+// The first words of effects.
 const EFFECTS: [(&[u8], EffectWord); 5] = [
     (b"allow", EffectWord::Allow),
     (b"deny", EffectWord::Deny),
@@ -297,7 +297,7 @@ const EFFECTS: [(&[u8], EffectWord); 5] = [
     (b"force", EffectWord::Force),
 ];
 
-/// The first word of an effect, in a script of this version.
+// The first word of an effect, in a script of this version.
 #[tactic(auto, unfolding(crate::specs::Grammar::accepts))]
 pub(crate) fn effect_word(word: &[u8], version: u8) -> Result<EffectWord, Cause>
     ensures { step_of effect_next result ≡ accepts (grammar.Effect version) word.now }
@@ -308,14 +308,14 @@ pub(crate) fn effect_word(word: &[u8], version: u8) -> Result<EffectWord, Cause>
     }
 }
 
-/// The places that a rule may force.
+// The places that a rule may force.
 const FORCED_PLACES: [(&[u8], Forced); 3] = [
     (b"keep", Forced::Keep),
     (b"first", Forced::First),
     (b"last", Forced::Last),
 ];
 
-/// The place that a rule forces.
+// The place that a rule forces.
 #[tactic(auto, unfolding(crate::specs::Grammar::accepts))]
 pub(crate) fn forced_word(word: &[u8]) -> Result<Forced, Cause>
     ensures { step_of forced_next result ≡ accepts grammar.ForcedPlace word.now }
@@ -323,10 +323,10 @@ pub(crate) fn forced_word(word: &[u8]) -> Result<Forced, Cause>
     meaning(word, FORCED_PLACES.as_slice())
 }
 
-/// Whether a rule may force asynchronous running.
+// Whether a rule may force asynchronous running.
 const FORCED_MODES: [(&[u8], bool); 2] = [(b"keep", false), (b"async", true)];
 
-/// Whether a rule forces asynchronous running.
+// Whether a rule forces asynchronous running.
 #[tactic(auto, unfolding(crate::specs::Grammar::accepts))]
 pub(crate) fn apart_word(word: &[u8]) -> Result<bool, Cause>
     ensures { step_of apart_next result ≡ accepts grammar.ForcedMode word.now }
@@ -334,7 +334,7 @@ pub(crate) fn apart_word(word: &[u8]) -> Result<bool, Cause>
     meaning(word, FORCED_MODES.as_slice())
 }
 
-/// The first words of places that may be before or after another binding.
+// The first words of places that may be before or after another binding.
 const SPOTS: [(&[u8], SpotWord); 5] = [
     (b"free", SpotWord::At(Place::Free)),
     (b"first", SpotWord::At(Place::First)),
@@ -343,7 +343,7 @@ const SPOTS: [(&[u8], SpotWord); 5] = [
     (b"after", SpotWord::After),
 ];
 
-/// The first word of a place that may be before or after another binding.
+// The first word of a place that may be before or after another binding.
 #[tactic(auto, unfolding(crate::specs::Grammar::accepts))]
 pub(crate) fn spot_word(word: &[u8]) -> Result<SpotWord, Cause>
     ensures { step_of spot_next result ≡ accepts grammar.Spot word.now }
@@ -351,14 +351,14 @@ pub(crate) fn spot_word(word: &[u8]) -> Result<SpotWord, Cause>
     meaning(word, SPOTS.as_slice())
 }
 
-/// The places apart from other bindings.
+// The places apart from other bindings.
 const PLACES: [(&[u8], Place); 3] = [
     (b"free", Place::Free),
     (b"first", Place::First),
     (b"last", Place::Last),
 ];
 
-/// A place apart from other bindings.
+// A place apart from other bindings.
 #[tactic(auto, unfolding(crate::specs::Grammar::accepts))]
 pub(crate) fn place_word(word: &[u8]) -> Result<Place, Cause>
     ensures { step_of place_next result ≡ accepts grammar.Place word.now }
@@ -366,14 +366,14 @@ pub(crate) fn place_word(word: &[u8]) -> Result<Place, Cause>
     meaning(word, PLACES.as_slice())
 }
 
-/// The modes of bindings.
+// The modes of bindings.
 const MODES: [(&[u8], Mode); 3] = [
     (b"plain", Mode::Plain),
     (b"filter", Mode::Filter),
     (b"async", Mode::Async),
 ];
 
-/// The mode of a binding.
+// The mode of a binding.
 #[tactic(auto, unfolding(crate::specs::Grammar::accepts))]
 pub(crate) fn mode_word(word: &[u8]) -> Result<Mode, Cause>
     ensures { step_of mode_next result ≡ accepts grammar.Mode word.now }
@@ -381,7 +381,7 @@ pub(crate) fn mode_word(word: &[u8]) -> Result<Mode, Cause>
     meaning(word, MODES.as_slice())
 }
 
-/// The first words of deeds. Most deeds of long scripts are raises, so their word stands first.
+// The first words of deeds. Most deeds of long scripts are raises, so their word stands first.
 const DEEDS: [(&[u8], DeedWord); 8] = [
     (b"raise", DeedWord::Raise),
     (b"install", DeedWord::Install),
@@ -393,7 +393,7 @@ const DEEDS: [(&[u8], DeedWord); 8] = [
     (b"packet", DeedWord::Packet),
 ];
 
-/// The first word of a deed, in a script of this version.
+// The first word of a deed, in a script of this version.
 #[tactic(auto, unfolding(crate::specs::Grammar::accepts))]
 pub(crate) fn deed_word(word: &[u8], version: u8) -> Result<DeedWord, Cause>
     ensures { step_of (deed_next version) result ≡ accepts (grammar.Deed version) word.now }

@@ -23,7 +23,7 @@ use spin_code::Layer;
 use spin_policy::{Forced, OpMatch};
 use spin_word::{Mode, Place};
 
-/// Reads a number from low to high, whatever it is for.
+// Reads a number from low to high, whatever it is for.
 fn read_number(words: &mut Words, low: u64, high: u64) -> Result<u64, Fault>
     ensures reads { ReadsNumber low high result words.old words.new }
     ensures range { IfOk result (λ n. (low ≤ n) × (n ≤ high)) }
@@ -38,7 +38,7 @@ fn read_number(words: &mut Words, low: u64, high: u64) -> Result<u64, Fault>
     Ok(number)
 }
 
-/// Reads a number from low to high.
+// Reads a number from low to high.
 pub(crate) fn number_from(words: &mut Words, low: u64, high: u64) -> Result<u64, Fault>
     ensures gives { Gives (λ n. Numeral n ∷ []) (Number low high ∷ []) result words.old words.new }
     ensures range { IfOk result (λ n. (low ≤ n) × (n ≤ high)) }
@@ -47,7 +47,7 @@ pub(crate) fn number_from(words: &mut Words, low: u64, high: u64) -> Result<u64,
     read_number(words, low, high)
 }
 
-/// Reads the count, from low to high, of things that follow.
+// Reads the count, from low to high, of things that follow.
 pub(crate) fn count_from(words: &mut Words, low: u64, high: u64) -> Result<u64, Fault>
     ensures opens { (want : Want) → Opens (λ n. (Numeral n, replicate n want))
         (Counted low high want) result words.old words.new }
@@ -57,7 +57,7 @@ pub(crate) fn count_from(words: &mut Words, low: u64, high: u64) -> Result<u64, 
     read_number(words, low, high)
 }
 
-/// Reads the count of bindings that follow.
+// Reads the count of bindings that follow.
 pub(crate) fn bindings_count(words: &mut Words) -> Result<u64, Fault>
     ensures opens { Opens (λ n. (Numeral n, rising 0 n)) Bindings result words.old words.new }
     ensures range { IfOk result (λ n. n ≤ MAX_NAMED) }
@@ -65,7 +65,7 @@ pub(crate) fn bindings_count(words: &mut Words) -> Result<u64, Fault>
     read_number(words, 0, MAX_NAMED)
 }
 
-/// Reads the number of a binding from low on.
+// Reads the number of a binding from low on.
 pub(crate) fn binding_from(words: &mut Words, low: u64) -> Result<u64, Fault>
     ensures opens { (more : ℕ) → Opens (λ n. (Numeral n, rising (n + 1) more)) (Rising low more)
         result words.old words.new }
@@ -74,7 +74,7 @@ pub(crate) fn binding_from(words: &mut Words, low: u64) -> Result<u64, Fault>
     read_number(words, low, LAST_PLACE)
 }
 
-/// Reads the first word of an expression.
+// Reads the first word of an expression.
 #[tactic(auto, unfolding(crate::specs::Grammar::reads))]
 pub(crate) fn expr_word(words: &mut Words) -> Result<ExprWord, Fault>
     ensures opens { Opens expr_next grammar.Expression result words.old words.new }
@@ -84,7 +84,7 @@ pub(crate) fn expr_word(words: &mut Words) -> Result<ExprWord, Fault>
     Ok(heads::expr_word(next_word(words)?)?)
 }
 
-/// Reads the first word of a test.
+// Reads the first word of a test.
 #[tactic(auto, unfolding(crate::specs::Grammar::reads))]
 pub(crate) fn test_word(words: &mut Words) -> Result<TestWord, Fault>
     ensures opens { Opens test_next grammar.Test result words.old words.new }
@@ -94,7 +94,7 @@ pub(crate) fn test_word(words: &mut Words) -> Result<TestWord, Fault>
     Ok(heads::test_word(next_word(words)?)?)
 }
 
-/// Reads the first word of a part.
+// Reads the first word of a part.
 #[tactic(auto, unfolding(crate::specs::Grammar::reads))]
 pub(crate) fn part_word(words: &mut Words) -> Result<PartWord, Fault>
     ensures opens { Opens part_next grammar.Part result words.old words.new }
@@ -103,7 +103,7 @@ pub(crate) fn part_word(words: &mut Words) -> Result<PartWord, Fault>
     Ok(heads::part_word(next_word(words)?)?)
 }
 
-/// Reads the first word of the next step; `None` at the line's end.
+// Reads the first word of the next step; `None` at the line's end.
 #[tactic(auto, unfolding(crate::specs::Grammar::reads))]
 pub(crate) fn step_word(words: &mut Words) -> Result<Option<StepWord>, Fault>
     ensures { GivesHead result words.old words.new }
@@ -114,7 +114,7 @@ pub(crate) fn step_word(words: &mut Words) -> Result<Option<StepWord>, Fault>
     }
 }
 
-/// Reads the headers that a layer step reads.
+// Reads the headers that a layer step reads.
 #[tactic(auto, unfolding(crate::specs::Grammar::reads))]
 pub(crate) fn layer_word(words: &mut Words) -> Result<Layer, Fault>
     ensures opens { Opens layer_next grammar.LayerKind result words.old words.new }
@@ -123,7 +123,7 @@ pub(crate) fn layer_word(words: &mut Words) -> Result<Layer, Fault>
     Ok(heads::layer_word(next_word(words)?)?)
 }
 
-/// Reads the first word of a merge.
+// Reads the first word of a merge.
 #[tactic(auto, unfolding(crate::specs::Grammar::reads))]
 pub(crate) fn merge_word(words: &mut Words) -> Result<MergeWord, Fault>
     ensures opens { Opens merge_next grammar.Merge result words.old words.new }
@@ -132,7 +132,7 @@ pub(crate) fn merge_word(words: &mut Words) -> Result<MergeWord, Fault>
     Ok(heads::merge_word(next_word(words)?)?)
 }
 
-/// Reads the ops that a rule speaks of.
+// Reads the ops that a rule speaks of.
 #[tactic(auto, unfolding(crate::specs::Grammar::reads))]
 pub(crate) fn op_word(words: &mut Words) -> Result<OpMatch, Fault>
     ensures opens { Opens op_next grammar.Op result words.old words.new }
@@ -141,7 +141,7 @@ pub(crate) fn op_word(words: &mut Words) -> Result<OpMatch, Fault>
     Ok(heads::op_word(next_word(words)?)?)
 }
 
-/// Reads the handler that a rule speaks of.
+// Reads the handler that a rule speaks of.
 #[tactic(auto, unfolding(crate::specs::Grammar::reads))]
 pub(crate) fn handler_word(words: &mut Words) -> Result<Option<u16>, Fault>
     ensures opens { Opens handler_next grammar.HandlerOrAny result words.old words.new }
@@ -150,7 +150,7 @@ pub(crate) fn handler_word(words: &mut Words) -> Result<Option<u16>, Fault>
     Ok(heads::handler_word(next_word(words)?)?)
 }
 
-/// Reads whether a rule speaks of own bindings only.
+// Reads whether a rule speaks of own bindings only.
 #[tactic(auto, unfolding(crate::specs::Grammar::reads))]
 pub(crate) fn own_word(words: &mut Words) -> Result<bool, Fault>
     ensures opens { Opens own_next grammar.Own result words.old words.new }
@@ -159,7 +159,7 @@ pub(crate) fn own_word(words: &mut Words) -> Result<bool, Fault>
     Ok(heads::own_word(next_word(words)?)?)
 }
 
-/// Reads the first word of an effect, in a script of this version.
+// Reads the first word of an effect, in a script of this version.
 #[tactic(auto, unfolding(crate::specs::Grammar::reads))]
 pub(crate) fn effect_word(words: &mut Words, version: u8) -> Result<EffectWord, Fault>
     ensures opens { Opens effect_next (grammar.Effect version) result words.old words.new }
@@ -168,7 +168,7 @@ pub(crate) fn effect_word(words: &mut Words, version: u8) -> Result<EffectWord, 
     Ok(heads::effect_word(next_word(words)?, version)?)
 }
 
-/// Reads the place that a rule forces.
+// Reads the place that a rule forces.
 #[tactic(auto, unfolding(crate::specs::Grammar::reads))]
 pub(crate) fn forced_word(words: &mut Words) -> Result<Forced, Fault>
     ensures opens { Opens forced_next grammar.ForcedPlace result words.old words.new }
@@ -177,7 +177,7 @@ pub(crate) fn forced_word(words: &mut Words) -> Result<Forced, Fault>
     Ok(heads::forced_word(next_word(words)?)?)
 }
 
-/// Reads whether a rule forces asynchronous running.
+// Reads whether a rule forces asynchronous running.
 #[tactic(auto, unfolding(crate::specs::Grammar::reads))]
 pub(crate) fn apart_word(words: &mut Words) -> Result<bool, Fault>
     ensures opens { Opens apart_next grammar.ForcedMode result words.old words.new }
@@ -186,7 +186,7 @@ pub(crate) fn apart_word(words: &mut Words) -> Result<bool, Fault>
     Ok(heads::apart_word(next_word(words)?)?)
 }
 
-/// Reads the first word of a place that may be before or after another binding.
+// Reads the first word of a place that may be before or after another binding.
 #[tactic(auto, unfolding(crate::specs::Grammar::reads))]
 pub(crate) fn spot_word(words: &mut Words) -> Result<SpotWord, Fault>
     ensures opens { Opens spot_next grammar.Spot result words.old words.new }
@@ -195,7 +195,7 @@ pub(crate) fn spot_word(words: &mut Words) -> Result<SpotWord, Fault>
     Ok(heads::spot_word(next_word(words)?)?)
 }
 
-/// Reads a place apart from other bindings.
+// Reads a place apart from other bindings.
 #[tactic(auto, unfolding(crate::specs::Grammar::reads))]
 pub(crate) fn place_word(words: &mut Words) -> Result<Place, Fault>
     ensures opens { Opens place_next grammar.Place result words.old words.new }
@@ -204,7 +204,7 @@ pub(crate) fn place_word(words: &mut Words) -> Result<Place, Fault>
     Ok(heads::place_word(next_word(words)?)?)
 }
 
-/// Reads the mode of a binding.
+// Reads the mode of a binding.
 #[tactic(auto, unfolding(crate::specs::Grammar::reads))]
 pub(crate) fn mode_word(words: &mut Words) -> Result<Mode, Fault>
     ensures opens { Opens mode_next grammar.Mode result words.old words.new }
@@ -213,7 +213,7 @@ pub(crate) fn mode_word(words: &mut Words) -> Result<Mode, Fault>
     Ok(heads::mode_word(next_word(words)?)?)
 }
 
-/// Reads the first word of a deed, in a script of this version.
+// Reads the first word of a deed, in a script of this version.
 #[tactic(auto, unfolding(crate::specs::Grammar::reads))]
 pub(crate) fn deed_word(words: &mut Words, version: u8) -> Result<DeedWord, Fault>
     ensures opens { Opens (deed_next version) (grammar.Deed version) result words.old words.new }
@@ -222,7 +222,7 @@ pub(crate) fn deed_word(words: &mut Words, version: u8) -> Result<DeedWord, Faul
     Ok(heads::deed_word(next_word(words)?, version)?)
 }
 
-/// Reads just this word.
+// Reads just this word.
 #[tactic(auto, unfolding(crate::specs::Grammar::reads, crate::specs::Grammar::accepts))]
 pub(crate) fn exactly(words: &mut Words, wanted: &[u8]) -> Result<(), Fault>
     ensures opens { Opens (λ _. (Fixed wanted.now, [])) (grammar.Exactly wanted.now) result

@@ -114,7 +114,7 @@ pub enum Said {
     Retire(u8),
 }
 
-#[tactic(auto, using(crate::proofs::Parts::failing))]
+#[tactic(auto, using(crate::proofs::ReadingParts::failing))]
 fn modules_line(words: &mut Words) -> Result<Said, Fault>
     ensures gives { (version : ℕ) → GivesFront version kind.Modules result words.old words.new }
     ensures ranges { IfOk result IsInRange }
@@ -122,7 +122,7 @@ fn modules_line(words: &mut Words) -> Result<Said, Fault>
     Ok(Said::Modules(number_from(words, 1, MAX_MODULES)? as u16))
 }
 
-#[tactic(auto, using(crate::proofs::Parts::failing))]
+#[tactic(auto, using(crate::proofs::ReadingParts::failing))]
 fn event_line(alloc: Global, words: &mut Words) -> Result<Said, Fault>
     requires { length words.old < 2 ^ 31 }
     ensures gives { (version : ℕ) → GivesFront version kind.Event result words.old words.new }
@@ -140,7 +140,7 @@ fn event_line(alloc: Global, words: &mut Words) -> Result<Said, Fault>
     })
 }
 
-#[tactic(auto, using(crate::proofs::Parts::failing))]
+#[tactic(auto, using(crate::proofs::ReadingParts::failing))]
 fn endpoint_line(alloc: Global, words: &mut Words) -> Result<Said, Fault>
     ensures gives { (version : ℕ) → GivesFront version kind.Endpoint result words.old words.new }
     ensures ranges { IfOk result IsInRange }
@@ -150,7 +150,7 @@ fn endpoint_line(alloc: Global, words: &mut Words) -> Result<Said, Fault>
     Ok(Said::Endpoint { number, name })
 }
 
-#[tactic(auto, using(crate::proofs::Parts::failing))]
+#[tactic(auto, using(crate::proofs::ReadingParts::failing))]
 fn handler_line(alloc: Global, words: &mut Words) -> Result<Said, Fault>
     requires { length words.old < 2 ^ 31 }
     ensures gives { (version : ℕ) → GivesFront version kind.Handler result words.old words.new }
@@ -169,7 +169,7 @@ fn handler_line(alloc: Global, words: &mut Words) -> Result<Said, Fault>
     }
 }
 
-#[tactic(auto, using(crate::proofs::Parts::failing))]
+#[tactic(auto, using(crate::proofs::ReadingParts::failing))]
 fn guard_line(alloc: Global, words: &mut Words) -> Result<Said, Fault>
     requires { length words.old < 2 ^ 31 }
     ensures gives { (version : ℕ) → GivesFront version kind.Guard result words.old words.new }
@@ -188,7 +188,7 @@ fn guard_line(alloc: Global, words: &mut Words) -> Result<Said, Fault>
     }
 }
 
-#[tactic(auto, using(crate::proofs::Parts::failing))]
+#[tactic(auto, using(crate::proofs::ReadingParts::failing))]
 fn rule_line(alloc: Global, words: &mut Words, version: u8) -> Result<Said, Fault>
     ensures gives { GivesFront version kind.Rule result words.old words.new }
     ensures ranges { IfOk result IsInRange }
@@ -198,7 +198,7 @@ fn rule_line(alloc: Global, words: &mut Words, version: u8) -> Result<Said, Faul
     Ok(Said::Rule { event, rule })
 }
 
-#[tactic(auto, using(crate::proofs::Parts::failing))]
+#[tactic(auto, using(crate::proofs::ReadingParts::failing))]
 fn authoriser_line(alloc: Global, words: &mut Words) -> Result<Said, Fault>
     ensures gives { (version : ℕ) → GivesFront version kind.Authoriser result words.old words.new }
     ensures ranges { IfOk result IsInRange }
@@ -208,7 +208,7 @@ fn authoriser_line(alloc: Global, words: &mut Words) -> Result<Said, Fault>
     Ok(Said::Authoriser { event, name })
 }
 
-#[tactic(auto, using(crate::proofs::Parts::failing))]
+#[tactic(auto, using(crate::proofs::ReadingParts::failing))]
 fn default_line(words: &mut Words) -> Result<Said, Fault>
     ensures gives { (version : ℕ) → GivesFront version kind.Default result words.old words.new }
     ensures ranges { IfOk result IsInRange }
@@ -218,7 +218,7 @@ fn default_line(words: &mut Words) -> Result<Said, Fault>
     Ok(Said::Default { event, handler })
 }
 
-#[tactic(auto, using(crate::proofs::Parts::failing))]
+#[tactic(auto, using(crate::proofs::ReadingParts::failing))]
 fn lane_line(alloc: Global, words: &mut Words, version: u8) -> Result<Said, Fault>
     ensures gives { GivesFront version kind.Lane result words.old words.new }
     ensures ranges { IfOk result IsInRange }
@@ -228,7 +228,7 @@ fn lane_line(alloc: Global, words: &mut Words, version: u8) -> Result<Said, Faul
     Ok(Said::Lane { lane, work })
 }
 
-#[tactic(auto, using(crate::proofs::Parts::failing))]
+#[tactic(auto, using(crate::proofs::ReadingParts::failing))]
 fn retire_line(words: &mut Words) -> Result<Said, Fault>
     ensures gives { (version : ℕ) → GivesFront version kind.Retire result words.old words.new }
     ensures ranges { IfOk result IsInRange }
@@ -236,7 +236,7 @@ fn retire_line(words: &mut Words) -> Result<Said, Fault>
     Ok(Said::Retire(number_from(words, 0, LAST_ENDPOINT)? as u8))
 }
 
-/// Reads a line of this kind up to what it has to say.
+// Reads a line of this kind up to what it has to say.
 fn read_front(alloc: Global, words: &mut Words, version: u8, kind: Kind) -> Result<Said, Fault>
     requires { length words.old < 2 ^ 31 }
     ensures gives { GivesFront version kind result words.old words.new }
@@ -257,7 +257,7 @@ fn read_front(alloc: Global, words: &mut Words, version: u8, kind: Kind) -> Resu
     }
 }
 
-/// The end of a line.
+// The end of a line.
 #[tactic(auto, unfolding(crate::specs::Grammar::reads))]
 fn finish(words: &mut Words) -> Result<(), Cause>
     ensures { MatchResult result (λ _. reads [] words.old ≡ Ok [])

@@ -37,7 +37,7 @@ fn is_name(word: &[u8]) -> bool
     !word.is_empty() && word.len() <= MAX_NAME && has_name_bytes(word)
 }
 
-/// Reads a name: 1 to [`MAX_NAME`] letters, digits, underscores and dots.
+// Reads a name: 1 to [`MAX_NAME`] letters, digits, underscores and dots.
 #[tactic(auto, unfolding(crate::specs::Grammar::reads, crate::specs::Grammar::accepts))]
 pub(crate) fn read_name(alloc: Global, words: &mut Words) -> Result<Text, Fault>
     ensures gives { Gives (λ name. Called name ∷ []) (grammar.Name ∷ [])
@@ -51,8 +51,8 @@ pub(crate) fn read_name(alloc: Global, words: &mut Words) -> Result<Text, Fault>
     Ok(Text::from_bytes(alloc, word)?)
 }
 
-/// The parameter that a letter stands for. The case is a mark of a var parameter only where
-/// `marks` is set.
+// The parameter that a letter stands for. The case is a mark of a var parameter only where
+// `marks` is set.
 fn param(letter: u8, marks: bool) -> Option<Param>
     ensures { result ≡ if is_letter letter then Some (param_of marks letter) else None }
 {
@@ -77,8 +77,8 @@ fn param(letter: u8, marks: bool) -> Option<Param>
     }
 }
 
-/// The parameters that a word stands for: a dash is none, and else there are up to [`MAX_PARAMS`]
-/// letters.
+// The parameters that a word stands for: a dash is none, and else there are up to [`MAX_PARAMS`]
+// letters.
 fn params(alloc: Global, word: &[u8], marks: bool) -> Result<Option<Params>, NoMemory>
     ensures { IfOk result (λ params. params ≡ params_of marks word.now) }
 {
@@ -107,7 +107,7 @@ fn typed(params: Option<Params>, gives: bool) -> Option<EventType>
     }
 }
 
-/// The signature that a word stands for, if it is one.
+// The signature that a word stands for, if it is one.
 #[tactic(auto, unfolding(crate::specs::Spelling::signature))]
 pub(crate) fn signature(alloc: Global, word: &[u8]) -> Result<Option<EventType>, NoMemory>
     ensures { IfOk result (λ sig. sig ≡ signature word.now) }
@@ -121,8 +121,8 @@ pub(crate) fn signature(alloc: Global, word: &[u8]) -> Result<Option<EventType>,
     Ok(typed(params(alloc, word, true)?, false))
 }
 
-/// The signature of a guard that a word stands for, if it is one. It gives no result, and the case
-/// doesn't matter.
+// The signature of a guard that a word stands for, if it is one. It gives no result, and the case
+// doesn't matter.
 #[tactic(auto, unfolding(crate::specs::Spelling::guard_signature))]
 pub(crate) fn guard_signature(alloc: Global, word: &[u8]) -> Result<Option<EventType>, NoMemory>
     ensures { IfOk result (λ sig. sig ≡ guard_signature word.now) }
@@ -136,7 +136,7 @@ pub(crate) fn guard_signature(alloc: Global, word: &[u8]) -> Result<Option<Event
     Ok(typed(params(alloc, word, false)?, false))
 }
 
-/// Reads a signature.
+// Reads a signature.
 #[tactic(auto, unfolding(crate::specs::Grammar::reads, crate::specs::Grammar::accepts))]
 pub(crate) fn read_signature(alloc: Global, words: &mut Words) -> Result<EventType, Fault>
     ensures gives { Gives (λ sig. Typed sig ∷ []) (grammar.Signature ∷ []) result words.old
@@ -150,7 +150,7 @@ pub(crate) fn read_signature(alloc: Global, words: &mut Words) -> Result<EventTy
     }
 }
 
-/// Reads the first word of a handler's body: its signature, or `None` for the word `native`.
+// Reads the first word of a handler's body: its signature, or `None` for the word `native`.
 #[tactic(auto, unfolding(crate::specs::Grammar::reads, crate::specs::Grammar::accepts))]
 pub(crate) fn handler_body(alloc: Global, words: &mut Words) -> Result<Option<EventType>, Fault>
     ensures opens { Opens handler_body_next grammar.HandlerBody result words.old words.new }
@@ -166,7 +166,7 @@ pub(crate) fn handler_body(alloc: Global, words: &mut Words) -> Result<Option<Ev
     }
 }
 
-/// Reads the first word of a guard's body: its signature, or `None` for the word `native`.
+// Reads the first word of a guard's body: its signature, or `None` for the word `native`.
 #[tactic(auto, unfolding(crate::specs::Grammar::reads, crate::specs::Grammar::accepts))]
 pub(crate) fn guard_body(alloc: Global, words: &mut Words) -> Result<Option<EventType>, Fault>
     ensures opens { Opens guard_body_next grammar.GuardBody result words.old words.new }
@@ -182,7 +182,7 @@ pub(crate) fn guard_body(alloc: Global, words: &mut Words) -> Result<Option<Even
     }
 }
 
-/// The bytes that pairs of hexadecimal digits stand for, if they are that.
+// The bytes that pairs of hexadecimal digits stand for, if they are that.
 pub(crate) fn hex_bytes(alloc: Global, digits: &[u8]) -> Result<Option<Octets>, NoMemory>
     ensures { IfOk result (λ bytes. bytes ≡ hex_bytes digits.now) }
 {

@@ -4,7 +4,7 @@ ghost use Rattle.std.specs.Prelude.{◌≡◌, ◌<◌, ◌≤◌, length, cond,
 ghost use Rattle.std.specs.Char.{digit_value};
 ghost use Rattle.spin_grammar.specs.Spelling.{number, numeral, within, greatest};
 
-/// The value of a digit of a base of at most 36, and 36 at every other byte.
+// The value of a digit of a base of at most 36, and 36 at every other byte.
 pub(crate) fn digit(byte: u8) -> u64
     ensures { result ≡ digit_value byte }
 {
@@ -16,7 +16,7 @@ pub(crate) fn digit(byte: u8) -> u64
     })
 }
 
-/// The number that digits stand for, where there is one and it is below 2^64.
+// The number that digits stand for, where there is one and it is below 2^64.
 fn numeral(radix: u64, digits: &[u8]) -> Option<u64>
     requires { 1 ≤ radix }
     ensures { result ≡ within 0 greatest (numeral radix digits.now) }

@@ -18,7 +18,7 @@ use spin_policy::{Effect, Rule};
 use spin_values::Numbers;
 use std::alloc::Global;
 
-/// Reads the numbers of guards behind their count, which is from low to [`MAX_IMPOSED`].
+// Reads the numbers of guards behind their count, which is from low to [`MAX_IMPOSED`].
 fn read_guards(alloc: Global, words: &mut Words, low: u64) -> Result<Numbers, Fault>
     ensures gives { Gives counted_form (Counted low MAX_IMPOSED (Number 1 LAST_GUARD) ∷ []) result
         words.old words.new }
@@ -32,8 +32,8 @@ fn read_guards(alloc: Global, words: &mut Words, low: u64) -> Result<Numbers, Fa
     Ok(guards)
 }
 
-/// Reads what a rule decides, in a script of this version.
-#[tactic(auto, using(crate::proofs::Parts::failing))]
+// Reads what a rule decides, in a script of this version.
+#[tactic(auto, using(crate::proofs::ReadingParts::failing))]
 fn read_effect(alloc: Global, words: &mut Words, version: u8) -> Result<Effect, Fault>
     ensures gives { Gives effect_form (grammar.Effect version ∷ []) result words.old words.new }
     ensures few { IfOk result (λ effect. has_wrong_guards effect ≡ false) }
@@ -56,8 +56,8 @@ fn read_effect(alloc: Global, words: &mut Words, version: u8) -> Result<Effect, 
     }
 }
 
-/// Reads a rule, in a script of this version.
-#[tactic(auto, using(crate::proofs::Parts::failing))]
+// Reads a rule, in a script of this version.
+#[tactic(auto, using(crate::proofs::ReadingParts::failing))]
 pub(crate) fn read_rule(alloc: Global, words: &mut Words, version: u8) -> Result<Rule, Fault>
     ensures gives { Gives rule_form (Number 0 LAST_MODULE ∷ Number 0 LAST_MODULE ∷ grammar.Op
         ∷ grammar.HandlerOrAny ∷ grammar.Own ∷ grammar.Effect version ∷ []) result words.old

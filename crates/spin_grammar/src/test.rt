@@ -20,8 +20,8 @@ use crate::words::Words;
 use spin_code::{Cmp, Expr, Test};
 use std::alloc::Global;
 
-/// Reads what follows the word `has`: an argument and a length.
-#[tactic(auto, using(crate::proofs::Parts::failing))]
+// Reads what follows the word `has`: an argument and a length.
+#[tactic(auto, using(crate::proofs::ReadingParts::failing))]
 fn has(words: &mut Words) -> Result<(u8, u16), Fault>
     ensures gives { Gives (λ h. Numeral h.0 ∷ Numeral h.1 ∷ [])
         (Number 0 LAST_ARGUMENT ∷ Number 0 MAX_OFFSET ∷ []) result words.old words.new }
@@ -32,10 +32,10 @@ fn has(words: &mut Words) -> Result<(u8, u16), Fault>
     Ok((arg, length))
 }
 
-/// Reads the first word of a test, and what belongs to it alone, where so many tests are wanted.
-/// Answers how many
-/// are wanted then.
-#[tactic(auto, using(crate::proofs::Parts::failing))]
+// Reads the first word of a test, and what belongs to it alone, where so many tests are wanted.
+// Answers how many
+// are wanted then.
+#[tactic(auto, using(crate::proofs::ReadingParts::failing))]
 fn skip_test_head(words: &mut Words, wanted: u64) -> Result<u64, Fault>
     requires some { 0 < wanted }
     requires room { wanted + length words.old < 2 ^ 32 }
@@ -60,8 +60,8 @@ fn skip_test_head(words: &mut Words, wanted: u64) -> Result<u64, Fault>
     }
 }
 
-/// Reads a test of any depth, and keeps nothing of it. It takes no stack: it counts what is still
-/// wanted.
+// Reads a test of any depth, and keeps nothing of it. It takes no stack: it counts what is still
+// wanted.
 fn skip_test(words: &mut Words) -> Result<(), Fault>
     requires { length words.old < 2 ^ 31 }
     ensures gives { GivesSome IsThere test_form (grammar.Test ∷ []) result words.old words.new }
@@ -74,7 +74,7 @@ fn skip_test(words: &mut Words) -> Result<(), Fault>
     Ok(())
 }
 
-/// The comparison of the two, where both are there.
+// The comparison of the two, where both are there.
 fn compare(cmp: Cmp, left: Option<Expr>, right: Option<Expr>) -> Option<Test>
     ensures { Joins expr_form expr_depth test_form test_depth (cmp_word cmp) left right result }
 {
@@ -84,7 +84,7 @@ fn compare(cmp: Cmp, left: Option<Expr>, right: Option<Expr>) -> Option<Test>
     Some(Test::Compare(cmp, left, right))
 }
 
-/// The two joined, where both are there.
+// The two joined, where both are there.
 fn pair(
     alloc: Global,
     joint: Joint,
@@ -105,7 +105,7 @@ fn pair(
     }))
 }
 
-/// The test turned round, where it is there.
+// The test turned round, where it is there.
 fn negate(alloc: Global, test: Option<Test>) -> Result<Option<Test>, Fault>
     ensures { MatchResult result (λ o. Negates test o) (λ f. f ≡ NoMemory) }
 {
@@ -115,10 +115,10 @@ fn negate(alloc: Global, test: Option<Test>) -> Result<Option<Test>, Fault>
     }
 }
 
-/// Reads a test, and keeps it where it has at most so many levels, those of its expressions among
-/// them. It goes no
-/// deeper into the stack than that, however deep the test is.
-#[tactic(auto, using(crate::proofs::Parts::failing))]
+// Reads a test, and keeps it where it has at most so many levels, those of its expressions among
+// them. It goes no
+// deeper into the stack than that, however deep the test is.
+#[tactic(auto, using(crate::proofs::ReadingParts::failing))]
 pub(crate) fn read_test(alloc: Global, words: &mut Words, limit: u8) -> Result<Option<Test>, Fault>
     requires { length words.old < 2 ^ 31 }
     ensures gives { GivesSome (IsWithin test_depth limit) test_form (grammar.Test ∷ []) result

@@ -16,8 +16,8 @@ fn is_blank(byte: u8) -> bool
     byte == b' ' || byte == b'\t'
 }
 
-/// The line from its first word on.
-#[tactic(auto, using(crate::proofs::Blanks::words_blank))]
+// The line from its first word on.
+#[tactic(auto, using(crate::proofs::WordLemmas::words_blank))]
 fn without_blanks(line: &[u8]) -> &[u8]
     ensures same { words result.now ≡ words line.now }
     ensures front { 0 < length result.now → is_blank (slice_index result.now 0) ≡ false }
@@ -32,7 +32,7 @@ fn without_blanks(line: &[u8]) -> &[u8]
     rest
 }
 
-/// How many bytes stand before the first blank.
+// How many bytes stand before the first blank.
 fn word_len(line: &[u8]) -> usize
     ensures within { result ≤ length line.now }
     ensures before { (k : ℕ) → k < result → is_blank (slice_index line.now k) ≡ false }
@@ -84,7 +84,7 @@ impl<'a> Words<'a> {
     }
 }
 
-/// The next word, where the line hasn't ended.
+// The next word, where the line hasn't ended.
 pub(crate) fn next_word<'a>(words: &mut Words<'a>) -> Result<&'a [u8], Fault>
     ensures { MatchResult result (λ w. words.old ≡ w.now ∷ words.new)
         (λ f. (f ≡ Bad End) × (words.old ≡ []) × (words.new ≡ [])) }

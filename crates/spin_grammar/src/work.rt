@@ -28,7 +28,7 @@ use spin_values::{Args, MAX_PARAMS, Value};
 use spin_word::{Command, Deed, NO_BINDING, NO_BINDINGS, Op, Place, Work};
 use std::alloc::Global;
 
-/// The greatest number of a binding that a command of this version may have as its target.
+// The greatest number of a binding that a command of this version may have as its target.
 fn last_target(version: u8) -> u64
     ensures last { result ≡ last_target version }
     ensures few { result ≤ LAST_PLACE }
@@ -40,7 +40,7 @@ fn last_target(version: u8) -> u64
     }
 }
 
-/// Reads up to four rising numbers of bindings behind their count.
+// Reads up to four rising numbers of bindings behind their count.
 fn read_bindings(words: &mut Words) -> Result<[u16; 4], Fault>
     ensures gives { GivesSome (λ numbers ns. numbers ≡ padded ns) counted_form (Bindings ∷ [])
         result words.old words.new }
@@ -65,8 +65,8 @@ pub struct Around {
     after: [u16; 4],
 }
 
-/// Reads a place that may be before or after one other binding.
-#[tactic(auto, using(crate::proofs::Parts::failing))]
+// Reads a place that may be before or after one other binding.
+#[tactic(auto, using(crate::proofs::ReadingParts::failing))]
 fn read_spot(words: &mut Words) -> Result<Around, Fault>
     ensures gives { GivesSome IsSpot spot_form (grammar.Spot ∷ []) result words.old words.new }
     ensures valid { IfOk result IsValidSpot }
@@ -96,8 +96,8 @@ fn read_spot(words: &mut Words) -> Result<Around, Fault>
     }
 }
 
-/// Reads a place, and the bindings before which and after which it is.
-#[tactic(auto, using(crate::proofs::Parts::failing))]
+// Reads a place, and the bindings before which and after which it is.
+#[tactic(auto, using(crate::proofs::ReadingParts::failing))]
 fn read_wide_spot(words: &mut Words) -> Result<Around, Fault>
     ensures gives { GivesSome IsSpot spot_form (grammar.Place ∷ grammar.Exactly (codes "before")
         ∷ Bindings ∷ grammar.Exactly (codes "after") ∷ Bindings ∷ []) result words.old words.new }
@@ -115,7 +115,7 @@ fn read_wide_spot(words: &mut Words) -> Result<Around, Fault>
     })
 }
 
-/// Reads where a binding goes, in a script of this version.
+// Reads where a binding goes, in a script of this version.
 fn read_around(words: &mut Words, version: u8) -> Result<Around, Fault>
     ensures gives { GivesSome IsSpot spot_form (spot_wants version) result words.old words.new }
     ensures valid { IfOk result IsValidSpot }
@@ -127,8 +127,8 @@ fn read_around(words: &mut Words, version: u8) -> Result<Around, Fault>
     }
 }
 
-/// Reads what follows the word `install`.
-#[tactic(auto, using(crate::proofs::Parts::failing))]
+// Reads what follows the word `install`.
+#[tactic(auto, using(crate::proofs::ReadingParts::failing))]
 fn read_install(words: &mut Words, version: u8, lane: u8) -> Result<Work, Fault>
     ensures gives { GivesBehind (Asks lane) task_form (deed_next version deed.Install) result
         words.old words.new }
@@ -151,8 +151,8 @@ fn read_install(words: &mut Words, version: u8, lane: u8) -> Result<Work, Fault>
     }))
 }
 
-/// Reads what follows the word `remove`.
-#[tactic(auto, using(crate::proofs::Parts::failing))]
+// Reads what follows the word `remove`.
+#[tactic(auto, using(crate::proofs::ReadingParts::failing))]
 fn read_remove(words: &mut Words, version: u8, lane: u8) -> Result<Work, Fault>
     ensures gives { GivesBehind (Asks lane) task_form (deed_next version deed.Remove) result
         words.old words.new }
@@ -165,8 +165,8 @@ fn read_remove(words: &mut Words, version: u8, lane: u8) -> Result<Work, Fault>
     Ok(Work::Command(command))
 }
 
-/// Reads what follows the word `replace`.
-#[tactic(auto, using(crate::proofs::Parts::failing))]
+// Reads what follows the word `replace`.
+#[tactic(auto, using(crate::proofs::ReadingParts::failing))]
 fn read_replace(words: &mut Words, version: u8, lane: u8) -> Result<Work, Fault>
     ensures gives { GivesBehind (Asks lane) task_form (deed_next version deed.Replace) result
         words.old words.new }
@@ -181,8 +181,8 @@ fn read_replace(words: &mut Words, version: u8, lane: u8) -> Result<Work, Fault>
     Ok(Work::Command(command))
 }
 
-/// Reads what follows the word `default`.
-#[tactic(auto, using(crate::proofs::Parts::failing))]
+// Reads what follows the word `default`.
+#[tactic(auto, using(crate::proofs::ReadingParts::failing))]
 fn read_default(words: &mut Words, version: u8, lane: u8) -> Result<Work, Fault>
     ensures gives { GivesBehind (Asks lane) task_form (deed_next version deed.Default) result
         words.old words.new }
@@ -195,8 +195,8 @@ fn read_default(words: &mut Words, version: u8, lane: u8) -> Result<Work, Fault>
     Ok(Work::Command(command))
 }
 
-/// Reads what follows the word `nodefault`.
-#[tactic(auto, using(crate::proofs::Parts::failing))]
+// Reads what follows the word `nodefault`.
+#[tactic(auto, using(crate::proofs::ReadingParts::failing))]
 fn read_nodefault(words: &mut Words, version: u8, lane: u8) -> Result<Work, Fault>
     ensures gives { GivesBehind (Asks lane) task_form (deed_next version deed.NoDefault) result
         words.old words.new }
@@ -207,7 +207,7 @@ fn read_nodefault(words: &mut Words, version: u8, lane: u8) -> Result<Work, Faul
     Ok(Work::Command(Command::bare(Op::NoDefault, lane, event, requester)))
 }
 
-/// The value that a word says: bytes where it begins with `x`, else a number.
+// The value that a word says: bytes where it begins with `x`, else a number.
 #[tactic(auto, unfolding(crate::specs::Grammar::accepts))]
 fn value(alloc: Global, word: &[u8]) -> Result<Value, Fault>
     ensures { GivesValue word.now result }
@@ -224,7 +224,7 @@ fn value(alloc: Global, word: &[u8]) -> Result<Value, Fault>
     }
 }
 
-/// Reads up to eight values, and the line's end.
+// Reads up to eight values, and the line's end.
 fn read_values(alloc: Global, words: &mut Words) -> Result<Args, Fault>
     ensures { Gives (λ vs. map value_atom vs) (Values MAX_PARAMS ∷ []) result words.old words.new }
 {
@@ -242,8 +242,8 @@ fn read_values(alloc: Global, words: &mut Words) -> Result<Args, Fault>
     }
 }
 
-/// Reads what follows the word `raise` or `later`.
-#[tactic(auto, using(crate::proofs::Parts::failing))]
+// Reads what follows the word `raise` or `later`.
+#[tactic(auto, using(crate::proofs::ReadingParts::failing))]
 fn read_raise(alloc: Global, words: &mut Words) -> Result<(u8, Args), Fault>
     ensures { Gives (λ r. Numeral r.0 ∷ map value_atom r.1)
         (Number 0 LAST_EVENT ∷ Values MAX_PARAMS ∷ []) result words.old words.new }
@@ -253,8 +253,8 @@ fn read_raise(alloc: Global, words: &mut Words) -> Result<(u8, Args), Fault>
     Ok((event, args))
 }
 
-/// Reads what follows the word `packet`.
-#[tactic(auto, using(crate::proofs::Parts::failing))]
+// Reads what follows the word `packet`.
+#[tactic(auto, using(crate::proofs::ReadingParts::failing))]
 fn read_packet(words: &mut Words) -> Result<(u8, u32), Fault>
     ensures { Gives (λ p. Numeral p.0 ∷ Numeral p.1 ∷ [])
         (Number 0 LAST_EVENT ∷ Number 1 MAX_PACKETS ∷ []) result words.old words.new }
@@ -264,8 +264,8 @@ fn read_packet(words: &mut Words) -> Result<(u8, u32), Fault>
     Ok((event, count))
 }
 
-/// Reads the deed of a lane, in a script of this version.
-#[tactic(auto, using(crate::proofs::Parts::failing))]
+// Reads the deed of a lane, in a script of this version.
+#[tactic(auto, using(crate::proofs::ReadingParts::failing))]
 pub(crate) fn read_work(
     alloc: Global,
     words: &mut Words,

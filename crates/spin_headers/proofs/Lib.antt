@@ -1,2 +1,2 @@
-pub mod Sums
-pub mod Written
+pub mod SumLemmas
+pub mod WrittenHeaders

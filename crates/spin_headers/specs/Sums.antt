@@ -3,14 +3,14 @@ use Rattle.std.specs.Prelude.{ℕ, ◌+◌, ◌-◌, ◌*◌, ◌%◌, ◌==◌,
 
 -- the 16-bit words of the bytes, highest byte first; an odd last byte is padded with a zero byte on
 -- its right
-abbrev pub words : List ℕ → List ℕ
-words [] = []
-words (last ∷ []) = 256 * last ∷ []
-words (high ∷ (low ∷ rest)) = (256 * high + low) ∷ words rest
+abbrev pub sum_words : List ℕ → List ℕ
+sum_words [] = []
+sum_words (last ∷ []) = 256 * last ∷ []
+sum_words (high ∷ (low ∷ rest)) = (256 * high + low) ∷ sum_words rest
 
 -- their sum, with every carry kept
 abbrev pub word_total : List ℕ → ℕ
-word_total bytes = sum (words bytes)
+word_total bytes = sum (sum_words bytes)
 
 -- what one's complement addition makes of a sum: 0 for 0, and else the number from 1 to 65,535 that
 -- is congruent modulo 65,535

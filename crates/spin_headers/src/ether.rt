@@ -6,7 +6,7 @@ ghost use Rattle.spin_headers.specs.Headers.{ether_of};
 use crate::fault::HeaderFault;
 use byteorder::{BigEndian, ByteOrder};
 
-/// The number of bytes of the header.
+// The number of bytes of the header.
 const HEADER: usize = 14;
 
 /// The header of an Ethernet II frame (RFC 894).

@@ -8,16 +8,16 @@ use crate::fault::HeaderFault;
 use crate::sum::{WHOLE, add_words, checksum};
 use byteorder::{BigEndian, ByteOrder};
 
-/// The number of bytes of a header without options.
+// The number of bytes of a header without options.
 const HEADER: usize = 20;
 
-/// Version 4, and the number of 32-bit words of a header without options.
+// Version 4, and the number of 32-bit words of a header without options.
 const VERSION_AND_WORDS: u8 = 0x45;
 
-/// The bit that says that more fragments follow.
+// The bit that says that more fragments follow.
 const MORE_FRAGMENTS: u16 = 0x2000;
 
-/// The bit that forbids to break the packet up.
+// The bit that forbids to break the packet up.
 const DO_NOT_FRAGMENT: u16 = 0x4000;
 
 /// The header of an IPv4 packet (RFC 791).
@@ -51,7 +51,7 @@ pub struct Fragment {
 }
 
 impl Fragment {
-    /// Whether the packet is a part of a datagram: more parts follow, or it isn't the first.
+    // Whether the packet is a part of a datagram: more parts follow, or it isn't the first.
     fn is_part(&self) -> bool
         ensures { result ≡ is_part self.now }
     {
@@ -59,7 +59,7 @@ impl Fragment {
     }
 }
 
-/// The fields, where all fit.
+// The fields, where all fit.
 fn ipv4_fields(bytes: &[u8]) -> Ipv4
     requires { HEADER ≤ length bytes.now }
     ensures { result ≡ specs.ipv4_fields bytes.now }
@@ -75,7 +75,7 @@ fn ipv4_fields(bytes: &[u8]) -> Ipv4
     }
 }
 
-/// The fields and the place in the datagram, where all fit.
+// The fields and the place in the datagram, where all fit.
 fn fragment_fields(bytes: &[u8]) -> Fragment
     requires { HEADER ≤ length bytes.now }
     ensures { result ≡ specs.fragment_fields bytes.now }
@@ -148,7 +148,7 @@ pub fn read_ipv4(bytes: &[u8]) -> Result<Ipv4, HeaderFault>
     Ok(fragment.header)
 }
 
-/// A header of those fields with 0 in place of its checksum.
+// A header of those fields with 0 in place of its checksum.
 fn without_checksum(
     ident: u16,
     ttl: u8,

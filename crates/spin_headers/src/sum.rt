@@ -5,10 +5,10 @@ ghost use Rattle.spin_headers.specs.Sums.{folded, word_total, checksum_of};
 
 use byteorder::{BigEndian, ByteOrder};
 
-/// The greatest sum, which is that of valid words.
+// The greatest sum, which is that of valid words.
 pub(crate) const WHOLE: u16 = 0xFFFF;
 
-/// The sum and one more word, with the carry added at the low end.
+// The sum and one more word, with the carry added at the low end.
 pub(crate) fn add_word(sum: u16, word: u16) -> u16
     ensures { result ≡ folded (sum + word) }
 {
@@ -16,7 +16,7 @@ pub(crate) fn add_word(sum: u16, word: u16) -> u16
     (total % 0x1_0000 + total / 0x1_0000) as u16
 }
 
-/// The sum and the words of the bytes, an odd last byte as the high byte of a word. It takes one pass.
+// The sum and the words of the bytes, an odd last byte as the high byte of a word. It takes one pass.
 pub(crate) fn add_words(sum: u16, bytes: &[u8]) -> u16
     ensures { result ≡ folded (sum + word_total bytes.now) }
 {

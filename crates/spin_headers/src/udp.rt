@@ -9,10 +9,10 @@ use crate::fault::HeaderFault;
 use crate::sum::{WHOLE, add_words};
 use byteorder::{BigEndian, ByteOrder};
 
-/// The number of bytes of the header.
+// The number of bytes of the header.
 const HEADER: usize = 8;
 
-/// The protocol number of UDP.
+// The protocol number of UDP.
 const UDP: u8 = 17;
 
 /// The header of a UDP datagram (RFC 768).
@@ -26,7 +26,7 @@ pub struct Udp {
     pub length: u16,
 }
 
-/// What the checksum covers besides the datagram: both addresses, the protocol and the length.
+// What the checksum covers besides the datagram: both addresses, the protocol and the length.
 fn pseudo_header(source: u32, destination: u32, length: u16) -> [u8; 12]
     ensures { result ≡ specs.pseudo_header source destination length }
 {
@@ -38,7 +38,7 @@ fn pseudo_header(source: u32, destination: u32, length: u16) -> [u8; 12]
     header
 }
 
-/// The sum over the pseudo-header and the datagram. It takes one pass.
+// The sum over the pseudo-header and the datagram. It takes one pass.
 fn sum_with_addresses(source: u32, destination: u32, length: u16, datagram: &[u8]) -> u16
     ensures { result ≡ word_sum (specs.pseudo_header source destination length ++ datagram.now) }
 {
@@ -81,7 +81,7 @@ pub fn read_udp(bytes: &[u8], source: u32, destination: u32) -> Result<Udp, Head
     Ok(header)
 }
 
-/// Writes header and payload into `out` with 0 in place of the checksum.
+// Writes header and payload into `out` with 0 in place of the checksum.
 fn write_without_checksum(source_port: u16, destination_port: u16, payload: &[u8], out: &mut [u8])
     requires room { length out.old ≡ 8 + length payload.now }
     requires payload { length payload.now ≤ 65507 }

@@ -32,7 +32,7 @@ impl TableRule<(), Claim, u64> for ClaimRule {
     ghost first = { λ _. caller };
 }
 
-/// The number that was found is the seat's.
+// The number that was found is the seat's.
 pub(crate) struct Takes;
 
 impl Play<(), Claim> for Takes {
@@ -41,7 +41,7 @@ impl Play<(), Claim> for Takes {
     ghost then = { λ _ v n w. Took v.0 n w.0 × (w.1 ≡ v.1) };
 }
 
-/// A worker's seat is split off the caller's.
+// A worker's seat is split off the caller's.
 pub(crate) struct Hires;
 
 impl Split<Claim> for Hires {
@@ -52,7 +52,7 @@ impl Split<Claim> for Hires {
     ghost right = { λ _. worker };
 }
 
-/// A worker's numbers go over to the caller.
+// A worker's numbers go over to the caller.
 pub(crate) struct Absorbs;
 
 impl Join<Claim> for Absorbs {

@@ -19,8 +19,8 @@ use std::thread::Threads;
 /// Replies in the order of their jobs.
 pub type Replies = Sequence<Reply>;
 
-/// Does the jobs of the numbers below the count, by so many workers side by side. The k-th reply is one that the call
-/// with k gave, whatever the schedule.
+// Does the jobs of the numbers below the count, by so many workers side by side. The k-th reply is one that the call
+// with k gave, whatever the schedule.
 pub(crate) fn run_numbered<R, F, G>(
     rt: &R,
     alloc: Global,

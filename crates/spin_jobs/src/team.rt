@@ -17,7 +17,7 @@ use std::alloc::Global;
 use std::thread;
 use std::thread::Threads;
 
-/// Splits a seat off the caller's for each worker.
+// Splits a seat off the caller's for each worker.
 pub(crate) fn hire(
     alloc: Global,
     word: &Word,
@@ -43,7 +43,7 @@ pub(crate) fn hire(
     Ok(team)
 }
 
-/// Runs the team side by side. The numbers of its workers at the gate follow on those of lanes.
+// Runs the team side by side. The numbers of its workers at the gate follow on those of lanes.
 pub(crate) fn run_team<R, F, G>(
     rt: &R,
     word: &Word,
@@ -77,7 +77,7 @@ where
     );
 }
 
-/// Joins the team, and gives what it did.
+// Joins the team, and gives what it did.
 pub(crate) fn gather<F: Fn(usize) -> Result<Reply, NoMemory>>(
     alloc: Global,
     word: &Word,

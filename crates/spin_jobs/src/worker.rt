@@ -12,17 +12,17 @@ use spin_outside::Gate;
 use spin_proto::Reply;
 use spin_values::NoMemory;
 
-/// The claim word, as workers see it.
+// The claim word, as workers see it.
 pub(crate) type Word = Shared<(), Claim, u64, ClaimRule>;
 
-/// The reply to a job, and the job's number.
+// The reply to a job, and the job's number.
 #[derive(Drop)]
 pub(crate) struct Done {
     pub(crate) number: u64,
     pub(crate) reply: Reply,
 }
 
-/// A worker's seat at the claim word, what it has done, and whether there was memory for it.
+// A worker's seat at the claim word, what it has done, and whether there was memory for it.
 #[derive(Drop)]
 pub(crate) struct Worker {
     pub(crate) seat: Seat<(), Claim>,
@@ -31,7 +31,7 @@ pub(crate) struct Worker {
 }
 
 impl Worker {
-    /// Does jobs until none is left or memory ran out, and passes the gate before each.
+    // Does jobs until none is left or memory ran out, and passes the gate before each.
     pub(crate) fn run<F: Fn(usize) -> Result<Reply, NoMemory>, G: Gate>(
         &mut self,
         word: &Word,

@@ -1,8 +1,8 @@
-pub mod Filters
-pub mod Keeping
-pub mod Passes
-pub mod Making
-pub mod Crossing
-pub mod Zipping
-pub mod Team
-pub mod Once
+pub mod TaskFilters
+pub mod QueueSteps
+pub mod PassSteps
+pub mod NewPasses
+pub mod ThreadCrossing
+pub mod ZippedLists
+pub mod WorkerLemmas
+pub mod TaskUniqueness

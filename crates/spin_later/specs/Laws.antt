@@ -1,5 +1,6 @@
 -- What the history of a queue says of each task.
-use Rattle.std.specs.Prelude.{◌≡◌, ℕ, ◌+◌, ◌<◌, ◌==◌, ◌&&◌, Bool, List, length, All, Contains, count_by, slice_get, Some}
+use Rattle.std.specs.Prelude.{◌≡◌, ℕ, ◌+◌, ◌<◌, ◌==◌, ◌&&◌, Bool, List, length}
+use Rattle.std.specs.Prelude.{All, Contains, count_by, slice_get, Some}
 use Rattle.std.specs.List.{sum_by}
 use Rattle.spin_later.specs.declared.task.Task.{Task}
 use Rattle.spin_later.specs.declared.known.Hand.{Hand}

@@ -13,7 +13,7 @@ use spin_table::Setup;
 use spin_values::NoMemory;
 use std::alloc::Global;
 
-/// The reply to the task of this sender and number.
+// The reply to the task of this sender and number.
 #[derive(Drop)]
 pub(crate) struct Done {
     pub(crate) sender: u8,
@@ -21,7 +21,7 @@ pub(crate) struct Done {
     pub(crate) reply: Reply,
 }
 
-/// The reply to a call.
+// The reply to a call.
 pub(crate) fn do_call(alloc: Global, setup: &Setup, call: &Call) -> Result<Reply, NoMemory>
     requires sincere { ⟦<Catalogue as Sincere>⟧.sincere setup.now.catalogue }
     requires can { CanDo (data_of setup.now) call.now }
@@ -30,8 +30,8 @@ pub(crate) fn do_call(alloc: Global, setup: &Setup, call: &Call) -> Result<Reply
     job_path(alloc, &call.version, setup, &call.call)
 }
 
-/// Does the call that stands in the batches under this sender and number. A sender or number that they lack is passed
-/// over.
+// Does the call that stands in the batches under this sender and number. A sender or number that they lack is passed
+// over.
 pub(crate) fn do_task(
     alloc: Global,
     setup: &Setup,

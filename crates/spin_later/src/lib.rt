@@ -22,8 +22,8 @@
 //! | [`run_background`] | each reply is what its call comes to on its version, in the order of the batches and their calls |
 //! | never | what the queue holds at present, when a step is made, that a call returns |
 //!
-//! `put`, `take`, `close` and `run_background` take [`Wait`](std::sync::Wait): each may spin while another thread is in the middle of a
-//! step. That they return isn't promised.
+//! `put`, `take`, `close` and `run_background` take [`Wait`](std::sync::Wait): each may spin while another thread is in
+//! the middle of a step. That they return isn't promised.
 #![tactic(auto)]
 
 mod background;

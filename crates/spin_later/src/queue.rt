@@ -23,7 +23,7 @@ pub const MAX_PARTIES: u8 = 8;
 /// The greatest capacity.
 pub const MAX_CAPACITY: u32 = 65_536;
 
-/// A queue of tasks under its rule.
+// A queue of tasks under its rule.
 pub(crate) type Ring = RuledArrayQueue<Task, Known, HistoryRule>;
 
 /// A bounded queue of tasks that parties share by reference. Contracts see which queue it is, its number of parties

@@ -18,7 +18,7 @@ impl Protocol<Task, Known> for HistoryRule {
     ghost first = { first };
 }
 
-/// A put. Where the queue was full, some history has what the party did.
+// A put. Where the queue was full, some history has what the party did.
 pub(crate) struct Puts;
 
 impl Outcome<Task, Known> for Puts {
@@ -34,7 +34,7 @@ impl Lesson<Task, Known> for Puts {
     ghost fact = { Learned };
 }
 
-/// A take. Where the queue was empty, some history has what the party did.
+// A take. Where the queue was empty, some history has what the party did.
 pub(crate) struct Takes;
 
 impl Outcome<Task, Known> for Takes {
@@ -50,7 +50,7 @@ impl Lesson<Task, Known> for Takes {
     ghost fact = { Learned };
 }
 
-/// A take when all parties have ended.
+// A take when all parties have ended.
 pub(crate) struct Clears;
 
 impl Outcome<Task, Known> for Clears {
@@ -66,7 +66,7 @@ impl Lesson<Task, Known> for Clears {
     ghost fact = { Learned };
 }
 
-/// A party more, before any party is split off.
+// A party more, before any party is split off.
 pub(crate) struct Grows;
 
 impl Split<Known> for Grows {
@@ -77,7 +77,7 @@ impl Split<Known> for Grows {
     ghost right = { λ _. spent };
 }
 
-/// The first party of a pass gets a pass of its own.
+// The first party of a pass gets a pass of its own.
 pub(crate) struct Parts;
 
 impl Split<Known> for Parts {
@@ -88,7 +88,7 @@ impl Split<Known> for Parts {
     ghost right = { first_alone };
 }
 
-/// The parties of another pass are joined to those of a pass.
+// The parties of another pass are joined to those of a pass.
 pub(crate) struct Gathers;
 
 impl Join<Known> for Gathers {

@@ -17,7 +17,7 @@ use spin_values::NoMemory;
 use std::alloc::Global;
 use std::sync::{Arc, Wait};
 
-/// A party, what it has done, and whether there was memory for it.
+// A party, what it has done, and whether there was memory for it.
 #[derive(Drop)]
 pub(crate) struct Worker {
     pub(crate) party: Party,
@@ -26,8 +26,8 @@ pub(crate) struct Worker {
 }
 
 impl Worker {
-    /// Puts the batch of the party's number, and takes and does tasks until it finds the queue empty, or memory runs
-    /// out.
+    // Puts the batch of the party's number, and takes and does tasks until it finds the queue empty, or memory runs
+    // out.
     pub(crate) fn run<W: Wait + Sync>(
         &mut self,
         wait: &W,

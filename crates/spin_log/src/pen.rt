@@ -57,7 +57,7 @@ impl Pen {
     }
 }
 
-/// A part of the log that some pen knew. Contracts see its log and that part.
+// A part of the log that some pen knew. Contracts see its log and that part.
 #[derive(Drop)]
 pub(crate) struct Note {
     pub(crate) seat: Seat<(), View>,

@@ -2,14 +2,14 @@
 //!
 //! `spin run SCRIPT [PACKETS]` reads the script, and the capture if one is named, from the folder where it is called,
 //! and writes the report to standard output; `spin join SCRIPT PACKETS` does so over the joined capture.
-//! `spin gen NUMBER` runs a large script over a capture, both made from the number, and writes a summary in place of the
-//! report. `spin check SCRIPT REPORT [PACKETS]` writes whether a report is that of some run of the script. `spin vm SCRIPT
-//! TRACE` reads a trace in the capture's place and writes its output. What is sent to the endpoints `out0` to `out3` goes
-//! to the files `out0.bin` to `out3.bin` of that folder, and the replies to the echo requests that are sent to the endpoint
-//! `echo` to `echo.bin`.
+//! `spin gen NUMBER` runs a large script over a capture, both made from the number, and writes a summary in place of
+//! the report. `spin check SCRIPT REPORT [PACKETS]` writes whether a report is that of some run of the script.
+//! `spin vm SCRIPT TRACE` reads a trace in the capture's place and writes its output. What is sent to the endpoints
+//! `out0` to `out3` goes to the files `out0.bin` to `out3.bin` of that folder, and the replies to the echo requests
+//! that are sent to the endpoint `echo` to `echo.bin`.
 //!
-//! The one call, [`spin`](spin_top::spin), works over any shelf, sink, endpoints, natives and gate; [`natives`] are those
-//! that the program hands in.
+//! The one call, [`spin`](spin_top::spin), works over any shelf, sink, endpoints, natives and gate; [`natives`] are
+//! those that the program hands in.
 #![tactic(auto)]
 
 mod natives;
@@ -33,7 +33,7 @@ use std::rt::{Env, Files};
 use std::thread::Threads;
 use std::{env, io};
 
-/// The words after the program's name. Arguments that aren't text are no words of any command.
+// The words after the program's name. Arguments that aren't text are no words of any command.
 fn words_of<R: Env + AllocGlobal>(rt: &R) -> Result<Vec<Text>, NoMemory> {
     let mut words = Vec::new(rt.alloc());
     match env::args(rt) {
@@ -50,7 +50,7 @@ fn words_of<R: Env + AllocGlobal>(rt: &R) -> Result<Vec<Text>, NoMemory> {
     }
 }
 
-/// Does what the words say, with the natives of the program, and answers the status.
+// Does what the words say, with the natives of the program, and answers the status.
 fn run_with_natives<R: Threads + Sync, F: Shelf, K: Sink>(
     rt: &R,
     alloc: Global,
@@ -82,7 +82,7 @@ fn run_with_natives<R: Threads + Sync, F: Shelf, K: Sink>(
     spin(rt, alloc, words, shelf, out, natives, ends, &OpenGate)
 }
 
-/// Does what the words of the command line say, over the working folder, and answers the status.
+// Does what the words of the command line say, over the working folder, and answers the status.
 fn run<R: Env + Files + Threads + Sync + AllocGlobal, K: Sink>(
     rt: &R,
     out: &mut K,
@@ -95,12 +95,12 @@ fn run<R: Env + Files + Threads + Sync + AllocGlobal, K: Sink>(
     run_with_natives(rt, rt.alloc(), &words, &mut shelf, out, ends)
 }
 
-/// An endpoint over the file of that name.
+// An endpoint over the file of that name.
 fn over_file<R: Files + Clone + AllocGlobal>(rt: &R, file: &[u8]) -> Result<FileEnd<R>, NoMemory> {
     FileEnd::new(rt.alloc(), rt.clone()?, Text::from_bytes(rt.alloc(), file)?)
 }
 
-/// An endpoint of that name over that file.
+// An endpoint of that name over that file.
 fn file_end<R: Files + Clone + Drop + AllocGlobal>(
     rt: &R,
     name: &[u8],
@@ -113,7 +113,7 @@ fn file_end<R: Files + Clone + Drop + AllocGlobal>(
     ))
 }
 
-/// The endpoint `echo`, which writes its replies to a file.
+// The endpoint `echo`, which writes its replies to a file.
 fn echo_end<R: Files + Clone + Drop + AllocGlobal>(
     rt: &R,
 ) -> Result<(Text, Box<EchoEnd<FileEnd<R>>>), NoMemory> {

@@ -52,10 +52,10 @@ impl Authoriser for Follower {
     }
 }
 
-/// The type of an Ethernet frame that holds an IPv4 packet (RFC 894).
+// The type of an Ethernet frame that holds an IPv4 packet (RFC 894).
 const IPV4: u64 = 0x0800;
 
-/// The type of an Ethernet frame, which stands behind its two addresses.
+// The type of an Ethernet frame, which stands behind its two addresses.
 fn ether_type() -> Expr
     ensures { result ≡ specs.ether_type }
 {
@@ -66,7 +66,7 @@ fn ether_type() -> Expr
     }
 }
 
-/// The signature of one parameter of bytes, which no handler may change.
+// The signature of one parameter of bytes, which no handler may change.
 fn of_bytes(alloc: Global, gives: bool) -> Result<EventType, NoMemory>
     ensures { IfOk result (λ sig. sig ≡ specs.of_bytes gives) }
 {
@@ -78,7 +78,7 @@ fn of_bytes(alloc: Global, gives: bool) -> Result<EventType, NoMemory>
     Ok(EventType { params, gives })
 }
 
-/// What `first_word` does: it gives the first eight bytes of argument 0 as a number, 0 where there are fewer.
+// What `first_word` does: it gives the first eight bytes of argument 0 as a number, 0 where there are fewer.
 fn first_word(alloc: Global) -> Result<Act, NoMemory>
     ensures { IfOk result (λ act. act ≡ specs.first_word) }
 {
@@ -91,7 +91,7 @@ fn first_word(alloc: Global) -> Result<Act, NoMemory>
     Ok(Act { steps })
 }
 
-/// The object that is handed in as `first_word`.
+// The object that is handed in as `first_word`.
 fn first_word_object(alloc: Global) -> Result<Doer, NoMemory>
     ensures { IfOk result (λ doer. doer.act ≡ specs.first_word) }
 {
@@ -100,7 +100,7 @@ fn first_word_object(alloc: Global) -> Result<Doer, NoMemory>
     })
 }
 
-/// What `own_two` follows: each module may have two bindings, and change its own.
+// What `own_two` follows: each module may have two bindings, and change its own.
 fn own_two(alloc: Global) -> Result<Policy, NoMemory>
     ensures { IfOk result (λ policy. policy ≡ specs.own_two) }
 {
@@ -119,7 +119,7 @@ fn own_two(alloc: Global) -> Result<Policy, NoMemory>
     }
 }
 
-/// The object that is handed in as `own_two`.
+// The object that is handed in as `own_two`.
 fn own_two_object(alloc: Global) -> Result<Follower, NoMemory>
     ensures { IfOk result (λ follower. follower.policy ≡ specs.own_two) }
 {
@@ -139,7 +139,7 @@ pub fn boxed_objects(alloc: Global) -> Result<(Box<Doer>, Box<IsIpv4>, Box<Follo
     Ok((handler, guard, authoriser))
 }
 
-/// The answer to a native that nothing but want of memory refuses.
+// The answer to a native that nothing but want of memory refuses.
 fn unrefused(added: Result<(), NativeFault>) -> Result<(), NoMemory>
     requires { IsNativeBy None added }
     ensures { OnOk result (added ≡ Ok tt) }
@@ -153,7 +153,7 @@ fn unrefused(added: Result<(), NativeFault>) -> Result<(), NoMemory>
     }
 }
 
-/// Adds a handler that does what `first_word` does, as the first native handler.
+// Adds a handler that does what `first_word` does, as the first native handler.
 fn add_first_word(
     alloc: Global,
     natives: &mut Natives,
@@ -171,7 +171,7 @@ fn add_first_word(
     unrefused(natives.add_handler(name, of_bytes(alloc, true)?, first_word(alloc)?, object))
 }
 
-/// Adds a guard that asks what `is_ipv4` asks, as the first native guard.
+// Adds a guard that asks what `is_ipv4` asks, as the first native guard.
 fn add_is_ipv4(
     alloc: Global,
     natives: &mut Natives,
@@ -190,7 +190,7 @@ fn add_is_ipv4(
     unrefused(natives.add_guard(name, of_bytes(alloc, false)?, test, object))
 }
 
-/// Adds an authoriser that follows what `own_two` follows, as the first native authoriser.
+// Adds an authoriser that follows what `own_two` follows, as the first native authoriser.
 fn add_own_two(
     alloc: Global,
     natives: &mut Natives,

@@ -1,4 +1,4 @@
-pub mod Adding
-pub mod Doings
-pub mod Numbered
-pub mod Read
+pub mod AddedItems
+pub mod NativeLemmas
+pub mod NumberedItems
+pub mod MappedLists

@@ -1,5 +1,6 @@
 -- Which handlers and guards a catalogue refuses, and which natives are refused.
-use Rattle.std.specs.Prelude.{ℕ, ◌≡◌, ◌≢◌, if◌then◌else◌, nat_lt, List, length, is_some, Option, Some, None, Result, Ok, Err}
+use Rattle.std.specs.Prelude.{ℕ, ◌≡◌, ◌≢◌, if◌then◌else◌, nat_lt, List, length}
+use Rattle.std.specs.Prelude.{is_some, Option, Some, None, Result, Ok, Err}
 use Rattle.spin_code.specs.declared.check.ActFault.{ActFault}
 use Rattle.spin_code.specs.Check.{act_check, test_check}
 use Rattle.spin_objects.specs.declared.unit.TheConstants.{MAX_UNITS}
@@ -22,7 +23,8 @@ refusal (Ok done) count = if nat_lt count MAX_UNITS then None else Some refused.
 -- the first refusal of a native, of which so many are there, where so many of its kind are in the catalogue
 abbrev pub native_refusal : ℕ → ℕ → ℕ → Option CatalogueFault
 native_refusal native natives count =
-    if nat_lt count MAX_UNITS then (if nat_lt native natives then None else Some refused.NoNative) else Some refused.TooMany
+    if nat_lt count MAX_UNITS then
+    (if nat_lt native natives then None else Some refused.NoNative) else Some refused.TooMany
 
 -- why the handler isn't added, where there are so many natives and handlers
 abbrev pub handler_refusal : Body → ℕ → ℕ → Option CatalogueFault

@@ -51,7 +51,8 @@ items_of [] args = []
 items_of (s ∷ steps) args = step_items s args ++ items_of steps (step_args s args)
 
 -- an act was done on these arguments: it left those, and what it gives stands at the end of the outcome
-pub record IsDone (act : Act) (args : List Value) (out : List Item) (args' : List Value) (out' : List Item) : Type 0 where
+pub record IsDone (act : Act) (args : List Value) (out : List Item)
+    (args' : List Value) (out' : List Item) : Type 0 where
   pub args_left : args' ≡ args_after act.steps args
   pub items_given : out' ≡ out ++ items_of act.steps args
 

@@ -34,11 +34,13 @@ frame_args frame = frame_args_by frame (ether_of frame)
 abbrev pub datagram_args_by : List ℕ → ℕ → ℕ → Result Udp HeaderFault → Result (List Value) HeaderFault
 datagram_args_by datagram source destination (Err fault) = Err fault
 datagram_args_by datagram source destination (Ok header) =
-    Ok (Bytes (udp_payload header datagram) ∷ Word header.source_port ∷ Word header.destination_port ∷ Word source ∷ Word destination ∷ [])
+    Ok (Bytes (udp_payload header datagram) ∷ Word header.source_port
+    ∷ Word header.destination_port ∷ Word source ∷ Word destination ∷ [])
 
 -- of a UDP datagram between these addresses: payload, ports and addresses, or the first fault of its header
 abbrev pub datagram_args : List ℕ → ℕ → ℕ → Result (List Value) HeaderFault
-datagram_args datagram source destination = datagram_args_by datagram source destination (udp_of datagram source destination)
+datagram_args datagram source destination =
+    datagram_args_by datagram source destination (udp_of datagram source destination)
 
 -- the arguments of the raise upwards that a layer step makes of these arguments, or the first fault of the headers
 abbrev pub layer_args : Layer → List Value → Result (List Value) HeaderFault

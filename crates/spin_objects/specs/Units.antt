@@ -48,23 +48,28 @@ abbrev pub known_authoriser : {E : Type 0} {F : E → Type 0} → NativeAuthoris
 known_authoriser n = record { name = n.name; unit = n.policy }
 
 -- the native handlers in the order of adding, the first having index 0
-abbrev pub native_handlers : {A C E : Type 0} {B : A → Type 0} {D : C → Type 0} {F : E → Type 0} → Natives A C E B D F → List (Named HandlerUnit)
+abbrev pub native_handlers : {A C E : Type 0} {B : A → Type 0} {D : C → Type 0} {F : E → Type 0}
+    → Natives A C E B D F → List (Named HandlerUnit)
 native_handlers natives = map known_handler natives.handlers
 
 -- the native guards in the order of adding
-abbrev pub native_guards : {A C E : Type 0} {B : A → Type 0} {D : C → Type 0} {F : E → Type 0} → Natives A C E B D F → List (Named GuardUnit)
+abbrev pub native_guards : {A C E : Type 0} {B : A → Type 0} {D : C → Type 0} {F : E → Type 0}
+    → Natives A C E B D F → List (Named GuardUnit)
 native_guards natives = map known_guard natives.guards
 
 -- the native authorisers in the order of adding
-abbrev pub native_authorisers : {A C E : Type 0} {B : A → Type 0} {D : C → Type 0} {F : E → Type 0} → Natives A C E B D F → List (Named (List Rule))
+abbrev pub native_authorisers : {A C E : Type 0} {B : A → Type 0} {D : C → Type 0} {F : E → Type 0}
+    → Natives A C E B D F → List (Named (List Rule))
 native_authorisers natives = map known_authoriser natives.authorisers
 
 -- the policies of the native authorisers
-abbrev pub policies_of : {A C E : Type 0} {B : A → Type 0} {D : C → Type 0} {F : E → Type 0} → Natives A C E B D F → List (List Rule)
+abbrev pub policies_of : {A C E : Type 0} {B : A → Type 0} {D : C → Type 0} {F : E → Type 0}
+    → Natives A C E B D F → List (List Rule)
 policies_of natives = map (λ n. n.unit) (native_authorisers natives)
 
 -- the names of the natives of a kind
-abbrev pub names_of : {A C E : Type 0} {B : A → Type 0} {D : C → Type 0} {F : E → Type 0} → NativeKind → Natives A C E B D F → List (List ℕ)
+abbrev pub names_of : {A C E : Type 0} {B : A → Type 0} {D : C → Type 0} {F : E → Type 0}
+    → NativeKind → Natives A C E B D F → List (List ℕ)
 names_of kind.Handler natives = map (λ n. n.name) (native_handlers natives)
 names_of kind.Guard natives = map (λ n. n.name) (native_guards natives)
 names_of kind.Authoriser natives = map (λ n. n.name) (native_authorisers natives)
@@ -75,7 +80,8 @@ index_of name names = position (λ n. bytes_eq n name) names
 
 -- each object means what it was handed in with, given what objects do, ask and follow
 pub record IsSincere {A C E : Type 0} {B : A → Type 0} {D : C → Type 0} {F : E → Type 0}
-    (does : NativeHandler A B → Act) (asks : NativeGuard C D → Test) (follows : NativeAuthoriser E F → List Rule) (natives : Natives A C E B D F) : Type 0 where
+    (does : NativeHandler A B → Act) (asks : NativeGuard C D → Test)
+    (follows : NativeAuthoriser E F → List Rule) (natives : Natives A C E B D F) : Type 0 where
   pub handlers : All (λ n. does n ≡ n.act) natives.handlers
   pub guards : All (λ n. asks n ≡ n.test) natives.guards
   pub authorisers : All (λ n. follows n ≡ n.policy) natives.authorisers
@@ -84,7 +90,8 @@ pub record IsSincere {A C E : Type 0} {B : A → Type 0} {D : C → Type 0} {F :
 abbrev pub IsSincereBy : {A C E : Type 0} {B : A → Type 0} {D : C → Type 0} {F : E → Type 0}
     → ((v : A) × B v → Act) → ((v : C) × D v → Test) → ((v : E) × F v → List Rule) → Natives A C E B D F → Type 0
 IsSincereBy does asks follows natives =
-    IsSincere (λ n. does (n.object.vtable, n.object.value)) (λ n. asks (n.object.vtable, n.object.value)) (λ n. follows (n.object.vtable, n.object.value)) natives
+    IsSincere (λ n. does (n.object.vtable, n.object.value)) (λ n. asks (n.object.vtable, n.object.value))
+    (λ n. follows (n.object.vtable, n.object.value)) natives
 
 -- the native handler of an index, which does nothing where there is none
 abbrev pub handler_if : Option (Named HandlerUnit) → HandlerUnit
@@ -107,17 +114,21 @@ unit_of_check natives (check.Coded sig test) = record { sig = sig; test = test }
 unit_of_check natives (check.Native native) = guard_if (slice_get natives native)
 
 -- the handlers, the first having number 1
-abbrev pub handlers_of : {A C E : Type 0} {B : A → Type 0} {D : C → Type 0} {F : E → Type 0} → Catalogue A C E B D F → List HandlerUnit
+abbrev pub handlers_of : {A C E : Type 0} {B : A → Type 0} {D : C → Type 0} {F : E → Type 0}
+    → Catalogue A C E B D F → List HandlerUnit
 handlers_of c = map (unit_of_body (native_handlers c.natives)) c.bodies
 
 -- the guards, the first having number 1
-abbrev pub guards_of : {A C E : Type 0} {B : A → Type 0} {D : C → Type 0} {F : E → Type 0} → Catalogue A C E B D F → List GuardUnit
+abbrev pub guards_of : {A C E : Type 0} {B : A → Type 0} {D : C → Type 0} {F : E → Type 0}
+    → Catalogue A C E B D F → List GuardUnit
 guards_of c = map (unit_of_check (native_guards c.natives)) c.checks
 
-abbrev pub acts_of : {A C E : Type 0} {B : A → Type 0} {D : C → Type 0} {F : E → Type 0} → Catalogue A C E B D F → List Act
+abbrev pub acts_of : {A C E : Type 0} {B : A → Type 0} {D : C → Type 0} {F : E → Type 0}
+    → Catalogue A C E B D F → List Act
 acts_of c = map (λ u. u.act) (handlers_of c)
 
-abbrev pub tests_of : {A C E : Type 0} {B : A → Type 0} {D : C → Type 0} {F : E → Type 0} → Catalogue A C E B D F → List Test
+abbrev pub tests_of : {A C E : Type 0} {B : A → Type 0} {D : C → Type 0} {F : E → Type 0}
+    → Catalogue A C E B D F → List Test
 tests_of c = map (λ u. u.test) (guards_of c)
 
 -- the index of the native that a handler is
@@ -131,11 +142,13 @@ native_of_check (check.Coded sig test) = None
 native_of_check (check.Native native) = Some native
 
 -- of each handler, which native it is
-abbrev pub handler_natives : {A C E : Type 0} {B : A → Type 0} {D : C → Type 0} {F : E → Type 0} → Catalogue A C E B D F → List (Option ℕ)
+abbrev pub handler_natives : {A C E : Type 0} {B : A → Type 0} {D : C → Type 0} {F : E → Type 0}
+    → Catalogue A C E B D F → List (Option ℕ)
 handler_natives c = map native_of_body c.bodies
 
 -- of each guard, which native it is
-abbrev pub guard_natives : {A C E : Type 0} {B : A → Type 0} {D : C → Type 0} {F : E → Type 0} → Catalogue A C E B D F → List (Option ℕ)
+abbrev pub guard_natives : {A C E : Type 0} {B : A → Type 0} {D : C → Type 0} {F : E → Type 0}
+    → Catalogue A C E B D F → List (Option ℕ)
 guard_natives c = map native_of_check c.checks
 
 -- the act, or one that does nothing where there is none

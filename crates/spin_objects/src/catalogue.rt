@@ -1,6 +1,7 @@
 //! The handlers and guards that bindings name by their numbers.
 
-ghost use Rattle.std.specs.Prelude.{◌≡◌, ◌+◌, ◌-◌, ◌<◌, ◌≤◌, ◌++◌, [], ◌∷◌, length, All, Some, OnOk, OnErr, IfOk, IfSome, IsSomeAnd};
+ghost use Rattle.std.specs.Prelude.{◌≡◌, ◌+◌, ◌-◌, ◌<◌, ◌≤◌, ◌++◌, [], ◌∷◌, length};
+ghost use Rattle.std.specs.Prelude.{All, Some, OnOk, OnErr, IfOk, IfSome, IsSomeAnd};
 ghost use Rattle.spin_objects.specs.Doing.{IsDone};
 ghost use Rattle.spin_objects.specs.declared.unit.TheConstants.{MAX_UNITS};
 ghost use Rattle.spin_objects.specs.There.{IsBodyThere, IsCheckThere, IsBodyThere-prop, IsCheckThere-prop};
@@ -35,11 +36,14 @@ pub struct Catalogue {
 impl Sincere for Catalogue {
     ghost use Rattle.spin_objects.specs.Units.{IsSincere};
 
-    ghost sincere = { λ c. IsSincere (λ n. (Handler-box n.object).does n.object.value) (λ n. (Guard-box n.object).asks n.object.value) (λ n. (Authoriser-box n.object).follows n.object.value) c.natives };
+    ghost sincere = { λ c. IsSincere (λ n. (Handler-box n.object).does n.object.value) (λ n.
+        (Guard-box n.object).asks n.object.value) (λ n. (Authoriser-box n.object).follows n.object.value) c.natives };
 }
 
 impl Catalogue {
-    ghost use Rattle.spin_objects.specs.Units.{native_handlers, native_guards, handlers_of, guards_of, acts_of, tests_of, unit_of_body, unit_of_check, native_of_body, native_of_check, handler_natives, guard_natives, act_at};
+    ghost use Rattle.spin_objects.specs.Units.{native_handlers, native_guards, handlers_of, guards_of};
+    ghost use Rattle.spin_objects.specs.Units.{acts_of, tests_of, unit_of_body, unit_of_check, native_of_body};
+    ghost use Rattle.spin_objects.specs.Units.{native_of_check, handler_natives, guard_natives, act_at};
     ghost use Rattle.spin_values.specs.First.{numbered};
     ghost use Rattle.spin_objects.specs.Adding.{IsBy, handler_refusal, guard_refusal};
 
@@ -67,14 +71,17 @@ impl Catalogue {
         requires { ⟦<Catalogue as Sincere>⟧.sincere self.old }
         ensures sincere { ⟦<Catalogue as Sincere>⟧.sincere self.new }
         ensures number { IfOk result (λ number. number ≡ length (handlers_of self.old) + 1) }
-        ensures added { OnOk result (handlers_of self.new ≡ handlers_of self.old ++ unit_of_body (native_handlers self.old.natives) body ∷ []) }
-        ensures as_native { OnOk result (handler_natives self.new ≡ handler_natives self.old ++ native_of_body body ∷ []) }
+        ensures added { OnOk result
+            (handlers_of self.new ≡ handlers_of self.old ++ unit_of_body (native_handlers self.old.natives) body ∷ []) }
+        ensures as_native { OnOk result
+            (handler_natives self.new ≡ handler_natives self.old ++ native_of_body body ∷ []) }
         ensures kept { OnErr result (handlers_of self.new ≡ handlers_of self.old) }
         ensures kept_native { OnErr result (handler_natives self.new ≡ handler_natives self.old) }
         ensures guards { guards_of self.new ≡ guards_of self.old }
         ensures guard_natives { guard_natives self.new ≡ guard_natives self.old }
         ensures natives { self.new.natives ≡ self.old.natives }
-        ensures answer { IsBy (handler_refusal body (length (native_handlers self.old.natives)) (length (handlers_of self.old))) result }
+        ensures answer { IsBy
+            (handler_refusal body (length (native_handlers self.old.natives)) (length (handlers_of self.old))) result }
     {
         let natives = self.natives.count(NativeKind::Handler);
         let refusal = body.refusal(natives, self.bodies.len());
@@ -90,21 +97,24 @@ impl Catalogue {
         requires { ⟦<Catalogue as Sincere>⟧.sincere self.old }
         ensures sincere { ⟦<Catalogue as Sincere>⟧.sincere self.new }
         ensures number { IfOk result (λ number. number ≡ length (guards_of self.old) + 1) }
-        ensures added { OnOk result (guards_of self.new ≡ guards_of self.old ++ unit_of_check (native_guards self.old.natives) check ∷ []) }
-        ensures as_native { OnOk result (guard_natives self.new ≡ guard_natives self.old ++ native_of_check check ∷ []) }
+        ensures added { OnOk result
+            (guards_of self.new ≡ guards_of self.old ++ unit_of_check (native_guards self.old.natives) check ∷ []) }
+        ensures as_native { OnOk result
+            (guard_natives self.new ≡ guard_natives self.old ++ native_of_check check ∷ []) }
         ensures kept { OnErr result (guards_of self.new ≡ guards_of self.old) }
         ensures kept_native { OnErr result (guard_natives self.new ≡ guard_natives self.old) }
         ensures handlers { handlers_of self.new ≡ handlers_of self.old }
         ensures handler_natives { handler_natives self.new ≡ handler_natives self.old }
         ensures natives { self.new.natives ≡ self.old.natives }
-        ensures answer { IsBy (guard_refusal check (length (native_guards self.old.natives)) (length (guards_of self.old))) result }
+        ensures answer { IsBy
+            (guard_refusal check (length (native_guards self.old.natives)) (length (guards_of self.old))) result }
     {
         let natives = self.natives.count(NativeKind::Guard);
         let refusal = check.refusal(natives, self.checks.len());
         keep(&mut self.checks, check, refusal)
     }
 
-    /// The handler of a number that is there.
+    // The handler of a number that is there.
     fn body(&self, handler: u16) -> &Body
         requires first { 0 < handler }
         requires last { handler ≤ length (handlers_of self.now) }
@@ -114,7 +124,7 @@ impl Catalogue {
         self.bodies.get(handler as usize - 1)
     }
 
-    /// The guard of a number that is there.
+    // The guard of a number that is there.
     fn check(&self, guard: u16) -> &Check
         requires first { 0 < guard }
         requires last { guard ≤ length (guards_of self.now) }

@@ -38,7 +38,7 @@ pub enum NativeFault {
     NoMemory,
 }
 
-/// The first refusal of a native that was checked so, where so many of its kind are there.
+// The first refusal of a native that was checked so, where so many of its kind are there.
 pub(crate) fn checked_refusal(checked: Result<(), ActFault>, count: usize) -> Option<NativeFault>
     ensures { result ≡ specs.checked_refusal checked count }
 {
@@ -49,7 +49,7 @@ pub(crate) fn checked_refusal(checked: Result<(), ActFault>, count: usize) -> Op
     }
 }
 
-/// Adds a native to those of its kind, which stay as they are where it is refused, or where there is no memory for it.
+// Adds a native to those of its kind, which stay as they are where it is refused, or where there is no memory for it.
 pub(crate) fn keep<T: Drop>(
     natives: &mut Sequence<T>,
     native: T,

@@ -8,13 +8,13 @@ use spin_headers::{HeaderFault, read_ether, read_ipv4, read_udp};
 use spin_values::{Args, NoMemory, Octets, Value};
 use std::alloc::Global;
 
-/// The number of bytes of an Ethernet II header (RFC 894).
+// The number of bytes of an Ethernet II header (RFC 894).
 const ETHER_HEADER: usize = 14;
 
-/// The number of bytes of a UDP header (RFC 768).
+// The number of bytes of a UDP header (RFC 768).
 const UDP_HEADER: usize = 8;
 
-/// The payload of an IPv4 packet, its protocol and its two addresses; or its first fault.
+// The payload of an IPv4 packet, its protocol and its two addresses; or its first fault.
 fn read_packet(alloc: Global, packet: &[u8]) -> Result<Result<Args, HeaderFault>, NoMemory>
     ensures { IfOk result (λ read. read ≡ packet_args packet.now) }
 {
@@ -31,7 +31,7 @@ fn read_packet(alloc: Global, packet: &[u8]) -> Result<Result<Args, HeaderFault>
     Ok(Ok(args))
 }
 
-/// The same of the packet in an Ethernet frame; or the first fault of the frame and the packet.
+// The same of the packet in an Ethernet frame; or the first fault of the frame and the packet.
 fn read_frame(alloc: Global, frame: &[u8]) -> Result<Result<Args, HeaderFault>, NoMemory>
     ensures { IfOk result (λ read. read ≡ frame_args frame.now) }
 {
@@ -41,7 +41,7 @@ fn read_frame(alloc: Global, frame: &[u8]) -> Result<Result<Args, HeaderFault>, 
     }
 }
 
-/// The payload of a UDP datagram between these addresses, its two ports and the addresses; or its first fault.
+// The payload of a UDP datagram between these addresses, its two ports and the addresses; or its first fault.
 fn read_datagram(
     alloc: Global,
     datagram: &[u8],
@@ -64,7 +64,7 @@ fn read_datagram(
     Ok(Ok(args))
 }
 
-/// The arguments of the raise upwards that a layer step makes of these arguments, or the first fault of the headers.
+// The arguments of the raise upwards that a layer step makes of these arguments, or the first fault of the headers.
 pub(crate) fn read_layer(
     alloc: Global,
     layer: Layer,

@@ -1,6 +1,7 @@
 //! The natives that a program hands in: boxed handlers, guards and authorisers by name.
 
-ghost use Rattle.std.specs.Prelude.{◌≡◌, ◌<◌, ◌≤◌, ◌++◌, [], ◌∷◌, length, slice_get, Some, OnOk, OnErr, IfSome, IsSomeAnd, Ok};
+ghost use Rattle.std.specs.Prelude.{◌≡◌, ◌<◌, ◌≤◌, ◌++◌, [], ◌∷◌, length, slice_get};
+ghost use Rattle.std.specs.Prelude.{Some, OnOk, OnErr, IfSome, IsSomeAnd, Ok};
 ghost use Rattle.spin_code.specs.Check.{act_check, test_check};
 ghost use Rattle.spin_code.specs.Truth.{truth_of};
 ghost use Rattle.spin_policy.specs.Verdicts.{verdict_of};
@@ -16,7 +17,7 @@ use spin_policy::{Authoriser, Policy, Request, Verdict};
 use spin_values::{Args, EventType, NoMemory, Sequence, Text};
 use std::alloc::Global;
 
-/// The place of a native, of which there are few.
+// The place of a native, of which there are few.
 fn as_index(found: Option<usize>) -> Option<u16>
     requires { IfSome found (λ at. at < MAX_NATIVES) }
     ensures { result ≡ found }
@@ -43,11 +44,13 @@ pub struct Natives {
 impl Sincere for Natives {
     ghost use Rattle.spin_objects.specs.Units.{IsSincere};
 
-    ghost sincere = { IsSincere (λ n. (Handler-box n.object).does n.object.value) (λ n. (Guard-box n.object).asks n.object.value) (λ n. (Authoriser-box n.object).follows n.object.value) };
+    ghost sincere = { IsSincere (λ n. (Handler-box n.object).does n.object.value)
+        (λ n. (Guard-box n.object).asks n.object.value) (λ n. (Authoriser-box n.object).follows n.object.value) };
 }
 
 impl Natives {
-    ghost use Rattle.spin_objects.specs.Units.{native_handlers, native_guards, native_authorisers, policies_of, names_of, index_of, handler_if, guard_if};
+    ghost use Rattle.spin_objects.specs.Units.{native_handlers, native_guards, native_authorisers};
+    ghost use Rattle.spin_objects.specs.Units.{policies_of, names_of, index_of, handler_if, guard_if};
     ghost use Rattle.spin_objects.specs.Adding.{adding_refusal, IsNativeBy};
 
     /// No natives.
@@ -65,7 +68,7 @@ impl Natives {
         }
     }
 
-    /// The first refusal of a native of this kind and name that was checked so.
+    // The first refusal of a native of this kind and name that was checked so.
     fn refusal(
         &self,
         kind: NativeKind,
@@ -95,11 +98,13 @@ impl Natives {
         requires object { does object ≡ act }
         requires sincere { ⟦<Natives as Sincere>⟧.sincere self.old }
         ensures sincere { ⟦<Natives as Sincere>⟧.sincere self.new }
-        ensures added { OnOk result (native_handlers self.new ≡ native_handlers self.old ++ record { name = name; unit = record { sig = sig; act = act } } ∷ []) }
+        ensures added { OnOk result (native_handlers self.new ≡ native_handlers self.old
+            ++ record { name = name; unit = record { sig = sig; act = act } } ∷ []) }
         ensures kept { OnErr result (native_handlers self.new ≡ native_handlers self.old) }
         ensures guards { native_guards self.new ≡ native_guards self.old }
         ensures authorisers { native_authorisers self.new ≡ native_authorisers self.old }
-        ensures answer { IsNativeBy (adding_refusal name (names_of NativeKind.Handler self.old) (act_check act sig)) result }
+        ensures answer { IsNativeBy
+            (adding_refusal name (names_of NativeKind.Handler self.old) (act_check act sig)) result }
     {
         let native = NativeHandler {
             name,
@@ -127,11 +132,13 @@ impl Natives {
         requires object { asks object ≡ test }
         requires sincere { ⟦<Natives as Sincere>⟧.sincere self.old }
         ensures sincere { ⟦<Natives as Sincere>⟧.sincere self.new }
-        ensures added { OnOk result (native_guards self.new ≡ native_guards self.old ++ record { name = name; unit = record { sig = sig; test = test } } ∷ []) }
+        ensures added { OnOk result (native_guards self.new ≡ native_guards self.old
+            ++ record { name = name; unit = record { sig = sig; test = test } } ∷ []) }
         ensures kept { OnErr result (native_guards self.new ≡ native_guards self.old) }
         ensures handlers { native_handlers self.new ≡ native_handlers self.old }
         ensures authorisers { native_authorisers self.new ≡ native_authorisers self.old }
-        ensures answer { IsNativeBy (adding_refusal name (names_of NativeKind.Guard self.old) (test_check test sig)) result }
+        ensures answer { IsNativeBy
+            (adding_refusal name (names_of NativeKind.Guard self.old) (test_check test sig)) result }
     {
         let native = NativeGuard {
             name,
@@ -158,7 +165,8 @@ impl Natives {
         requires object { follows object ≡ policy }
         requires sincere { ⟦<Natives as Sincere>⟧.sincere self.old }
         ensures sincere { ⟦<Natives as Sincere>⟧.sincere self.new }
-        ensures added { OnOk result (native_authorisers self.new ≡ native_authorisers self.old ++ record { name = name; unit = policy } ∷ []) }
+        ensures added { OnOk result
+            (native_authorisers self.new ≡ native_authorisers self.old ++ record { name = name; unit = policy } ∷ []) }
         ensures kept { OnErr result (native_authorisers self.new ≡ native_authorisers self.old) }
         ensures handlers { native_handlers self.new ≡ native_handlers self.old }
         ensures guards { native_guards self.new ≡ native_guards self.old }
@@ -220,12 +228,13 @@ impl Natives {
     pub fn judge(&self, native: u16, request: &Request) -> Verdict
         requires there { native < length (policies_of self.now) }
         requires sincere { ⟦<Natives as Sincere>⟧.sincere self.now }
-        ensures { IsSomeAnd (slice_get (policies_of self.now) native) (λ policy. result ≡ verdict_of policy request.now) }
+        ensures { IsSomeAnd (slice_get (policies_of self.now) native)
+            (λ policy. result ≡ verdict_of policy request.now) }
     {
         self.authorisers.get(native as usize).judge(request)
     }
 
-    /// A native handler that is there.
+    // A native handler that is there.
     pub(crate) fn handler(&self, native: u16) -> &NativeHandler
         requires { native < length self.now.handlers }
         ensures { slice_get self.now.handlers native ≡ Some result.now }
@@ -233,7 +242,7 @@ impl Natives {
         self.handlers.get(native as usize)
     }
 
-    /// A native guard that is there.
+    // A native guard that is there.
     pub(crate) fn guard(&self, native: u16) -> &NativeGuard
         requires { native < length self.now.guards }
         ensures { slice_get self.now.guards native ≡ Some result.now }
@@ -241,8 +250,8 @@ impl Natives {
         self.guards.get(native as usize)
     }
 
-    /// Has a native handler that is there do its act. After want of memory nothing is known of the arguments and the
-    /// outcome.
+    // Has a native handler that is there do its act. After want of memory nothing is known of the arguments and the
+    // outcome.
     pub(crate) fn run(
         &self,
         alloc: Global,
@@ -252,12 +261,13 @@ impl Natives {
     ) -> Result<(), NoMemory>
         requires there { native < length (native_handlers self.now) }
         requires sincere { ⟦<Natives as Sincere>⟧.sincere self.now }
-        ensures { OnOk result (IsDone (handler_if (slice_get (native_handlers self.now) native)).act args.old out.old args.new out.new) }
+        ensures { OnOk result
+            (IsDone (handler_if (slice_get (native_handlers self.now) native)).act args.old out.old args.new out.new) }
     {
         self.handler(native).run(alloc, args, out)
     }
 
-    /// Asks a native guard that is there.
+    // Asks a native guard that is there.
     pub(crate) fn admits(&self, native: u16, args: &Args) -> bool
         requires there { native < length (native_guards self.now) }
         requires sincere { ⟦<Natives as Sincere>⟧.sincere self.now }

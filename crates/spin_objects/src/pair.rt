@@ -12,16 +12,16 @@ use spin_policy::{Authoriser, Policy, Request, Verdict};
 use spin_values::{Args, EventType, NoMemory, Text};
 use std::alloc::Global;
 
-/// What has a name.
+// What has a name.
 pub(crate) trait HasName {
     ghost named: { Self → List ℕ };
 
-    /// Whether it has this name.
+    // Whether it has this name.
     fn is_named(&self, name: &Text) -> bool
         ensures { result ≡ bytes_eq (named self.now) name.now };
 }
 
-/// The place of the first that has this name.
+// The place of the first that has this name.
 pub(crate) fn place_of<T: HasName>(all: &[T], name: &Text) -> Option<usize>
     ensures at { result ≡ position (λ n. bytes_eq (T.named n) name.now) all.now }
     ensures there { IfSome result (λ at. at < length all.now) }
@@ -29,7 +29,7 @@ pub(crate) fn place_of<T: HasName>(all: &[T], name: &Text) -> Option<usize>
     all.iter().position(|one| one.is_named(name))
 }
 
-/// Whether the texts are equal.
+// Whether the texts are equal.
 fn is_same(a: &Text, b: &Text) -> bool
     ensures { result ≡ bytes_eq a.now b.now }
 {
@@ -54,7 +54,7 @@ impl HasName for NativeHandler {
 }
 
 impl NativeHandler {
-    /// Has the object do its act.
+    // Has the object do its act.
     pub(crate) fn run(
         &self,
         alloc: Global,
@@ -86,7 +86,7 @@ impl HasName for NativeGuard {
 }
 
 impl NativeGuard {
-    /// Asks the object its test.
+    // Asks the object its test.
     pub(crate) fn admits(&self, args: &Args) -> bool
         requires { asks self.now.object ≡ self.now.test }
         ensures { result ≡ truth_of self.now.test args.now }
@@ -112,7 +112,7 @@ impl HasName for NativeAuthoriser {
 }
 
 impl NativeAuthoriser {
-    /// Asks the object for the answer of its policy.
+    // Asks the object for the answer of its policy.
     pub(crate) fn judge(&self, request: &Request) -> Verdict
         requires { follows self.now.object ≡ self.now.policy }
         ensures { result ≡ verdict_of self.now.policy request.now }

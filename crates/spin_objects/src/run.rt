@@ -11,7 +11,7 @@ use spin_code::{Act, ActStep, Layer, Part, argument_bytes, value};
 use spin_values::{Args, NoMemory, Octets, Value, set};
 use std::alloc::Global;
 
-/// The bytes of an argument from a place on: none where that lies past the end.
+// The bytes of an argument from a place on: none where that lies past the end.
 fn bytes_after(alloc: Global, args: &Args, arg: u8, from: u16) -> Result<Octets, NoMemory>
     ensures { IfOk result (λ octets. octets ≡ bytes_from args.now arg from) }
 {
@@ -20,7 +20,7 @@ fn bytes_after(alloc: Global, args: &Args, arg: u8, from: u16) -> Result<Octets,
     Octets::from_bytes(alloc, &bytes[from..])
 }
 
-/// The argument that a part makes.
+// The argument that a part makes.
 fn part_value(alloc: Global, part: &Part, args: &Args) -> Result<Value, NoMemory>
     ensures { IfOk result (λ v. v ≡ part_of args.now part.now) }
 {
@@ -30,7 +30,7 @@ fn part_value(alloc: Global, part: &Part, args: &Args) -> Result<Value, NoMemory
     }
 }
 
-/// The arguments that parts make.
+// The arguments that parts make.
 fn part_values(alloc: Global, parts: &[Part], args: &Args) -> Result<Args, NoMemory>
     ensures { IfOk result (λ made. made ≡ map (part_of args.now) parts.now) }
 {
@@ -41,7 +41,7 @@ fn part_values(alloc: Global, parts: &[Part], args: &Args) -> Result<Args, NoMem
     Ok(made)
 }
 
-/// What a layer step gives.
+// What a layer step gives.
 fn layer_item(alloc: Global, layer: Layer, event: u8, args: &Args) -> Result<Item, NoMemory>
     ensures { IfOk result (λ item. item ≡ up_or_dropped event (layer_args layer args.now)) }
 {
@@ -51,7 +51,7 @@ fn layer_item(alloc: Global, layer: Layer, event: u8, args: &Args) -> Result<Ite
     }
 }
 
-/// Does one step.
+// Does one step.
 fn run_step(
     alloc: Global,
     step: &ActStep,

@@ -30,7 +30,7 @@ impl Body {
     ghost use Rattle.spin_objects.specs.Units.{native_of_body};
     ghost use Rattle.spin_objects.specs.Adding.{handler_refusal};
 
-    /// The index of the native that it is.
+    // The index of the native that it is.
     pub(crate) fn native(&self) -> Option<u16>
         ensures { result ≡ native_of_body self.now }
     {
@@ -40,7 +40,7 @@ impl Body {
         }
     }
 
-    /// The first refusal of it, where there are so many natives and handlers.
+    // The first refusal of it, where there are so many natives and handlers.
     pub(crate) fn refusal(&self, natives: u16, count: usize) -> Option<CatalogueFault>
         ensures { result ≡ handler_refusal self.now natives count }
     {
@@ -55,7 +55,7 @@ impl Check {
     ghost use Rattle.spin_objects.specs.Units.{native_of_check};
     ghost use Rattle.spin_objects.specs.Adding.{guard_refusal};
 
-    /// The index of the native that it is.
+    // The index of the native that it is.
     pub(crate) fn native(&self) -> Option<u16>
         ensures { result ≡ native_of_check self.now }
     {
@@ -65,7 +65,7 @@ impl Check {
         }
     }
 
-    /// The first refusal of it, where there are so many natives and guards.
+    // The first refusal of it, where there are so many natives and guards.
     pub(crate) fn refusal(&self, natives: u16, count: usize) -> Option<CatalogueFault>
         ensures { result ≡ guard_refusal self.now natives count }
     {
@@ -96,7 +96,7 @@ pub enum CatalogueFault {
 /// The greatest number of handlers, and that of guards.
 pub const MAX_UNITS: usize = 1023;
 
-/// The first refusal of what was checked so, where so many of its kind are there.
+// The first refusal of what was checked so, where so many of its kind are there.
 fn refusal(checked: Result<(), ActFault>, count: usize) -> Option<CatalogueFault>
     ensures { result ≡ specs.refusal checked count }
 {
@@ -107,7 +107,7 @@ fn refusal(checked: Result<(), ActFault>, count: usize) -> Option<CatalogueFault
     }
 }
 
-/// The first refusal of the native of an index, where there are so many natives and so many of its kind.
+// The first refusal of the native of an index, where there are so many natives and so many of its kind.
 fn native_refusal(native: u16, natives: u16, count: usize) -> Option<CatalogueFault>
     ensures { result ≡ specs.native_refusal native natives count }
 {
@@ -120,8 +120,8 @@ fn native_refusal(native: u16, natives: u16, count: usize) -> Option<CatalogueFa
     None
 }
 
-/// Adds a handler or a guard to those that are there, and answers its number, the first being 1. They stay as they are
-/// where it is refused, or where there is no memory for it.
+// Adds a handler or a guard to those that are there, and answers its number, the first being 1. They stay as they are
+// where it is refused, or where there is no memory for it.
 pub(crate) fn keep<T: Drop>(
     units: &mut Sequence<T>,
     unit: T,

@@ -1,5 +1,5 @@
-pub mod Folders
-pub mod Names
-pub mod Places
-pub mod Reading
-pub mod Writing
+pub mod FoundFiles
+pub mod FileNames
+pub mod FileLists
+pub mod ReadLoops
+pub mod WriteLoops

@@ -1,5 +1,5 @@
-pub mod Answered
-pub mod Passed
-pub mod Readings
-pub mod Started
-pub mod Totals
+pub mod WholeRecords
+pub mod SourceBytes
+pub mod CaptureUniqueness
+pub mod FileHeaders
+pub mod CaptureTotality

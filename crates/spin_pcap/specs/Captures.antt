@@ -13,13 +13,13 @@ use Rattle.spin_pcap.specs.declared.order.Order.{Order}
 use Rattle.spin_pcap.specs.declared.order.Order.TheVariants as order
 
 -- the number in the first bytes, in that order
-abbrev pub number : Order → ℕ → List ℕ → ℕ
-number order.Big width bytes = big_number width bytes
-number order.Little width bytes = little_number width bytes
+abbrev pub ordered_number : Order → ℕ → List ℕ → ℕ
+ordered_number order.Big width bytes = big_number width bytes
+ordered_number order.Little width bytes = little_number width bytes
 
 -- the number in so many bytes from a place on, in that order
-abbrev pub number_at : Order → ℕ → ℕ → List ℕ → ℕ
-number_at way place width bytes = number way width (drop place bytes)
+abbrev pub ordered_number_at : Order → ℕ → ℕ → List ℕ → ℕ
+ordered_number_at way place width bytes = ordered_number way width (drop place bytes)
 
 -- The header of the file
 
@@ -30,20 +30,20 @@ is_magic n = (n == 0xa1b2c3d4) || (n == 0xa1b23c4d)
 -- the order in which the magic stands there
 abbrev pub order_of : List ℕ → Option Order
 order_of bytes =
-    if is_magic (number order.Big 4 bytes) then Some order.Big
-    else if is_magic (number order.Little 4 bytes) then Some order.Little
+    if is_magic (ordered_number order.Big 4 bytes) then Some order.Big
+    else if is_magic (ordered_number order.Little 4 bytes) then Some order.Little
     else None
 
 -- the version in the header of the file is 2.4
 abbrev pub is_version : Order → List ℕ → Bool
-is_version way bytes = (number_at way 4 2 bytes == 2) && (number_at way 6 2 bytes == 4)
+is_version way bytes = (ordered_number_at way 4 2 bytes == 2) && (ordered_number_at way 6 2 bytes == 4)
 
 -- the first fault of the fields behind the magic, or the order of all fields
 abbrev pub fields_of : Option Order → List ℕ → Result Order PcapFault
 fields_of None bytes = Err fault.BadMagic
 fields_of (Some way) bytes =
     if not (is_version way bytes) then Err fault.BadVersion
-    else if not (number_at way 20 4 bytes == 1) then Err fault.BadLink
+    else if not (ordered_number_at way 20 4 bytes == 1) then Err fault.BadLink
     else Ok way
 
 -- the first fault of the header at the front of the file, or the order of all fields
@@ -55,7 +55,7 @@ header_of bytes =
 
 -- the captured length in the header of a record
 abbrev pub captured : Order → List ℕ → ℕ
-captured way bytes = number_at way 8 4 bytes
+captured way bytes = ordered_number_at way 8 4 bytes
 
 -- At the front stands a whole record with these captured bytes, and the others follow. So many
 -- records came before.

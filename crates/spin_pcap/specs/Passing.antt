@@ -44,16 +44,16 @@ pub record Passes (gone held : List ℕ) (source : SourceSeen) (held' : List ℕ
   pub keep : source'.keep ≡ source.keep
 
 -- The number of a fault, in the order in which they are declared.
-abbrev pub number : PcapFault → ℕ
-number fault.ReadFault = 1
-number fault.BadMagic = 2
-number fault.BadVersion = 3
-number fault.BadLink = 4
-number fault.Short = 5
-number fault.TooLong = 6
-number fault.TooManyRecords = 7
-number (fault.Spoilt first) = 8
-number fault.NoMemory = 9
+abbrev pub fault_number : PcapFault → ℕ
+fault_number fault.ReadFault = 1
+fault_number fault.BadMagic = 2
+fault_number fault.BadVersion = 3
+fault_number fault.BadLink = 4
+fault_number fault.Short = 5
+fault_number fault.TooLong = 6
+fault_number fault.TooManyRecords = 7
+fault_number (fault.Spoilt first) = 8
+fault_number fault.NoMemory = 9
 
 -- The fact holds, unless a read failed or memory ran out.
 abbrev pub UnlessFailed : PcapFault → Type 0 → Type 0
@@ -155,7 +155,7 @@ abbrev pub state_after : Result Next PcapFault → State
 state_after (Ok next.Packet) = state.Reading
 state_after (Ok next.End) = state.End
 state_after (Ok (next.Cut count)) = state.Cut count
-state_after (Err wrong) = state.Spoilt (number wrong)
+state_after (Err wrong) = state.Spoilt (fault_number wrong)
 
 -- The one fact holds of a reader that reads, the other of one that came to an end or to a refusal.
 abbrev pub IfReading : State → Type 0 → Type 0 → Type 0

@@ -42,7 +42,7 @@ pub enum PcapFault {
 impl PcapFault {
     /// The number of the fault, from 1 in the order above.
     pub fn number(self) -> u8
-        ensures { result ≡ specs.number self }
+        ensures { result ≡ specs.fault_number self }
     {
         match self {
             PcapFault::ReadFault => 1,

@@ -9,13 +9,13 @@ use crate::order::Order;
 /// The number of bytes of the header.
 pub const HEADER: usize = 24;
 
-/// The magic of a file with times in microseconds.
+// The magic of a file with times in microseconds.
 const MICROSECONDS: u32 = 0xa1b2_c3d4;
 
-/// The magic of a file with times in nanoseconds.
+// The magic of a file with times in nanoseconds.
 const NANOSECONDS: u32 = 0xa1b2_3c4d;
 
-/// The number of the link type Ethernet.
+// The number of the link type Ethernet.
 const ETHERNET: u32 = 1;
 
 fn is_magic(n: u32) -> bool
@@ -24,7 +24,7 @@ fn is_magic(n: u32) -> bool
     n == MICROSECONDS || n == NANOSECONDS
 }
 
-/// The order in which the magic stands in the first four bytes.
+// The order in which the magic stands in the first four bytes.
 fn order_of(bytes: &[u8]) -> Option<Order>
     requires { 4 ≤ length bytes.now }
     ensures { result ≡ specs.order_of bytes.now }

@@ -1,7 +1,7 @@
 //! The writer's byte order.
 
 ghost use Rattle.std.specs.Prelude.{◌≡◌, ◌≤◌, length};
-ghost use Rattle.spin_pcap.specs.Captures.{number};
+ghost use Rattle.spin_pcap.specs.Captures.{ordered_number};
 
 use byteorder::{BigEndian, ByteOrder, LittleEndian};
 
@@ -18,7 +18,7 @@ impl Order {
     /// The number in the first two bytes.
     pub fn read_u16(self, bytes: &[u8]) -> u16
         requires { 2 ≤ length bytes.now }
-        ensures { result ≡ number self 2 bytes.now }
+        ensures { result ≡ ordered_number self 2 bytes.now }
     {
         match self {
             Order::Big => BigEndian::read_u16(bytes),
@@ -29,7 +29,7 @@ impl Order {
     /// The number in the first four bytes.
     pub fn read_u32(self, bytes: &[u8]) -> u32
         requires { 4 ≤ length bytes.now }
-        ensures { result ≡ number self 4 bytes.now }
+        ensures { result ≡ ordered_number self 4 bytes.now }
     {
         match self {
             Order::Big => BigEndian::read_u32(bytes),

@@ -20,7 +20,7 @@ use std::alloc::Global;
 use std::marker::Model;
 use std::mem;
 
-/// The number of bytes of the header of a record.
+// The number of bytes of the header of a record.
 const RECORD: usize = 16;
 
 /// Reads a capture record by record. The bytes that it took and hasn't given are at most 65,536.
@@ -49,7 +49,7 @@ impl Model for Reader {
     ghost invariant = { λ r. (length r.window ≤ MAX_HELD) × (r.given ≤ MAX_RECORDS) };
 }
 
-/// Takes all bytes out of a list, which keeps its memory.
+// Takes all bytes out of a list, which keeps its memory.
 fn empty(frame: &mut Octets)
     ensures { frame.new ≡ [] }
 {
@@ -59,7 +59,7 @@ fn empty(frame: &mut Octets)
     *frame = Octets::from_vec(bytes);
 }
 
-/// Moves that many bytes behind those of the frame. The answer says whether there were so many.
+// Moves that many bytes behind those of the frame. The answer says whether there were so many.
 fn copy_body<S: Source>(
     window: &mut Window,
     source: &mut S,
@@ -89,7 +89,7 @@ fn copy_body<S: Source>(
     Ok(true)
 }
 
-/// Reads what comes next. After an end or a refusal the frame may have bytes of a record that isn't whole.
+// Reads what comes next. After an end or a refusal the frame may have bytes of a record that isn't whole.
 fn read_record<S: Source>(
     window: &mut Window,
     source: &mut S,
@@ -172,9 +172,9 @@ impl Reader {
     /// Replaces the frame by the bytes of the next record.
     ///
     /// `End` comes exactly where nothing is left, and `Cut` where bytes are left that are no whole record and no
-    /// refusal applies; these are fewer than a record may have. After them, and after a refusal, the frame has no bytes. `End` and `Cut` are answered
-    /// again at every later call; after a refusal every later call answers [`PcapFault::Spoilt`] with its number.
-    /// Such calls don't read. Else the refusals are:
+    /// refusal applies; these are fewer than a record may have. After them, and after a refusal, the frame has no
+    /// bytes. `End` and `Cut` are answered again at every later call; after a refusal every later call answers
+    /// [`PcapFault::Spoilt`] with its number. Such calls don't read. Else the refusals are:
     /// - [`PcapFault::TooManyRecords`] exactly where a byte follows 1,048,576 whole records;
     /// - [`PcapFault::TooLong`] exactly where fewer were given, and the next one's captured length is over 262,144;
     /// - [`PcapFault::ReadFault`] only where the source's count of faults rose;

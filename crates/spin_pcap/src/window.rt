@@ -31,7 +31,7 @@ impl Model for Window {
         (w.start ≤ w.end) × (w.end ≤ MAX_HELD) × (length w.bytes.items ≡ MAX_HELD) };
 }
 
-/// Moves what stands between two places to the front, and answers its length.
+// Moves what stands between two places to the front, and answers its length.
 fn move_to_front(bytes: &mut [u8], start: usize, end: usize) -> usize
     requires ordered { start ≤ end }
     requires within { end ≤ length bytes.old }

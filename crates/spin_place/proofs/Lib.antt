@@ -1,7 +1,7 @@
-pub mod Lists
-pub mod Lawful
+pub mod NumberLists
+pub mod LawfulOrders
 pub mod Rings
 pub mod Precedences
-pub mod Walks
-pub mod Placing
-pub mod Laws
+pub mod PrecedenceWalks
+pub mod BindingPlacing
+pub mod OrderLaws

@@ -6,7 +6,7 @@ use Rattle.std.proofs.lemmas.List.{append-nil, get_or_default, drop_more, take-a
 use Rattle.std.proofs.lemmas.Bool.{cases_eq, cases_lt}
 use Rattle.std.proofs.lemmas.List.Sorted.{IsPermutation-append_comm, length_permutation}
 use Rattle.spin_place.specs.Orders.{AreDistinct, Leads, IsRing, IsCycleOf}
-use Rattle.spin_place.proofs.Lists.{AllPairs-head, AllPairs-tail, AllPairs-cons, times, times-cons, times-same, times-permutation, times_from_Contains, found, one_more, no_more}
+use Rattle.spin_place.proofs.NumberLists.{AllPairs-head, AllPairs-tail, AllPairs-cons, times, times-cons, times-same, times-permutation, times_from_Contains, found, one_more, no_more}
 
 -- each number of the list must precede the next one
 abbrev pub IsPath : (ℕ → ℕ → Type 0) → List ℕ → Type 0

@@ -8,7 +8,7 @@ use crate::binding::{Binding, must_precede};
 use spin_values::NoMemory;
 use std::alloc::Global;
 
-/// A binding that isn't placed yet, and how many of those must precede it.
+// A binding that isn't placed yet, and how many of those must precede it.
 #[derive(Clone, Copy)]
 pub(crate) struct Candidate<'a> {
     pub(crate) binding: &'a Binding,
@@ -25,7 +25,7 @@ fn count_before(bindings: &[Binding], later: &Binding) -> usize
         .count()
 }
 
-/// All bindings, none of which is placed yet. It compares each two of them.
+// All bindings, none of which is placed yet. It compares each two of them.
 pub(crate) fn candidates<'a>(
     alloc: Global,
     bindings: &'a [Binding],
@@ -43,7 +43,7 @@ pub(crate) fn candidates<'a>(
     Ok(rest)
 }
 
-/// Where the candidate with the least number stands that waits for none; `None` exactly where each waits.
+// Where the candidate with the least number stands that waits for none; `None` exactly where each waits.
 pub(crate) fn least_ready(rest: &[Candidate]) -> Option<usize>
     ensures { MatchOption result
         (All (λ c. 0 < c.waits) rest.now)
@@ -62,7 +62,7 @@ pub(crate) fn least_ready(rest: &[Candidate]) -> Option<usize>
     least
 }
 
-/// Lets each candidate wait no longer for this binding.
+// Lets each candidate wait no longer for this binding.
 pub(crate) fn release(rest: &mut [Candidate], placed: &Binding)
     requires { All (λ c. IsTrue (must_precede placed.now c.binding.now) → 0 < c.waits) rest.old }
     ensures { rest.new ≡ map (released placed.now) rest.old }

@@ -1,6 +1,7 @@
 //! The search for a cycle, where none of the bindings that are left may come next.
 
-ghost use Rattle.std.specs.Prelude.{◌≡◌, ◌<◌, ◌≤◌, ◌++◌, ℕ, IfOk, IsTrue, MatchOption, All, Any, length, slice_index, take, drop, vec_len};
+ghost use Rattle.std.specs.Prelude.{◌≡◌, ◌<◌, ◌≤◌, ◌++◌, ℕ, IfOk, IsTrue, MatchOption};
+ghost use Rattle.std.specs.Prelude.{All, Any, length, slice_index, take, drop, vec_len};
 ghost use Rattle.std.specs.List.{Contains, HoldsAt};
 ghost use Rattle.spin_place.specs.Inner.Candidates.{bindings_of, EachWaits};
 ghost use Rattle.spin_place.specs.Orders.{AreDistinct, IsRing, IsCycleOf};
@@ -69,8 +70,8 @@ fn start_at_least(ring: &mut [u16])
     ring.rotate_left(least);
 }
 
-/// A cycle among candidates of which each waits for another. The numbers that `path` has are lost. It compares at
-/// most each two of the candidates.
+// A cycle among candidates of which each waits for another. The numbers that `path` has are lost. It compares at
+// most each two of the candidates.
 pub(crate) fn cycle_among(rest: &[Candidate], path: Vec<u16>) -> Result<Vec<u16>, NoMemory>
     requires some { 0 < length rest.now }
     requires waits { EachWaits rest.now }

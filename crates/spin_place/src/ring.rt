@@ -89,7 +89,7 @@ fn is_closed(bindings: &[Binding], numbers: &[u16]) -> bool
 /// binding of each must precede that of the next, and that of the last that of the first. It takes no memory. A cycle
 /// has at most as many numbers as there are bindings, so a longer list is refused without a look at it; else its time
 /// is linear in the numbers beside the number of bindings: those behind the first that repeats aren't looked at again.
-#[tactic(auto, using(crate::proofs::Placing::cycle_fits))]
+#[tactic(auto, using(crate::proofs::BindingPlacing::cycle_fits))]
 pub fn is_cycle(bindings: &[Binding], numbers: &[u16]) -> bool
     ensures { Decides result (IsCycle bindings.now numbers.now) }
 {

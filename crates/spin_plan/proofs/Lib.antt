@@ -1,6 +1,6 @@
-pub mod Counting
-pub mod Filing
-pub mod Leading
+pub mod RequirementCounts
+pub mod IndexLemmas
+pub mod LeaderLemmas
 pub mod Positions
-pub mod Requiring
-pub mod Walking
+pub mod RequirementLemmas
+pub mod CandidateWalks

@@ -1,5 +1,6 @@
 -- Positions that pass rise, and the first of them from a place on is the next that passes.
-use Rattle.std.proofs.Common.{◌≡◌, Bor, ℕ, zero, suc, ◌+◌, ◌<◌, ◌≤◌, Bool, true, false, ◌||◌, List, [], ◌∷◌, ◌++◌, length, take, not, is_some, add-one, get_or, Option, Some, None, refl, sym, ap, subst, ◌∙◌, arith, nat_le, nat_lt, min, cond, slice_get, ⊎_elim}
+use Rattle.std.proofs.Common.{◌≡◌, Bor, ℕ, zero, suc, ◌+◌, ◌<◌, ◌≤◌, Bool, true, false, ◌||◌, List, [], ◌∷◌, ◌++◌, length, take, not, is_some}
+use Rattle.std.proofs.Common.{add-one, get_or, Option, Some, None, refl, sym, ap, subst, ◌∙◌, arith, nat_le, nat_lt, min, cond, slice_get, ⊎_elim}
 use Rattle.std.specs.Prelude.{IfSome, IsSomeAnd}
 use Rattle.std.specs.Option.{option_copied}
 use Rattle.std.proofs.lemmas.List.{length-take}
@@ -57,7 +58,8 @@ shifted p n x xs from (Some at) here (k, is, le, passes, none) =
     earlier zero before lt = here (omega (arith, before))
     earlier (suc j) before lt = none j (omega (arith, before)) (omega (arith, lt))
 
-first_if : {X : Type 0} (p : X → Bool) (n : ℕ) (x : X) (xs : List X) (from : ℕ) (rest : List ℕ) (b c : Bool) → p x ≡ b → nat_le from n ≡ c → IsFirst p (n + 1) xs from (find (nat_le from) rest) → IsFirst p n (x ∷ xs) from (cond b (cond c (Some n) (find (nat_le from) rest)) (find (nat_le from) rest))
+first_if : {X : Type 0} (p : X → Bool) (n : ℕ) (x : X) (xs : List X) (from : ℕ) (rest : List ℕ) (b c : Bool) → p x ≡ b → nat_le from n ≡ c
+    → IsFirst p (n + 1) xs from (find (nat_le from) rest) → IsFirst p n (x ∷ xs) from (cond b (cond c (Some n) (find (nat_le from) rest)) (find (nat_le from) rest))
 unfolding IsFirst
 first_if p n x xs from rest true true is le first = (zero, omega arith, grind (arith, nat_tests, le), is, λ j before lt. absurd (omega (arith, lt)))
 first_if p n x xs from rest true false is le first = shifted p n x xs from _ (λ before. absurd (grind (arith, nat_tests, le, before))) first
@@ -129,7 +131,8 @@ next_of_both p q xs from (Some x) (Some y) (le, passes, none) (le', passes', oth
 
 -- ---- what a binary search finds
 
-find_split : (xs : List ℕ) (from n : ℕ) → ((k d : ℕ) → k < n → k < length xs → nat_lt (get_or xs k d) from ≡ true) → ((k d : ℕ) → n ≤ k → k < length xs → nat_lt (get_or xs k d) from ≡ false) → find (nat_le from) xs ≡ slice_get xs n
+find_split : (xs : List ℕ) (from n : ℕ) → ((k d : ℕ) → k < n → k < length xs → nat_lt (get_or xs k d) from ≡ true)
+    → ((k d : ℕ) → n ≤ k → k < length xs → nat_lt (get_or xs k d) from ≡ false) → find (nat_le from) xs ≡ slice_get xs n
 find_split [] from n below above = refl
 find_split (x ∷ xs) from zero below above =
     let here : nat_le from x ≡ true = grind (arith, nat_tests, above 0 0 (omega arith) (omega arith)) in
@@ -140,7 +143,8 @@ find_split (x ∷ xs) from (suc n) below above =
     ∙ find_split xs from n (λ k d lt within. below (suc k) d (omega (arith, lt)) (omega (arith, within)))
     (λ k d le within. above (suc k) d (omega (arith, le)) (omega (arith, within)))
 
-pub found : (xs : List ℕ) (from n : ℕ) → ((k d : ℕ) → k < n → k < length xs → nat_lt (get_or xs k d) from ≡ true) → ((k d : ℕ) → n ≤ k → k < length xs → nat_lt (get_or xs k d) from ≡ false) → find (nat_le from) xs ≡ slice_get xs n
+pub found : (xs : List ℕ) (from n : ℕ) → ((k d : ℕ) → k < n → k < length xs → nat_lt (get_or xs k d) from ≡ true)
+    → ((k d : ℕ) → n ≤ k → k < length xs → nat_lt (get_or xs k d) from ≡ false) → find (nat_le from) xs ≡ slice_get xs n
 found = find_split
 
 pub is_partitioned : (xs : List ℕ) (from : ℕ) → IsNonDecreasing xs → IsPartitionedBy (λ n. nat_lt n from) xs
@@ -166,7 +170,8 @@ positions_push p n (y ∷ xs) x =
     further : (a b : ℕ) → a + 1 + b ≡ a + suc b
     further a b = omega arith
 
-pub positions_more : {X : Type 0} (p : X → Bool) (xs : List X) (i : ℕ) (x : X) → i < length xs → x ≡ get_or xs i x → positions_from p 0 (take (i + 1) xs) ≡ positions_from p 0 (take i xs) ++ cond (p x) (i ∷ []) []
+pub positions_more : {X : Type 0} (p : X → Bool) (xs : List X) (i : ℕ) (x : X) → i < length xs → x ≡ get_or xs i x
+    → positions_from p 0 (take (i + 1) xs) ≡ positions_from p 0 (take i xs) ++ cond (p x) (i ∷ []) []
 positions_more p xs i x lt is =
     ap (positions_from p 0) (take_push xs i x lt is)
     ∙ positions_push p 0 (take i xs) x

@@ -1,5 +1,6 @@
 -- What the guards of bindings require of arguments, and the key of a plan: what most of its bindings require.
-use Rattle.std.specs.Prelude.{ℕ, ◌≡◌, ◌<◌, ◌≤◌, ◌-◌, ◌+◌, ◌==◌, ◌&&◌, ◌||◌, Bool, true, false, not, nat_lt, if◌then◌else◌}
+use Rattle.std.specs.Prelude.{ℕ, ◌≡◌, ◌<◌, ◌≤◌, ◌-◌, ◌+◌, ◌==◌, ◌&&◌, ◌||◌}
+use Rattle.std.specs.Prelude.{Bool, true, false, not, nat_lt, if◌then◌else◌}
 use Rattle.std.specs.Prelude.{List, [], ◌∷◌, length, take, drop, filter, slice_get, Option, Some, None, is_some}
 use Rattle.std.specs.Option.{option_or, option_and_then, option_map_or}
 use Rattle.std.specs.List.{count_by}
@@ -46,9 +47,9 @@ width_of (Field a offset width) = width
 width_of e = 0
 
 -- an argument as a word comes before a field that has its numbers too
-abbrev pub kind_of : Expr → ℕ
-kind_of (Field a offset width) = 1
-kind_of e = 0
+abbrev pub key_kind : Expr → ℕ
+key_kind (Field a offset width) = 1
+key_kind e = 0
 
 -- the first numbers decide, or else the rest
 abbrev pub is_below : ℕ → ℕ → Bool → Bool
@@ -59,7 +60,7 @@ abbrev pub comes_before : Expr → Expr → Bool
 comes_before d e =
     is_below (argument_of d) (argument_of e)
     (is_below (offset_of d) (offset_of e)
-    (is_below (width_of d) (width_of e) (nat_lt (kind_of d) (kind_of e))))
+    (is_below (width_of d) (width_of e) (nat_lt (key_kind d) (key_kind e))))
 
 -- e has the greatest count, and none that has it too comes before e
 pub record Leads (count : Expr → ℕ) (e : Expr) : Type 0 where

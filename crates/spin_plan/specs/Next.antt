@@ -1,5 +1,6 @@
 -- The next binding whose guards hold.
-use Rattle.std.specs.Prelude.{ℕ, ◌≡◌, ◌≤◌, ◌<◌, ◌==◌, ◌||◌, Bool, true, false, List, ◌∷◌, length, slice_get, Option, Some, None, IfSome, IsSomeAnd}
+use Rattle.std.specs.Prelude.{ℕ, ◌≡◌, ◌≤◌, ◌<◌, ◌==◌, ◌||◌, Bool, true, false, List, ◌∷◌}
+use Rattle.std.specs.Prelude.{length, slice_get, Option, Some, None, IfSome, IsSomeAnd}
 use Rattle.std.specs.List.{list_all}
 use Rattle.spin_values.specs.declared.values.Value.{Value}
 use Rattle.spin_code.specs.declared.test.Test.{Test}

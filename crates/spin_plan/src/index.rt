@@ -9,10 +9,10 @@ use spin_values::{NoMemory, Sequence};
 use std::alloc::Global;
 use std::collections::BTreeMap;
 
-/// The positions under each constant.
+// The positions under each constant.
 pub(crate) type Keyed = BTreeMap<u64, Sequence<u32>>;
 
-/// Adds a position under the constant that is wanted, or to those of no constant.
+// Adds a position under the constant that is wanted, or to those of no constant.
 pub(crate) fn file(
     alloc: Global,
     keyed: &mut Keyed,
@@ -33,7 +33,7 @@ pub(crate) fn file(
     }
 }
 
-/// The positions under a constant.
+// The positions under a constant.
 pub(crate) fn at_constant(keyed: &Keyed, constant: u64) -> &[u32]
     ensures { result.now ≡ positions_at keyed.now.entries constant }
 {
@@ -43,7 +43,7 @@ pub(crate) fn at_constant(keyed: &Keyed, constant: u64) -> &[u32]
     }
 }
 
-/// The first position at or after `from`.
+// The first position at or after `from`.
 fn first_from(positions: &[u32], from: u32) -> Option<u32>
     requires { IsNonDecreasing positions.now }
     ensures { result ≡ find (nat_le from) positions.now }
@@ -56,7 +56,7 @@ fn first_from(positions: &[u32], from: u32) -> Option<u32>
     positions.get(passed).copied()
 }
 
-/// The lesser one, or the one that is there.
+// The lesser one, or the one that is there.
 fn least(a: Option<u32>, b: Option<u32>) -> Option<u32>
     ensures { result ≡ least a b }
 {
@@ -67,7 +67,7 @@ fn least(a: Option<u32>, b: Option<u32>) -> Option<u32>
     }
 }
 
-/// The first position at or after `from` in one of two rising lists.
+// The first position at or after `from` in one of two rising lists.
 pub(crate) fn first_of_both(a: &[u32], b: &[u32], from: u32) -> Option<u32>
     requires a { IsNonDecreasing a.now }
     requires b { IsNonDecreasing b.now }

@@ -20,8 +20,8 @@ use spin_values::{NoMemory, Sequence};
 use std::alloc::Global;
 use std::collections::HashMap;
 
-/// The argument, offset and width of a field, and then 1. An argument as a word counts as offset 0 and width 0, and
-/// then has 0.
+// The argument, offset and width of a field, and then 1. An argument as a word counts as offset 0 and width 0, and
+// then has 0.
 fn numbers(e: &Expr) -> (u8, u16, u8, u8)
     ensures { result ≡ numbers_of e.now }
 {
@@ -32,14 +32,14 @@ fn numbers(e: &Expr) -> (u8, u16, u8, u8)
     }
 }
 
-/// Whether the first numbers decide, or else the rest.
+// Whether the first numbers decide, or else the rest.
 fn is_below(a: u16, b: u16, rest: bool) -> bool
     ensures { result ≡ specs.is_below a b rest }
 {
     a < b || a == b && rest
 }
 
-/// Whether the first comes before the second, by argument, offset and width.
+// Whether the first comes before the second, by argument, offset and width.
 fn comes_before(d: &Expr, e: &Expr) -> bool
     ensures { result ≡ specs.comes_before d.now e.now }
 {
@@ -48,10 +48,10 @@ fn comes_before(d: &Expr, e: &Expr) -> bool
     is_below(d.0 as u16, e.0 as u16, is_below(d.1, e.1, by_width))
 }
 
-/// How often each argument or field was counted, by its numbers.
+// How often each argument or field was counted, by its numbers.
 type Counts = HashMap<(u8, u16, u8, u8), u64>;
 
-/// Counts it once more, and answers how often it was counted.
+// Counts it once more, and answers how often it was counted.
 fn count(counts: &mut Counts, e: &Expr) -> Result<u64, NoMemory>
     requires read { IsTrue (is_read e.now) }
     requires room { times_counted counts.old e.now + 1 < 2 ^ 64 }
@@ -65,14 +65,14 @@ fn count(counts: &mut Counts, e: &Expr) -> Result<u64, NoMemory>
     Ok(times)
 }
 
-/// The one that was counted most often so far, and how often.
+// The one that was counted most often so far, and how often.
 #[derive(Drop)]
 struct Lead {
     leader: Option<Read>,
     times: u64,
 }
 
-/// Whether one with this count leads before the leader so far and its count.
+// Whether one with this count leads before the leader so far and its count.
 fn is_ahead(e: &Expr, times: u64, leader: &Option<Read>, most: u64) -> bool
     ensures { result ≡ goes_ahead e.now times (option_map expr_of leader.now) most }
 {
@@ -82,7 +82,7 @@ fn is_ahead(e: &Expr, times: u64, leader: &Option<Read>, most: u64) -> bool
     }
 }
 
-/// Who leads once this one was counted so often.
+// Who leads once this one was counted so often.
 fn lead_after(lead: Lead, e: &Expr, times: u64) -> Lead
     requires { IsTrue (is_read e.now) }
     ensures ahead { IsTrue (goes_ahead e.now times (option_map expr_of lead.leader) lead.times)
@@ -100,7 +100,7 @@ fn lead_after(lead: Lead, e: &Expr, times: u64) -> Lead
     lead
 }
 
-/// The one that stands there most often, and of several the one that comes first.
+// The one that stands there most often, and of several the one that comes first.
 fn leader(alloc: Global, reads: &[Expr]) -> Result<Option<Read>, NoMemory>
     requires { IsTrue (list_all is_read reads.now) }
     ensures { IfOk result (λ leader. IsLeader (times_in reads.now) (option_map expr_of leader)) }
@@ -117,7 +117,7 @@ fn leader(alloc: Global, reads: &[Expr]) -> Result<Option<Read>, NoMemory>
     Ok(lead.leader)
 }
 
-/// What the bindings require to be constants, once for each binding.
+// What the bindings require to be constants, once for each binding.
 fn reads_of_all<C: Guards>(
     alloc: Global,
     guards: &C,
@@ -136,7 +136,7 @@ fn reads_of_all<C: Guards>(
     Ok(reads)
 }
 
-/// The key of these bindings; `None` where none requires a constant.
+// The key of these bindings; `None` where none requires a constant.
 pub(crate) fn key_of<C: Guards>(
     alloc: Global,
     guards: &C,

@@ -1,6 +1,7 @@
 //! The bindings of an event in the order in which they run.
 
-ghost use Rattle.std.specs.Prelude.{◌≡◌, ◌==◌, ◌+◌, ◌≤◌, ◌<◌, ◌^◌, length, slice_get, Some, OnOk, IfOk, IfSome, IsSomeAnd, sum_by, nat_le, if◌then◌else◌};
+ghost use Rattle.std.specs.Prelude.{◌≡◌, ◌==◌, ◌+◌, ◌≤◌, ◌<◌, ◌^◌, length, slice_get, Some, OnOk};
+ghost use Rattle.std.specs.Prelude.{IfOk, IfSome, IsSomeAnd, sum_by, nat_le, if◌then◌else◌};
 ghost use Rattle.std.specs.List.{All, find};
 ghost use Rattle.std.specs.Option.{option_map};
 ghost use Rattle.std.specs.List.Sorted.{IsNonDecreasing};
@@ -44,12 +45,13 @@ impl Model for Plan {
 
     ghost coded = { Prim.hlevel (codes, expr.the_row.coded) };
 
-    ghost view = { λ p. record { bindings = p.bindings; key = option_map expr_of p.key; keyed = p.keyed.entries; free = p.free } };
+    ghost view = { λ p.
+        record { bindings = p.bindings; key = option_map expr_of p.key; keyed = p.keyed.entries; free = p.free } };
 
     ghost invariant = { λ p. length p.bindings < 2 ^ 32 };
 }
 
-/// Whether the guard's test holds: 0 is no guard and always holds.
+// Whether the guard's test holds: 0 is no guard and always holds.
 fn admits<C: Guards, L: Ledger>(guards: &C, guard: u16, args: &Args, steps: &mut Steps<L>) -> bool
     requires there { IsGuard (length (C.tests guards.now)) guard }
     requires sincere { C.sincere guards.now }
@@ -60,7 +62,7 @@ fn admits<C: Guards, L: Ledger>(guards: &C, guard: u16, args: &Args, steps: &mut
     guard == 0 || guards.admits(guard, args, steps)
 }
 
-/// Whether the binding's own guard and all its imposed guards hold. None is asked after one that doesn't hold.
+// Whether the binding's own guard and all its imposed guards hold. None is asked after one that doesn't hold.
 fn admits_all<C: Guards, L: Ledger>(
     guards: &C,
     binding: &Binding,
@@ -85,7 +87,7 @@ fn admits_all<C: Guards, L: Ledger>(
     true
 }
 
-/// What a binding requires for the key, if there is one.
+// What a binding requires for the key, if there is one.
 fn wanted<C: Guards>(guards: &C, binding: &Binding, key: &Option<Read>) -> Option<u64>
     requires own { IsGuard (length (C.tests guards.now)) binding.now.own_guard }
     requires imposed { All (IsGuard (length (C.tests guards.now))) binding.now.imposed }
@@ -182,7 +184,7 @@ impl Plan {
         self.binding(at).mode
     }
 
-    /// The positions of the bindings that require the key's value on these arguments.
+    // The positions of the bindings that require the key's value on these arguments.
     fn keyed_at(&self, args: &Args) -> &[u32]
         ensures { result.now
             ≡ positions_under self.now.keyed (key_value self.now.key args.now) }
@@ -193,7 +195,7 @@ impl Plan {
         }
     }
 
-    /// The first position at or after `from` in this list or of a binding that requires no constant for the key.
+    // The first position at or after `from` in this list or of a binding that requires no constant for the key.
     fn next_candidate(&self, keyed: &[u32], from: u32) -> Option<u32>
         requires free { IsNonDecreasing self.now.free }
         requires keyed { IsNonDecreasing keyed.now }

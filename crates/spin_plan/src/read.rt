@@ -7,24 +7,24 @@ ghost use Rattle.spin_plan.specs.Inner.Reads.{is_read};
 
 use spin_code::Expr;
 
-/// An argument, or a field of one: what a key may be, where an expression may be anything.
+// An argument, or a field of one: what a key may be, where an expression may be anything.
 #[derive(Clone, Copy, Debug)]
 pub(crate) enum Read {
-    /// An argument as a word.
+    // An argument as a word.
     Arg(u8),
-    /// A field of an argument.
+    // A field of an argument.
     Field {
-        /// The argument.
+        // The argument.
         arg: u8,
-        /// Where the field begins, in bytes.
+        // Where the field begins, in bytes.
         offset: u16,
-        /// Its width in bytes.
+        // Its width in bytes.
         width: u8,
     },
 }
 
 impl Read {
-    /// What is read, as an expression.
+    // What is read, as an expression.
     pub(crate) fn expr(&self) -> Expr
         ensures { result ≡ expr_of self.now }
     {
@@ -39,7 +39,7 @@ impl Read {
     }
 }
 
-/// What an expression reads, where it is an argument or a field of one.
+// What an expression reads, where it is an argument or a field of one.
 pub(crate) fn read_of(e: &Expr) -> Option<Read>
     ensures { option_map expr_of result ≡ if is_read e.now then Some e.now else None }
 {

@@ -12,17 +12,17 @@ use spin_place::Binding;
 use spin_values::{NoMemory, Sequence};
 use std::alloc::Global;
 
-/// Arguments, and fields of arguments.
+// Arguments, and fields of arguments.
 pub(crate) type Reads = Sequence<Expr>;
 
-/// Whether the list has the same argument or field.
+// Whether the list has the same argument or field.
 fn has_read(reads: &[Expr], e: &Expr) -> bool
     ensures { result ≡ has_read reads.now e.now }
 {
     reads.iter().any(|d| is_same_read(d, e))
 }
 
-/// Adds what stands beside a constant, if it is an argument or a field and isn't there yet.
+// Adds what stands beside a constant, if it is an argument or a field and isn't there yet.
 fn note(reads: &mut Reads, side: &Expr, other: &Expr) -> Result<(), NoMemory>
     ensures { OnOk result (reads.new ≡ fold with_read reads.old (reads_beside side.now other.now)) }
 {
@@ -35,7 +35,7 @@ fn note(reads: &mut Reads, side: &Expr, other: &Expr) -> Result<(), NoMemory>
     }
 }
 
-/// Adds what a test requires to be constants and isn't there yet.
+// Adds what a test requires to be constants and isn't there yet.
 fn note_test(reads: &mut Reads, t: &Test) -> Result<(), NoMemory>
     ensures { OnOk result (reads.new ≡ fold with_read reads.old (reads_of t.now)) }
 {
@@ -52,7 +52,7 @@ fn note_test(reads: &mut Reads, t: &Test) -> Result<(), NoMemory>
     }
 }
 
-/// Adds what the test of a guard requires to be constants and isn't there yet; 0 is no guard.
+// Adds what the test of a guard requires to be constants and isn't there yet; 0 is no guard.
 fn note_guard<C: Guards>(reads: &mut Reads, guards: &C, guard: u16) -> Result<(), NoMemory>
     requires there { IsGuard (length (C.tests guards.now)) guard }
     ensures { OnOk result
@@ -64,7 +64,7 @@ fn note_guard<C: Guards>(reads: &mut Reads, guards: &C, guard: u16) -> Result<()
     note_test(reads, guards.test_of(guard))
 }
 
-/// What the guards of a binding require to be constants, each once.
+// What the guards of a binding require to be constants, each once.
 pub(crate) fn reads_of<C: Guards>(
     alloc: Global,
     guards: &C,
@@ -82,7 +82,7 @@ pub(crate) fn reads_of<C: Guards>(
     Ok(reads)
 }
 
-/// The constant that a guard requires; 0 is no guard.
+// The constant that a guard requires; 0 is no guard.
 fn required_of_guard<C: Guards>(guards: &C, guard: u16, e: &Expr) -> Option<u64>
     requires there { IsGuard (length (C.tests guards.now)) guard }
     ensures { result ≡ guard_requires (C.tests guards.now) e.now guard }
@@ -93,7 +93,7 @@ fn required_of_guard<C: Guards>(guards: &C, guard: u16, e: &Expr) -> Option<u64>
     required(guards.test_of(guard), e)
 }
 
-/// The constant that a binding requires: the first one that its guards do, its own guard first.
+// The constant that a binding requires: the first one that its guards do, its own guard first.
 pub(crate) fn required_of<C: Guards>(guards: &C, binding: &Binding, e: &Expr) -> Option<u64>
     requires own { IsGuard (length (C.tests guards.now)) binding.now.own_guard }
     requires imposed { All (IsGuard (length (C.tests guards.now))) binding.now.imposed }

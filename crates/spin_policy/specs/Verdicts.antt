@@ -1,5 +1,6 @@
 -- What a policy answers: the first of its rules that matches the request decides.
-use Rattle.std.specs.Prelude.{ℕ, ◌+◌, Bool, true, false, not, ◌&&◌, ◌||◌, ◌==◌, nat_lt, nat_le, if◌then◌else◌, List, [], ◌∷◌, length, slice_get, position, Option, None, Some}
+use Rattle.std.specs.Prelude.{ℕ, ◌+◌, Bool, true, false, not, ◌&&◌, ◌||◌, ◌==◌, nat_lt, nat_le}
+use Rattle.std.specs.Prelude.{if◌then◌else◌, List, [], ◌∷◌, length, slice_get, position, Option, None, Some}
 use Rattle.std.specs.Option.{option_map_or}
 use Rattle.spin_values.specs.First.{first_of}
 use Rattle.spin_word.specs.declared.command.Op.{Op}
@@ -54,14 +55,14 @@ sets_guards op.Replace = true
 sets_guards o = false
 
 -- what the rule of that number answers, where it decides
-abbrev pub answer_of : Effect → ℕ → Request → Verdict
-answer_of effect.Allow number request = verdict.Allow
-answer_of effect.Deny number request = verdict.Deny number
-answer_of (effect.Quota most) number request =
+abbrev pub rule_answer : Effect → ℕ → Request → Verdict
+rule_answer effect.Allow number request = verdict.Allow
+rule_answer effect.Deny number request = verdict.Deny number
+rule_answer (effect.Quota most) number request =
     if is_install request.op && nat_le most request.live then verdict.Deny number else verdict.Allow
-answer_of (effect.Impose guards) number request =
+rule_answer (effect.Impose guards) number request =
     if sets_guards request.op then verdict.Impose number else verdict.Allow
-answer_of (effect.Force guards place apart) number request =
+rule_answer (effect.Force guards place apart) number request =
     if sets_guards request.op then verdict.Force number else verdict.Allow
 
 -- the answer where the deciding rule stands at this place of the list, counted from 0, or there is
@@ -69,7 +70,7 @@ answer_of (effect.Force guards place apart) number request =
 abbrev pub answer_at : List Rule → Request → Option ℕ → Verdict
 answer_at rules request None = verdict.Deny 0
 answer_at rules request (Some at) =
-    option_map_or (λ rule. answer_of rule.effect (at + 1) request) (slice_get rules at)
+    option_map_or (λ rule. rule_answer rule.effect (at + 1) request) (slice_get rules at)
     (verdict.Deny 0)
 
 -- the first rule that matches decides, its number being its place counted from 1

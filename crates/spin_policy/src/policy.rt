@@ -1,6 +1,7 @@
 //! Lists of rules, and their answer.
 
-ghost use Rattle.std.specs.Prelude.{◌≡◌, ◌<◌, ◌≤◌, ◌++◌, ◌-◌, [], ◌∷◌, length, slice_get, Some, Err, OnOk, OnErr, IfErr, MatchOption, position};
+ghost use Rattle.std.specs.Prelude.{◌≡◌, ◌<◌, ◌≤◌, ◌++◌, ◌-◌, [], ◌∷◌, length, slice_get};
+ghost use Rattle.std.specs.Prelude.{Some, Err, OnOk, OnErr, IfErr, MatchOption, position};
 ghost use Rattle.spin_policy.specs.Verdicts.{matches, verdict_of, push_fault};
 ghost use Rattle.std.specs.Option.{option_copied, option_map_or};
 ghost use Rattle.spin_values.specs.First.{numbered};

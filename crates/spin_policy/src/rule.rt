@@ -2,7 +2,7 @@
 
 ghost use Rattle.std.specs.Prelude.{◌≡◌};
 ghost use Rattle.spin_policy.specs.Imposed.{effect_guards, effect_place, effect_apart};
-ghost use Rattle.spin_policy.specs.Verdicts.{is_of_op, is_of_handler, is_own, matches, answer_of, has_wrong_guards};
+ghost use Rattle.spin_policy.specs.Verdicts.{is_of_op, is_of_handler, is_own, matches, rule_answer, has_wrong_guards};
 
 use spin_values::Numbers;
 use spin_word::Op;
@@ -97,7 +97,7 @@ impl Effect {
         }
     }
 
-    /// Whether it imposes more guards than [`MAX_GUARDS`], or is an [`Effect::Impose`] of none.
+    // Whether it imposes more guards than [`MAX_GUARDS`], or is an [`Effect::Impose`] of none.
     pub(crate) fn has_wrong_guards(&self) -> bool
         ensures { result ≡ has_wrong_guards self.now }
     {
@@ -174,7 +174,7 @@ fn is_requesters(target_owner: Option<u8>, requester: u8) -> bool
 }
 
 impl Rule {
-    /// Whether the rule speaks of the request.
+    // Whether the rule speaks of the request.
     pub(crate) fn matches(&self, request: &Request) -> bool
         ensures { result ≡ matches self.now request.now }
     {
@@ -185,9 +185,9 @@ impl Rule {
             && (!self.own_only || is_requesters(request.target_owner, request.requester))
     }
 
-    /// What the rule decides, under its number.
+    // What the rule decides, under its number.
     pub(crate) fn answer(&self, number: u8, request: &Request) -> Verdict
-        ensures { result ≡ answer_of self.now.effect number request.now }
+        ensures { result ≡ rule_answer self.now.effect number request.now }
     {
         match (&self.effect, request.op) {
             (Effect::Deny, _) => Verdict::Deny(number),

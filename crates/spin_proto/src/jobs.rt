@@ -24,14 +24,14 @@ use spin_values::{Args, NoMemory, Sequence};
 use std::alloc::Global;
 use std::collections::VecDeque;
 
-/// The binding of that number.
+// The binding of that number.
 fn find_binding(bindings: &[Binding], number: u16) -> Option<&Binding>
     ensures { option_copied result ≡ binding_of bindings.now number }
 {
     bindings.iter().find(|binding| binding.number == number)
 }
 
-/// The handler of the binding of that number, 0 where there is none.
+// The handler of the binding of that number, 0 where there is none.
 fn handler_of(bindings: &[Binding], number: u16) -> u16
     ensures { result ≡ option_map_or (λ b. b.handler) (binding_of bindings.now number) 0 }
 {
@@ -50,7 +50,7 @@ fn answer_of_job(word: Option<u64>) -> Answer
     }
 }
 
-/// Notes what a firing gave at an event, and does its raises upwards. False where too many handlers start.
+// Notes what a firing gave at an event, and does its raises upwards. False where too many handlers start.
 fn follow(
     alloc: Global,
     version: &Version,
@@ -82,7 +82,7 @@ fn follow(
     Ok(true)
 }
 
-/// Does the handler of a live binding, its guards untested, with its raises upwards.
+// Does the handler of a live binding, its guards untested, with its raises upwards.
 fn binding_job(
     alloc: Global,
     version: &Version,

@@ -18,7 +18,7 @@ use spin_values::{Args, NoMemory, Sequence};
 use std::alloc::Global;
 use std::collections::VecDeque;
 
-/// Notes one item, and keeps a raise upwards for later. False where too many handlers start.
+// Notes one item, and keeps a raise upwards for later. False where too many handlers start.
 fn note_item(
     walk: &mut Walk,
     event: u8,
@@ -50,7 +50,7 @@ fn note_item(
     }
 }
 
-/// Notes what a firing gave, and answers its raises upwards. `None` where too many handlers start.
+// Notes what a firing gave, and answers its raises upwards. `None` where too many handlers start.
 pub(crate) fn note_items(
     alloc: Global,
     walk: &mut Walk,
@@ -69,10 +69,10 @@ pub(crate) fn note_items(
     Ok(Some(ups))
 }
 
-/// Does a raise of an event that is there, with its raises upwards. `None` where too many handlers start.
-///
-/// It calls itself, and no other function does with it: functions that call one another in a ring may not be lent
-/// boxed objects. So the raises upwards of a firing are done here, and for a job once more in `jobs`.
+// Does a raise of an event that is there, with its raises upwards. `None` where too many handlers start.
+//
+// It calls itself, and no other function does with it: functions that call one another in a ring may not be lent
+// boxed objects. So the raises upwards of a firing are done here, and for a job once more in `jobs`.
 pub(crate) fn raise_event(
     alloc: Global,
     version: &Version,

@@ -9,14 +9,14 @@ use crate::reply::{MAX_RUNS, Step, Trace};
 use spin_values::{Args, NoMemory, Sequence};
 use std::alloc::Global;
 
-/// A raise upwards that is still to be done.
+// A raise upwards that is still to be done.
 #[derive(Drop, Debug)]
 pub(crate) struct Upward {
     pub(crate) event: u8,
     pub(crate) args: Args,
 }
 
-/// The steps and the calls of jobs so far, and how many handlers may still start.
+// The steps and the calls of jobs so far, and how many handlers may still start.
 #[derive(Drop)]
 pub(crate) struct Walk {
     pub(crate) trace: Trace,
@@ -25,7 +25,7 @@ pub(crate) struct Walk {
 }
 
 impl Walk {
-    /// No step so far.
+    // No step so far.
     pub(crate) fn new(alloc: Global) -> Walk
         ensures trace { result.trace ≡ [] }
         ensures jobs { result.jobs ≡ [] }
@@ -38,7 +38,7 @@ impl Walk {
         }
     }
 
-    /// Adds a step that starts nothing.
+    // Adds a step that starts nothing.
     pub(crate) fn note(&mut self, step: Step) -> Result<(), NoMemory>
         requires { is_start (Plain step) ≡ false }
         ensures { OnOk result (Gained (Plain step ∷ []) self.old self.new) }
@@ -46,7 +46,7 @@ impl Walk {
         self.trace.push(step)
     }
 
-    /// Starts a handler. False where none may start.
+    // Starts a handler. False where none may start.
     pub(crate) fn start(&mut self, event: u8, number: u16) -> Result<bool, NoMemory>
         ensures { IfOk result
             (λ on. Spends on (Plain (Step.Run event number) ∷ []) self.old self.new) }
@@ -59,7 +59,7 @@ impl Walk {
         Ok(true)
     }
 
-    /// Leaves a job, which counts as a handler that starts. False where none may start.
+    // Leaves a job, which counts as a handler that starts. False where none may start.
     pub(crate) fn queue(&mut self, event: u8, number: u16, args: Args) -> Result<bool, NoMemory>
         ensures { IfOk result (λ on. Spends on (Queued event number args ∷ []) self.old self.new) }
     {

@@ -21,7 +21,7 @@ use spin_values::{Args, NoMemory, fits};
 use spin_word::Deed;
 use std::alloc::Global;
 
-/// Does a raise of an event that is there.
+// Does a raise of an event that is there.
 pub(crate) fn raise_whole(
     alloc: Global,
     version: &Version,
@@ -51,7 +51,7 @@ pub(crate) fn raise_whole(
     }
 }
 
-/// Why a deed isn't done, if it isn't.
+// Why a deed isn't done, if it isn't.
 fn refusal(setup: &Setup, event: u8, args: &Args) -> Option<Reply>
     ensures { MatchOption result
         (IsFit (data_of setup.now) event args.now)

@@ -34,7 +34,7 @@ impl Runner {
         if apart { Runner::Job } else { Runner::Raiser }
     }
 
-    /// Whether it leaves asynchronous bindings to jobs.
+    // Whether it leaves asynchronous bindings to jobs.
     pub(crate) fn leaves_jobs(self) -> bool
         ensures { result ≡ specs.leaves_jobs self }
     {

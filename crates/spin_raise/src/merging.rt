@@ -24,7 +24,7 @@ pub fn last_of(items: &[Item]) -> Option<u64>
     last
 }
 
-/// The merge of the results so far and the next one.
+// The merge of the results so far and the next one.
 fn combined(alloc: Global, merge: &Merge, so_far: u64, next: u64) -> Result<u64, NoMemory>
     ensures { IfOk result (λ n. n ≡ combine merge.now so_far next) }
 {
@@ -39,7 +39,7 @@ fn combined(alloc: Global, merge: &Merge, so_far: u64, next: u64) -> Result<u64,
     }
 }
 
-/// The answer so far after a handler that ran with no result to merge.
+// The answer so far after a handler that ran with no result to merge.
 pub(crate) fn after_run(answer: Answer) -> Answer
     ensures { result ≡ ran answer }
 {
@@ -51,7 +51,7 @@ pub(crate) fn after_run(answer: Answer) -> Answer
     }
 }
 
-/// The answer so far after a handler whose result, if it gave one, is merged.
+// The answer so far after a handler whose result, if it gave one, is merged.
 pub(crate) fn after_result(
     alloc: Global,
     merge: &Merge,
@@ -71,7 +71,7 @@ pub(crate) fn after_result(
     }
 }
 
-/// The number of the default that runs next: none where a handler ran.
+// The number of the default that runs next: none where a handler ran.
 pub(crate) fn default_next(answer: Answer, default: u16) -> u16
     ensures { result ≡ default_now answer default }
 {

@@ -87,7 +87,7 @@ pub fn run_handler(
     Ok(last_of(&out.as_slice()[before..]))
 }
 
-/// The next position whose binding fires, with this counter.
+// The next position whose binding fires, with this counter.
 fn next_counted<L: Ledger>(
     cat: &Catalogue,
     plan: &Plan,
@@ -110,7 +110,7 @@ fn next_counted<L: Ledger>(
     plan.next(from, args, cat, &mut steps)
 }
 
-/// The next position, from this one on, whose binding fires on these arguments.
+// The next position, from this one on, whose binding fires on these arguments.
 fn next_firing(cat: &Catalogue, plan: &Plan, from: u32, args: &Args) -> Option<u32>
     requires own { All (λ b. IsGuard (length (tests_of cat.now)) b.own_guard) plan.now.bindings }
     requires imposed { All (λ b. All (IsGuard (length (tests_of cat.now))) b.imposed) plan.now.bindings }
@@ -129,8 +129,8 @@ fn is_async(mode: Mode) -> bool
     matches!(mode, Mode::Async)
 }
 
-/// Does the act of a binding that fires, and answers the result that is merged, if there is one. An asynchronous one
-/// is left to a job with a copy of the arguments, or is done in place where the raise is itself a job.
+// Does the act of a binding that fires, and answers the result that is merged, if there is one. An asynchronous one
+// is left to a job with a copy of the arguments, or is done in place where the raise is itself a job.
 fn fire(
     alloc: Global,
     cat: &Catalogue,

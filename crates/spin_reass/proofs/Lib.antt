@@ -1,10 +1,10 @@
-pub mod Captures
-mod Covers
+pub mod CaptureLemmas
+mod PartCovers
 mod Frames
-mod Gathering
-mod Gathers
-mod Given
-mod Opens
-mod Orders
-mod Positions
-mod Reading
+mod DatagramParts
+mod AddedParts
+mod GivenRecords
+mod OpenDatagrams
+mod PartOrder
+mod DatagramPlaces
+mod JoinedRecords

@@ -1,5 +1,6 @@
 -- ICMP echo messages, RFC 792.
-use Rattle.std.specs.Prelude.{ℕ, Bool, ◌&&◌, ◌==◌, not, nat_lt, nat_le, List, [], ◌∷◌, ◌++◌, length, drop, slice_index, Result, MatchResult, MatchBool, None}
+use Rattle.std.specs.Prelude.{ℕ, Bool, ◌&&◌, ◌==◌, not, nat_lt, nat_le, List, [], ◌∷◌, ◌++◌}
+use Rattle.std.specs.Prelude.{length, drop, slice_index, Result, MatchResult, MatchBool, None}
 use Rattle.byteorder.specs.Endian.{big_bytes}
 use Rattle.spin_values.specs.First.{unless}
 use Rattle.spin_headers.specs.Sums.{word_sum, checksum_of}

@@ -10,7 +10,7 @@ use Rattle.spin_pcap.specs.declared.next.Next.TheVariants as next
 use Rattle.spin_pcap.specs.declared.order.Order.{Order}
 use Rattle.spin_pcap.specs.declared.limits.TheConstants.{MAX_CAPTURED}
 use Rattle.spin_pcap.specs.Captures.{header_of, IsCapture}
-use Rattle.spin_pcap.specs.Passing.{number}
+use Rattle.spin_pcap.specs.Passing.{fault_number}
 use Rattle.spin_reass.specs.declared.fault.JoinFault.{JoinFault}
 use Rattle.spin_reass.specs.declared.fault.JoinFault.TheVariants as stop
 use Rattle.spin_reass.specs.Joining.{joined_frames}
@@ -56,7 +56,7 @@ joined_capture frames ending =
 -- or at record 0, by a fault of its header.
 abbrev pub IsRefused : List ℕ → ℕ → ℕ → Type 0
 IsRefused file at fault =
-    (wrong : PcapFault) × (fault ≡ number wrong)
+    (wrong : PcapFault) × (fault ≡ fault_number wrong)
     × (((at ≡ 0) × (header_of file ≡ Err wrong))
     ⊎ ((way : Order) × (frames : List (List ℕ)) × (at ≡ length frames + 1)
     × IsCapture file way frames (Err wrong)))

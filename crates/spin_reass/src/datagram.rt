@@ -2,7 +2,8 @@
 
 ghost use Rattle.std.specs.Prelude.{◌≡◌, ◌≤◌, ◌++◌, true, [], length, slice_get, take, IfOk, OnOk};
 ghost use Rattle.spin_reass.specs.Fragments.{end_of, is_sound};
-ghost use Rattle.spin_reass.specs.Inner.Orderly.{are_orderly, place_from, part_before, ends_by, may_stand_before, added_to, makes_whole, front_ttl};
+ghost use Rattle.spin_reass.specs.Inner.Orderly.{are_orderly, place_from, part_before, ends_by};
+ghost use Rattle.spin_reass.specs.Inner.Orderly.{may_stand_before, added_to, makes_whole, front_ttl};
 ghost use Rattle.spin_reass.specs.Joining.{last_end};
 ghost use Rattle.spin_reass.specs.Joining as specs;
 
@@ -14,7 +15,7 @@ use std::alloc::Global;
 use std::marker::Model;
 use std::mem;
 
-/// The number of bytes of a packet's header without options.
+// The number of bytes of a packet's header without options.
 const HEADER: usize = 20;
 
 /// The greatest number of bytes of a frame with a whole datagram: the headers and the bytes of its parts.
@@ -44,7 +45,7 @@ impl Model for Datagram {
         × (d.end ≡ last_end d.parts.items) };
 }
 
-/// The place of a part that starts there among parts in order of start. It takes a binary search.
+// The place of a part that starts there among parts in order of start. It takes a binary search.
 fn place_of(parts: &[Part], start: u32) -> usize
     requires { are_orderly 0 parts.now ≡ true }
     ensures place { result ≡ place_from start parts.now }
@@ -53,7 +54,7 @@ fn place_of(parts: &[Part], start: u32) -> usize
     parts.partition_point(|part| part.start < start)
 }
 
-/// Whether the part before that place, if there is one, ends where the other starts, or before.
+// Whether the part before that place, if there is one, ends where the other starts, or before.
 fn ends_before(parts: &[Part], at: usize, start: u32) -> bool
     requires orderly { are_orderly 0 parts.now ≡ true }
     requires place { at ≤ length parts.now }
@@ -65,7 +66,7 @@ fn ends_before(parts: &[Part], at: usize, start: u32) -> bool
     parts[at - 1].end() <= start
 }
 
-/// Whether a part may stand before the one at that place, or behind all if there is none.
+// Whether a part may stand before the one at that place, or behind all if there is none.
 fn begins_behind(parts: &[Part], end: Option<u32>, at: usize, part: &Part) -> bool
     requires small { end_of part.now ≤ MAX_PAYLOAD }
     ensures { result ≡ may_stand_before part.now (slice_get parts.now at) end }
@@ -76,7 +77,7 @@ fn begins_behind(parts: &[Part], end: Option<u32>, at: usize, part: &Part) -> bo
     }
 }
 
-/// Whether the part fits beside its neighbours at its place, and so beside all.
+// Whether the part fits beside its neighbours at its place, and so beside all.
 fn fits_at(parts: &[Part], end: Option<u32>, at: usize, part: &Part) -> bool
     requires orderly { are_orderly 0 parts.now ≡ true }
     requires end { end ≡ last_end parts.now }
@@ -88,7 +89,7 @@ fn fits_at(parts: &[Part], end: Option<u32>, at: usize, part: &Part) -> bool
     ends_before(parts, at, part.start) && begins_behind(parts, end, at, part)
 }
 
-/// Appends the bytes of the parts.
+// Appends the bytes of the parts.
 fn put_bytes(bytes: &mut Vec<u8>, parts: &[Part]) -> Result<(), NoMemory>
     ensures { OnOk result (bytes.new.items ≡ bytes.old.items ++ specs.payload parts.now) }
 {
@@ -98,7 +99,7 @@ fn put_bytes(bytes: &mut Vec<u8>, parts: &[Part]) -> Result<(), NoMemory>
     Ok(())
 }
 
-/// How many hops are left to the first part, if it begins the datagram.
+// How many hops are left to the first part, if it begins the datagram.
 fn front_ttl(parts: &[Part]) -> u8
     ensures { result ≡ front_ttl (slice_get parts.now 0) }
 {
@@ -108,7 +109,7 @@ fn front_ttl(parts: &[Part]) -> u8
     }
 }
 
-/// How many hops are left to the part that begins the datagram.
+// How many hops are left to the part that begins the datagram.
 fn first_ttl(parts: &[Part]) -> u8
     requires { are_orderly 0 parts.now ≡ true }
     ensures { result ≡ specs.first_ttl parts.now }
@@ -116,7 +117,7 @@ fn first_ttl(parts: &[Part]) -> u8
     front_ttl(parts)
 }
 
-/// Puts a header and the bytes of the parts in the place of what the frame carries.
+// Puts a header and the bytes of the parts in the place of what the frame carries.
 fn replace_packet(frame: &mut Octets, header: &[u8], parts: &[Part]) -> Result<(), NoMemory>
     ensures { OnOk result
         (frame.new ≡ take ETHER frame.old ++ header.now ++ specs.payload parts.now) }
@@ -169,7 +170,7 @@ impl Datagram {
         Ok(self.is_whole())
     }
 
-    /// Whether its parts cover all from 0 to the end of the part that is last.
+    // Whether its parts cover all from 0 to the end of the part that is last.
     fn is_whole(&self) -> bool
         ensures { result ≡ specs.are_whole self.now.parts }
     {

@@ -8,13 +8,13 @@ use crate::fault::EchoFault;
 use byteorder::{BigEndian, ByteOrder};
 use spin_headers::checksum;
 
-/// The number of bytes of the header: type, code, checksum, identifier and sequence number.
+// The number of bytes of the header: type, code, checksum, identifier and sequence number.
 const HEADER: usize = 8;
 
-/// The type of an echo request. That of a reply is 0.
+// The type of an echo request. That of a reply is 0.
 const REQUEST: u8 = 8;
 
-/// Writes the reply to a request.
+// Writes the reply to a request.
 fn write_reply(request: &[u8], out: &mut [u8])
     requires header { 8 ≤ length request.now }
     requires room { length out.old ≡ length request.now }

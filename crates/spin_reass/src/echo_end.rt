@@ -12,7 +12,7 @@ use spin_values::NoMemory;
 use std::alloc::Global;
 use std::marker::Model;
 
-/// Writes the reply to a request to the front of the room, and answers whether there is one.
+// Writes the reply to a request to the front of the room, and answers whether there is one.
 fn write_front(request: &[u8], room: &mut [u8]) -> bool
     requires { length request.now ≤ length room.old }
     ensures { MatchResult (reply_to request.now)

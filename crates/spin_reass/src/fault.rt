@@ -52,7 +52,7 @@ pub enum JoinFault {
 }
 
 impl JoinFault {
-    /// Why joining stops at a fault of the record of that number.
+    // Why joining stops at a fault of the record of that number.
     pub(crate) fn at(number: u32, fault: PcapFault) -> JoinFault
         ensures { result ≡ stop_of number fault }
     {

@@ -13,7 +13,7 @@ use spin_pcap::{Next, Reader};
 use spin_values::Octets;
 use std::alloc::Global;
 
-/// Reads all records, appends the record of each frame that takes the place of one, and answers how they end.
+// Reads all records, appends the record of each frame that takes the place of one, and answers how they end.
 fn join_records<S: Source>(
     alloc: Global,
     reader: &mut Reader,
@@ -43,8 +43,8 @@ fn join_records<S: Source>(
 }
 
 /// The joined capture of the capture that the source gives, which is read to its end: its records in order, with the
-/// fragmented datagrams made whole, and a rest that is as long as the capture's. What it answers is a joined capture also
-/// where the source doesn't tell what it has left.
+/// fragmented datagrams made whole, and a rest that is as long as the capture's. What it answers is a joined capture
+/// also where the source doesn't tell what it has left.
 ///
 /// [`JoinFault::Capture`] comes exactly where the capture is bad, at the record of that number from 1, or 0 for the
 /// header. [`JoinFault::ReadFault`] comes only where the source's count of faults rose, and [`JoinFault::NoMemory`]

@@ -29,7 +29,7 @@ impl Model for Joiner {
     ghost view = { λ j. j.datagrams.items };
 }
 
-/// Forgets the datagram that was opened first, where there are as many as may be.
+// Forgets the datagram that was opened first, where there are as many as may be.
 fn make_room(datagrams: &mut Vec<Datagram>)
     ensures { datagrams.new.items ≡ specs.with_room datagrams.old.items }
 {
@@ -49,7 +49,7 @@ impl Joiner {
         }
     }
 
-    /// The place of the datagram of that key.
+    // The place of the datagram of that key.
     fn find(&self, key: &Key) -> Option<usize>
         ensures { result ≡ position (specs.has_key key.now) self.now }
     {
@@ -58,7 +58,7 @@ impl Joiner {
             .position(|datagram| datagram.has_key(key))
     }
 
-    /// Opens a datagram of that key, and answers its place.
+    // Opens a datagram of that key, and answers its place.
     fn open(&mut self, key: Key) -> Result<usize, NoMemory>
         requires { list_any (specs.has_key key) self.old ≡ false }
         ensures opened { OnOk result (self.new ≡ specs.opened key self.old) }
@@ -70,7 +70,7 @@ impl Joiner {
         Ok(at)
     }
 
-    /// The place of the datagram of that key, which is opened where none is open.
+    // The place of the datagram of that key, which is opened where none is open.
     fn find_or_open(&mut self, key: &Key) -> Result<usize, NoMemory>
         ensures opened { OnOk result (self.new ≡ specs.opened key.now self.old) }
         ensures place { IfOk result (λ at. IsAt key.now at self.new) }
@@ -81,7 +81,7 @@ impl Joiner {
         }
     }
 
-    /// Adds a sound part to the datagram at its place, and puts that into the frame where it is then whole.
+    // Adds a sound part to the datagram at its place, and puts that into the frame where it is then whole.
     fn gather(&mut self, at: usize, piece: Piece, frame: &mut Octets) -> Result<(), NoMemory>
         requires place { IsAt piece.key at self.old }
         requires sound { is_sound piece.part ≡ true }
@@ -98,7 +98,7 @@ impl Joiner {
         Ok(())
     }
 
-    /// Does with a part what the definition says.
+    // Does with a part what the definition says.
     fn take(&mut self, piece: Piece, frame: &mut Octets) -> Result<(), NoMemory>
         ensures datagrams { OnOk result
             (self.new ≡ (specs.joined_by (Some piece) self.old frame.old).0) }

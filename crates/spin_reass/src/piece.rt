@@ -12,7 +12,7 @@ use std::alloc::Global;
 /// The number of bytes of a frame's header.
 pub const ETHER: usize = 14;
 
-/// What a frame carries: IPv4.
+// What a frame carries: IPv4.
 const IPV4: u16 = 0x0800;
 
 /// Which datagram a fragment belongs to.
@@ -29,7 +29,7 @@ pub struct Key {
 }
 
 impl Key {
-    /// The datagram that a packet belongs to.
+    // The datagram that a packet belongs to.
     fn of(header: &Ipv4) -> Key
         ensures { result ≡ specs.key_of header.now }
     {

@@ -7,19 +7,19 @@ use byteorder::{ByteOrder, LittleEndian};
 use spin_pcap::{MAX_CAPTURED, Next};
 use spin_values::NoMemory;
 
-/// The number of bytes of the header of the file.
+// The number of bytes of the header of the file.
 const FILE: usize = 24;
 
-/// The number of bytes of the header of a record.
+// The number of bytes of the header of a record.
 const RECORD: usize = 16;
 
-/// The magic of a file with times in microseconds.
+// The magic of a file with times in microseconds.
 const MICROSECONDS: u32 = 0xa1b2_c3d4;
 
-/// The number of the link type Ethernet.
+// The number of the link type Ethernet.
 const ETHERNET: u32 = 1;
 
-/// The header of the file.
+// The header of the file.
 fn file_header() -> [u8; FILE]
     ensures { result ≡ specs.file_header }
 {
@@ -32,7 +32,7 @@ fn file_header() -> [u8; FILE]
     header
 }
 
-/// The header of a record with these lengths.
+// The header of a record with these lengths.
 fn record_header(captured: u32, original: u32) -> [u8; RECORD]
     ensures { result ≡ specs.record_header captured original }
 {
@@ -51,7 +51,7 @@ pub fn put_file_header(out: &mut Vec<u8>) -> Result<(), NoMemory>
     Ok(())
 }
 
-/// Appends the header of a record with these lengths.
+// Appends the header of a record with these lengths.
 fn put_record_header(out: &mut Vec<u8>, captured: u32, original: u32) -> Result<(), NoMemory>
     ensures { OnOk result
         (out.new.items ≡ out.old.items ++ specs.record_header captured original) }
@@ -72,7 +72,7 @@ pub fn put_record(out: &mut Vec<u8>, frame: &[u8]) -> Result<(), NoMemory>
     Ok(())
 }
 
-/// Appends so many zeros.
+// Appends so many zeros.
 fn put_zeros(out: &mut Vec<u8>, count: u32) -> Result<(), NoMemory>
     ensures { OnOk result (out.new.items ≡ out.old.items ++ replicate count 0) }
 {
@@ -82,7 +82,7 @@ fn put_zeros(out: &mut Vec<u8>, count: u32) -> Result<(), NoMemory>
     Ok(())
 }
 
-/// Appends a cut rest of so many bytes, which no bytes behind it make a record that is too long.
+// Appends a cut rest of so many bytes, which no bytes behind it make a record that is too long.
 fn put_cut(out: &mut Vec<u8>, count: u32) -> Result<(), NoMemory>
     ensures { OnOk result (out.new.items ≡ out.old.items ++ specs.cut_rest count) }
 {

@@ -1,7 +1,7 @@
-pub mod Plain
+pub mod PlainWords
 pub mod ReportLines
-pub mod Told
-pub mod Segments
-pub mod Answering
-pub mod Shows
-pub mod ByLanes
+pub mod EntryLines
+pub mod SegmentLines
+pub mod AnswerUniqueness
+pub mod HistoryUniqueness
+pub mod LaneAnswers

@@ -29,9 +29,10 @@ use Rattle.spin_grammar.specs.Forms.{op_word}
 use Rattle.spin_report.specs.Verdicts.{refusal_number, refusal_name, refusal_numbers, verdict_words}
 use Rattle.spin_report.specs.Replies.{answer_words, fault_word, step_words, reply_words}
 use Rattle.spin_report.specs.Lines.{what_words, line_word, entry_words, entry_line, JobSeen, job_words, job_line}
-use Rattle.spin_report.specs.Histories.{Retired, SegmentSeen, HistorySeen, retire_words, retire_line, segment_words, segment_line, lost_words, lost_line, losses, lost_lines, segment_lines, capture_words, end_words, end_line, report_lines, entries_of}
+use Rattle.spin_report.specs.Histories.{Retired, SegmentSeen, HistorySeen, retire_words, retire_line, segment_words, segment_line, lost_words}
+use Rattle.spin_report.specs.Histories.{lost_line, losses, lost_lines, segment_lines, capture_words, end_words, end_line, report_lines, entries_of}
 use Rattle.spin_text.specs.Digits.{begins_with_digit}
-use Rattle.spin_report.proofs.Plain.{IsWord, AreWords, IsDigit, IsLine, each_append, each_map, each_flat_map, decimal_digits, decimal_some, decimal_word, dotted_word, words_line}
+use Rattle.spin_report.proofs.PlainWords.{IsWord, AreWords, IsDigit, IsLine, each_append, each_map, each_flat_map, decimal_digits, decimal_some, decimal_word, dotted_word, words_line}
 
 -- ---- each word is a word
 
@@ -148,7 +149,8 @@ segment_are_lines p =
     let retired = each_append IsLine (map retire_line s.retired) (segment_line n s.start ∷ []) (each_map IsLine retire_line retire_is_line s.retired) (segment_is_line n s.start, tt) in
     let entries = each_append IsLine (map retire_line s.retired ++ segment_line n s.start ∷ []) (map entry_line s.entries) retired (each_map IsLine entry_line entry_is_line s.entries) in
     let jobs = each_append IsLine (map retire_line s.retired ++ segment_line n s.start ∷ [] ++ map entry_line s.entries) (map job_line s.jobs) entries (each_map IsLine job_line job_is_line s.jobs) in
-    each_append IsLine (map retire_line s.retired ++ segment_line n s.start ∷ [] ++ map entry_line s.entries ++ map job_line s.jobs) (lost_lines s.lost) jobs (each_map IsLine lost_line lost_is_line (losses s.lost))
+    each_append IsLine (map retire_line s.retired ++ segment_line n s.start ∷ [] ++ map entry_line s.entries ++ map job_line s.jobs)
+    (lost_lines s.lost) jobs (each_map IsLine lost_line lost_is_line (losses s.lost))
 
 abbrev pub lines_at : ℕ × SegmentSeen → List (List ℕ)
 lines_at p = segment_lines p.0 p.1

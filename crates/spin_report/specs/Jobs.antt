@@ -12,13 +12,13 @@ use Rattle.spin_report.specs.Lines.{JobSeen}
 use Rattle.spin_report.specs.Legal.{IsNextEntry}
 
 -- the calls that an answer leaves to jobs
-abbrev pub calls_of : What → List JobCall
-calls_of (what.Command command verdict) = []
-calls_of (what.Deed deed reply) = calls_left reply
+abbrev pub answer_calls : What → List JobCall
+answer_calls (what.Command command verdict) = []
+answer_calls (what.Deed deed reply) = calls_left reply
 
 -- the entry's job of that index, with its reply
-abbrev pub job_of : Entry → ℕ → Reply → JobSeen
-job_of entry index reply = record {
+abbrev pub entry_job : Entry → ℕ → Reply → JobSeen
+entry_job entry index reply = record {
   place = entry.place;
   lane = entry.lane;
   line = entry.line;
@@ -34,7 +34,7 @@ AreJobsFrom d state entry index (call ∷ calls) jobs =
     (reply : Reply)
     × (others : List JobSeen)
     × IsJobReply d state call reply
-    × (jobs ≡ job_of entry index reply ∷ others)
+    × (jobs ≡ entry_job entry index reply ∷ others)
     × AreJobsFrom d state entry (index + 1) calls others
 
 -- These are the jobs of the entries, which are legal from the state on: in the order of their entries, each with its
@@ -46,6 +46,6 @@ AreJobs d state (entry ∷ entries) jobs =
     × (own : List JobSeen)
     × (others : List JobSeen)
     × IsNextEntry d state entry next
-    × AreJobsFrom d next entry 0 (calls_of entry.what) own
+    × AreJobsFrom d next entry 0 (answer_calls entry.what) own
     × AreJobs d next entries others
     × (jobs ≡ own ++ others)

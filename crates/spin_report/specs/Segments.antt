@@ -1,5 +1,6 @@
 -- What a segment of a script asks of its lanes, and which entries and jobs answer it.
-use Rattle.std.specs.Prelude.{◌≡◌, ℕ, ◌<◌, ◌==◌, Bool, true, false, not, List, [], ◌∷◌, ◌++◌, map, filter, take, drop, sum_by, All}
+use Rattle.std.specs.Prelude.{◌≡◌, ℕ, ◌<◌, ◌==◌, Bool, true, false, not, List, []}
+use Rattle.std.specs.Prelude.{◌∷◌, ◌++◌, map, filter, take, drop, sum_by, All}
 use Rattle.std.specs.List.{enumerate_from}
 use Rattle.std.specs.Ordering.{nat_cmp, bool_cmp, ordering_then}
 use Rattle.std.specs.declared.cmp.Ordering.{Ordering}

@@ -43,7 +43,7 @@ fn fault_word(fault: HeaderFault) -> &'static [u8]
     }
 }
 
-/// Appends a word and two numbers.
+// Appends a word and two numbers.
 fn put_pair(out: &mut Octets, word: &[u8], first: u64, second: u64) -> Result<(), NoMemory>
     ensures { let words = word.now ∷ decimal first ∷ decimal second ∷ [] in
         OnOk result (out.new ≡ out.old ++ spaced words) }
@@ -90,7 +90,7 @@ fn put_trace(out: &mut Octets, trace: &[Step]) -> Result<(), NoMemory>
     Ok(())
 }
 
-/// Appends a refusal of a deed: its number and its name.
+// Appends a refusal of a deed: its number and its name.
 fn put_refused(out: &mut Octets, number: &[u8], name: &[u8]) -> Result<(), NoMemory>
     ensures { let words = codes "refused" ∷ number.now ∷ name.now ∷ [] in
         OnOk result (out.new ≡ out.old ++ spaced words) }
@@ -100,7 +100,7 @@ fn put_refused(out: &mut Octets, number: &[u8], name: &[u8]) -> Result<(), NoMem
     put_word(out, name)
 }
 
-/// Appends what a deed or a job came to.
+// Appends what a deed or a job came to.
 pub(crate) fn put_reply(out: &mut Octets, reply: &Reply) -> Result<(), NoMemory>
     ensures { OnOk result (out.new ≡ out.old ++ spaced (reply_words reply.now)) }
 {
@@ -117,9 +117,9 @@ pub(crate) fn put_reply(out: &mut Octets, reply: &Reply) -> Result<(), NoMemory>
     }
 }
 
-/// Appends what a deed or a job came to, as its line has it behind what was asked: its steps, `=` and its answer, or the
-/// words of its refusal, with a space before each word. After want of memory `out` is unchanged.
-/// It takes time linear in the words.
+/// Appends what a deed or a job came to, as its line has it behind what was asked: its steps, `=` and its answer, or
+/// the words of its refusal, with a space before each word. After want of memory `out` is unchanged. It takes time
+/// linear in the words.
 pub fn reply_text(reply: &Reply, out: &mut Octets) -> Result<(), NoMemory>
     ensures ok { OnOk result (out.new ≡ out.old ++ spaced (reply_words reply.now)) }
     ensures err { OnErr result (out.new ≡ out.old) }

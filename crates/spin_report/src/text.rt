@@ -2,7 +2,8 @@
 
 ghost use Rattle.std.specs.Prelude.{◌≡◌, ◌++◌, ◌∷◌, [], OnOk, OnErr};
 ghost use Rattle.spin_text.specs.Words.{spaced, line_of, ended};
-ghost use Rattle.spin_report.specs.Lines.{line_word, what_words, entry_words, job_words, entry_line, job_line, job_seen};
+ghost use Rattle.spin_report.specs.Lines.{line_word, what_words, entry_words};
+ghost use Rattle.spin_report.specs.Lines.{job_words, entry_line, job_line, job_seen};
 ghost use Rattle.spin_report.specs.Histories.{retire_line, segment_line, lost_line, capture_words, end_line};
 
 use crate::entry::{Entry, What};
@@ -14,7 +15,7 @@ use spin_text::{put_decimal, put_line, put_number, put_word};
 use spin_values::{NoMemory, Octets};
 use spin_word::Deed;
 
-/// So many bytes most lines have at most: with room for them a line is allocated once.
+// So many bytes most lines have at most: with room for them a line is allocated once.
 const USUAL_LENGTH: usize = 56;
 
 /// What became of a capture.
@@ -28,7 +29,7 @@ pub struct CaptureCounts {
     pub cut: u32,
 }
 
-/// Appends the number of a line, and of its part where it is a line of packets.
+// Appends the number of a line, and of its part where it is a line of packets.
 fn put_line_word(out: &mut Octets, line: u32, part: u32) -> Result<(), NoMemory>
     ensures { OnOk result (out.new ≡ out.old ++ spaced (line_word line part ∷ [])) }
 {

@@ -58,7 +58,7 @@ fn put_refusal(out: &mut Octets, refusal: &Refusal) -> Result<(), NoMemory>
     }
 }
 
-/// Appends what became of a command.
+// Appends what became of a command.
 pub(crate) fn put_verdict(out: &mut Octets, verdict: &Verdicted) -> Result<(), NoMemory>
     ensures { OnOk result (out.new ≡ out.old ++ spaced (verdict_words verdict.now)) }
 {

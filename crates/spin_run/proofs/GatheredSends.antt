@@ -7,7 +7,8 @@ use Rattle.spin_proto.specs.declared.reply.Step.{Step}
 use Rattle.spin_endpoint.specs.Sends.{SentSeen}
 use Rattle.spin_report.specs.Runs.{sent_by}
 
-pub sends_more : (old now now' : List SentSeen) (steps : List Step) (k : ℕ) (step : Step) → k < length steps → get_or steps k step ≡ step → now ≡ old ++ filter_map sent_by (take k steps) → now' ≡ now ++ filter_map sent_by (step ∷ []) → now' ≡ old ++ filter_map sent_by (take (k + 1) steps)
+pub sends_more : (old now now' : List SentSeen) (steps : List Step) (k : ℕ) (step : Step) → k < length steps → get_or steps k step ≡ step
+    → now ≡ old ++ filter_map sent_by (take k steps) → now' ≡ now ++ filter_map sent_by (step ∷ []) → now' ≡ old ++ filter_map sent_by (take (k + 1) steps)
 sends_more old now now' steps k step lt is before one =
     one ∙ ap (λ x. x ++ filter_map sent_by (step ∷ [])) before
     ∙ append_assoc old (filter_map sent_by (take k steps)) (filter_map sent_by (step ∷ []))

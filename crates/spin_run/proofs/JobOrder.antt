@@ -13,23 +13,24 @@ use Rattle.std.proofs.lemmas.List.Sorted.{ranks_by}
 use Rattle.std.proofs.lemmas.List.Elements.{All-head, All-tail, All-cons, All-nil, All-append, All-map, filter-append, All-weaker}
 use Rattle.spin_proto.specs.declared.deed.JobCall.{JobCall}
 use Rattle.spin_proto.specs.declared.deed.Job.{Job}
-use Rattle.spin_seat.proofs.Keeping.{all_unmap}
+use Rattle.spin_seat.proofs.SeatInvariants.{all_unmap}
 use Rattle.spin_report.specs.declared.entry.What.{What}
 use Rattle.spin_report.specs.declared.entry.What.TheVariants as what
 use Rattle.spin_report.specs.declared.entry.Entry.{Entry}
-use Rattle.spin_report.specs.Jobs.{calls_of}
+use Rattle.spin_report.specs.Jobs.{answer_calls}
 use Rattle.spin_report.specs.Segments.{is_accepted, of_lane, IsInOrder}
 use Rattle.spin_run.specs.Lanes.{JobAsked, job_asked, jobs_from, jobs_of}
 use Rattle.spin_run.specs.Inner.Weaves.{job_moment, job_moment_cmp, AreJobsInOrder}
-use Rattle.spin_run.proofs.Orders.{Rising, Rising-append, itself, same_by_lanes, rising_from_sorted, sorted_from_rising}
-use Rattle.spin_run.proofs.Moments.{earlier, earlier_weak, nat_same}
+use Rattle.spin_run.proofs.SortedLists.{Rising, Rising-append, itself, same_by_lanes, rising_from_sorted, sorted_from_rising}
+use Rattle.spin_run.proofs.EntryOrder.{earlier, earlier_weak, nat_same}
 
 abbrev asked_moment : JobAsked → ℕ × ℕ × ℕ × ℕ
 asked_moment job = (job.place, job.lane, job.line, job.part)
 
 job_total : IsTotalOrder job_moment_cmp
 job_total =
-    then_total (then_total (then_total (on_total (λ (t : ℕ × ℕ × ℕ × ℕ). t.0) nat_cmp_total) (on_total (λ (t : ℕ × ℕ × ℕ × ℕ). t.1) nat_cmp_total)) (on_total (λ (t : ℕ × ℕ × ℕ × ℕ). t.2) nat_cmp_total)) (on_total (λ (t : ℕ × ℕ × ℕ × ℕ). t.3) nat_cmp_total)
+    then_total (then_total (then_total (on_total (λ (t : ℕ × ℕ × ℕ × ℕ). t.0) nat_cmp_total) (on_total (λ (t : ℕ × ℕ × ℕ × ℕ). t.1) nat_cmp_total))
+    (on_total (λ (t : ℕ × ℕ × ℕ × ℕ). t.2) nat_cmp_total)) (on_total (λ (t : ℕ × ℕ × ℕ × ℕ). t.3) nat_cmp_total)
 
 abbrev pub sooner : JobAsked → JobAsked → Bool
 sooner x y = is_lt (job_moment_cmp (asked_moment x) (asked_moment y))
@@ -63,11 +64,15 @@ job_ties : (x y : JobAsked) → ties sooner x y ≡ true → y.lane ≡ x.lane
 job_ties x y tied =
     let both = and_parts (not (sooner x y)) (not (sooner y x)) tied in
     let place : x.place ≡ y.place = equal x.place y.place
-    (λ less. true_not (sooner x y) (ap (λ o. is_lt (ordering_then (ordering_then (ordering_then o (nat_cmp x.lane y.lane)) (nat_cmp x.line y.line)) (nat_cmp x.part y.part))) (nat_less x.place y.place less)) both.0)
-    (λ less. true_not (sooner y x) (ap (λ o. is_lt (ordering_then (ordering_then (ordering_then o (nat_cmp y.lane x.lane)) (nat_cmp y.line x.line)) (nat_cmp y.part x.part))) (nat_less y.place x.place less)) both.1) in
+    (λ less. true_not (sooner x y)
+    (ap (λ o. is_lt (ordering_then (ordering_then (ordering_then o (nat_cmp x.lane y.lane)) (nat_cmp x.line y.line)) (nat_cmp x.part y.part))) (nat_less x.place y.place less)) both.0)
+    (λ less. true_not (sooner y x)
+    (ap (λ o. is_lt (ordering_then (ordering_then (ordering_then o (nat_cmp y.lane x.lane)) (nat_cmp y.line x.line)) (nat_cmp y.part x.part))) (nat_less y.place x.place less)) both.1) in
     sym (equal x.lane y.lane
-    (λ less. true_not (sooner x y) (λ i. is_lt (ordering_then (ordering_then (ordering_then (nat_same x.place y.place place i) (nat_less x.lane y.lane less i)) (nat_cmp x.line y.line)) (nat_cmp x.part y.part))) both.0)
-    (λ less. true_not (sooner y x) (λ i. is_lt (ordering_then (ordering_then (ordering_then (nat_same y.place x.place (sym place) i) (nat_less y.lane x.lane less i)) (nat_cmp y.line x.line)) (nat_cmp y.part x.part))) both.1))
+    (λ less. true_not (sooner x y)
+    (λ i. is_lt (ordering_then (ordering_then (ordering_then (nat_same x.place y.place place i) (nat_less x.lane y.lane less i)) (nat_cmp x.line y.line)) (nat_cmp x.part y.part))) both.0)
+    (λ less. true_not (sooner y x)
+    (λ i. is_lt (ordering_then (ordering_then (ordering_then (nat_same y.place x.place (sym place) i) (nat_less y.lane x.lane less i)) (nat_cmp y.line x.line)) (nat_cmp y.part x.part))) both.1))
 
 -- ---- the jobs of an entry
 
@@ -79,7 +84,8 @@ jobs_numbers : (entry : Entry) (index : ℕ) (calls : List JobCall) → All (Has
 jobs_numbers entry index [] = All-nil (HasNumbersOf entry)
 jobs_numbers entry index (call ∷ calls) = All-cons (HasNumbersOf entry) _ (jobs_from entry (index + 1) calls) refl (jobs_numbers entry (index + 1) calls)
 
-jobs_at_lane : (k : ℕ) (entry : Entry) (index : ℕ) (calls : List JobCall) → filter (λ (j : JobAsked). j.lane == k) (jobs_from entry index calls) ≡ cond (entry.lane == k) (jobs_from entry index calls) []
+jobs_at_lane : (k : ℕ) (entry : Entry) (index : ℕ) (calls : List JobCall)
+    → filter (λ (j : JobAsked). j.lane == k) (jobs_from entry index calls) ≡ cond (entry.lane == k) (jobs_from entry index calls) []
 jobs_at_lane k entry index [] = go (entry.lane == k)
   where
     go : (b : Bool) → [] ≡ cond {A = List JobAsked} b [] []
@@ -90,7 +96,9 @@ jobs_at_lane k entry index (call ∷ calls) = go (entry.lane == k) (jobs_at_lane
     first : JobAsked
     first = record { place = entry.place; lane = entry.lane; line = entry.line; part = entry.part; index = index; call = call }
 
-    go : (b : Bool) → filter (λ (j : JobAsked). j.lane == k) (jobs_from entry (index + 1) calls) ≡ cond b (jobs_from entry (index + 1) calls) [] → cond b (first ∷ filter (λ (j : JobAsked). j.lane == k) (jobs_from entry (index + 1) calls)) (filter (λ (j : JobAsked). j.lane == k) (jobs_from entry (index + 1) calls)) ≡ cond b (first ∷ jobs_from entry (index + 1) calls) []
+    go : (b : Bool) → filter (λ (j : JobAsked). j.lane == k) (jobs_from entry (index + 1) calls) ≡ cond b (jobs_from entry (index + 1) calls) []
+        → cond b (first ∷ filter (λ (j : JobAsked). j.lane == k) (jobs_from entry (index + 1) calls))
+        (filter (λ (j : JobAsked). j.lane == k) (jobs_from entry (index + 1) calls)) ≡ cond b (first ∷ jobs_from entry (index + 1) calls) []
     go true e = ap (λ l. first ∷ l) e
     go false e = e
 
@@ -99,14 +107,14 @@ jobs_of_lane : (k : ℕ) (entries : List Entry) → filter (λ (j : JobAsked). j
 jobs_of_lane k [] = refl
 jobs_of_lane k (e ∷ es) =
     filter-append (λ (j : JobAsked). j.lane == k) (jobs_of e) (flat_map jobs_of es)
-    ∙ (λ i. jobs_at_lane k e 0 (calls_of e.what) i ++ jobs_of_lane k es i)
+    ∙ (λ i. jobs_at_lane k e 0 (answer_calls e.what) i ++ jobs_of_lane k es i)
     ∙ go (e.lane == k)
   where
     go : (b : Bool) → cond b (jobs_of e) [] ++ flat_map jobs_of (of_lane k es) ≡ flat_map jobs_of (cond b (e ∷ of_lane k es) (of_lane k es))
     go true = refl
     go false = refl
 
-none_accepted : (w : What) → is_accepted w ≡ true → calls_of w ≡ []
+none_accepted : (w : What) → is_accepted w ≡ true → answer_calls w ≡ []
 none_accepted (what.Command c v) e = refl
 none_accepted (what.Deed d r) e = absurd (false≢true e)
 
@@ -114,7 +122,8 @@ one_entry : (entry : Entry) (index : ℕ) (calls : List JobCall) → Rising soon
 one_entry entry index [] = tt
 one_entry entry index (call ∷ calls) = (
   All-weaker (HasNumbersOf entry) (λ y. is_lt (job_moment_cmp (asked_moment y) (entry.place, entry.lane, entry.line, entry.part)) ≡ false)
-      (λ y has. ap (λ m. is_lt (job_moment_cmp m (entry.place, entry.lane, entry.line, entry.part))) has ∙ itself sooner sooner_weak (record { place = entry.place; lane = entry.lane; line = entry.line; part = entry.part; index = index; call = call }))
+      (λ y has. ap (λ m. is_lt (job_moment_cmp m (entry.place, entry.lane, entry.line, entry.part))) has
+      ∙ itself sooner sooner_weak (record { place = entry.place; lane = entry.lane; line = entry.line; part = entry.part; index = index; call = call }))
       (jobs_from entry (index + 1) calls) (jobs_numbers entry (index + 1) calls),
   one_entry entry (index + 1) calls,
 )
@@ -125,12 +134,14 @@ then_equal Equal = refl
 then_equal Greater = refl
 
 -- of two that aren't accepted commands
-across : (e f : Entry) → is_accepted e.what ≡ false → is_accepted f.what ≡ false → earlier f e ≡ false → is_lt (job_moment_cmp (f.place, f.lane, f.line, f.part) (e.place, e.lane, e.line, e.part)) ≡ false
+across : (e f : Entry) → is_accepted e.what ≡ false → is_accepted f.what ≡ false → earlier f e ≡ false
+    → is_lt (job_moment_cmp (f.place, f.lane, f.line, f.part) (e.place, e.lane, e.line, e.part)) ≡ false
 across e f a b up =
     sym (ap (λ o. is_lt (ordering_then (ordering_then (ordering_then o (nat_cmp f.lane e.lane)) (nat_cmp f.line e.line)) (nat_cmp f.part e.part)))
     ((λ i. ordering_then (nat_cmp f.place e.place) (bool_cmp (not (b i)) (not (a i)))) ∙ then_equal (nat_cmp f.place e.place))) ∙ up
 
-later_jobs : (e : Entry) (x : JobAsked) → HasNumbersOf e x → is_accepted e.what ≡ false → (es : List Entry) → All (λ (f : Entry). earlier f e ≡ false) es → All (λ y. sooner y x ≡ false) (flat_map jobs_of es)
+later_jobs : (e : Entry) (x : JobAsked) → HasNumbersOf e x → is_accepted e.what ≡ false → (es : List Entry)
+    → All (λ (f : Entry). earlier f e ≡ false) es → All (λ y. sooner y x ≡ false) (flat_map jobs_of es)
 later_jobs e x has a [] up = All-nil (λ y. sooner y x ≡ false)
 later_jobs e x has a (f ∷ fs) up =
     All-append (λ y. sooner y x ≡ false) (jobs_of f) (flat_map jobs_of fs) (go (is_accepted f.what) refl) (later_jobs e x has a fs (All-tail (λ (f : Entry). earlier f e ≡ false) f fs up))
@@ -139,7 +150,7 @@ later_jobs e x has a (f ∷ fs) up =
     go true b = subst (λ l. All (λ y. sooner y x ≡ false) (jobs_from f 0 l)) (sym (none_accepted f.what b)) (All-nil (λ y. sooner y x ≡ false))
     go false b = All-weaker (HasNumbersOf f) (λ y. sooner y x ≡ false)
         (λ y is. (λ i. is_lt (job_moment_cmp (is i) (has i))) ∙ across e f a b (All-head (λ (f : Entry). earlier f e ≡ false) f fs up))
-        (jobs_of f) (jobs_numbers f 0 (calls_of f.what))
+        (jobs_of f) (jobs_numbers f 0 (answer_calls f.what))
 
 -- the jobs of entries in order are in order
 jobs_rise : (entries : List Entry) → Rising earlier entries → Rising sooner (flat_map jobs_of entries)
@@ -149,8 +160,8 @@ jobs_rise (e ∷ es) up = go (is_accepted e.what) refl (jobs_rise es up.1)
     go : (a : Bool) → is_accepted e.what ≡ a → Rising sooner (flat_map jobs_of es) → Rising sooner (jobs_of e ++ flat_map jobs_of es)
     go true a rest = subst (λ l. Rising sooner (jobs_from e 0 l ++ flat_map jobs_of es)) (sym (none_accepted e.what a)) rest
     go false a rest =
-        Rising-append sooner (jobs_of e) (flat_map jobs_of es) (one_entry e 0 (calls_of e.what)) rest
-        (All-weaker (HasNumbersOf e) (λ x. All (λ y. sooner y x ≡ false) (flat_map jobs_of es)) (λ x has. later_jobs e x has a es up.0) (jobs_of e) (jobs_numbers e 0 (calls_of e.what)))
+        Rising-append sooner (jobs_of e) (flat_map jobs_of es) (one_entry e 0 (answer_calls e.what)) rest
+        (All-weaker (HasNumbersOf e) (λ x. All (λ y. sooner y x ≡ false) (flat_map jobs_of es)) (λ x has. later_jobs e x has a es up.0) (jobs_of e) (jobs_numbers e 0 (answer_calls e.what)))
 
 -- ---- jobs with their versions
 
@@ -167,22 +178,27 @@ pub jobs_in_order : (entries : List Entry) (jobs : List Job) → IsInOrder entri
 jobs_in_order entries jobs up is =
     sorted_from_rising job_sooner jobs (Rising-told jobs (subst (Rising sooner) (sym is) (jobs_rise entries (rising_from_sorted earlier earlier_weak entries up))))
 
-have_all : (P : ℕ × ℕ × ℕ × ℕ → Type 0) (entries : List Entry) → All (λ (e : Entry). P (e.place, e.lane, e.line, e.part)) entries → All (λ (j : JobAsked). P (asked_moment j)) (flat_map jobs_of entries)
+have_all : (P : ℕ × ℕ × ℕ × ℕ → Type 0) (entries : List Entry) → All (λ (e : Entry). P (e.place, e.lane, e.line, e.part)) entries
+    → All (λ (j : JobAsked). P (asked_moment j)) (flat_map jobs_of entries)
 have_all P [] all = All-nil (λ (j : JobAsked). P (asked_moment j))
 have_all P (e ∷ es) all =
     All-append (λ (j : JobAsked). P (asked_moment j)) (jobs_of e) (flat_map jobs_of es)
-    (All-weaker (HasNumbersOf e) (λ (j : JobAsked). P (asked_moment j)) (λ j has. subst P (sym has) (All-head (λ (e : Entry). P (e.place, e.lane, e.line, e.part)) e es all)) (jobs_of e) (jobs_numbers e 0 (calls_of e.what)))
+    (All-weaker (HasNumbersOf e) (λ (j : JobAsked). P (asked_moment j))
+    (λ j has. subst P (sym has) (All-head (λ (e : Entry). P (e.place, e.lane, e.line, e.part)) e es all)) (jobs_of e) (jobs_numbers e 0 (answer_calls e.what)))
     (have_all P es (All-tail (λ (e : Entry). P (e.place, e.lane, e.line, e.part)) e es all))
 
 -- what holds of the numbers of entries holds of those of their jobs
-pub jobs_have : (P : ℕ × ℕ × ℕ × ℕ → Type 0) (entries : List Entry) (jobs : List Job) → All (λ (e : Entry). P (e.place, e.lane, e.line, e.part)) entries → map job_asked jobs ≡ flat_map jobs_of entries → All (λ (j : Job). P (job_moment j)) jobs
+pub jobs_have : (P : ℕ × ℕ × ℕ × ℕ → Type 0) (entries : List Entry) (jobs : List Job) → All (λ (e : Entry). P (e.place, e.lane, e.line, e.part)) entries
+    → map job_asked jobs ≡ flat_map jobs_of entries → All (λ (j : Job). P (job_moment j)) jobs
 jobs_have P entries jobs all is = all_unmap (λ (j : JobAsked). P (asked_moment j)) job_asked jobs (subst (All (λ (j : JobAsked). P (asked_moment j))) (sym is) (have_all P entries all))
 
 filter_told : (k : ℕ) (jobs : List Job) → filter (λ (j : JobAsked). j.lane == k) (map job_asked jobs) ≡ map job_asked (filter (λ (j : Job). j.lane == k) jobs)
 filter_told k [] = refl
 filter_told k (j ∷ js) = go (j.lane == k) (filter_told k js)
   where
-    go : (b : Bool) → filter (λ (j : JobAsked). j.lane == k) (map job_asked js) ≡ map job_asked (filter (λ (j : Job). j.lane == k) js) → cond b (job_asked j ∷ filter (λ (j : JobAsked). j.lane == k) (map job_asked js)) (filter (λ (j : JobAsked). j.lane == k) (map job_asked js)) ≡ map job_asked (cond b (j ∷ filter (λ (j : Job). j.lane == k) js) (filter (λ (j : Job). j.lane == k) js))
+    go : (b : Bool) → filter (λ (j : JobAsked). j.lane == k) (map job_asked js) ≡ map job_asked (filter (λ (j : Job). j.lane == k) js)
+        → cond b (job_asked j ∷ filter (λ (j : JobAsked). j.lane == k) (map job_asked js)) (filter (λ (j : JobAsked). j.lane == k) (map job_asked js))
+        ≡ map job_asked (cond b (j ∷ filter (λ (j : Job). j.lane == k) js) (filter (λ (j : Job). j.lane == k) js))
     go true e = ap (λ l. job_asked j ∷ l) e
     go false e = e
 

@@ -26,8 +26,8 @@ pub joined_ended : (lines : List (List ℕ)) → joined (map ended lines) ≡ te
 joined_ended [] = refl
 joined_ended (line ∷ lines) = ap (λ xs. ended line ++ xs) (joined_ended lines)
 
--- Pieces that are those of the retired endpoints, the line that begins a segment, and all that stands behind it, are the
--- text of the segment's part.
+-- Pieces that are those of the retired endpoints, the line that begins a segment, and all that stands behind it, are
+-- the text of the segment's part.
 pub pieces_are : (retired first pieces : List (List ℕ)) (head : List ℕ) (entries jobs lost : List (List ℕ)) (text text' text'' : List ℕ)
     → first ≡ retired ++ ended head ∷ [] → text ≡ text_of entries → text' ≡ text ++ text_of jobs → text'' ≡ text' ++ text_of lost → pieces ≡ first ++ text'' ∷ []
     → joined pieces ≡ joined (retired ++ map ended (head ∷ entries ++ jobs ++ lost))
@@ -55,10 +55,12 @@ joined-split texts i lt =
 
 -- a front of a text, after all of another
 pub take-front : (xs ys zs : List ℕ) (n : ℕ) → n < length ys → (length xs + n < length ((xs ++ ys) ++ zs)) × (take (length xs + n) ((xs ++ ys) ++ zs) ≡ xs ++ take n ys)
-take-front xs ys zs n lt = (omega (arith, length-append (xs ++ ys) zs, length-append xs ys), take-append-le (length xs + n) (xs ++ ys) zs (omega (arith, length-append xs ys)) ∙ take-append-add xs ys n)
+take-front xs ys zs n lt =
+    (omega (arith, length-append (xs ++ ys) zs, length-append xs ys), take-append-le (length xs + n) (xs ++ ys) zs (omega (arith, length-append xs ys)) ∙ take-append-add xs ys n)
 
 -- the sink failed at the text at a place
-pub cut_at : (a b c : Option (List ℕ)) (texts : List (List ℕ)) (i n : ℕ) → i < length texts → Appends a b (joined (take i texts)) → n < length (get_or texts i []) → Appends b c (take n (get_or texts i [])) → (m : ℕ) × (m < length (joined texts)) × Appends a c (take m (joined texts))
+pub cut_at : (a b c : Option (List ℕ)) (texts : List (List ℕ)) (i n : ℕ) → i < length texts → Appends a b (joined (take i texts))
+    → n < length (get_or texts i []) → Appends b c (take n (get_or texts i [])) → (m : ℕ) × (m < length (joined texts)) × Appends a c (take m (joined texts))
 cut_at a b c texts i n lt before short now =
     let front = joined (take i texts) in
     let text = get_or texts i [] in
@@ -67,6 +69,7 @@ cut_at a b c texts i n lt before short now =
     let cut = take-front front text rest n short in
     (length front + n, rw whole cut.0, rw (whole, cut.1) (Appends-append a b c front (take n text) before now))
 
-pub cut_by : (a b c : Option (List ℕ)) (texts : List (List ℕ)) (i n : ℕ) (text : List ℕ) → i < length texts → text ≡ get_or texts i [] → Appends a b (joined (take i texts)) → n < length text → Appends b c (take n text) → (m : ℕ) × (m < length (joined texts)) × Appends a c (take m (joined texts))
+pub cut_by : (a b c : Option (List ℕ)) (texts : List (List ℕ)) (i n : ℕ) (text : List ℕ) → i < length texts → text ≡ get_or texts i []
+    → Appends a b (joined (take i texts)) → n < length text → Appends b c (take n text) → (m : ℕ) × (m < length (joined texts)) × Appends a c (take m (joined texts))
 cut_by a b c texts i n text lt same before short now =
     cut_at a b c texts i n lt before (subst (λ (t : List ℕ). n < length t) same short) (subst (λ (t : List ℕ). Appends b c (take n t)) same now)

@@ -71,14 +71,16 @@ of_jobs (j ∷ jobs) (r ∷ replies) long = ap (λ x. sends_of_reply r ++ x) (of
 pub sends_are : (entries : List Entry) (jobs : List Job) (replies : List Reply) → length replies ≡ length jobs → sends_made entries replies ≡ sends_from entries (jobs_seen jobs replies)
 sends_are entries jobs replies long = ap (λ x. flat_map (λ (e : Entry). sends_of e.what) entries ++ x) (of_jobs jobs replies long)
 
-lost_from : (n : ℕ) (names : List (List ℕ)) (lost : List ℕ) (f : ℕ → ℕ) → ((k : ℕ) → k < n + length names → slice_index_or lost k 0 ≡ f k) → map (λ k. slice_index_or lost k 0) (range_with_len n (length names)) ≡ map (λ (one : ℕ × List ℕ). f one.0) (enumerate_from n names)
+lost_from : (n : ℕ) (names : List (List ℕ)) (lost : List ℕ) (f : ℕ → ℕ) → ((k : ℕ) → k < n + length names → slice_index_or lost k 0 ≡ f k)
+    → map (λ k. slice_index_or lost k 0) (range_with_len n (length names)) ≡ map (λ (one : ℕ × List ℕ). f one.0) (enumerate_from n names)
 lost_from n [] lost f h = refl
 lost_from n (name ∷ names) lost f h =
     let first = h n (omega arith) in
     let others = lost_from (n + 1) names lost f (λ k lt. h k (omega (arith, lt))) in
     λ i. first i ∷ others i
 
-pub lost_are : (names : List (List ℕ)) (ends : List NamedEnd) (sends : List SentSeen) (lost : List ℕ) → length names ≤ MAX_ENDPOINTS → ((k : ℕ) → k < MAX_ENDPOINTS → slice_index_or lost k 0 ≡ lost_to names ends sends k) → counts_to lost (length names) ≡ lost_counts names ends sends
+pub lost_are : (names : List (List ℕ)) (ends : List NamedEnd) (sends : List SentSeen) (lost : List ℕ) → length names ≤ MAX_ENDPOINTS
+    → ((k : ℕ) → k < MAX_ENDPOINTS → slice_index_or lost k 0 ≡ lost_to names ends sends k) → counts_to lost (length names) ≡ lost_counts names ends sends
 lost_are names ends sends lost few h = lost_from 0 names lost (lost_to names ends sends) (λ k lt. h k (omega (arith, lt, few)))
 
 -- ---- the part of the history
@@ -100,7 +102,9 @@ next_of s segment before left state entries jobs = record {
   ends = all_received s.endpoints (sends_from entries jobs) (retired_for s segment before);
 }
 
-pub runs_to : (s : Setting) (segment : Segment) (before : Moment) (left frames : List (List ℕ)) (state : State) (entries : List Entry) (jobs : List JobSeen) → frames ≡ take (wanted_by segment.lines) left → IsWoven s.setup s.lanes (asked_in segment.lines frames) before.state state entries jobs → RunsFrom s segment before left (part_of s segment before entries jobs) (next_of s segment before left state entries jobs)
+pub runs_to : (s : Setting) (segment : Segment) (before : Moment) (left frames : List (List ℕ)) (state : State) (entries : List Entry) (jobs : List JobSeen)
+    → frames ≡ take (wanted_by segment.lines) left → IsWoven s.setup s.lanes (asked_in segment.lines frames) before.state state entries jobs
+    → RunsFrom s segment before left (part_of s segment before entries jobs) (next_of s segment before left state entries jobs)
 runs_to s segment before left frames state entries jobs read woven =
     let asked : asked_in segment.lines frames ≡ asked_in segment.lines left = ap (asked_in segment.lines) read ∙ asked_front segment.lines left in
     record {
@@ -112,14 +116,19 @@ runs_to s segment before left frames state entries jobs read woven =
       ends = refl;
     }
 
-pub runs_one : (s : Setting) (segment : Segment) (before after : Moment) (left frames : List (List ℕ)) (entries : List Entry) (jobs : List JobSeen) → frames ≡ take (wanted_by segment.lines) left → IsWoven s.setup s.lanes (asked_in segment.lines frames) before.state after.state entries jobs → after.outside.ends ≡ all_received s.endpoints (sends_from entries jobs) (retired_for s segment before) → RunsFrom s segment before left (part_of s segment before entries jobs) (standing after (drop (wanted_by segment.lines) left))
+pub runs_one : (s : Setting) (segment : Segment) (before after : Moment) (left frames : List (List ℕ)) (entries : List Entry) (jobs : List JobSeen)
+    → frames ≡ take (wanted_by segment.lines) left → IsWoven s.setup s.lanes (asked_in segment.lines frames) before.state after.state entries jobs
+    → after.outside.ends ≡ all_received s.endpoints (sends_from entries jobs) (retired_for s segment before)
+    → RunsFrom s segment before left (part_of s segment before entries jobs) (standing after (drop (wanted_by segment.lines) left))
 runs_one s segment before after left frames entries jobs read woven ends =
-    subst (λ (x : List NamedEnd). RunsFrom s segment before left (part_of s segment before entries jobs) (record { state = after.state; left = drop (wanted_by segment.lines) left; ends = x })) (sym ends)
+    subst (λ (x : List NamedEnd). RunsFrom s segment before left (part_of s segment before entries jobs) (record { state = after.state; left = drop (wanted_by segment.lines) left; ends = x }))
+    (sym ends)
     (runs_to s segment before left frames after.state entries jobs read woven)
 
 -- ---- its text
 
-lines_around : (number : ℕ) (part : SegmentSeen) → map retire_line part.retired ++ (segment_line number part.start ∷ (map entry_line part.entries ++ map job_line part.jobs ++ lost_lines part.lost)) ≡ segment_lines number part
+lines_around : (number : ℕ) (part : SegmentSeen)
+    → map retire_line part.retired ++ (segment_line number part.start ∷ (map entry_line part.entries ++ map job_line part.jobs ++ lost_lines part.lost)) ≡ segment_lines number part
 lines_around number part =
     let r = map retire_line part.retired in
     let s = segment_line number part.start ∷ [] in
@@ -128,7 +137,8 @@ lines_around number part =
     let l = lost_lines part.lost in
     sym (ap (λ x. x ++ l) (append_assoc (r ++ s) e j) ∙ append_assoc (r ++ s) (e ++ j) l ∙ append_assoc r s (e ++ j ++ l))
 
-pub text_is : (number : ℕ) (part : SegmentSeen) (retired lines : List (List ℕ)) → retired ≡ map ended (map retire_line part.retired) → lines ≡ retired ++ map ended (segment_line number part.start ∷ map entry_line part.entries ++ map job_line part.jobs ++ lost_lines part.lost) → joined lines ≡ segment_text number part
+pub text_is : (number : ℕ) (part : SegmentSeen) (retired lines : List (List ℕ)) → retired ≡ map ended (map retire_line part.retired)
+    → lines ≡ retired ++ map ended (segment_line number part.start ∷ map entry_line part.entries ++ map job_line part.jobs ++ lost_lines part.lost) → joined lines ≡ segment_text number part
 text_is number part retired lines first all =
     let rest = segment_line number part.start ∷ (map entry_line part.entries ++ map job_line part.jobs ++ lost_lines part.lost) in
     ap joined (all ∙ ap (λ x. x ++ map ended rest) first ∙ sym (map-append ended (map retire_line part.retired) rest))
@@ -151,7 +161,8 @@ wanted_few (line ∷ lines) =
     few (work.Deed d) = omega arith
     few (work.Packet event count) = omega arith
 
-pub wanted_fits : (lines : List Line) (i : ℕ) (line : Line) → i < length lines → get_or lines i line ≡ line → wanted_by (take i lines) + records_wanted line.work ≤ sum_by (λ (l : Line). deed_count l.work) lines
+pub wanted_fits : (lines : List Line) (i : ℕ) (line : Line) → i < length lines → get_or lines i line ≡ line
+    → wanted_by (take i lines) + records_wanted line.work ≤ sum_by (λ (l : Line). deed_count l.work) lines
 wanted_fits lines i line lt is =
     let more : take (i + 1) lines ≡ take i lines ++ line ∷ [] = take_more lines i line lt ∙ ap (λ (x : Line). take i lines ++ x ∷ []) is in
     let sum : wanted_by (take (i + 1) lines) ≡ wanted_by (take i lines) + records_wanted line.work = ap wanted_by more ∙ sum_by_push (λ (l : Line). records_wanted l.work) (take i lines) line in
@@ -166,12 +177,16 @@ SameSink before after = after.outside.sink ≡ before.outside.sink
 nothing : (before after : Moment) → SameSink before after → Writes before.outside after.outside []
 nothing before after same = subst (λ (x : SinkSeen). Appends before.outside.sink.told x.told []) (sym same) (Appends-none before.outside.sink.told)
 
-pub stops_retiring : (s : Setting) (number : ℕ) (segment : Segment) (before after : Moment) (left : List (List ℕ)) (rest : Option (Result Next PcapFault)) → SameSink before after → ((after.outside.ends ≡ before.outside.ends) ⊎ (after.outside.ends ≡ retired_for s segment before)) → StopsOne s number segment before after left rest end.NoMemory
+pub stops_retiring : (s : Setting) (number : ℕ) (segment : Segment) (before after : Moment) (left : List (List ℕ)) (rest : Option (Result Next PcapFault)) → SameSink before after
+    → ((after.outside.ends ≡ before.outside.ends) ⊎ (after.outside.ends ≡ retired_for s segment before)) → StopsOne s number segment before after left rest end.NoMemory
 stops_retiring s number segment before after left rest same (inl none) = (inl none, nothing before after same)
 stops_retiring s number segment before after left rest same (inr all) = (inr (inl all), nothing before after same)
 
-pub stops_reading_in : (s : Setting) (number : ℕ) (segment : Segment) (before after : Moment) (left : List (List ℕ)) (rest : Option (Result Next PcapFault)) (wanted : ℕ) (capture : Option ReaderState) (source : SourceSeen) (stop : RunEnd) → SameSink before after → after.outside.ends ≡ retired_for s segment before → wanted ≡ wanted_by segment.lines → GivesFrames wanted before.capture capture source (Err stop) left rest → StopsOne s number segment before after left rest stop
-stops_reading_in s number segment before after left rest wanted capture source (end.Capture n reason) same ends sum h = (h.1, subst (λ (k : ℕ). length left < k) sum h.0, ends, nothing before after same)
+pub stops_reading_in : (s : Setting) (number : ℕ) (segment : Segment) (before after : Moment) (left : List (List ℕ)) (rest : Option (Result Next PcapFault))
+    (wanted : ℕ) (capture : Option ReaderState) (source : SourceSeen) (stop : RunEnd) → SameSink before after → after.outside.ends ≡ retired_for s segment before
+    → wanted ≡ wanted_by segment.lines → GivesFrames wanted before.capture capture source (Err stop) left rest → StopsOne s number segment before after left rest stop
+stops_reading_in s number segment before after left rest wanted capture source (end.Capture n reason) same ends sum h =
+    (h.1, subst (λ (k : ℕ). length left < k) sum h.0, ends, nothing before after same)
 stops_reading_in s number segment before after left rest wanted capture source end.ReadFault same ends sum h = (h.0, subst (λ (k : ℕ). 0 < k) sum h.1, ends, nothing before after same)
 stops_reading_in s number segment before after left rest wanted capture source end.NoMemory same ends sum h = (inr (inl ends), nothing before after same)
 stops_reading_in s number segment before after left rest wanted capture source end.Whole same ends sum h = absurd h
@@ -185,7 +200,9 @@ pub record HasAnswered (s : Setting) (segment : Segment) (before : Moment) (left
   pub woven : IsWoven s.setup s.lanes (asked_in segment.lines frames) before.state state entries (jobs_seen jobs replies)
   pub replies_are : length replies ≡ length jobs
 
-pub stops_sending : (s : Setting) (number : ℕ) (segment : Segment) (before after : Moment) (left frames : List (List ℕ)) (rest : Option (Result Next PcapFault)) (state : State) (entries : List Entry) (jobs : List Job) (replies : List Reply) (stop : RunEnd) → SameSink before after → HasAnswered s segment before left state entries jobs replies frames → SendsAll s.endpoints (sends_made entries replies) (Err stop) (retired_for s segment before) after.outside.ends → StopsOne s number segment before after left rest stop
+pub stops_sending : (s : Setting) (number : ℕ) (segment : Segment) (before after : Moment) (left frames : List (List ℕ)) (rest : Option (Result Next PcapFault)) (state : State)
+    (entries : List Entry) (jobs : List Job) (replies : List Reply) (stop : RunEnd) → SameSink before after → HasAnswered s segment before left state entries jobs replies frames
+    → SendsAll s.endpoints (sends_made entries replies) (Err stop) (retired_for s segment before) after.outside.ends → StopsOne s number segment before after left rest stop
 stops_sending s number segment before after left frames rest state entries jobs replies end.NoMemory same h sent = (inr (inl sent), nothing before after same)
 stops_sending s number segment before after left frames rest state entries jobs replies (end.Endpoint p) same h sent =
     let seen = jobs_seen jobs replies in (
@@ -205,12 +222,16 @@ pub record HasSent (s : Setting) (segment : Segment) (before after : Moment) (en
     (replies : List Reply) (lost : List ℕ) : Type 0 where
   pub sent : SendsAll s.endpoints (sends_made entries replies) (Ok lost) (retired_for s segment before) after.outside.ends
 
-sent_run : (s : Setting) (segment : Segment) (before after : Moment) (left frames : List (List ℕ)) (entries : List Entry) (jobs : List Job) (replies : List Reply) (lost : List ℕ) → HasAnswered s segment before left after.state entries jobs replies frames → HasSent s segment before after entries replies lost → RunsFrom s segment before left (part_of s segment before entries (jobs_seen jobs replies)) (standing after (drop (wanted_by segment.lines) left))
+sent_run : (s : Setting) (segment : Segment) (before after : Moment) (left frames : List (List ℕ)) (entries : List Entry) (jobs : List Job) (replies : List Reply) (lost : List ℕ)
+    → HasAnswered s segment before left after.state entries jobs replies frames → HasSent s segment before after entries replies lost
+    → RunsFrom s segment before left (part_of s segment before entries (jobs_seen jobs replies)) (standing after (drop (wanted_by segment.lines) left))
 sent_run s segment before after left frames entries jobs replies lost h k =
     runs_one s segment before after left frames entries (jobs_seen jobs replies) h.read h.woven
     (k.sent.0 ∙ ap (λ (x : List SentSeen). all_received s.endpoints x (retired_for s segment before)) (sends_are entries jobs replies h.replies_are))
 
-stops_lining : (s : Setting) (number : ℕ) (segment : Segment) (before after : Moment) (left frames : List (List ℕ)) (rest : Option (Result Next PcapFault)) (entries : List Entry) (jobs : List Job) (replies : List Reply) (lost : List ℕ) → SameSink before after → HasAnswered s segment before left after.state entries jobs replies frames → HasSent s segment before after entries replies lost → StopsOne s number segment before after left rest end.NoMemory
+stops_lining : (s : Setting) (number : ℕ) (segment : Segment) (before after : Moment) (left frames : List (List ℕ)) (rest : Option (Result Next PcapFault)) (entries : List Entry)
+    (jobs : List Job) (replies : List Reply) (lost : List ℕ) → SameSink before after → HasAnswered s segment before left after.state entries jobs replies frames
+    → HasSent s segment before after entries replies lost → StopsOne s number segment before after left rest end.NoMemory
 stops_lining s number segment before after left frames rest entries jobs replies lost same h k =
     (inr (inr (_, _, sent_run s segment before after left frames entries jobs replies lost h k, refl)), nothing before after same)
 
@@ -223,15 +244,21 @@ pub record HasLines (s : Setting) (number : ℕ) (segment : Segment) (before : M
   pub start_is : start ≡ before.state.place
   pub lines_are : lines ≡ retired ++ map ended (segment_line number start ∷ map entry_line entries ++ map job_line (jobs_seen jobs replies) ++ lost_lines (counts_to lost (length s.endpoints)))
 
-made_text : (s : Setting) (number : ℕ) (segment : Segment) (before after : Moment) (entries : List Entry) (jobs : List Job) (replies : List Reply) (lost : List ℕ) (retired lines : List (List ℕ)) → length replies ≡ length jobs → HasSent s segment before after entries replies lost → HasLines s number segment before entries jobs replies lost retired lines → joined lines ≡ segment_text number (part_of s segment before entries (jobs_seen jobs replies))
+made_text : (s : Setting) (number : ℕ) (segment : Segment) (before after : Moment) (entries : List Entry) (jobs : List Job) (replies : List Reply) (lost : List ℕ) (retired lines : List (List ℕ))
+    → length replies ≡ length jobs → HasSent s segment before after entries replies lost → HasLines s number segment before entries jobs replies lost retired lines
+    → joined lines ≡ segment_text number (part_of s segment before entries (jobs_seen jobs replies))
 made_text s number segment before after entries jobs replies lost retired lines long k m =
     let seen = jobs_seen jobs replies in
     let counts : counts_to lost (length s.endpoints) ≡ lost_counts s.endpoints (retired_for s segment before) (sends_from entries seen) =
-    lost_are s.endpoints (retired_for s segment before) (sends_made entries replies) lost m.few k.sent.1 ∙ ap (λ (x : List SentSeen). lost_counts s.endpoints (retired_for s segment before) x) (sends_are entries jobs replies long) in
+    lost_are s.endpoints (retired_for s segment before) (sends_made entries replies) lost m.few k.sent.1
+    ∙ ap (λ (x : List SentSeen). lost_counts s.endpoints (retired_for s segment before) x) (sends_are entries jobs replies long) in
     text_is number (part_of s segment before entries seen) retired lines m.retired_are
     (m.lines_are ∙ (λ i. retired ++ map ended (segment_line number (m.start_is i) ∷ map entry_line entries ++ map job_line seen ++ lost_lines (counts i))))
 
-stops_writing : (s : Setting) (number : ℕ) (segment : Segment) (before after : Moment) (left frames : List (List ℕ)) (rest : Option (Result Next PcapFault)) (entries : List Entry) (jobs : List Job) (replies : List Reply) (lost : List ℕ) (retired lines : List (List ℕ)) (n : ℕ) → HasAnswered s segment before left after.state entries jobs replies frames → HasSent s segment before after entries replies lost → HasLines s number segment before entries jobs replies lost retired lines → n < length (joined lines) → Appends before.outside.sink.told after.outside.sink.told (take n (joined lines)) → StopsOne s number segment before after left rest end.WriteFault
+stops_writing : (s : Setting) (number : ℕ) (segment : Segment) (before after : Moment) (left frames : List (List ℕ)) (rest : Option (Result Next PcapFault)) (entries : List Entry)
+    (jobs : List Job) (replies : List Reply) (lost : List ℕ) (retired lines : List (List ℕ)) (n : ℕ) → HasAnswered s segment before left after.state entries jobs replies frames
+    → HasSent s segment before after entries replies lost → HasLines s number segment before entries jobs replies lost retired lines → n < length (joined lines)
+    → Appends before.outside.sink.told after.outside.sink.told (take n (joined lines)) → StopsOne s number segment before after left rest end.WriteFault
 stops_writing s number segment before after left frames rest entries jobs replies lost retired lines n h k m short now =
     let text = made_text s number segment before after entries jobs replies lost retired lines h.replies_are k m in (
       _,
@@ -241,7 +268,11 @@ stops_writing s number segment before after left frames rest entries jobs replie
       (n, subst (λ (x : List ℕ). n < length x) text short, subst (λ (x : List ℕ). Appends before.outside.sink.told after.outside.sink.told (take n x)) text now),
     )
 
-has_run_one : (s : Setting) (number : ℕ) (segment : Segment) (before after : Moment) (left frames : List (List ℕ)) (rest : Option (Result Next PcapFault)) (entries : List Entry) (jobs : List Job) (replies : List Reply) (lost : List ℕ) (retired lines : List (List ℕ)) (wanted : ℕ) → HasAnswered s segment before left after.state entries jobs replies frames → HasSent s segment before after entries replies lost → HasLines s number segment before entries jobs replies lost retired lines → Appends before.outside.sink.told after.outside.sink.told (joined lines) → wanted ≡ wanted_by segment.lines → GivesFrames wanted before.capture after.capture after.outside.source (Ok frames) left rest → HasRunOne s number segment before after left rest
+has_run_one : (s : Setting) (number : ℕ) (segment : Segment) (before after : Moment) (left frames : List (List ℕ)) (rest : Option (Result Next PcapFault))
+    (entries : List Entry) (jobs : List Job) (replies : List Reply) (lost : List ℕ) (retired lines : List (List ℕ)) (wanted : ℕ)
+    → HasAnswered s segment before left after.state entries jobs replies frames → HasSent s segment before after entries replies lost
+    → HasLines s number segment before entries jobs replies lost retired lines → Appends before.outside.sink.told after.outside.sink.told (joined lines)
+    → wanted ≡ wanted_by segment.lines → GivesFrames wanted before.capture after.capture after.outside.source (Ok frames) left rest → HasRunOne s number segment before after left rest
 has_run_one s number segment before after left frames rest entries jobs replies lost retired lines wanted h k m now sum given = record {
   part = part_of s segment before entries (jobs_seen jobs replies);
   next = drop (wanted_by segment.lines) left;
@@ -253,7 +284,12 @@ has_run_one s number segment before after left frames rest entries jobs replies 
 }
 
 -- it was told, and its entries counted
-has_told : (s : Setting) (number : ℕ) (segment : Segment) (before after : Moment) (left frames : List (List ℕ)) (rest : Option (Result Next PcapFault)) (entries : List Entry) (jobs : List Job) (replies : List Reply) (lost : List ℕ) (retired lines : List (List ℕ)) (wanted : ℕ) → HasAnswered s segment before left after.state entries jobs replies frames → HasSent s segment before after entries replies lost → HasLines s number segment before entries jobs replies lost retired lines → Appends before.outside.sink.told after.outside.sink.told (joined lines) → wanted ≡ wanted_by segment.lines → GivesFrames wanted before.capture after.capture after.outside.source (Ok frames) left rest → (tally tally' : Option Counts) → TalliesOn tally tally' (counts_in entries) → HasTold s number segment before after tally tally' left rest
+has_told : (s : Setting) (number : ℕ) (segment : Segment) (before after : Moment) (left frames : List (List ℕ)) (rest : Option (Result Next PcapFault))
+    (entries : List Entry) (jobs : List Job) (replies : List Reply) (lost : List ℕ) (retired lines : List (List ℕ)) (wanted : ℕ)
+    → HasAnswered s segment before left after.state entries jobs replies frames → HasSent s segment before after entries replies lost
+    → HasLines s number segment before entries jobs replies lost retired lines → Appends before.outside.sink.told after.outside.sink.told (joined lines)
+    → wanted ≡ wanted_by segment.lines → GivesFrames wanted before.capture after.capture after.outside.source (Ok frames) left rest
+    → (tally tally' : Option Counts) → TalliesOn tally tally' (counts_in entries) → HasTold s number segment before after tally tally' left rest
 unfolding has_run_one
 has_told s number segment before after left frames rest entries jobs replies lost retired lines wanted h k m now sum given tally tally' counted = record {
   one = has_run_one s number segment before after left frames rest entries jobs replies lost retired lines wanted h k m now sum given;
@@ -261,7 +297,10 @@ has_told s number segment before after left frames rest entries jobs replies los
 }
 
 -- telling it stopped
-stops_telling : (s : Setting) (number : ℕ) (segment : Segment) (before after : Moment) (left frames : List (List ℕ)) (rest : Option (Result Next PcapFault)) (entries : List Entry) (jobs : List Job) (replies : List Reply) (lost : List ℕ) (retired lines : List (List ℕ)) (stop : RunEnd) → HasAnswered s segment before left after.state entries jobs replies frames → HasSent s segment before after entries replies lost → HasLines s number segment before entries jobs replies lost retired lines → Tells before.outside.sink after.outside.sink (joined lines) (Err stop) → StopsOne s number segment before after left rest stop
+stops_telling : (s : Setting) (number : ℕ) (segment : Segment) (before after : Moment) (left frames : List (List ℕ)) (rest : Option (Result Next PcapFault)) (entries : List Entry)
+    (jobs : List Job) (replies : List Reply) (lost : List ℕ) (retired lines : List (List ℕ)) (stop : RunEnd) → HasAnswered s segment before left after.state entries jobs replies frames
+    → HasSent s segment before after entries replies lost → HasLines s number segment before entries jobs replies lost retired lines
+    → Tells before.outside.sink after.outside.sink (joined lines) (Err stop) → StopsOne s number segment before after left rest stop
 stops_telling s number segment before after left frames rest entries jobs replies lost retired lines end.WriteFault h k m t =
     stops_writing s number segment before after left frames rest entries jobs replies lost retired lines t.0 h k m t.1 t.2
 stops_telling s number segment before after left frames rest entries jobs replies lost retired lines end.NoMemory h k m t =
@@ -272,14 +311,19 @@ stops_telling s number segment before after left frames rest entries jobs replie
 stops_telling s number segment before after left frames rest entries jobs replies lost retired lines (end.Capture n reason) h k m t = absurd t
 
 -- it was told, or telling it stopped
-pub one_told : (s : Setting) (number : ℕ) (segment : Segment) (before after : Moment) (left frames : List (List ℕ)) (rest : Option (Result Next PcapFault)) (entries : List Entry) (jobs : List Job) (replies : List Reply) (lost : List ℕ) (retired lines : List (List ℕ)) (wanted : ℕ) → HasAnswered s segment before left after.state entries jobs replies frames → HasSent s segment before after entries replies lost → HasLines s number segment before entries jobs replies lost retired lines → wanted ≡ wanted_by segment.lines → GivesFrames wanted before.capture after.capture after.outside.source (Ok frames) left rest → (tally tally' : Option Counts) (result : Result (Unit {0}) RunEnd) → Tells before.outside.sink after.outside.sink (joined lines) result → OnOk result (TalliesOn tally tally' (counts_in entries)) → OneBy s number segment before after tally tally' result left rest
+pub one_told : (s : Setting) (number : ℕ) (segment : Segment) (before after : Moment) (left frames : List (List ℕ)) (rest : Option (Result Next PcapFault)) (entries : List Entry)
+    (jobs : List Job) (replies : List Reply) (lost : List ℕ) (retired lines : List (List ℕ)) (wanted : ℕ) → HasAnswered s segment before left after.state entries jobs replies frames
+    → HasSent s segment before after entries replies lost → HasLines s number segment before entries jobs replies lost retired lines → wanted ≡ wanted_by segment.lines
+    → GivesFrames wanted before.capture after.capture after.outside.source (Ok frames) left rest → (tally tally' : Option Counts) (result : Result (Unit {0}) RunEnd)
+    → Tells before.outside.sink after.outside.sink (joined lines) result → OnOk result (TalliesOn tally tally' (counts_in entries)) → OneBy s number segment before after tally tally' result left rest
 one_told s number segment before after left frames rest entries jobs replies lost retired lines wanted h k m sum given tally tally' (Ok done) t counted =
     has_told s number segment before after left frames rest entries jobs replies lost retired lines wanted h k m t sum given tally tally' counted
 one_told s number segment before after left frames rest entries jobs replies lost retired lines wanted h k m sum given tally tally' (Err stop) t counted =
     stops_telling s number segment before after left frames rest entries jobs replies lost retired lines stop h k m t
 
 -- the same sends, as slices have them
-pub sends_as : (names : List (List ℕ)) (es es' : List Entry) (rs rs' : List Reply) (ends ends' after : List NamedEnd) (result : Result (List ℕ) RunEnd) → es ≡ es' → rs ≡ rs' → ends ≡ ends' → SendsAll names (sends_made es rs) result ends after → SendsAll names (sends_made es' rs') result ends' after
+pub sends_as : (names : List (List ℕ)) (es es' : List Entry) (rs rs' : List Reply) (ends ends' after : List NamedEnd) (result : Result (List ℕ) RunEnd)
+    → es ≡ es' → rs ≡ rs' → ends ≡ ends' → SendsAll names (sends_made es rs) result ends after → SendsAll names (sends_made es' rs') result ends' after
 sends_as names es es' rs rs' ends ends' after result a b e h =
     subst (λ (x : List NamedEnd). SendsAll names (sends_made es' rs') result x after) e
     (subst (λ (x : List SentSeen). SendsAll names x result ends after) (λ i. sends_made (a i) (b i)) h)

@@ -14,7 +14,8 @@ use Rattle.spin_report.specs.Histories.{lost_line, losses, lost_lines}
 use Rattle.spin_report.specs.Runs.{retirements}
 use Rattle.spin_run.specs.Inner.Lining.{retired_as, if_lost, counts_to}
 
-pub lines_more : {X : Type 0} (f : X → List ℕ) (old : List (List ℕ)) (xs : List X) (k : ℕ) (x : X) → k < length xs → get_or xs k x ≡ x → (old ++ map ended (map f (take k xs))) ++ ended (f x) ∷ [] ≡ old ++ map ended (map f (take (k + 1) xs))
+pub lines_more : {X : Type 0} (f : X → List ℕ) (old : List (List ℕ)) (xs : List X) (k : ℕ) (x : X) → k < length xs
+    → get_or xs k x ≡ x → (old ++ map ended (map f (take k xs))) ++ ended (f x) ∷ [] ≡ old ++ map ended (map f (take (k + 1) xs))
 lines_more f old xs k x lt is =
     append_assoc old (map ended (map f (take k xs))) (ended (f x) ∷ [])
     ∙ ap (λ y. old ++ y)
@@ -22,7 +23,8 @@ lines_more f old xs k x lt is =
     ∙ ap (map ended) (map-append f (take k xs) (x ∷ []))
     ∙ map-append ended (map f (take k xs)) (f x ∷ [])))
 
-pub added : {X : Type 0} (f : X → List ℕ) (old lines lines' : List (List ℕ)) (line : List ℕ) (xs : List X) (k : ℕ) (x : X) → k < length xs → get_or xs k x ≡ x → lines ≡ old ++ map ended (map f (take k xs)) → line ≡ ended (f x) → lines' ≡ lines ++ line ∷ [] → lines' ≡ old ++ map ended (map f (take (k + 1) xs))
+pub added : {X : Type 0} (f : X → List ℕ) (old lines lines' : List (List ℕ)) (line : List ℕ) (xs : List X) (k : ℕ) (x : X) → k < length xs → get_or xs k x ≡ x
+    → lines ≡ old ++ map ended (map f (take k xs)) → line ≡ ended (f x) → lines' ≡ lines ++ line ∷ [] → lines' ≡ old ++ map ended (map f (take (k + 1) xs))
 added f old lines lines' line xs k x lt is before one now =
     now ∙ (λ i. before i ++ one i ∷ []) ∙ lines_more f old xs k x lt is
 
@@ -48,13 +50,15 @@ text_added f old text text' xs k x lt is before now =
 length_side : {A B X : Type 0} (f : A × B → X) (xs : List A) (ys : List B) → length ys ≡ length xs → length (map f (zip xs ys)) ≡ length xs
 length_side f xs ys long = omega (arith, length-map (zip xs ys) f, length-zip xs ys, long)
 
-pub side_at : {A B X : Type 0} (f : A × B → X) (xs : List A) (ys : List B) (k : ℕ) (a : A) (b : B) → length ys ≡ length xs → k < length xs → (k < length (map f (zip xs ys))) × (get_or (map f (zip xs ys)) k (f (get_or xs k a, get_or ys k b)) ≡ f (get_or xs k a, get_or ys k b))
+pub side_at : {A B X : Type 0} (f : A × B → X) (xs : List A) (ys : List B) (k : ℕ) (a : A) (b : B) → length ys ≡ length xs → k < length xs
+    → (k < length (map f (zip xs ys))) × (get_or (map f (zip xs ys)) k (f (get_or xs k a, get_or ys k b)) ≡ f (get_or xs k a, get_or ys k b))
 side_at f xs ys k a b long lt = (
   omega (arith, length_side f xs ys long, lt),
   get_or-map f (zip xs ys) k (a, b) _ (omega (arith, length-zip xs ys, long, lt)) ∙ ap f (get_or-zip xs ys k (a, b) lt (omega (arith, long, lt))),
 )
 
-pub text_added_side : {A B X : Type 0} (f : A × B → X) (g : X → List ℕ) (old text text' : List ℕ) (xs : List A) (ys : List B) (k : ℕ) (a : A) (b : B) → length ys ≡ length xs → k < length xs → get_or xs k a ≡ a → get_or ys k b ≡ b
+pub text_added_side : {A B X : Type 0} (f : A × B → X) (g : X → List ℕ) (old text text' : List ℕ) (xs : List A) (ys : List B) (k : ℕ) (a : A) (b : B)
+    → length ys ≡ length xs → k < length xs → get_or xs k a ≡ a → get_or ys k b ≡ b
     → text ≡ old ++ text_of (map g (take k (map f (zip xs ys)))) → text' ≡ text ++ ended (g (f (a, b))) → text' ≡ old ++ text_of (map g (take (k + 1) (map f (zip xs ys))))
 text_added_side {X = X} f g old text text' xs ys k a b long lt at_a at_b before now =
     let side = side_at f xs ys k a b long lt in
@@ -72,7 +76,8 @@ range_more a (suc n) = ap (λ (x : List ℕ). a ∷ x) (range_more (a + 1) n ∙
 
 enumerate_more : {X : Type 0} (n : ℕ) (xs : List X) (x : X) → enumerate_from n (xs ++ x ∷ []) ≡ enumerate_from n xs ++ (n + length xs, x) ∷ []
 enumerate_more n [] x = ap (λ (k : ℕ). (k, x) ∷ []) (let e : n ≡ n + 0 = omega arith in e)
-enumerate_more n (y ∷ xs) x = ap (λ z. (n, y) ∷ z) (enumerate_more (n + 1) xs x ∙ ap (λ (k : ℕ). enumerate_from (n + 1) xs ++ (k, x) ∷ []) (let e : n + 1 + length xs ≡ n + length (y ∷ xs) = omega arith in e))
+enumerate_more n (y ∷ xs) x =
+    ap (λ z. (n, y) ∷ z) (enumerate_more (n + 1) xs x ∙ ap (λ (k : ℕ). enumerate_from (n + 1) xs ++ (k, x) ∷ []) (let e : n + 1 + length xs ≡ n + length (y ∷ xs) = omega arith in e))
 
 abbrev count_at : List ℕ → ℕ → ℕ
 count_at counts number = slice_index_or counts number 0
@@ -90,7 +95,8 @@ losses_more : (counts : List ℕ) (k : ℕ) → losses (counts_to counts (k + 1)
 losses_more counts k =
     let long : 0 + length (counts_to counts k) ≡ k = omega (arith, length_counts counts k) in
     ap losses (counts_more counts k)
-    ∙ ap (filter (λ (l : ℕ × ℕ). not (l.1 == 0))) (enumerate_more 0 (counts_to counts k) (count_at counts k) ∙ ap (λ (n : ℕ). enumerate_from 0 (counts_to counts k) ++ (n, count_at counts k) ∷ []) long)
+    ∙ ap (filter (λ (l : ℕ × ℕ). not (l.1 == 0)))
+    (enumerate_more 0 (counts_to counts k) (count_at counts k) ∙ ap (λ (n : ℕ). enumerate_from 0 (counts_to counts k) ++ (n, count_at counts k) ∷ []) long)
     ∙ filter-append (λ (l : ℕ × ℕ). not (l.1 == 0)) (enumerate_from 0 (counts_to counts k)) ((k, count_at counts k) ∷ [])
 
 pub lost_more : (old text text' : List ℕ) (counts : List ℕ) (k : ℕ) → text ≡ old ++ text_of (lost_lines (counts_to counts k)) → text' ≡ text ++ text_of (map lost_line (if_lost k (count_at counts k)))
@@ -108,7 +114,8 @@ lost_more old text text' counts k before now =
 
 -- ---- retirements
 
-pub retired_same : (n : ℕ) (numbers : List ℕ) (stood : List Bool) (f : ℕ → Bool) → length stood ≡ length numbers → ((k : ℕ) → k < length numbers → slice_index_or stood k false ≡ f (n + k)) → retired_as numbers stood ≡ map (λ (turn : ℕ × ℕ). record { endpoint = turn.1; stood = f turn.0 }) (enumerate_from n numbers)
+pub retired_same : (n : ℕ) (numbers : List ℕ) (stood : List Bool) (f : ℕ → Bool) → length stood ≡ length numbers → ((k : ℕ) → k < length numbers → slice_index_or stood k false ≡ f (n + k))
+    → retired_as numbers stood ≡ map (λ (turn : ℕ × ℕ). record { endpoint = turn.1; stood = f turn.0 }) (enumerate_from n numbers)
 retired_same n [] [] f long h = refl
 retired_same n [] (b ∷ stood) f long h = absurd (omega (arith, long))
 retired_same n (k ∷ numbers) [] f long h = absurd (omega (arith, long))
@@ -117,7 +124,8 @@ retired_same n (k ∷ numbers) (b ∷ stood) f long h =
     let others = retired_same (n + 1) numbers stood f (omega (arith, long)) (λ j lt. h (suc j) (omega (arith, lt)) ∙ ap f (let e : n + suc j ≡ n + 1 + j = omega arith in e)) in
     λ i. record { endpoint = k; stood = first i } ∷ others i
 
-pub retired_told : (names : List (List ℕ)) (numbers bytes : List ℕ) (ends : List NamedEnd) (stood : List Bool) → bytes ≡ numbers → length stood ≡ length numbers → ((turn : ℕ) → turn < length bytes → slice_index_or stood turn false ≡ stands_in_turn names bytes ends turn) → retired_as numbers stood ≡ retirements names numbers ends
+pub retired_told : (names : List (List ℕ)) (numbers bytes : List ℕ) (ends : List NamedEnd) (stood : List Bool) → bytes ≡ numbers → length stood ≡ length numbers
+    → ((turn : ℕ) → turn < length bytes → slice_index_or stood turn false ≡ stands_in_turn names bytes ends turn) → retired_as numbers stood ≡ retirements names numbers ends
 retired_told names numbers bytes ends stood same long h =
     retired_same 0 numbers stood (stands_in_turn names numbers ends) long
     (λ k lt. h k (omega (arith, ap length same, lt)) ∙ ap (λ (x : List ℕ). stands_in_turn names x ends k) same ∙ ap (stands_in_turn names numbers ends) (let e : k ≡ 0 + k = omega arith in e))

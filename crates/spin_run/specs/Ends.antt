@@ -1,5 +1,6 @@
 -- How a run ends, and what it has done by then.
-use Rattle.std.specs.Prelude.{◌≡◌, ◌≢◌, ◌<◌, ◌≤◌, ◌⊎◌, ◌+◌, ℕ, true, List, [], ◌++◌, length, map, take, sum_by, slice_get, slice_index_or, Option, Some, None, Result, Ok, Err}
+use Rattle.std.specs.Prelude.{◌≡◌, ◌≢◌, ◌<◌, ◌≤◌, ◌⊎◌, ◌+◌, ℕ, true, List, [], ◌++◌, length, map, take}
+use Rattle.std.specs.Prelude.{sum_by, slice_get, slice_index_or, Option, Some, None, Result, Ok, Err}
 use Rattle.std.specs.List.{HoldsAt}
 use Rattle.std.specs.Option.{option_map_or}
 use Rattle.std.specs.Io.KnownBytes.{Appends}
@@ -9,13 +10,14 @@ use Rattle.spin_outside.specs.Sources.{SourceSeen}
 use Rattle.spin_pcap.specs.declared.fault.PcapFault.{PcapFault}
 use Rattle.spin_pcap.specs.declared.next.Next.{Next}
 use Rattle.spin_pcap.specs.declared.next.Next.TheVariants as next
-use Rattle.spin_pcap.specs.Passing.{number}
+use Rattle.spin_pcap.specs.Passing.{fault_number}
 use Rattle.spin_endpoint.specs.Named.{NamedEnd, stands_as}
 use Rattle.spin_endpoint.specs.Sends.{StopsAt, all_retired, name_of}
 use Rattle.spin_script.specs.declared.script.Segment.{Segment}
 use Rattle.spin_script.specs.States.{ScriptData}
 use Rattle.spin_text.specs.Words.{ended, text_of}
-use Rattle.spin_report.specs.Histories.{SegmentSeen, HistorySeen, first_line, segment_lines, end_line, front_text, report_text}
+use Rattle.spin_report.specs.Histories.{SegmentSeen, HistorySeen, first_line}
+use Rattle.spin_report.specs.Histories.{segment_lines, end_line, front_text, report_text}
 use Rattle.spin_report.specs.Segments.{wanted_by}
 use Rattle.spin_report.specs.Runs.{Standing, Captured, AreRun, IsSegmentRun, IsRun, sends_in, start_with}
 use Rattle.spin_run.specs.declared.end.RunEnd.{RunEnd}
@@ -154,7 +156,7 @@ EndsBy script past frames rest before after end.Whole =
     (history : HistorySeen) × IsWhole script frames rest before.ends after.ends history
     × Writes before after (report_text history)
 EndsBy script past frames rest before after (end.Capture at_record fault) =
-    (wrong : PcapFault) × (rest ≡ Some (Err wrong)) × (fault ≡ number wrong)
+    (wrong : PcapFault) × (rest ≡ Some (Err wrong)) × (fault ≡ fault_number wrong)
     × (at_record ≡ length frames + 1)
     × (count : ℕ) × (parts : List SegmentSeen) × (at : Standing)
     × HasRun script frames before.ends count parts at

@@ -20,7 +20,7 @@ use Rattle.spin_script.specs.Soundness.{is_command_work}
 use Rattle.spin_report.specs.declared.entry.What.{What}
 use Rattle.spin_report.specs.declared.entry.What.TheVariants as what
 use Rattle.spin_report.specs.declared.entry.Entry.{Entry}
-use Rattle.spin_report.specs.Jobs.{calls_of}
+use Rattle.spin_report.specs.Jobs.{answer_calls}
 use Rattle.spin_report.specs.Asked.{Numbered, asked_of}
 use Rattle.spin_report.specs.Segments.{asked_of_lane}
 use Rattle.spin_run.specs.declared.lane.Lane.{Lane}
@@ -37,8 +37,8 @@ abbrev pub said_of : What → seat.Said
 said_of (what.Command command verdict) = seat.command command verdict
 said_of (what.Deed deed reply) = seat.deed deed reply
 
-abbrev pub answer_of : Entry → seat.Answer
-answer_of entry = record { lane = entry.lane; place = entry.place; said = said_of entry.what }
+abbrev pub seat_answer : Entry → seat.Answer
+seat_answer entry = record { lane = entry.lane; place = entry.place; said = said_of entry.what }
 
 -- the rows that accepted commands have published, in the order of their entries
 abbrev pub rows_in : List Entry → List Row
@@ -79,10 +79,10 @@ jobs_from entry index (call ∷ calls) =
 
 -- the jobs of an entry, with indexes from 0
 abbrev pub jobs_of : Entry → List JobAsked
-jobs_of entry = jobs_from entry 0 (calls_of entry.what)
+jobs_of entry = jobs_from entry 0 (answer_calls entry.what)
 
--- These are the jobs of the entries, in order; each has the version of its place in the log, which begins with this front
--- and is sound, and to which its call belongs.
+-- These are the jobs of the entries, in order; each has the version of its place in the log, which begins with this
+-- front and is sound, and to which its call belongs.
 pub record AreJobsOf (d : SetupData) (entries : List Entry) (front : List Row) (jobs : List Job) : Type 0 where
   pub asked : map job_asked jobs ≡ flat_map jobs_of entries
   pub versions : All (λ job. IsReplay d (take job.place front) (arc_value job.version)) jobs
@@ -100,8 +100,8 @@ BeginsWithCommand (next ∷ rest) = is_command_work next.asked ≡ true
 -- there is no stop; a stop is `Full` only where the log is full and the next deed is a command.
 pub record RanLane (d : SetupData) (deeds : List Numbered) (before after : PenValue)
     (trail : List Entry) (jobs : List Job) (stop : Option SeatFault) : Type 0 where
-  pub ran : Ran d before (map answer_of trail) after
-  pub pins : GainsPins before (map answer_of trail) after
+  pub ran : Ran d before (map seat_answer trail) after
+  pub pins : GainsPins before (map seat_answer trail) after
   pub left : List Numbered
   pub deeds_are : deeds ≡ map asked_of trail ++ left
   pub whole : stop ≡ None → left ≡ []
@@ -114,7 +114,7 @@ HadMemory stop = stop ≢ Some fault.NoMemory
 
 -- How a lane stands after a segment in which all lanes are asked these, beside how it stood before: its seat is still
 -- that of its lane, and where it had memory it has done its own.
-pub record HasRun (d : SetupData) (asked : List Numbered) (before after : Lane) : Type 0 where
+pub record HasRunLane (d : SetupData) (asked : List Numbered) (before after : Lane) : Type 0 where
   pub seat : IsSeatOf d after.seat
   pub same : IsSamePen before.seat.pen after.seat.pen
   pub ran : HadMemory after.stop

@@ -1,5 +1,6 @@
 -- All lanes of a segment: how they must stand, and how they stand afterwards.
-use Rattle.std.specs.Prelude.{◌≡◌, ℕ, ◌<◌, ◌≤◌, List, [], ◌∷◌, map, length, All, AllPairs, None, sum_by, zip, slice_index_or}
+use Rattle.std.specs.Prelude.{◌≡◌, ℕ, ◌<◌, ◌≤◌, List, [], ◌∷◌, map, length}
+use Rattle.std.specs.Prelude.{All, AllPairs, None, sum_by, zip, slice_index_or}
 use Rattle.atomic_table.specs.Seated.{TableId}
 use Rattle.spin_word.specs.declared.row.Row.{Row}
 use Rattle.spin_log.specs.Pens.{IsPen}
@@ -16,7 +17,7 @@ use Rattle.spin_script.specs.Checks.{most_deeds}
 use Rattle.spin_report.specs.Asked.{Numbered}
 use Rattle.spin_report.specs.Lines.{JobSeen, job_seen}
 use Rattle.spin_run.specs.declared.lane.Lane.{Lane}
-use Rattle.spin_run.specs.Lanes.{HasRun}
+use Rattle.spin_run.specs.Lanes.{HasRunLane}
 
 -- the front of the first lane's seat, and the state of its version
 abbrev pub front_of : List Lane → List Row
@@ -27,8 +28,8 @@ abbrev pub state_of : SetupData → List Lane → State
 state_of d [] = start_of d
 state_of d (lane ∷ lanes) = lane.seat.state
 
--- Between two segments: the lane's seat is one of a hub with that log and so many lanes, its front is this one, and nothing
--- is answered yet.
+-- Between two segments: the lane's seat is one of a hub with that log and so many lanes, its front is this one, and
+-- nothing is answered yet.
 pub record IsAtRest (d : SetupData) (log : TableId) (count : ℕ) (front : List Row) (lane : Lane) : Type 0 where
   pub own : lane.seat.pen.log ≡ log
   pub among : lane.seat.pen.lanes ≡ count
@@ -78,7 +79,7 @@ abbrev pub HaveRun : SetupData → List Numbered → List Lane → List Lane →
 HaveRun d asked before after =
     (length after ≡ length before)
     × ((k : ℕ) (lane : Lane) → k < length before
-    → HasRun d asked (slice_index_or before k lane) (slice_index_or after k lane))
+    → HasRunLane d asked (slice_index_or before k lane) (slice_index_or after k lane))
 
 -- jobs with their replies, as a report tells them
 abbrev pub jobs_seen : List Job → List Reply → List JobSeen

@@ -1,5 +1,6 @@
 -- How much was done in a run, and the six lines that tell it.
-use Rattle.std.specs.Prelude.{◌≡◌, ℕ, Bool, true, false, List, [], ◌∷◌, Option, None, Result, length, count_by, sum_by, decimal, codes}
+use Rattle.std.specs.Prelude.{◌≡◌, ℕ, Bool, true, false, List, [], ◌∷◌, Option, None}
+use Rattle.std.specs.Prelude.{Result, length, count_by, sum_by, decimal, codes}
 use Rattle.spin_pcap.specs.declared.fault.PcapFault.{PcapFault}
 use Rattle.spin_pcap.specs.declared.next.Next.{Next}
 use Rattle.spin_table.specs.declared.refusal.Verdicted.TheVariants as verdicted

@@ -16,7 +16,7 @@ use spin_pcap::Reader;
 use spin_report::CaptureCounts;
 use std::alloc::Global;
 
-/// How many records were given.
+// How many records were given.
 fn taken(capture: &Option<Reader>) -> u32
     ensures { result ≡ given_by capture.now }
 {
@@ -26,7 +26,7 @@ fn taken(capture: &Option<Reader>) -> u32
     }
 }
 
-/// Reads the capture to its end, and tells what became of it: none where there is none.
+// Reads the capture to its end, and tells what became of it: none where there is none.
 fn rest_counts<S: Source>(
     alloc: Global,
     capture: &mut Option<Reader>,
@@ -45,7 +45,7 @@ fn rest_counts<S: Source>(
     Ok(Some(CaptureCounts { records, used, cut }))
 }
 
-/// Reads the capture to its end, and tells what became of it.
+// Reads the capture to its end, and tells what became of it.
 pub(crate) fn finish<S: Source, T: Telling>(
     alloc: Global,
     length: u16,

@@ -3,7 +3,7 @@
 ghost use Rattle.std.specs.Prelude.{◌≡◌, ◌<◌, ◌^◌, length, All, OnOk};
 ghost use Rattle.std.specs.Arc.{arc_value};
 ghost use Rattle.spin_proto.specs.Replies.{BelongsTo, calls_left};
-ghost use Rattle.spin_report.specs.Jobs.{calls_of};
+ghost use Rattle.spin_report.specs.Jobs.{answer_calls};
 ghost use Rattle.spin_run.specs.Inner.Answering.{AddsJobs};
 
 use spin_proto::{Job, JobCall, Jobs, Reply};
@@ -26,7 +26,7 @@ fn calls_in(reply: &Reply) -> &[JobCall]
 
 // The calls that an answer leaves to jobs.
 fn calls_by(what: &What) -> &[JobCall]
-    ensures { result.now ≡ calls_of what.now }
+    ensures { result.now ≡ answer_calls what.now }
 {
     match what {
         What::Command(_, _) => &[],
@@ -34,15 +34,15 @@ fn calls_by(what: &What) -> &[JobCall]
     }
 }
 
-/// Adds the jobs that an entry leaves, to be done on the version that was pinned for it.
+// Adds the jobs that an entry leaves, to be done on the version that was pinned for it.
 pub(crate) fn leave_jobs(
     jobs: &mut Jobs,
     entry: &Entry,
     pinned: &Arc<Version>,
 ) -> Result<(), NoMemory>
-    requires few { length (calls_of entry.now.what) < 2 ^ 32 }
-    requires belong { All (BelongsTo (arc_value pinned.now)) (calls_of entry.now.what) }
-    ensures { let calls = calls_of entry.now.what in
+    requires few { length (answer_calls entry.now.what) < 2 ^ 32 }
+    requires belong { All (BelongsTo (arc_value pinned.now)) (answer_calls entry.now.what) }
+    ensures { let calls = answer_calls entry.now.what in
         OnOk result (AddsJobs entry.now (arc_value pinned.now) calls jobs.old jobs.new) }
 {
     let mut index = 0;

@@ -10,7 +10,7 @@ ghost use Rattle.spin_script.specs.Soundness.{IsValidWork};
 ghost use Rattle.spin_script.specs.Segments.{IsOfLane};
 ghost use Rattle.spin_script.specs.declared.lanes.TheConstants.{MAX_DEEDS};
 ghost use Rattle.spin_report.specs.Segments.{raise_with, parts_of, asked_at, asked_in, asked_of_lane};
-ghost use Rattle.spin_run.specs.Lanes.{HasRun, IsFresh};
+ghost use Rattle.spin_run.specs.Lanes.{HasRunLane, IsFresh};
 ghost use Rattle.spin_run.specs.Segments.{IsAtRest, IsFitSegment};
 ghost use Rattle.spin_run.specs.Inner.Answering.{Answers, Comes, Stays, asked_alone, asked_packets};
 
@@ -74,7 +74,7 @@ impl Lane {
             IsAtRest d hub.now.log.id hub.now.log.lanes front self.old }
         requires lines { IsFitSegment hub.now.log.lanes segment.now.lines }
         ensures { let asked = asked_in segment.now.lines frames.now in
-            HasRun (data_of hub.now.setup) asked self.old self.new }
+            HasRunLane (data_of hub.now.setup) asked self.old self.new }
     {
         self.stop = self.answer_lines(alloc, hub, segment, frames, gate).err();
     }

@@ -1,6 +1,7 @@
 //! All lanes of a segment, side by side.
 
-ghost use Rattle.std.specs.Prelude.{◌≡◌, ◌<◌, ◌≤◌, ◌++◌, [], ◌∷◌, map, length, slice_get, Some, All, IfOk, OnOk, OnErr, MatchOption};
+ghost use Rattle.std.specs.Prelude.{◌≡◌, ◌<◌, ◌≤◌, ◌++◌, [], ◌∷◌, map, length, slice_get};
+ghost use Rattle.std.specs.Prelude.{Some, All, IfOk, OnOk, OnErr, MatchOption};
 ghost use Rattle.spin_word.specs.declared.command.TheConstants.{MAX_LANES};
 ghost use Rattle.spin_log.specs.Pens.{new_pens};
 ghost use Rattle.spin_objects.specs.Units.{IsSincereBy};
@@ -8,7 +9,7 @@ ghost use Rattle.spin_table.specs.SetupOf.{data_of};
 ghost use Rattle.spin_table.specs.States.{start_of};
 ghost use Rattle.spin_seat.specs.Seats.{IsSeatOf};
 ghost use Rattle.spin_report.specs.Segments.{asked_in};
-ghost use Rattle.spin_run.specs.Lanes.{HasRun};
+ghost use Rattle.spin_run.specs.Lanes.{HasRunLane};
 ghost use Rattle.spin_run.specs.Segments.{IsAtRest, AreAtRest, AreReady, IsFitSegment, HaveRun, front_of, state_of};
 ghost use Rattle.spin_run.specs.Inner.Answering.{AreFresh};
 
@@ -159,7 +160,7 @@ pub fn run_lanes<R: Threads + Sync, G: Gate>(
                 IsAtRest d hub.now.log.id hub.now.log.lanes front lane.old }
             requires lines { IsFitSegment hub.now.log.lanes segment.now.lines }
             ensures { let asked = asked_in segment.entry.now.lines frames.entry.now in
-                HasRun (data_of hub.entry.now.setup) asked lane.old lane.new }
+                HasRunLane (data_of hub.entry.now.setup) asked lane.old lane.new }
         { lane.run(alloc, hub, segment, frames, gate) },
     );
 }

@@ -14,7 +14,7 @@ use spin_proto::{Job, Reply};
 use spin_report::{Entry, entry_text, job_text, lost_text, retire_text, segment_text};
 use spin_values::{NoMemory, Octets};
 
-/// Adds the line of each endpoint that is retired, with whether one stood under its name.
+// Adds the line of each endpoint that is retired, with whether one stood under its name.
 pub(crate) fn add_retired(
     lines: &mut TextLines,
     numbers: &[u16],
@@ -32,7 +32,7 @@ pub(crate) fn add_retired(
     Ok(())
 }
 
-/// Adds the line that begins a segment's entries.
+// Adds the line that begins a segment's entries.
 pub(crate) fn add_segment(lines: &mut TextLines, number: usize, start: u16) -> Result<(), NoMemory>
     ensures { OnOk result (lines.new ≡ lines.old ++ ended (segment_line number start) ∷ []) }
 {
@@ -41,7 +41,7 @@ pub(crate) fn add_segment(lines: &mut TextLines, number: usize, start: u16) -> R
     lines.push(line)
 }
 
-/// Appends the lines of entries.
+// Appends the lines of entries.
 pub(crate) fn put_entries(text: &mut Octets, entries: &[Entry]) -> Result<(), NoMemory>
     ensures { OnOk result (text.new ≡ text.old ++ text_of (map entry_line entries.now)) }
 {
@@ -51,7 +51,7 @@ pub(crate) fn put_entries(text: &mut Octets, entries: &[Entry]) -> Result<(), No
     Ok(())
 }
 
-/// Appends the lines of jobs with their replies.
+// Appends the lines of jobs with their replies.
 pub(crate) fn put_jobs(text: &mut Octets, jobs: &[Job], replies: &[Reply]) -> Result<(), NoMemory>
     requires room { length replies.now ≡ length jobs.now }
     ensures { OnOk result (text.new
@@ -63,7 +63,7 @@ pub(crate) fn put_jobs(text: &mut Octets, jobs: &[Job], replies: &[Reply]) -> Re
     Ok(())
 }
 
-/// Appends the line of an endpoint's lost sends, if there are some.
+// Appends the line of an endpoint's lost sends, if there are some.
 fn put_count(text: &mut Octets, number: u8, count: u64) -> Result<(), NoMemory>
     ensures { OnOk result (text.new ≡ text.old ++ text_of (map lost_line (if_lost number count))) }
 {
@@ -73,7 +73,7 @@ fn put_count(text: &mut Octets, number: u8, count: u64) -> Result<(), NoMemory>
     lost_text(number, count, text)
 }
 
-/// Appends the line of each of so many endpoints to which sends were lost.
+// Appends the line of each of so many endpoints to which sends were lost.
 pub(crate) fn put_lost(text: &mut Octets, lost: &Lost, endpoints: u8) -> Result<(), NoMemory>
     requires few { endpoints ≤ MAX_ENDPOINTS }
     ensures { OnOk result (text.new ≡ text.old ++ text_of (lost_lines (counts_to lost.now endpoints))) }

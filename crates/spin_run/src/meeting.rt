@@ -14,8 +14,8 @@ use spin_values::NoMemory;
 use std::alloc::Global;
 
 impl Lanes {
-    /// Lets all seats meet, once the lanes have run: afterwards each knows what all of them know, keeps no row, and has
-    /// the same state. What the lanes answered is as before. After want of memory nothing is said of the fronts.
+    // Lets all seats meet, once the lanes have run: afterwards each knows what all of them know, keeps no row, and has
+    // the same state. What the lanes answered is as before. After want of memory nothing is said of the fronts.
     pub(crate) fn meet(&mut self, alloc: Global, hub: &Hub) -> Result<(), NoMemory>
         requires sincere { ⟦<Catalogue as Sincere>⟧.sincere hub.now.setup.catalogue }
         requires some { 0 < length self.old }

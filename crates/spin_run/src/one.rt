@@ -38,7 +38,7 @@ use spin_values::Text;
 use std::alloc::Global;
 use std::thread::Threads;
 
-/// How many records the packet lines want.
+// How many records the packet lines want.
 fn wanted_by(lines: &[Line]) -> u32
     requires { sum_by (λ line. deed_count line.work) lines.now ≤ most_deeds }
     ensures { result ≡ specs.wanted_by lines.now }
@@ -50,8 +50,8 @@ fn wanted_by(lines: &[Line]) -> u32
     wanted
 }
 
-/// Runs a segment: its endpoints are retired, the records that it wants are read, its lanes are run, its sends are
-/// made, and it is told.
+// Runs a segment: its endpoints are retired, the records that it wants are read, its lanes are run, its sends are
+// made, and it is told.
 pub(crate) fn run_one<R: Threads + Sync, S: Source, T: Telling, G: Gate>(
     rt: &R,
     alloc: Global,

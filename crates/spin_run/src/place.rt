@@ -8,7 +8,7 @@ use crate::lanes::Lanes;
 use spin_seat::Hub;
 
 impl Lanes {
-    /// How many commands were accepted, where the lanes are ready.
+    // How many commands were accepted, where the lanes are ready.
     pub(crate) fn place(&self, _hub: &Hub) -> u16
         requires ready { let d = data_of _hub.now.setup in
             AreReady d _hub.now.log.id _hub.now.log.lanes self.now }

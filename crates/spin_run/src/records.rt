@@ -12,7 +12,7 @@ use spin_script::Frames;
 use spin_values::Octets;
 use std::alloc::Global;
 
-/// Why reading stops at a fault of the capture's record of that number.
+// Why reading stops at a fault of the capture's record of that number.
 fn stop_at(number: u32, fault: PcapFault) -> RunEnd
     ensures { result ≡ stop_of number fault }
 {
@@ -26,7 +26,7 @@ fn stop_at(number: u32, fault: PcapFault) -> RunEnd
     }
 }
 
-/// Replaces the frame by the bytes of the next record. Without a capture it is the end.
+// Replaces the frame by the bytes of the next record. Without a capture it is the end.
 fn next_record<S: Source>(
     capture: &mut Option<Reader>,
     source: &mut S,
@@ -48,7 +48,7 @@ fn next_record<S: Source>(
     }
 }
 
-/// Reads so many records, or all that are left where there are fewer.
+// Reads so many records, or all that are left where there are fewer.
 pub(crate) fn read_records<S: Source>(
     alloc: Global,
     capture: &mut Option<Reader>,
@@ -76,7 +76,7 @@ pub(crate) fn read_records<S: Source>(
     Ok(frames)
 }
 
-/// Reads all records that are left, and answers how many bytes stand behind them that are no record.
+// Reads all records that are left, and answers how many bytes stand behind them that are no record.
 pub(crate) fn read_rest<S: Source>(
     alloc: Global,
     capture: &mut Option<Reader>,

@@ -14,7 +14,7 @@ use spin_endpoint::{Ends, EndsSeen};
 use spin_values::{NoMemory, Octets, Text};
 use std::alloc::Global;
 
-/// The numbers of endpoints, in one byte each.
+// The numbers of endpoints, in one byte each.
 fn in_bytes(alloc: Global, numbers: &[u16]) -> Result<Octets, NoMemory>
     requires { All (λ number. number < MAX_ENDPOINTS) numbers.now }
     ensures { IfOk result (λ bytes. bytes ≡ numbers.now) }
@@ -26,7 +26,7 @@ fn in_bytes(alloc: Global, numbers: &[u16]) -> Result<Octets, NoMemory>
     Ok(bytes)
 }
 
-/// So many flags, none of them set.
+// So many flags, none of them set.
 fn unset(alloc: Global, count: usize) -> Result<Vec<bool>, NoMemory>
     ensures { IfOk result (λ flags. length flags.items ≡ count) }
 {
@@ -37,8 +37,8 @@ fn unset(alloc: Global, count: usize) -> Result<Vec<bool>, NoMemory>
     Ok(flags)
 }
 
-/// Retires the endpoints of these numbers, by the names of the numbers, and answers their lines of the report. After
-/// want of memory all of them are retired, or none is.
+// Retires the endpoints of these numbers, by the names of the numbers, and answers their lines of the report. After
+// want of memory all of them are retired, or none is.
 pub(crate) fn retire(
     alloc: Global,
     ends: &mut Ends,

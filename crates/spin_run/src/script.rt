@@ -29,8 +29,8 @@ use spin_values::Text;
 use std::alloc::Global;
 use std::thread::Threads;
 
-/// Runs the segments one after another over lanes that are ready and know no row, and tells each. It answers how many
-/// commands were accepted. The names are those of the endpoints by number.
+// Runs the segments one after another over lanes that are ready and know no row, and tells each. It answers how many
+// commands were accepted. The names are those of the endpoints by number.
 fn run_each<R: Threads + Sync, S: Source, T: Telling, G: Gate>(
     rt: &R,
     alloc: Global,
@@ -76,8 +76,8 @@ fn run_each<R: Threads + Sync, S: Source, T: Telling, G: Gate>(
     Ok(lanes.place(hub))
 }
 
-/// Begins, makes a lane for each of so many seats, and runs the segments over them. It answers how many commands were
-/// accepted. After want of memory nothing but the beginning was told.
+// Begins, makes a lane for each of so many seats, and runs the segments over them. It answers how many commands were
+// accepted. After want of memory nothing but the beginning was told.
 fn run_over<R: Threads + Sync, S: Source, T: Telling, G: Gate>(
     rt: &R,
     alloc: Global,
@@ -123,7 +123,7 @@ fn run_over<R: Threads + Sync, S: Source, T: Telling, G: Gate>(
     )
 }
 
-/// Takes the script apart, and runs its segments. It answers how many commands were accepted.
+// Takes the script apart, and runs its segments. It answers how many commands were accepted.
 fn run_segments<R: Threads + Sync, S: Source, T: Telling, G: Gate>(
     rt: &R,
     alloc: Global,
@@ -176,7 +176,7 @@ fn run_segments<R: Threads + Sync, S: Source, T: Telling, G: Gate>(
     )
 }
 
-/// Runs a script whole, and tells what it comes to.
+// Runs a script whole, and tells what it comes to.
 pub(crate) fn walk<R: Threads + Sync, S: Source, T: Telling, G: Gate>(
     rt: &R,
     alloc: Global,
@@ -217,10 +217,10 @@ pub(crate) fn walk<R: Threads + Sync, S: Source, T: Telling, G: Gate>(
     }
 }
 
-/// Runs a script whole: writes the report's first line; then segment by segment retires its endpoints, reads the records
-/// that its packet lines want, runs its lanes side by side, does its jobs, makes its sends in the order of its entries
-/// and then of its jobs, and writes its text, each line by one call; and last reads the capture to its end and writes
-/// the last line.
+/// Runs a script whole: writes the report's first line; then segment by segment retires its endpoints, reads the
+/// records that its packet lines want, runs its lanes side by side, does its jobs, makes its sends in the order of its
+/// entries and then of its jobs, and writes its text, each line by one call; and last reads the capture to its end and
+/// writes the last line.
 ///
 /// A run stops at the first thing that fails, and [`RunEnd`] says which. What has been done by then stays: whole lines
 /// are written, but where the sink failed. A failed read comes only where the source's count of faults rose, a failed

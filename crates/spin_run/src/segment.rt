@@ -41,15 +41,16 @@ pub struct Woven {
 /// Runs the lanes of the segment side by side, lets all seats meet, puts what the lanes answered into one history, and
 /// does the jobs that it leaves.
 ///
-/// The entries are a legal history of the plain dispatcher, from the state of the front that all lanes know before it to
-/// the one that they are ready in afterwards: each lane's deeds are answered once each and in its order, and nothing else
-/// is. They stand by place; at one place the accepted command first; and then by lane, line and part. The front grows by
-/// the rows of the accepted commands, in this order. The jobs are those that the entries leave, in order, each with the
-/// version of its entry's place, and each has its reply at the state of its own entry. So it is whatever the schedule of
-/// the lanes and of the jobs.
+/// The entries are a legal history of the plain dispatcher, from the state of the front that all lanes know before it
+/// to the one that they are ready in afterwards: each lane's deeds are answered once each and in its order, and nothing
+/// else is. They stand by place; at one place the accepted command first; and then by lane, line and part. The front
+/// grows by the rows of the accepted commands, in this order. The jobs are those that the entries leave, in order, each
+/// with the version of its entry's place, and each has its reply at the state of its own entry. So it is whatever the
+/// schedule of the lanes and of the jobs.
 ///
-/// A seat that keeps a row applies it before its first answer. The frames are the records that the segment's packet lines take, in the order of the text. The log has room for the
-/// segment's commands. After want of memory the lanes are of no further use.
+/// A seat that keeps a row applies it before its first answer. The frames are the records that the segment's packet
+/// lines take, in the order of the text. The log has room for the segment's commands. After want of memory the lanes
+/// are of no further use.
 pub fn run_segment<R: Threads + Sync, G: Gate>(
     rt: &R,
     alloc: Global,

@@ -13,7 +13,7 @@ use spin_report::{Entry, What};
 use spin_values::{NoMemory, Text};
 use std::alloc::Global;
 
-/// Adds the step, if it is a send.
+// Adds the step, if it is a send.
 fn add_step<'a>(sends: &mut Vec<Sent<'a>>, step: &'a Step) -> Result<(), NoMemory>
     ensures { OnOk result (sends.new.items ≡ sends.old.items ++ filter_map sent_by (step.now ∷ [])) }
 {
@@ -24,7 +24,7 @@ fn add_step<'a>(sends: &mut Vec<Sent<'a>>, step: &'a Step) -> Result<(), NoMemor
     Ok(())
 }
 
-/// Adds the sends of a reply.
+// Adds the sends of a reply.
 fn add_of_reply<'a>(sends: &mut Vec<Sent<'a>>, reply: &'a Reply) -> Result<(), NoMemory>
     ensures { OnOk result (sends.new.items ≡ sends.old.items ++ sends_of_reply reply.now) }
 {
@@ -37,7 +37,7 @@ fn add_of_reply<'a>(sends: &mut Vec<Sent<'a>>, reply: &'a Reply) -> Result<(), N
     Ok(())
 }
 
-/// Adds the sends of an entry.
+// Adds the sends of an entry.
 fn add_of_entry<'a>(sends: &mut Vec<Sent<'a>>, entry: &'a Entry) -> Result<(), NoMemory>
     ensures { OnOk result (sends.new.items ≡ sends.old.items ++ sends_of entry.now.what) }
 {
@@ -47,7 +47,7 @@ fn add_of_entry<'a>(sends: &mut Vec<Sent<'a>>, entry: &'a Entry) -> Result<(), N
     }
 }
 
-/// Adds the sends of entries.
+// Adds the sends of entries.
 fn add_of_entries<'a>(sends: &mut Vec<Sent<'a>>, entries: &'a [Entry]) -> Result<(), NoMemory>
     ensures { OnOk result (sends.new.items
         ≡ sends.old.items ++ flat_map (λ entry. sends_of entry.what) entries.now) }
@@ -58,7 +58,7 @@ fn add_of_entries<'a>(sends: &mut Vec<Sent<'a>>, entries: &'a [Entry]) -> Result
     Ok(())
 }
 
-/// Adds the sends of jobs.
+// Adds the sends of jobs.
 fn add_of_jobs<'a>(sends: &mut Vec<Sent<'a>>, replies: &'a [Reply]) -> Result<(), NoMemory>
     ensures { OnOk result (sends.new.items ≡ sends.old.items ++ flat_map sends_of_reply replies.now) }
 {
@@ -68,7 +68,7 @@ fn add_of_jobs<'a>(sends: &mut Vec<Sent<'a>>, replies: &'a [Reply]) -> Result<()
     Ok(())
 }
 
-/// All sends of a segment.
+// All sends of a segment.
 fn sends_of_segment<'a>(
     alloc: Global,
     entries: &'a [Entry],
@@ -82,8 +82,8 @@ fn sends_of_segment<'a>(
     Ok(sends)
 }
 
-/// Makes all sends of a segment, by the names of the endpoints' numbers, and answers how many were lost. It stops at
-/// the first that fails.
+// Makes all sends of a segment, by the names of the endpoints' numbers, and answers how many were lost. It stops at
+// the first that fails.
 pub(crate) fn send_all(
     alloc: Global,
     ends: &mut Ends,

@@ -24,7 +24,7 @@ use spin_script::Script;
 use std::alloc::Global;
 use std::thread::Threads;
 
-/// Makes the six lines, and writes them by one call.
+// Makes the six lines, and writes them by one call.
 fn write_summary<K: Sink>(
     alloc: Global,
     tally: &Tally,

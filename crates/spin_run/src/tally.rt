@@ -13,8 +13,8 @@ use spin_values::{NoMemory, Octets};
 use std::alloc::Global;
 use std::marker::Model;
 
-/// How many entries there were, commands that were accepted and refused, and steps of entries that ran a handler or
-/// sent. Contracts see these counts.
+// How many entries there were, commands that were accepted and refused, and steps of entries that ran a handler or
+// sent. Contracts see these counts.
 #[derive(Drop)]
 pub(crate) struct Tally {
     entries: u64,
@@ -38,7 +38,7 @@ impl Model for Tally {
     } };
 }
 
-/// Adds to a count. A count that doesn't fit is want of memory: no run comes so far.
+// Adds to a count. A count that doesn't fit is want of memory: no run comes so far.
 fn add(count: &mut u64, more: u64) -> Result<(), NoMemory>
     ensures { OnOk result (count.new ≡ count.old + more) }
 {
@@ -46,7 +46,7 @@ fn add(count: &mut u64, more: u64) -> Result<(), NoMemory>
     Ok(())
 }
 
-/// How many of the steps run a handler.
+// How many of the steps run a handler.
 fn runs_in(steps: &[Step]) -> u64
     ensures { result ≡ count_by is_run steps.now }
 {
@@ -56,7 +56,7 @@ fn runs_in(steps: &[Step]) -> u64
         .count() as u64
 }
 
-/// How many of the steps send.
+// How many of the steps send.
 fn sends_in(steps: &[Step]) -> u64
     ensures { result ≡ count_by is_send steps.now }
 {
@@ -66,7 +66,7 @@ fn sends_in(steps: &[Step]) -> u64
         .count() as u64
 }
 
-/// Appends a line of a word and a number.
+// Appends a line of a word and a number.
 fn put_count(out: &mut Octets, word: &[u8], count: u64) -> Result<(), NoMemory>
     ensures { OnOk result (out.new ≡ out.old ++ ended (line_of (word.now ∷ decimal count ∷ []))) }
 {
@@ -76,7 +76,7 @@ fn put_count(out: &mut Octets, word: &[u8], count: u64) -> Result<(), NoMemory>
 }
 
 impl Tally {
-    /// Nothing is counted yet.
+    // Nothing is counted yet.
     pub(crate) fn new() -> Tally
         ensures { result ≡ counts_in [] }
     {
@@ -89,7 +89,7 @@ impl Tally {
         }
     }
 
-    /// Counts an entry. After want of memory some of it may be counted.
+    // Counts an entry. After want of memory some of it may be counted.
     fn add_entry(&mut self, entry: &Entry) -> Result<(), NoMemory>
         ensures { OnOk result (self.new ≡ plus self.old (counts_in (entry.now ∷ []))) }
     {
@@ -105,7 +105,7 @@ impl Tally {
         }
     }
 
-    /// Counts entries, in time linear in their steps. After want of memory some of them may be counted.
+    // Counts entries, in time linear in their steps. After want of memory some of them may be counted.
     pub(crate) fn add_entries(&mut self, entries: &[Entry]) -> Result<(), NoMemory>
         ensures { OnOk result (self.new ≡ plus self.old (counts_in entries.now)) }
     {
@@ -115,7 +115,7 @@ impl Tally {
         Ok(())
     }
 
-    /// The six lines of a summary, for a run whose script was made from that number.
+    // The six lines of a summary, for a run whose script was made from that number.
     pub(crate) fn summary(&self, alloc: Global, number: u64) -> Result<Octets, NoMemory>
         ensures { IfOk result (λ text. text ≡ text_of (summary_lines number self.now)) }
     {

@@ -1,6 +1,7 @@
 //! What becomes of the segments of a run: a report of them, or a count.
 
-ghost use Rattle.std.specs.Prelude.{◌≡◌, ◌<◌, ◌≤◌, ◌++◌, ◌∷◌, ℕ, map, length, take, OnOk, IfOk, MatchResult, Option, None, Some};
+ghost use Rattle.std.specs.Prelude.{◌≡◌, ◌<◌, ◌≤◌, ◌++◌, ◌∷◌, ℕ, map, length, take};
+ghost use Rattle.std.specs.Prelude.{OnOk, IfOk, MatchResult, Option, None, Some};
 ghost use Rattle.std.specs.Io.KnownBytes.{Appends};
 ghost use Rattle.spin_endpoint.specs.declared.ends.TheConstants.{MAX_ENDPOINTS};
 ghost use Rattle.spin_outside.specs.Counts.{FailsByCount};
@@ -25,7 +26,7 @@ use spin_report::{CaptureCounts, end_text};
 use spin_values::{NoMemory, Octets};
 use std::alloc::Global;
 
-/// What is told the segments of a run, one after another.
+// What is told the segments of a run, one after another.
 pub(crate) trait Telling {
     /// What contracts see of the sink of the report. What writes no report tells nothing of one.
     ghost seen: { Self → SinkSeen };
@@ -36,7 +37,7 @@ pub(crate) trait Telling {
     /// The name by which proofs know the reference that it holds, which no call changes.
     ghost reference: { Self → ℕ };
 
-    /// Begins.
+    // Begins.
     fn begin(&mut self) -> Result<(), Failed>
         ensures told { MatchResult result
             (λ _. Appends (seen self.old).told (seen self.new).told (ended first_line))
@@ -46,8 +47,8 @@ pub(crate) trait Telling {
         ensures same { reference self.new ≡ reference self.old }
         ensures cause { FailsByCount (seen self.old).faults (seen self.new).faults result };
 
-    /// Tells the segment of that number, which began when so many commands were accepted. The lines are those of its
-    /// retired endpoints, and so many endpoints are declared.
+    // Tells the segment of that number, which began when so many commands were accepted. The lines are those of its
+    // retired endpoints, and so many endpoints are declared.
     fn tell(
         &mut self,
         retired: TextLines,
@@ -69,7 +70,7 @@ pub(crate) trait Telling {
         ensures same { reference self.new ≡ reference self.old }
         ensures cause { TellsByCount (seen self.old).faults (seen self.new).faults result };
 
-    /// Ends, where so many commands were accepted in all, and this became of the capture.
+    // Ends, where so many commands were accepted in all, and this became of the capture.
     fn end(
         &mut self,
         alloc: Global,
@@ -82,15 +83,15 @@ pub(crate) trait Telling {
         ensures cause { TellsByCount (seen self.old).faults (seen self.new).faults result };
 }
 
-/// Writes the segments to a sink, as a report.
+// Writes the segments to a sink, as a report.
 #[derive(Drop)]
 pub(crate) struct Report<'a, K: Sink> {
-    /// The sink.
+    // The sink.
     pub(crate) out: &'a mut K,
 }
 
-/// The text of a segment's part of the report, in pieces: the lines of its retired endpoints, the line that begins it,
-/// and all that stands behind that, in one.
+// The text of a segment's part of the report, in pieces: the lines of its retired endpoints, the line that begins it,
+// and all that stands behind that, in one.
 fn part_pieces(
     retired: TextLines,
     number: usize,
@@ -116,7 +117,7 @@ fn part_pieces(
     Ok(pieces)
 }
 
-/// The last line of a report.
+// The last line of a report.
 fn last_line(alloc: Global, length: u16, capture: Option<CaptureCounts>) -> Result<Octets, NoMemory>
     ensures { IfOk result (λ line. line ≡ ended (end_line length capture)) }
 {
@@ -136,8 +137,8 @@ impl<K: Sink> Telling for Report<'_, K> {
         write_all(self.out, b"report 1\n")
     }
 
-    /// Makes the segment's text in memory, and then writes it: the line that begins it by one call, and all its entries,
-    /// jobs and lost sends by another.
+    /// Makes the segment's text in memory, and then writes it: the line that begins it by one call, and all its
+    /// entries, jobs and lost sends by another.
     fn tell(
         &mut self,
         retired: TextLines,

@@ -4,7 +4,8 @@ ghost use Rattle.std.specs.Prelude.{◌≡◌, [], map, All, IfOk, OnOk};
 ghost use Rattle.std.specs.List.{flat_map};
 ghost use Rattle.spin_report.specs.Segments.{IsInOrder};
 ghost use Rattle.spin_run.specs.Inner.Weaves as weaves;
-ghost use Rattle.spin_run.specs.Inner.Weaves.{AreOfTheirLanes, IsInterleaving, AreJobsInOrder, IsEmptied, trails_of, jobs_by_lane};
+ghost use Rattle.spin_run.specs.Inner.Weaves.{AreOfTheirLanes, IsInterleaving, AreJobsInOrder};
+ghost use Rattle.spin_run.specs.Inner.Weaves.{IsEmptied, trails_of, jobs_by_lane};
 
 use crate::lanes::Lanes;
 use spin_proto::{Job, Jobs};
@@ -13,9 +14,10 @@ use spin_values::NoMemory;
 use std::alloc::Global;
 
 impl Lanes {
-    /// Takes the entries and the jobs out of all lanes, and puts each in the order of the history: by place; at one
-    /// place the accepted command first; and then by lane, line and part. A lane's entries stay in their own order, and
-    /// so do its jobs. It moves them, and takes a time linear in their number times the logarithm of the number of lanes.
+    // Takes the entries and the jobs out of all lanes, and puts each in the order of the history: by place; at one
+    // place the accepted command first; and then by lane, line and part. A lane's entries stay in their own order, and
+    // so do its jobs. It moves them, and takes a time linear in their number times the logarithm of the number of
+    // lanes.
     pub(crate) fn weave(&mut self, alloc: Global) -> Result<(Entries, Jobs), NoMemory>
         requires trails { AreOfTheirLanes (λ entry. entry.lane) (trails_of self.old) }
         requires trails_order { All IsInOrder (trails_of self.old) }

@@ -8,10 +8,10 @@ ghost use Rattle.spin_run.specs.Inner.Writing.{joined};
 use spin_outside::{Failed, Sink, write_all};
 use spin_values::{Octets, Sequence};
 
-/// Texts, such as lines of a report that are ended by a line feed each.
+// Texts, such as lines of a report that are ended by a line feed each.
 pub(crate) type TextLines = Sequence<Octets>;
 
-/// Writes the pieces, one after another.
+// Writes the pieces, one after another.
 pub(crate) fn write_pieces<K: Sink>(out: &mut K, pieces: &[Octets]) -> Result<(), Failed>
     ensures taken { MatchResult result
         (λ _. Appends (K.seen out.old).told (K.seen out.new).told (joined pieces.now))

@@ -1,33 +1,33 @@
-mod Asked
-mod Each
-mod Fit
-mod Keeping
-pub mod Last
-mod Ordered
-mod Sound
-pub mod Judged
-pub mod Added
-pub mod Whole
-pub mod Bared
-pub mod Growing
-pub mod Single
-pub mod Writing
-pub mod Texts
-pub mod Reread
-pub mod Numberless
-pub mod Heads
-pub mod Rewritten
-pub mod Deeds
-pub mod Declared
-pub mod Runs
-pub mod Apart
-pub mod Blocks
-pub mod Sorted
-pub mod Placed
-pub mod Back
-pub mod Bodies
-pub mod Declaring
-mod Lined
-pub mod Sayable
+mod LaneLineCounts
+mod ListElements
+mod DeclarationFaults
+mod ReadLineSoundness
+pub mod LastHandler
+mod SectionOrder
+mod LineSoundness
+pub mod LineCauses
+pub mod AddedUnits
+pub mod ScriptReading
+pub mod BareScripts
+pub mod BareLines
+pub mod OutcomeUniqueness
+pub mod WrittenParts
+pub mod CanonicalText
+pub mod WrittenLines
+pub mod LineNumbers
+pub mod LinePlaces
+pub mod WritableScripts
+pub mod WrittenDeeds
+pub mod WrittenDeclarations
+pub mod LineRuns
+pub mod LineSwaps
+pub mod CanonicalBlocks
+pub mod CanonicalLines
+pub mod CanonicalPlaces
+pub mod CanonicalRoundTrip
+pub mod CatalogueBodies
+pub mod DeclaredUnits
+mod LaneLines
+pub mod SayableWords
 mod SayableLines
-mod There
+mod OutcomeExistence

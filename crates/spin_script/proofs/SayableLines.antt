@@ -24,12 +24,14 @@ use Rattle.spin_grammar.specs.Spelling.{number, within, greatest, signature, gua
 use Rattle.spin_grammar.specs.Grammar as want
 use Rattle.spin_grammar.specs.Grammar.{Atom, Fixed, Numeral, Called, Typed, Want, accepts, reads, as_number, as_signature, as_blob}
 use Rattle.spin_grammar.specs.Forms as forms
-use Rattle.spin_grammar.specs.Forms.{test_form, merge_form, counted_form, effect_form, rule_form, op_match_word, own_word, forced_word, apart_word, place_word, mode_word, handler_or_any, value_atom, spot_form, task_form, Task, Spot}
+use Rattle.spin_grammar.specs.Forms.{test_form, merge_form, counted_form, effect_form, rule_form, op_match_word, own_word, forced_word}
+use Rattle.spin_grammar.specs.Forms.{apart_word, place_word, mode_word, handler_or_any, value_atom, spot_form, task_form, Task, Spot}
 use Rattle.spin_grammar.specs.Lines as line
-use Rattle.spin_grammar.specs.Lines.{Line, kind_of, form, wanted}
-use Rattle.spin_grammar.proofs.Respelled.{went, over, ok_same, by_number, by_signature, by_blob}
+use Rattle.spin_grammar.specs.Lines.{LineMeaning, line_kind, form, wanted}
+use Rattle.spin_grammar.proofs.CanonicalSpelling.{went, over, ok_same, by_number, by_signature, by_blob}
 use Rattle.spin_grammar.proofs.Signatures.{one_of}
-use Rattle.spin_script.proofs.Sayable.{Said, Says, First, first, opens, both, renamed, nothing, closed, OneOf, same_bytes, one_choice, behind, none, numeral, name, typed, pair, three, tested, counted_numbers, bindings, op_says, own_says, forced_says, apart_says, place_says, mode_says, exact_says, handler_says, steps, merged}
+use Rattle.spin_script.proofs.SayableWords.{Said, Says, First, first, opens, both, renamed, nothing, closed, OneOf, same_bytes, one_choice, behind, none, numeral, name, typed, pair, three}
+use Rattle.spin_script.proofs.SayableWords.{tested, counted_numbers, bindings, op_says, own_says, forced_says, apart_says, place_says, mode_says, exact_says, handler_says, steps, merged}
 
 -- ---- rules
 
@@ -40,26 +42,33 @@ effect_says version w p e = one_choice w (want.effects version) p e
 force_form : List ℕ × (Forced × Bool) → List Atom
 force_form p = counted_form p.0 ++ Fixed (forced_word p.1.0) ∷ Fixed (apart_word p.1.1) ∷ []
 
-force_says : (k : ℕ) → Says k (λ (p : List ℕ × (Forced × Bool)). counted_form p.0 ++ Fixed (forced_word p.1.0) ∷ Fixed (apart_word p.1.1) ∷ []) (want.Counted 0 4 (want.Number 1 1023) ∷ want.ForcedPlace ∷ want.ForcedMode ∷ [])
+force_says : (k : ℕ) → Says k
+    (λ (p : List ℕ × (Forced × Bool)). counted_form p.0 ++ Fixed (forced_word p.1.0) ∷ Fixed (apart_word p.1.1) ∷ []) (want.Counted 0 4 (want.Number 1 1023) ∷ want.ForcedPlace ∷ want.ForcedMode ∷ [])
 force_says k =
-    both k counted_form (λ (p : Forced × Bool). Fixed (forced_word p.0) ∷ Fixed (apart_word p.1) ∷ []) (want.Counted 0 4 (want.Number 1 1023) ∷ []) (want.ForcedPlace ∷ want.ForcedMode ∷ []) (counted_numbers k 0 4 1 1023)
+    both k counted_form
+    (λ (p : Forced × Bool). Fixed (forced_word p.0) ∷ Fixed (apart_word p.1) ∷ []) (want.Counted 0 4 (want.Number 1 1023) ∷ []) (want.ForcedPlace ∷ want.ForcedMode ∷ []) (counted_numbers k 0 4 1 1023)
     (both k (λ (f : Forced). Fixed (forced_word f) ∷ []) (λ (b : Bool). Fixed (apart_word b) ∷ []) (want.ForcedPlace ∷ []) (want.ForcedMode ∷ []) (forced_says k) (apart_says k))
 
 forced_of : (version k : ℕ) (b : Bool) (wants : List Want) (ws : List (List ℕ)) (atoms : List Atom) → length ws ≤ suc k → (o : First (want.Effect version) wants ws atoms)
     → OneOf (cond b ((codes "force", want.Counted 0 4 (want.Number 1 1023) ∷ want.ForcedPlace ∷ want.ForcedMode ∷ []) ∷ []) []) o.taken → Said effect_form wants (length ws) atoms
 forced_of version k true wants ws atoms le o (inl is) =
-    behind k effect_form (λ (p : List ℕ × (Forced × Bool)). counted_form p.0 ++ Fixed (forced_word p.1.0) ∷ Fixed (apart_word p.1.1) ∷ []) (λ (p : List ℕ × (Forced × Bool)). effect.Force p.0 p.1.0 p.1.1) (codes "force") _ (λ p. refl) (force_says k)
+    behind k effect_form (λ (p : List ℕ × (Forced × Bool)). counted_form p.0 ++ Fixed (forced_word p.1.0) ∷ Fixed (apart_word p.1.1) ∷ [])
+    (λ (p : List ℕ × (Forced × Bool)). effect.Force p.0 p.1.0 p.1.1) (codes "force") _ (λ p. refl) (force_says k)
     (want.Effect version) wants ws atoms le o is
 forced_of version k true wants ws atoms le o (inr is) = absurd is
 forced_of version k false wants ws atoms le o is = absurd is
 
-effect_of : (version k : ℕ) (wants : List Want) (ws : List (List ℕ)) (atoms : List Atom) → length ws ≤ suc k → (o : First (want.Effect version) wants ws atoms) → OneOf (want.effects version) o.taken → Said effect_form wants (length ws) atoms
-effect_of version k wants ws atoms le o (inl is) = behind k effect_form (λ (u : Unit {0}). []) (λ (u : Unit {0}). effect.Allow) (codes "allow") [] (λ u. refl) (none k) (want.Effect version) wants ws atoms le o is
-effect_of version k wants ws atoms le o (inr (inl is)) = behind k effect_form (λ (u : Unit {0}). []) (λ (u : Unit {0}). effect.Deny) (codes "deny") [] (λ u. refl) (none k) (want.Effect version) wants ws atoms le o is
+effect_of : (version k : ℕ) (wants : List Want) (ws : List (List ℕ)) (atoms : List Atom) → length ws ≤ suc k
+    → (o : First (want.Effect version) wants ws atoms) → OneOf (want.effects version) o.taken → Said effect_form wants (length ws) atoms
+effect_of version k wants ws atoms le o (inl is) =
+    behind k effect_form (λ (u : Unit {0}). []) (λ (u : Unit {0}). effect.Allow) (codes "allow") [] (λ u. refl) (none k) (want.Effect version) wants ws atoms le o is
+effect_of version k wants ws atoms le o (inr (inl is)) =
+    behind k effect_form (λ (u : Unit {0}). []) (λ (u : Unit {0}). effect.Deny) (codes "deny") [] (λ u. refl) (none k) (want.Effect version) wants ws atoms le o is
 effect_of version k wants ws atoms le o (inr (inr (inl is))) =
     behind k effect_form (λ (n : ℕ). Numeral n ∷ []) (λ (n : ℕ). effect.Quota n) (codes "quota") (want.Number 0 1000 ∷ []) (λ n. refl) (numeral k 0 1000) (want.Effect version) wants ws atoms le o is
 effect_of version k wants ws atoms le o (inr (inr (inr (inl is)))) =
-    behind k effect_form counted_form (λ (ns : List ℕ). effect.Impose ns) (codes "impose") (want.Counted 1 4 (want.Number 1 1023) ∷ []) (λ ns. refl) (counted_numbers k 1 4 1 1023) (want.Effect version) wants ws atoms le o is
+    behind k effect_form counted_form (λ (ns : List ℕ). effect.Impose ns) (codes "impose")
+    (want.Counted 1 4 (want.Number 1 1023) ∷ []) (λ ns. refl) (counted_numbers k 1 4 1 1023) (want.Effect version) wants ws atoms le o is
 effect_of version k wants ws atoms le o (inr (inr (inr (inr is)))) = forced_of version k (leb 2 version) wants ws atoms le o is
 
 effected : (version k : ℕ) → Says k effect_form (want.Effect version ∷ [])
@@ -78,11 +87,14 @@ unfolding rule_of
 ruled version k =
     let one = λ (n : ℕ). Numeral n ∷ [] in
     let five = both k (λ (b : Bool). Fixed (own_word b) ∷ []) effect_form (want.Own ∷ []) (want.Effect version ∷ []) (own_says k) (effected version k) in
-    let four = both k (λ (h : Option ℕ). handler_or_any h ∷ []) (λ (p : Bool × Effect). Fixed (own_word p.0) ∷ effect_form p.1) (want.HandlerOrAny ∷ []) (want.Own ∷ want.Effect version ∷ []) (handler_says k) five in
-    let three_on = both k (λ (o : OpMatch). Fixed (op_match_word o) ∷ []) (λ (p : Option ℕ × (Bool × Effect)). handler_or_any p.0 ∷ Fixed (own_word p.1.0) ∷ effect_form p.1.1) (want.Op ∷ []) (want.HandlerOrAny ∷ want.Own ∷ want.Effect version ∷ []) (op_says k) four in
+    let four = both k (λ (h : Option ℕ). handler_or_any h ∷ []) (λ (p : Bool × Effect). Fixed (own_word p.0) ∷ effect_form p.1)
+    (want.HandlerOrAny ∷ []) (want.Own ∷ want.Effect version ∷ []) (handler_says k) five in
+    let three_on = both k (λ (o : OpMatch). Fixed (op_match_word o) ∷ []) (λ (p : Option ℕ × (Bool × Effect)). handler_or_any p.0 ∷ Fixed (own_word p.1.0) ∷ effect_form p.1.1)
+    (want.Op ∷ []) (want.HandlerOrAny ∷ want.Own ∷ want.Effect version ∷ []) (op_says k) four in
     let two_on = both k (λ (n : ℕ). Numeral n ∷ []) (λ (p : OpMatch × (Option ℕ × (Bool × Effect))). Fixed (op_match_word p.0) ∷ handler_or_any p.1.0 ∷ Fixed (own_word p.1.1.0) ∷ effect_form p.1.1.1)
     (want.Number 0 255 ∷ []) (want.Op ∷ want.HandlerOrAny ∷ want.Own ∷ want.Effect version ∷ []) (numeral k 0 255) three_on in
-    let all = both k (λ (n : ℕ). Numeral n ∷ []) (λ (p : ℕ × (OpMatch × (Option ℕ × (Bool × Effect)))). Numeral p.0 ∷ Fixed (op_match_word p.1.0) ∷ handler_or_any p.1.1.0 ∷ Fixed (own_word p.1.1.1.0) ∷ effect_form p.1.1.1.1)
+    let all = both k (λ (n : ℕ). Numeral n ∷ [])
+    (λ (p : ℕ × (OpMatch × (Option ℕ × (Bool × Effect)))). Numeral p.0 ∷ Fixed (op_match_word p.1.0) ∷ handler_or_any p.1.1.0 ∷ Fixed (own_word p.1.1.1.0) ∷ effect_form p.1.1.1.1)
     (want.Number 0 255 ∷ []) (want.Number 0 255 ∷ want.Op ∷ want.HandlerOrAny ∷ want.Own ∷ want.Effect version ∷ []) (numeral k 0 255) two_on in
     renamed k (λ (p : RuleWords). Numeral p.0 ∷ Numeral p.1.0 ∷ Fixed (op_match_word p.1.1.0) ∷ handler_or_any p.1.1.1.0 ∷ Fixed (own_word p.1.1.1.1.0) ∷ effect_form p.1.1.1.1.1) rule_form rule_of
     (want.Number 0 255 ∷ want.Number 0 255 ∷ want.Op ∷ want.HandlerOrAny ∷ want.Own ∷ want.Effect version ∷ []) (λ p. refl) all
@@ -93,10 +105,13 @@ spot_words : (w : List ℕ) (p : Atom × List Want) → accepts want.Spot w ≡ 
 unfolding accepts
 spot_words w p e = one_choice w want.spots p e
 
-spot_of : (k : ℕ) (wants : List Want) (ws : List (List ℕ)) (atoms : List Atom) → length ws ≤ suc k → (o : First want.Spot wants ws atoms) → OneOf want.spots o.taken → Said spot_form wants (length ws) atoms
+spot_of : (k : ℕ) (wants : List Want) (ws : List (List ℕ)) (atoms : List Atom) → length ws ≤ suc k
+    → (o : First want.Spot wants ws atoms) → OneOf want.spots o.taken → Said spot_form wants (length ws) atoms
 spot_of k wants ws atoms le o (inl is) = behind k spot_form (λ (u : Unit {0}). []) (λ (u : Unit {0}). forms.At place.Free) (codes "free") [] (λ u. refl) (none k) want.Spot wants ws atoms le o is
-spot_of k wants ws atoms le o (inr (inl is)) = behind k spot_form (λ (u : Unit {0}). []) (λ (u : Unit {0}). forms.At place.First) (codes "first") [] (λ u. refl) (none k) want.Spot wants ws atoms le o is
-spot_of k wants ws atoms le o (inr (inr (inl is))) = behind k spot_form (λ (u : Unit {0}). []) (λ (u : Unit {0}). forms.At place.Last) (codes "last") [] (λ u. refl) (none k) want.Spot wants ws atoms le o is
+spot_of k wants ws atoms le o (inr (inl is)) =
+    behind k spot_form (λ (u : Unit {0}). []) (λ (u : Unit {0}). forms.At place.First) (codes "first") [] (λ u. refl) (none k) want.Spot wants ws atoms le o is
+spot_of k wants ws atoms le o (inr (inr (inl is))) =
+    behind k spot_form (λ (u : Unit {0}). []) (λ (u : Unit {0}). forms.At place.Last) (codes "last") [] (λ u. refl) (none k) want.Spot wants ws atoms le o is
 spot_of k wants ws atoms le o (inr (inr (inr (inl is)))) =
     behind k spot_form (λ (n : ℕ). Numeral n ∷ []) (λ (n : ℕ). forms.Before n) (codes "before") (want.Number 0 1023 ∷ []) (λ n. refl) (numeral k 0 1023) want.Spot wants ws atoms le o is
 spot_of k wants ws atoms le o (inr (inr (inr (inr (inl is))))) =
@@ -115,10 +130,13 @@ wide : (k : ℕ) → Says k spot_form (want.Place ∷ want.Exactly (codes "befor
 wide k =
     let after = both k (λ (u : Unit {0}). Fixed (codes "after") ∷ []) counted_form (want.Exactly (codes "after") ∷ []) (want.Bindings ∷ []) (exact_says k (codes "after")) (bindings k) in
     let named = both k counted_form (λ (p : Unit {0} × List ℕ). Fixed (codes "after") ∷ counted_form p.1) (want.Bindings ∷ []) (want.Exactly (codes "after") ∷ want.Bindings ∷ []) (bindings k) after in
-    let before = both k (λ (u : Unit {0}). Fixed (codes "before") ∷ []) (λ (p : List ℕ × (Unit {0} × List ℕ)). counted_form p.0 ++ Fixed (codes "after") ∷ counted_form p.1.1) (want.Exactly (codes "before") ∷ []) (want.Bindings ∷ want.Exactly (codes "after") ∷ want.Bindings ∷ []) (exact_says k (codes "before")) named in
-    let all = both k (λ (q : Place). Fixed (place_word q) ∷ []) (λ (p : Unit {0} × (List ℕ × (Unit {0} × List ℕ))). Fixed (codes "before") ∷ (counted_form p.1.0 ++ Fixed (codes "after") ∷ counted_form p.1.1.1)) (want.Place ∷ [])
+    let before = both k (λ (u : Unit {0}). Fixed (codes "before") ∷ []) (λ (p : List ℕ × (Unit {0} × List ℕ)). counted_form p.0 ++ Fixed (codes "after") ∷ counted_form p.1.1)
+    (want.Exactly (codes "before") ∷ []) (want.Bindings ∷ want.Exactly (codes "after") ∷ want.Bindings ∷ []) (exact_says k (codes "before")) named in
+    let all = both k (λ (q : Place). Fixed (place_word q) ∷ [])
+    (λ (p : Unit {0} × (List ℕ × (Unit {0} × List ℕ))). Fixed (codes "before") ∷ (counted_form p.1.0 ++ Fixed (codes "after") ∷ counted_form p.1.1.1)) (want.Place ∷ [])
     (want.Exactly (codes "before") ∷ want.Bindings ∷ want.Exactly (codes "after") ∷ want.Bindings ∷ []) (place_says k) before in
-    renamed k (λ (p : WideWords). Fixed (place_word p.0) ∷ Fixed (codes "before") ∷ (counted_form p.1.1.0 ++ Fixed (codes "after") ∷ counted_form p.1.1.1.1)) spot_form (λ (p : WideWords). forms.Among p.0 p.1.1.0 p.1.1.1.1)
+    renamed k (λ (p : WideWords). Fixed (place_word p.0) ∷ Fixed (codes "before") ∷ (counted_form p.1.1.0 ++ Fixed (codes "after") ∷ counted_form p.1.1.1.1)) spot_form
+    (λ (p : WideWords). forms.Among p.0 p.1.1.0 p.1.1.1.1)
     (want.Place ∷ want.Exactly (codes "before") ∷ want.Bindings ∷ want.Exactly (codes "after") ∷ want.Bindings ∷ []) (λ p. refl) all
 
 spotted : (k : ℕ) (b : Bool) → Says k spot_form (cond b (want.Place ∷ want.Exactly (codes "before") ∷ want.Bindings ∷ want.Exactly (codes "after") ∷ want.Bindings ∷ []) (want.Spot ∷ []))
@@ -145,12 +163,16 @@ installed k version =
     let last : List Want = want.spot_wants version ++ want.Mode ∷ [] in
     let guard = then_more k 0 1023 (λ (p : Spot × Mode). spot_form p.0 ++ Fixed (mode_word p.1) ∷ []) last (placed k version) in
     let handler = then_more k 0 1023 (λ (p : ℕ × (Spot × Mode)). Numeral p.0 ∷ (spot_form p.1.0 ++ Fixed (mode_word p.1.1) ∷ [])) (want.Number 0 1023 ∷ last) guard in
-    let requester = then_more k 0 255 (λ (p : ℕ × (ℕ × (Spot × Mode))). Numeral p.0 ∷ Numeral p.1.0 ∷ (spot_form p.1.1.0 ++ Fixed (mode_word p.1.1.1) ∷ [])) (want.Number 0 1023 ∷ want.Number 0 1023 ∷ last) handler in
-    then_more k 0 63 (λ (p : ℕ × (ℕ × (ℕ × (Spot × Mode)))). Numeral p.0 ∷ Numeral p.1.0 ∷ Numeral p.1.1.0 ∷ (spot_form p.1.1.1.0 ++ Fixed (mode_word p.1.1.1.1) ∷ [])) (want.Number 0 255 ∷ want.Number 0 1023 ∷ want.Number 0 1023 ∷ last) requester
+    let requester =
+    then_more k 0 255 (λ (p : ℕ × (ℕ × (Spot × Mode))). Numeral p.0 ∷ Numeral p.1.0 ∷ (spot_form p.1.1.0 ++ Fixed (mode_word p.1.1.1) ∷ [])) (want.Number 0 1023 ∷ want.Number 0 1023 ∷ last) handler in
+    then_more k 0 63 (λ (p : ℕ × (ℕ × (ℕ × (Spot × Mode)))). Numeral p.0 ∷ Numeral p.1.0 ∷ Numeral p.1.1.0 ∷ (spot_form p.1.1.1.0 ++ Fixed (mode_word p.1.1.1.1) ∷ []))
+    (want.Number 0 255 ∷ want.Number 0 1023 ∷ want.Number 0 1023 ∷ last) requester
 
-replaced : (k last : ℕ) → Says k (λ (p : ℕ × (ℕ × (ℕ × (ℕ × ℕ)))). Numeral p.0 ∷ Numeral p.1.0 ∷ Numeral p.1.1.0 ∷ Numeral p.1.1.1.0 ∷ Numeral p.1.1.1.1 ∷ []) (want.Number 0 63 ∷ want.Number 0 255 ∷ want.Number 0 last ∷ want.Number 0 1023 ∷ want.Number 0 1023 ∷ [])
+replaced : (k last : ℕ) → Says k (λ (p : ℕ × (ℕ × (ℕ × (ℕ × ℕ)))). Numeral p.0 ∷ Numeral p.1.0 ∷ Numeral p.1.1.0 ∷ Numeral p.1.1.1.0 ∷ Numeral p.1.1.1.1 ∷ [])
+    (want.Number 0 63 ∷ want.Number 0 255 ∷ want.Number 0 last ∷ want.Number 0 1023 ∷ want.Number 0 1023 ∷ [])
 replaced k last =
-    then_more k 0 63 (λ (p : ℕ × (ℕ × (ℕ × ℕ))). Numeral p.0 ∷ Numeral p.1.0 ∷ Numeral p.1.1.0 ∷ Numeral p.1.1.1 ∷ []) (want.Number 0 255 ∷ want.Number 0 last ∷ want.Number 0 1023 ∷ want.Number 0 1023 ∷ [])
+    then_more k 0 63
+    (λ (p : ℕ × (ℕ × (ℕ × ℕ))). Numeral p.0 ∷ Numeral p.1.0 ∷ Numeral p.1.1.0 ∷ Numeral p.1.1.1 ∷ []) (want.Number 0 255 ∷ want.Number 0 last ∷ want.Number 0 1023 ∷ want.Number 0 1023 ∷ [])
     (then_more k 0 255 (λ (p : ℕ × (ℕ × ℕ)). Numeral p.0 ∷ Numeral p.1.0 ∷ Numeral p.1.1 ∷ []) (want.Number 0 last ∷ want.Number 0 1023 ∷ want.Number 0 1023 ∷ []) (three k 0 last 0 1023 0 1023))
 
 values_say : (j : ℕ) (w : List ℕ) (p : Atom × List Want) → accepts (want.Values (suc j)) w ≡ Ok p → (v : Value) × ((value_atom v, want.Values j ∷ []) ≡ p)
@@ -203,12 +225,14 @@ deed_of version k ws atoms le o (inr (inl is)) =
     deed_by version k (λ (p : Installed). Numeral p.0 ∷ Numeral p.1.0 ∷ Numeral p.1.1.0 ∷ Numeral p.1.1.1.0 ∷ (spot_form p.1.1.1.1.0 ++ Fixed (mode_word p.1.1.1.1.1) ∷ []))
     (λ (p : Installed). forms.Install p.0 p.1.0 p.1.1.0 p.1.1.1.0 p.1.1.1.1.0 p.1.1.1.1.1) (codes "install") _ (λ p. refl) (installed k version) ws atoms le o is
 deed_of version k ws atoms le o (inr (inr (inl is))) =
-    deed_by version k (λ (p : ℕ × (ℕ × ℕ)). Numeral p.0 ∷ Numeral p.1.0 ∷ Numeral p.1.1 ∷ []) (λ (p : ℕ × (ℕ × ℕ)). forms.Remove p.0 p.1.0 p.1.1) (codes "remove") _ (λ p. refl) (three k 0 63 0 255 0 (want.last_target version)) ws atoms le o is
+    deed_by version k (λ (p : ℕ × (ℕ × ℕ)). Numeral p.0 ∷ Numeral p.1.0 ∷ Numeral p.1.1 ∷ []) (λ (p : ℕ × (ℕ × ℕ)). forms.Remove p.0 p.1.0 p.1.1)
+    (codes "remove") _ (λ p. refl) (three k 0 63 0 255 0 (want.last_target version)) ws atoms le o is
 deed_of version k ws atoms le o (inr (inr (inr (inl is)))) =
     deed_by version k (λ (p : ℕ × (ℕ × (ℕ × (ℕ × ℕ)))). Numeral p.0 ∷ Numeral p.1.0 ∷ Numeral p.1.1.0 ∷ Numeral p.1.1.1.0 ∷ Numeral p.1.1.1.1 ∷ [])
     (λ (p : ℕ × (ℕ × (ℕ × (ℕ × ℕ)))). forms.Replace p.0 p.1.0 p.1.1.0 p.1.1.1.0 p.1.1.1.1) (codes "replace") _ (λ p. refl) (replaced k (want.last_target version)) ws atoms le o is
 deed_of version k ws atoms le o (inr (inr (inr (inr (inl is))))) =
-    deed_by version k (λ (p : ℕ × (ℕ × ℕ)). Numeral p.0 ∷ Numeral p.1.0 ∷ Numeral p.1.1 ∷ []) (λ (p : ℕ × (ℕ × ℕ)). forms.Default p.0 p.1.0 p.1.1) (codes "default") _ (λ p. refl) (three k 0 63 0 255 0 1023) ws atoms le o is
+    deed_by version k (λ (p : ℕ × (ℕ × ℕ)). Numeral p.0 ∷ Numeral p.1.0 ∷ Numeral p.1.1 ∷ []) (λ (p : ℕ × (ℕ × ℕ)). forms.Default p.0 p.1.0 p.1.1)
+    (codes "default") _ (λ p. refl) (three k 0 63 0 255 0 1023) ws atoms le o is
 deed_of version k ws atoms le o (inr (inr (inr (inr (inr (inl is)))))) =
     deed_by version k (λ (p : ℕ × ℕ). Numeral p.0 ∷ Numeral p.1 ∷ []) (λ (p : ℕ × ℕ). forms.NoDefault p.0 p.1) (codes "nodefault") _ (λ p. refl) (pair k 0 63 0 255) ws atoms le o is
 deed_of version k ws atoms le o (inr (inr (inr (inr (inr (inr (inl is))))))) = valued version forms.Later (codes "later") (λ event vs. refl) ws atoms o is
@@ -225,9 +249,10 @@ deed version ws atoms e =
 
 -- the words say a line of that kind
 abbrev IsLine : Kind → List Atom → Type 0
-IsLine k atoms = (l : Line) × (kind_of l ≡ k) × (atoms ≡ form l)
+IsLine k atoms = (l : LineMeaning) × (line_kind l ≡ k) × (atoms ≡ form l)
 
-line_by : {A : Type 0} (k : Kind) (f : A → List Atom) (make : A → Line) (front : List Want) (ws : List (List ℕ)) (atoms : List Atom) → ((a : A) → kind_of (make a) ≡ k) → ((a : A) → f a ≡ form (make a)) → Says (length ws) f front → reads front ws ≡ Ok atoms → IsLine k atoms
+line_by : {A : Type 0} (k : Kind) (f : A → List Atom) (make : A → LineMeaning) (front : List Want) (ws : List (List ℕ)) (atoms : List Atom)
+    → ((a : A) → line_kind (make a) ≡ k) → ((a : A) → f a ≡ form (make a)) → Says (length ws) f front → reads front ws ≡ Ok atoms → IsLine k atoms
 line_by k f make front ws atoms right same says e =
     let all : reads (front ++ []) ws ≡ Ok atoms = subst (λ (x : List Want). reads x ws ≡ Ok atoms) (sym (none_more front)) e in
     let s = closed f (length ws) atoms (says [] ws atoms (omega arith) all) in
@@ -248,7 +273,8 @@ behind_number {k} low high front ws atoms next e =
 abbrev IsBody : (List ℕ → Option EventType) → Want → Atom × List Want → Type 0
 IsBody typing more p = ((Fixed (codes "native"), want.Name ∷ []) ≡ p) ⊎ ((sig : EventType) × ((Typed sig, more ∷ []) ≡ p))
 
-body_of : (typing : List ℕ → Option EventType) (more : Want) (w : List ℕ) (p : Atom × List Want) → cond (bytes_eq w (codes "native")) (Ok (Fixed w, want.Name ∷ [])) (as_signature (typing w) (more ∷ [])) ≡ Ok p → IsBody typing more p
+body_of : (typing : List ℕ → Option EventType) (more : Want) (w : List ℕ) (p : Atom × List Want)
+    → cond (bytes_eq w (codes "native")) (Ok (Fixed w, want.Name ∷ [])) (as_signature (typing w) (more ∷ [])) ≡ Ok p → IsBody typing more p
 body_of typing more w p e =
     elim (one_of (bytes_eq w (codes "native")) (Ok (Fixed w, want.Name ∷ [])) (as_signature (typing w) (more ∷ [])) (Ok p) e) [
       | inl h ↦ inl (ap (λ (x : List ℕ). (Fixed x, want.Name ∷ [])) (sym (same_bytes w (codes "native") h.0)) ∙ ok_same (Fixed w, want.Name ∷ []) p h.1)
@@ -296,18 +322,22 @@ says_line version kind.Event ws atoms e =
     let k : ℕ = length ws in
     let last = both k (λ (sig : EventType). Typed sig ∷ []) merge_form (want.Signature ∷ []) (want.Merge ∷ []) (typed k) (merged k) in
     let owned = then_more k 0 255 (λ (p : EventType × Merge). Typed p.0 ∷ merge_form p.1) (want.Signature ∷ want.Merge ∷ []) last in
-    line_by kind.Event (λ (p : EventWords). Numeral p.0 ∷ Numeral p.1.0 ∷ Typed p.1.1.0 ∷ merge_form p.1.1.1) (λ (p : EventWords). line.Event p.0 p.1.0 p.1.1.0 p.1.1.1) _ ws atoms (λ p. refl) (λ p. refl)
+    line_by kind.Event (λ (p : EventWords). Numeral p.0 ∷ Numeral p.1.0 ∷ Typed p.1.1.0 ∷ merge_form p.1.1.1)
+    (λ (p : EventWords). line.Event p.0 p.1.0 p.1.1.0 p.1.1.1) _ ws atoms (λ p. refl) (λ p. refl)
     (then_more k 0 63 (λ (p : ℕ × (EventType × Merge)). Numeral p.0 ∷ Typed p.1.0 ∷ merge_form p.1.1) (want.Number 0 255 ∷ want.Signature ∷ want.Merge ∷ []) owned) e
 says_line version kind.Endpoint ws atoms e =
-    line_by kind.Endpoint (λ (p : ℕ × List ℕ). Numeral p.0 ∷ Called p.1 ∷ []) (λ (p : ℕ × List ℕ). line.Endpoint p.0 p.1) _ ws atoms (λ p. refl) (λ p. refl) (then_more (length ws) 0 63 (λ (n : List ℕ). Called n ∷ []) (want.Name ∷ []) (name (length ws))) e
+    line_by kind.Endpoint (λ (p : ℕ × List ℕ). Numeral p.0 ∷ Called p.1 ∷ []) (λ (p : ℕ × List ℕ). line.Endpoint p.0 p.1) _ ws atoms
+    (λ p. refl) (λ p. refl) (then_more (length ws) 0 63 (λ (n : List ℕ). Called n ∷ []) (want.Name ∷ []) (name (length ws))) e
 says_line version kind.Handler ws atoms e =
     behind_number 1 1023 (want.HandlerBody ∷ []) ws atoms (λ h words rest r. let o = first want.HandlerBody [] words rest refl r in handler_line h words rest o (handler_body o.word o.taken o.takes)) e
 says_line version kind.Guard ws atoms e =
     behind_number 1 1023 (want.GuardBody ∷ []) ws atoms (λ g words rest r. let o = first want.GuardBody [] words rest refl r in guard_line g words rest o (guard_body o.word o.taken o.takes)) e
 says_line version kind.Rule ws atoms e =
-    line_by kind.Rule (λ (p : ℕ × Rule). Numeral p.0 ∷ rule_form p.1) (λ (p : ℕ × Rule). line.Rules p.0 p.1) _ ws atoms (λ p. refl) (λ p. refl) (then_more (length ws) 0 63 rule_form (want.Number 0 255 ∷ want.Number 0 255 ∷ want.Op ∷ want.HandlerOrAny ∷ want.Own ∷ want.Effect version ∷ []) (ruled version (length ws))) e
+    line_by kind.Rule (λ (p : ℕ × Rule). Numeral p.0 ∷ rule_form p.1) (λ (p : ℕ × Rule). line.Rules p.0 p.1) _ ws atoms (λ p. refl) (λ p. refl)
+    (then_more (length ws) 0 63 rule_form (want.Number 0 255 ∷ want.Number 0 255 ∷ want.Op ∷ want.HandlerOrAny ∷ want.Own ∷ want.Effect version ∷ []) (ruled version (length ws))) e
 says_line version kind.Authoriser ws atoms e =
-    line_by kind.Authoriser (λ (p : ℕ × List ℕ). Numeral p.0 ∷ Called p.1 ∷ []) (λ (p : ℕ × List ℕ). line.Authoriser p.0 p.1) _ ws atoms (λ p. refl) (λ p. refl) (then_more (length ws) 0 63 (λ (n : List ℕ). Called n ∷ []) (want.Name ∷ []) (name (length ws))) e
+    line_by kind.Authoriser (λ (p : ℕ × List ℕ). Numeral p.0 ∷ Called p.1 ∷ []) (λ (p : ℕ × List ℕ). line.Authoriser p.0 p.1) _ ws atoms
+    (λ p. refl) (λ p. refl) (then_more (length ws) 0 63 (λ (n : List ℕ). Called n ∷ []) (want.Name ∷ []) (name (length ws))) e
 says_line version kind.Default ws atoms e =
     line_by kind.Default (λ (p : ℕ × ℕ). Numeral p.0 ∷ Numeral p.1 ∷ []) (λ (p : ℕ × ℕ). line.Default p.0 p.1) _ ws atoms (λ p. refl) (λ p. refl) (pair (length ws) 0 63 1 1023) e
 says_line version kind.Lane ws atoms e =

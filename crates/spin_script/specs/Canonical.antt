@@ -1,5 +1,6 @@
 -- The canonical text of a script.
-use Rattle.std.specs.Prelude.{ℕ, Bool, false, ◌&&◌, ◌==◌, if◌then◌else◌, List, [], ◌∷◌, ◌++◌, map, decimal, codes, slice_get, slice_index}
+use Rattle.std.specs.Prelude.{ℕ, Bool, false, ◌&&◌, ◌==◌, if◌then◌else◌, List, []}
+use Rattle.std.specs.Prelude.{◌∷◌, ◌++◌, map, decimal, codes, slice_get, slice_index}
 use Rattle.std.specs.List.{flat_map, enumerate_from}
 use Rattle.std.specs.Option.{option_map_or}
 use Rattle.spin_values.specs.declared.types.Param.{Param}
@@ -27,7 +28,7 @@ use Rattle.spin_grammar.specs.Forms.{Task, Spot}
 use Rattle.spin_text.specs.Words.{Word, spaced, line_of, ended}
 use Rattle.spin_grammar.specs.Canonical.{spell}
 use Rattle.spin_grammar.specs.Lines as line
-use Rattle.spin_grammar.specs.Lines.{form, kind_of}
+use Rattle.spin_grammar.specs.Lines.{form, line_kind}
 use Rattle.spin_script.specs.declared.script.Line.{Line}
 use Rattle.spin_script.specs.declared.script.Segment.{Segment}
 use Rattle.spin_word.specs.declared.work.Work.{Work}
@@ -57,16 +58,16 @@ abbrev pub spoken : List Atom → List ℕ
 spoken atoms = spaced (map spell atoms)
 
 -- the canonical words of a line
-abbrev pub words_of : line.Line → List Word
-words_of l = first_word (kind_of l) ∷ map spell (form l)
+abbrev pub words_of : line.LineMeaning → List Word
+words_of l = first_word (line_kind l) ∷ map spell (form l)
 
 -- a line, ended by a line feed
-abbrev pub line_text : line.Line → List ℕ
+abbrev pub line_text : line.LineMeaning → List ℕ
 line_text l = ended (line_of (words_of l))
 
 -- lines as text, one after another, each ended by a line feed
-abbrev pub text_of : List line.Line → List ℕ
-text_of lines = flat_map line_text lines
+abbrev pub text_of_lines : List line.LineMeaning → List ℕ
+text_of_lines lines = flat_map line_text lines
 
 -- the first line
 abbrev pub version_text : ℕ → List ℕ
@@ -86,27 +87,27 @@ by_value sig = record { params = marked false sig.params; gives = false }
 abbrev pub name_at : {X : Type 0} → List (Named X) → ℕ → List ℕ
 name_at {X} natives native = option_map_or (λ (n : Named X). n.name) (slice_get natives native) []
 
-abbrev pub event_line : ℕ × EventDef → line.Line
+abbrev pub event_line : ℕ × EventDef → line.LineMeaning
 event_line p = line.Event p.0 p.1.owner p.1.sig p.1.merge
 
-abbrev pub endpoint_line : ℕ × List ℕ → line.Line
+abbrev pub endpoint_line : ℕ × List ℕ → line.LineMeaning
 endpoint_line p = line.Endpoint p.0 p.1
 
-abbrev pub handler_line : NativeData → ℕ → Body → line.Line
+abbrev pub handler_line : NativeData → ℕ → Body → line.LineMeaning
 handler_line n number (body.Coded sig act) = line.Handler number sig act.steps
 handler_line n number (body.Native native) = line.NativeHandler number (name_at n.handlers native)
 
-abbrev pub guard_line : NativeData → ℕ → Check → line.Line
+abbrev pub guard_line : NativeData → ℕ → Check → line.LineMeaning
 guard_line n number (check.Coded sig test) = line.Guard number (by_value sig) test
 guard_line n number (check.Native native) = line.NativeGuard number (name_at n.guards native)
 
 -- who answers for the owner of that event
-abbrev pub authority_lines : NativeData → ℕ → Authority → List line.Line
+abbrev pub authority_lines : NativeData → ℕ → Authority → List line.LineMeaning
 authority_lines n event (authority.Rules rules) = map (line.Rules event) rules
 authority_lines n event (authority.Native native) =
     line.Authoriser event (name_at n.authorisers native) ∷ []
 
-abbrev pub default_lines : (event handler : ℕ) → List line.Line
+abbrev pub default_lines : (event handler : ℕ) → List line.LineMeaning
 default_lines event handler = if handler == 0 then [] else line.Default event handler ∷ []
 
 -- ---- lanes and segments
@@ -145,14 +146,14 @@ task_of version (work.Command c) = command_task version c.op c
 task_of version (work.Deed d) = deed_task d
 task_of version (work.Packet event count) = forms.Packet event count
 
-abbrev pub lane_line : (version : ℕ) → Line → line.Line
+abbrev pub lane_line : (version : ℕ) → Line → line.LineMeaning
 lane_line version l = line.Lane l.lane (task_of version l.work)
 
-abbrev pub segment_lines : (version : ℕ) → Segment → List line.Line
+abbrev pub segment_lines : (version : ℕ) → Segment → List line.LineMeaning
 segment_lines version s = map line.Retire s.retires ++ map (lane_line version) s.lines
 
 -- a barrier stands between segments
-abbrev pub segments_lines : (version : ℕ) → List Segment → List line.Line
+abbrev pub segments_lines : (version : ℕ) → List Segment → List line.LineMeaning
 segments_lines version [] = []
 segments_lines version (s ∷ more) =
     segment_lines version s ++ flat_map (λ t. line.Barrier ∷ segment_lines version t) more
@@ -160,7 +161,7 @@ segments_lines version (s ∷ more) =
 -- ---- scripts
 
 -- The lines behind the first, where the handlers and guards are these. Each list of declarations is numbered.
-abbrev pub lines_of : NativeData → List Body → List Check → ScriptData → List line.Line
+abbrev pub lines_of : NativeData → List Body → List Check → ScriptData → List line.LineMeaning
 lines_of n bodies checks d =
     line.Modules d.setup.modules
     ∷ (map event_line (enumerate_from 0 d.setup.events)
@@ -174,7 +175,7 @@ lines_of n bodies checks d =
     ++ segments_lines d.version d.segments)
 
 abbrev pub canonical_of : NativeData → List Body → List Check → ScriptData → List ℕ
-canonical_of n bodies checks d = version_text d.version ++ text_of (lines_of n bodies checks d)
+canonical_of n bodies checks d = version_text d.version ++ text_of_lines (lines_of n bodies checks d)
 
 abbrev pub canonical : {A C E : Type 0} {B : A → Type 0} {D : C → Type 0} {F : E → Type 0}
     → Script A C E B D F → List ℕ

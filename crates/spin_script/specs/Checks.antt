@@ -1,5 +1,6 @@
 -- Why a line is bad whose words can stand: `first_of` the causes whose conditions hold.
-use Rattle.std.specs.Prelude.{ℕ, ◌+◌, Bool, true, false, not, ◌||◌, ◌==◌, nat_lt, nat_le, if◌then◌else◌, List, [], ◌∷◌, length, Option, Some, None, Result, Ok, Err, is_none, slice_get, bytes_eq}
+use Rattle.std.specs.Prelude.{ℕ, ◌+◌, Bool, true, false, not, ◌||◌, ◌==◌, nat_lt, nat_le, if◌then◌else◌, List}
+use Rattle.std.specs.Prelude.{[], ◌∷◌, length, Option, Some, None, Result, Ok, Err, is_none, slice_get, bytes_eq}
 use Rattle.std.specs.List.{list_all, list_any}
 use Rattle.std.specs.Option.{option_map_or}
 use Rattle.spin_word.specs.declared.command.Mode.TheVariants as mode
@@ -23,7 +24,8 @@ use Rattle.spin_script.specs.declared.lanes.TheConstants.{MAX_DEEDS, MAX_EARLY_C
 use Rattle.spin_word.specs.declared.work.Work.{Work}
 use Rattle.spin_grammar.specs.Lines as line
 use Rattle.spin_grammar.specs.Tasks.{work_of}
-use Rattle.spin_script.specs.States.{State, NativeData, native_at, policies, given_rules, is_native, command_count, deed_count}
+use Rattle.spin_script.specs.States.{ScriptState, NativeData, native_at, policies}
+use Rattle.spin_script.specs.States.{given_rules, is_native, command_count, deed_count}
 
 -- the cause that a fault of an act, a test or a merge is
 abbrev pub act_cause : ActFault → Cause
@@ -42,11 +44,11 @@ checked (Err f) others = (true, act_cause f) ∷ others
 -- ---- what isn't declared
 
 -- what a step sends to or raises isn't there, where there are so many endpoints and events
-abbrev pub names_unknown : (endpoints events : ℕ) → ActStep → Bool
-names_unknown endpoints events (step.Send endpoint arg from) = nat_le endpoints endpoint
-names_unknown endpoints events (step.Up event parts) = nat_le events event
-names_unknown endpoints events (step.Layer k event) = nat_le events event
-names_unknown endpoints events other = false
+abbrev pub step_names_unknown : (endpoints events : ℕ) → ActStep → Bool
+step_names_unknown endpoints events (step.Send endpoint arg from) = nat_le endpoints endpoint
+step_names_unknown endpoints events (step.Up event parts) = nat_le events event
+step_names_unknown endpoints events (step.Layer k event) = nat_le events event
+step_names_unknown endpoints events other = false
 
 -- a guard that is imposed isn't there, where there are so many
 abbrev pub imposes_unknown : (guards : ℕ) → Rule → Bool
@@ -62,18 +64,18 @@ speaks_of_unknown handlers guards r =
 -- 20 and 21: what steps send to and raise is there, and takes what it gets
 abbrev pub step_checks : (endpoints : ℕ) → List EventDef → List ActStep → List (Bool × Cause)
 step_checks endpoints events steps =
-    (list_any (names_unknown endpoints (length events)) steps, cause.Undeclared)
+    (list_any (step_names_unknown endpoints (length events)) steps, cause.Undeclared)
     ∷ (not (list_all (is_step_fit events) steps), cause.Mismatch)
     ∷ []
 
 -- the checks of the steps of the native handler of that index; where there is none, that is the cause
-abbrev pub native_checks : NativeData → State → Option ℕ → List (Bool × Cause)
+abbrev pub native_checks : NativeData → ScriptState → Option ℕ → List (Bool × Cause)
 native_checks n s None = (true, cause.Native) ∷ []
 native_checks n s (Some native) =
     step_checks (length s.endpoints) s.events (handler_if (slice_get n.handlers native)).act.steps
 
 -- 13, 20 and 21: of one rule more for the event; where the event isn't there, 20 alone
-abbrev pub rule_checks : State → Rule → Option EventDef → List (Bool × Cause)
+abbrev pub rule_checks : ScriptState → Rule → Option EventDef → List (Bool × Cause)
 rule_checks s r None = (true, cause.Undeclared) ∷ []
 rule_checks s r (Some e) =
     (nat_le MAX_RULES (length (given_rules e.authority)), cause.Limit)
@@ -87,7 +89,7 @@ policy_at n None = None
 policy_at n (Some native) = slice_get (policies n) native
 
 -- a policy may not be there
-abbrev pub authoriser_checks : State → Option (List Rule) → Option EventDef → List (Bool × Cause)
+abbrev pub authoriser_checks : ScriptState → Option (List Rule) → Option EventDef → List (Bool × Cause)
 authoriser_checks s policy None = (true, cause.Undeclared) ∷ []
 authoriser_checks s policy (Some e) =
     (list_any (imposes_unknown (length s.guards)) (rules_if policy), cause.Undeclared)
@@ -105,7 +107,7 @@ unfoldable pub cannot_serve : List HandlerUnit → (event : ℕ) → EventDef �
 cannot_serve handlers event e handler = not (is_fit_handler handlers event e mode.Plain handler)
 
 -- 20, 21 and 23: of a first default for the event; where the event isn't there, 20 alone
-abbrev pub default_checks : State → (event handler : ℕ) → Option EventDef → List (Bool × Cause)
+abbrev pub default_checks : ScriptState → (event handler : ℕ) → Option EventDef → List (Bool × Cause)
 default_checks s event handler None = (true, cause.Undeclared) ∷ []
 default_checks s event handler (Some e) =
     (nat_lt (length s.handlers) handler, cause.Undeclared)
@@ -122,13 +124,13 @@ abbrev pub most_deeds : ℕ
 most_deeds = MAX_DEEDS
 
 -- there are as many command lines or deeds as there may be
-abbrev pub is_full : (version commands deeds : ℕ) → Work → Bool
-is_full version commands deeds w =
+abbrev pub is_work_full : (version commands deeds : ℕ) → Work → Bool
+is_work_full version commands deeds w =
     nat_lt (most_commands version) (commands + command_count w)
     || nat_lt most_deeds (deeds + deed_count w)
 
 -- the causes for which a line can't stand behind the script so far, in order, each with its condition
-abbrev pub checks : NativeData → State → line.Line → List (Bool × Cause)
+abbrev pub checks : NativeData → ScriptState → line.LineMeaning → List (Bool × Cause)
 checks n s (line.Modules count) = []
 checks n s (line.Event e owner sig m) =
     (not (e == length s.events), cause.Next)
@@ -152,7 +154,7 @@ checks n s (line.Authoriser e name) =
     authoriser_checks s (policy_at n (native_at name n.authorisers)) (slice_get s.events e)
 checks n s (line.Default e h) = default_checks s e h (slice_get s.events e)
 checks n s (line.Lane l t) =
-    (is_full s.version s.commands s.deeds (work_of l t), cause.Limit)
+    (is_work_full s.version s.commands s.deeds (work_of l t), cause.Limit)
     ∷ (nat_le MAX_LANES l, cause.Lane) ∷ []
 checks n s line.Barrier = []
 checks n s (line.Retire p) = (nat_le (length s.endpoints) p, cause.Undeclared) ∷ []

@@ -1,5 +1,6 @@
 -- Scripts that are written are read again.
-use Rattle.std.specs.Prelude.{◌≡◌, ◌≤◌, ℕ, ◌+◌, Bool, true, false, ◌&&◌, nat_le, List, [], ◌∷◌, ◌++◌, length, map, None, Some, Ok}
+use Rattle.std.specs.Prelude.{◌≡◌, ◌≤◌, ℕ, ◌+◌, Bool, true, false, ◌&&◌, nat_le}
+use Rattle.std.specs.Prelude.{List, [], ◌∷◌, ◌++◌, length, map, None, Some, Ok}
 use Rattle.spin_values.specs.declared.types.EventType.{EventType}
 use Rattle.spin_code.specs.declared.test.Test.{Test}
 use Rattle.spin_objects.specs.declared.unit.Body.{Body}
@@ -9,29 +10,31 @@ use Rattle.spin_objects.specs.declared.unit.Check.TheVariants as check
 use Rattle.spin_objects.specs.Units.{unit_of_body, unit_of_check}
 use Rattle.spin_table.specs.declared.event.Authority.TheVariants as authority
 use Rattle.spin_grammar.specs.Forms.{Task}
-use Rattle.spin_grammar.specs.Lines.{Line, Guard, NativeHandler, NativeGuard, Authoriser, Lane, kind_of, Spells}
+use Rattle.spin_grammar.specs.Lines.{LineMeaning, Guard, NativeHandler, NativeGuard}
+use Rattle.spin_grammar.specs.Lines.{Authoriser, Lane, line_kind, Spells}
 use Rattle.spin_script.specs.declared.script.Line as script
 use Rattle.spin_script.specs.declared.script.Segment.{Segment}
 use Rattle.spin_script.specs.Sections.{is_out_of_order}
 use Rattle.spin_grammar.specs.Tasks.{work_of}
-use Rattle.spin_script.specs.States.{State, NativeData, ScriptData, native_at, start, after}
+use Rattle.spin_script.specs.States.{ScriptState, NativeData, ScriptData, native_at, start, after}
 use Rattle.spin_values.specs.First.{first_of}
 use Rattle.spin_script.specs.Checks.{checks}
-use Rattle.spin_script.specs.Language.{Outcome, ended, most_bytes, IsScript}
-use Rattle.spin_script.specs.Canonical.{handler_line, guard_line, authority_lines, task_of, version_text, text_of, canonical_of}
+use Rattle.spin_script.specs.Language.{Outcome, outcome_at_end, most_bytes, IsScript}
+use Rattle.spin_script.specs.Canonical.{handler_line, guard_line, authority_lines, task_of}
+use Rattle.spin_script.specs.Canonical.{version_text, text_of_lines, canonical_of}
 
 -- some words say this, in a script of this version
-abbrev pub CanBeSaid : ℕ → Line → Type 0
-CanBeSaid version l = (ws : List (List ℕ)) × Spells version (kind_of l) ws l
+abbrev pub CanBeSaid : ℕ → LineMeaning → Type 0
+CanBeSaid version l = (ws : List (List ℕ)) × Spells version (line_kind l) ws l
 
 -- the line can stand behind the script so far
-pub record Fits (n : NativeData) (s : State) (l : Line) : Type 0 where
+pub record Fits (n : NativeData) (s : ScriptState) (l : LineMeaning) : Type 0 where
   pub said : CanBeSaid s.version l
-  pub order : is_out_of_order (kind_of l) s.section s.begins ≡ false
+  pub order : is_out_of_order (line_kind l) s.section s.begins ≡ false
   pub good : first_of (checks n s l) ≡ None
 
 -- The lines, of which the first has that number, lead from s to t.
-abbrev pub LeadTo : NativeData → State → ℕ → List Line → State → Type 0
+abbrev pub LeadTo : NativeData → ScriptState → ℕ → List LineMeaning → ScriptState → Type 0
 LeadTo n s number [] t = t ≡ s
 LeadTo n s number (l ∷ ls) t = Fits n s l × LeadTo n (after n s number l) (number + 1) ls t
 
@@ -41,12 +44,12 @@ is_version version = nat_le 1 version && nat_le version 3
 -- What is written of lines that can stand behind one another is read as just these lines.
 abbrev pub WrittenLinesAreRead : Type 0
 WrittenLinesAreRead =
-    (n : NativeData) (version : ℕ) (ls : List Line) (t : State) (o : Outcome)
+    (n : NativeData) (version : ℕ) (ls : List LineMeaning) (t : ScriptState) (o : Outcome)
     → is_version version ≡ true
     → LeadTo n (record start { version = version }) 2 ls t
-    → o ≡ ended n t
-    → length (version_text version ++ text_of ls) ≤ most_bytes
-    → IsScript n (version_text version ++ text_of ls) o
+    → o ≡ outcome_at_end n t
+    → length (version_text version ++ text_of_lines ls) ≤ most_bytes
+    → IsScript n (version_text version ++ text_of_lines ls) o
 
 -- What is written of the deed of a lane line is just that deed.
 abbrev pub DeedsAreBack : Type 0
@@ -86,9 +89,10 @@ ComesBack n text d = length text ≤ most_bytes
 abbrev pub ScriptsCanBeWritten : Type 0
 ScriptsCanBeWritten =
     (n : NativeData) (text : List ℕ) (d : ScriptData) → IsScript n text (Ok d)
-    → (ls : List Line) × ComesBack n (version_text d.version ++ text_of ls) d
+    → (ls : List LineMeaning) × ComesBack n (version_text d.version ++ text_of_lines ls) d
 
--- The handlers and guards of each script that is read are of such bodies and checks that its canonical text is read as that script, but for the numbers of its lines.
+-- The handlers and guards of each script that is read are of such bodies and checks that its canonical text is read as
+-- that script, but for the numbers of its lines.
 abbrev pub ScriptsComeBack : Type 0
 ScriptsComeBack =
     (n : NativeData) (text : List ℕ) (d : ScriptData) → IsScript n text (Ok d)

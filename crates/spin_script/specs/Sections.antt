@@ -38,8 +38,8 @@ abbrev pub is_retire : Kind → Bool
 is_retire kind.Retire = true
 is_retire k = false
 
--- The line can't stand behind a line of that section, which began a segment or didn't: its section lies before, `modules`
--- stands a second time, or an endpoint isn't retired at once where a segment begins.
+-- The line can't stand behind a line of that section, which began a segment or didn't: its section lies before,
+-- `modules` stands a second time, or an endpoint isn't retired at once where a segment begins.
 abbrev pub is_out_of_order : Kind → ℕ → Bool → Bool
 is_out_of_order k before begins =
     nat_lt (section k) before

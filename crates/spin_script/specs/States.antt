@@ -1,11 +1,13 @@
 -- The script so far.
-use Rattle.std.specs.Prelude.{ℕ, ◌+◌, ◌==◌, max, Bool, true, false, if◌then◌else◌, List, [], ◌∷◌, ◌++◌, map, Option, Some, None, slice_get, slice_set}
+use Rattle.std.specs.Prelude.{ℕ, ◌+◌, ◌==◌, max, Bool, true, false, if◌then◌else◌, List}
+use Rattle.std.specs.Prelude.{[], ◌∷◌, ◌++◌, map, Option, Some, None, slice_get, slice_set}
 use Rattle.std.specs.Option.{option_map_or}
 use Rattle.spin_values.specs.declared.types.EventType.{EventType}
 use Rattle.spin_code.specs.declared.merge.Merge.{Merge}
 use Rattle.spin_policy.specs.declared.rule.Rule.{Rule}
 use Rattle.spin_objects.specs.declared.natives.Natives.{Natives}
-use Rattle.spin_objects.specs.Units.{HandlerUnit, GuardUnit, Named, native_handlers, native_guards, native_authorisers, index_of, handler_if, guard_if}
+use Rattle.spin_objects.specs.Units.{HandlerUnit, GuardUnit, Named, native_handlers, native_guards}
+use Rattle.spin_objects.specs.Units.{native_authorisers, index_of, handler_if, guard_if}
 use Rattle.spin_table.specs.declared.event.EventDef.{EventDef}
 use Rattle.spin_table.specs.declared.event.Authority.{Authority}
 use Rattle.spin_table.specs.declared.event.Authority.TheVariants as authority
@@ -47,7 +49,7 @@ policies n = map (λ a. a.unit) n.authorisers
 -- ---- the state
 
 -- the script so far: what the lines up to here say, and what decides which line may follow
-pub record State : Type 0 where
+pub record ScriptState : Type 0 where
   -- 0 before the first line that isn't skipped
   pub version : ℕ
   -- the section of the last line
@@ -73,7 +75,7 @@ abbrev pub empty_segment : Segment
 empty_segment = record { retires = []; lines = [] }
 
 -- the script before all lines: it has one module and one lane, and nothing is declared
-abbrev pub start : State
+abbrev pub start : ScriptState
 start = record {
   version = 0;
   section = 0;
@@ -141,7 +143,7 @@ deed_count (work.Packet e n) = n
 deed_count w = 1
 
 -- a lane line is added to the segment that goes on
-abbrev pub with_work : State → ℕ → ℕ → Work → State
+abbrev pub with_work : ScriptState → ℕ → ℕ → Work → ScriptState
 with_work s number lane w = record s {
   section = 8;
   begins = false;
@@ -156,25 +158,25 @@ with_work s number lane w = record s {
 }
 
 -- the script with the native of that index as the event's authoriser; the same script where there is none
-abbrev pub with_authority : State → ℕ → Option ℕ → State
+abbrev pub with_authority : ScriptState → ℕ → Option ℕ → ScriptState
 with_authority s event None = s
 with_authority s event (Some native) =
     record s { section = 6; events = with_event (with_authoriser native) event s.events }
 
 -- the script with the native of that index as one handler more; the same script where there is none
-abbrev pub with_handler : NativeData → State → Option ℕ → State
+abbrev pub with_handler : NativeData → ScriptState → Option ℕ → ScriptState
 with_handler n s None = s
 with_handler n s (Some native) =
     record s { section = 4; handlers = s.handlers ++ handler_if (slice_get n.handlers native) ∷ [] }
 
 -- the script with the native of that index as one guard more; the same script where there is none
-abbrev pub with_guard : NativeData → State → Option ℕ → State
+abbrev pub with_guard : NativeData → ScriptState → Option ℕ → ScriptState
 with_guard n s None = s
 with_guard n s (Some native) =
     record s { section = 5; guards = s.guards ++ guard_if (slice_get n.guards native) ∷ [] }
 
 -- the script up to this line, which has that number in the text
-abbrev pub after : NativeData → State → ℕ → line.Line → State
+abbrev pub after : NativeData → ScriptState → ℕ → line.LineMeaning → ScriptState
 after n s number (line.Modules count) = record s { section = 1; modules = count }
 after n s number (line.Event e owner sig m) =
     record s { section = 2; events = s.events ++ new_event owner sig m ∷ [] }
@@ -227,7 +229,7 @@ abbrev pub most_live : ℕ → ℕ
 most_live version = if version == 3 then MAX_LIVE else MAX_EARLY_LIVE
 
 -- what the script declares; the policies are those of all native authorisers that were handed in
-abbrev pub setup_in : NativeData → State → SetupData
+abbrev pub setup_in : NativeData → ScriptState → SetupData
 setup_in n s = record {
   modules = s.modules;
   live = most_live s.version;
@@ -238,7 +240,7 @@ setup_in n s = record {
 }
 
 -- the script that ends here: the segment that goes on is its last
-abbrev pub script_in : NativeData → State → ScriptData
+abbrev pub script_in : NativeData → ScriptState → ScriptData
 script_in n s = record {
   setup = setup_in n s;
   version = s.version;

@@ -19,7 +19,7 @@ use spin_table::{Authority, EventDef};
 use spin_values::{EventType, Text};
 use std::alloc::Global;
 
-/// The cause that a fault of an act, a test or a merge is.
+// The cause that a fault of an act, a test or a merge is.
 pub(crate) fn act_cause(fault: ActFault) -> Cause
     ensures { result ≡ specs.act_cause fault }
 {
@@ -33,7 +33,7 @@ pub(crate) fn act_cause(fault: ActFault) -> Cause
     }
 }
 
-/// Sets the number of modules.
+// Sets the number of modules.
 pub(crate) fn add_modules(draft: &mut Draft, modules: u16) -> Result<(), Fault>
     ensures { (n : NativeData) (handlers : List HandlerUnit) (guards : List GuardUnit) (number : ℕ)
         → Adds n (state draft.old handlers guards) number (said.Modules modules) result
@@ -44,7 +44,7 @@ pub(crate) fn add_modules(draft: &mut Draft, modules: u16) -> Result<(), Fault>
     Ok(())
 }
 
-/// Adds an event, whose merge is `None` where it is too deep.
+// Adds an event, whose merge is `None` where it is too deep.
 pub(crate) fn add_event(
     alloc: Global,
     draft: &mut Draft,
@@ -87,14 +87,14 @@ fn has_name(known: &Text, name: &[u8]) -> bool
     known.as_slice() == name
 }
 
-/// Whether an endpoint of this name is declared.
+// Whether an endpoint of this name is declared.
 fn is_endpoint(endpoints: &[Text], name: &[u8]) -> bool
     ensures { result ≡ list_any (λ known. bytes_eq known name.now) endpoints.now }
 {
     endpoints.iter().any(|known| has_name(known, name))
 }
 
-/// Adds an endpoint.
+// Adds an endpoint.
 pub(crate) fn add_endpoint(draft: &mut Draft, endpoint: u8, name: Text) -> Result<(), Fault>
     ensures { (n : NativeData) (handlers : List HandlerUnit) (guards : List GuardUnit) (number : ℕ)
         → Adds n (state draft.old handlers guards) number (said.Endpoint endpoint name) result

@@ -36,7 +36,7 @@ impl Segment {
     ghost use Rattle.std.specs.Prelude.{◌≡◌};
     ghost use Rattle.spin_script.specs.States.{empty_segment};
 
-    /// A segment without lines.
+    // A segment without lines.
     pub(crate) fn empty(alloc: Global) -> Segment
         ensures { result ≡ empty_segment }
     {
@@ -52,7 +52,7 @@ impl Draft {
     ghost use Rattle.spin_script.specs.States.{start};
     ghost use Rattle.spin_script.specs.Inner.Drafts.{state};
 
-    /// No line.
+    // No line.
     pub(crate) fn new(alloc: Global) -> Draft
         ensures { state result [] [] ≡ start }
     {

@@ -36,7 +36,7 @@ pub fn all_allowed(line: &[u8]) -> bool
     line.iter().all(|byte| is_allowed(*byte))
 }
 
-/// The words that lines begin with. Most lines of long scripts are a lane's, so its word stands first.
+// The words that lines begin with. Most lines of long scripts are a lane's, so its word stands first.
 const FIRST_WORDS: [(&[u8], Kind); 11] = [
     (b"lane", Kind::Lane),
     (b"modules", Kind::Modules),
@@ -51,14 +51,14 @@ const FIRST_WORDS: [(&[u8], Kind); 11] = [
     (b"retire", Kind::Retire),
 ];
 
-/// What a line with this first word is about.
+// What a line with this first word is about.
 fn kind_of(word: &[u8]) -> Option<Kind>
     ensures { result ≡ look_up word.now first_words }
 {
     look_up(word, FIRST_WORDS.as_slice())
 }
 
-/// The number of the section of such a line.
+// The number of the section of such a line.
 fn section(kind: Kind) -> u8
     ensures { result ≡ section kind }
 {
@@ -74,14 +74,14 @@ fn section(kind: Kind) -> u8
     }
 }
 
-/// Whether such a line retires an endpoint.
+// Whether such a line retires an endpoint.
 fn is_retire(kind: Kind) -> bool
     ensures { result ≡ is_retire kind }
 {
     matches!(kind, Kind::Retire)
 }
 
-/// Whether such a line can't stand behind a line of that section, which began a segment or didn't.
+// Whether such a line can't stand behind a line of that section, which began a segment or didn't.
 fn is_out_of_order(kind: Kind, before: u8, begins: bool) -> bool
     ensures { result ≡ is_out_of_order kind before begins }
 {
@@ -104,7 +104,7 @@ fn version_word(word: &[u8]) -> Option<u8>
     None
 }
 
-/// The version that the words of the first line name.
+// The version that the words of the first line name.
 fn version_of(words: &mut Words) -> Option<u8>
     ensures { result ≡ version_of words.old }
 {
@@ -116,7 +116,7 @@ fn version_of(words: &mut Words) -> Option<u8>
     version_word(second)
 }
 
-/// What the line is, behind this draft.
+// What the line is, behind this draft.
 #[tactic(auto, unfolding(crate::specs::Language::head))]
 pub(crate) fn find_head<'a>(draft: &Draft, line: &'a [u8]) -> Result<Found<'a>, Cause>
     ensures head { (handlers : List HandlerUnit) (guards : List GuardUnit)

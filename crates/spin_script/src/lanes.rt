@@ -25,7 +25,7 @@ pub const MAX_DEEDS: u64 = 65536;
 /// The greatest number of command lines of a script of version 1 or 2. One of version 3 may have [`MAX_PLACE`].
 pub const MAX_EARLY_COMMANDS: u16 = 1000;
 
-/// Ends the segment that goes on.
+// Ends the segment that goes on.
 pub(crate) fn add_barrier(alloc: Global, draft: &mut Draft) -> Result<(), Fault>
     ensures { (n : NativeData) (handlers : List HandlerUnit) (guards : List GuardUnit) (number : ℕ)
         → Adds n (state draft.old handlers guards) number said.Barrier result
@@ -38,7 +38,7 @@ pub(crate) fn add_barrier(alloc: Global, draft: &mut Draft) -> Result<(), Fault>
     Ok(())
 }
 
-/// Adds the retirement of an endpoint.
+// Adds the retirement of an endpoint.
 pub(crate) fn add_retire(draft: &mut Draft, endpoint: u8) -> Result<(), Fault>
     ensures { (n : NativeData) (handlers : List HandlerUnit) (guards : List GuardUnit) (number : ℕ)
         → Adds n (state draft.old handlers guards) number (said.Retire endpoint) result
@@ -53,7 +53,7 @@ pub(crate) fn add_retire(draft: &mut Draft, endpoint: u8) -> Result<(), Fault>
     Ok(())
 }
 
-/// The greatest number of command lines, in a script of this version.
+// The greatest number of command lines, in a script of this version.
 fn most_commands(version: u8) -> u64
     ensures most { result ≡ specs.most_commands version }
     ensures few { result ≤ MAX_PLACE }
@@ -65,7 +65,7 @@ fn most_commands(version: u8) -> u64
     }
 }
 
-/// How many command lines it counts for.
+// How many command lines it counts for.
 fn command_count(work: &Work) -> u32
     ensures { result ≡ states.command_count work.now }
 {
@@ -75,7 +75,7 @@ fn command_count(work: &Work) -> u32
     }
 }
 
-/// How many deeds it counts for.
+// How many deeds it counts for.
 fn deed_count(work: &Work) -> u32
     ensures { result ≡ states.deed_count work.now }
 {
@@ -85,14 +85,14 @@ fn deed_count(work: &Work) -> u32
     }
 }
 
-/// The sum of two counts.
+// The sum of two counts.
 fn total(so_far: u32, more: u32) -> u64
     ensures { result ≡ so_far + more }
 {
     u64::from(so_far) + u64::from(more)
 }
 
-/// Adds a lane line that asks for this.
+// Adds a lane line that asks for this.
 pub(crate) fn add_lane(draft: &mut Draft, number: u32, lane: u8, work: Work) -> Result<(), Fault>
     ensures { (n : NativeData) (handlers : List HandlerUnit) (guards : List GuardUnit) (t : forms.Task)
         → Asks lane work t → Adds n (state draft.old handlers guards) number

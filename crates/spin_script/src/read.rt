@@ -12,7 +12,7 @@ ghost use Rattle.spin_script.specs.Inner.Reader.{GivesDraft};
 ghost use Rattle.spin_script.specs.Soundness.{AreValid, command_lines};
 ghost use Rattle.spin_script.specs.Inner.Sound.{IsSound};
 ghost use Rattle.spin_script.specs.Segments.{IsOrderly};
-ghost use Rattle.spin_grammar.specs.Lines.{Line, Stands, IsInRange};
+ghost use Rattle.spin_grammar.specs.Lines.{LineMeaning, Stands, IsInRange};
 ghost use Rattle.spin_script.specs.Canonical.{canonical};
 ghost use Rattle.spin_script.specs.RoundTrip.{ComesBack};
 ghost use Rattle.spin_script.specs.Inner.Declaring.{Grows, IsDeclared};
@@ -31,7 +31,7 @@ use spin_table::{EventList, MAX_LIVE, Setup};
 use spin_values::NoMemory;
 use std::alloc::Global;
 
-/// Adds a line that was read.
+// Adds a line that was read.
 fn add(
     alloc: Global,
     draft: &mut Draft,
@@ -45,7 +45,7 @@ fn add(
     ensures natives { catalogue.new.natives ≡ catalogue.old.natives }
     ensures adds { AddsSaid (natives_seen catalogue.old.natives)
         (so_far draft.old catalogue.old) number said result (so_far draft.new catalogue.new) }
-    ensures grows { (l : Line) → Stands said l
+    ensures grows { (l : LineMeaning) → Stands said l
         → Grows (natives_seen catalogue.old.natives) catalogue.old.bodies catalogue.old.checks l
         result catalogue.new.bodies catalogue.new.checks }
 {
@@ -71,8 +71,8 @@ fn add(
     }
 }
 
-/// Reads the words of a line of this kind, and adds the line to the script so far.
-#[tactic(auto, using(crate::proofs::Whole::said_gives))]
+// Reads the words of a line of this kind, and adds the line to the script so far.
+#[tactic(auto, using(crate::proofs::ScriptReading::said_gives))]
 fn say(
     alloc: Global,
     draft: &mut Draft,
@@ -102,8 +102,8 @@ fn say(
     add(alloc, draft, catalogue, said, number)
 }
 
-/// Reads a line, and adds it to the script so far.
-#[tactic(auto, using(crate::proofs::Whole::line_gives, crate::proofs::Keeping::begun_sound))]
+// Reads a line, and adds it to the script so far.
+#[tactic(auto, using(crate::proofs::ScriptReading::line_gives, crate::proofs::ReadLineSoundness::begun_sound))]
 fn take_line(
     alloc: Global,
     draft: &mut Draft,
@@ -136,14 +136,14 @@ fn take_line(
     }
 }
 
-/// The number of a cause.
+// The number of a cause.
 fn cause_number(cause: Cause) -> u8
     ensures { result ≡ cause_number cause }
 {
     cause as u8
 }
 
-/// The refusal of a line.
+// The refusal of a line.
 fn bad(line: u32, cause: Cause) -> ScriptFault
     ensures { result ≡ ScriptFault.Bad line (cause_number cause) }
 {
@@ -153,8 +153,8 @@ fn bad(line: u32, cause: Cause) -> ScriptFault
     }
 }
 
-/// Reads all lines behind an empty draft.
-#[tactic(auto, using(crate::proofs::Whole::comes_on, crate::proofs::Whole::comes_bad, crate::proofs::Whole::comes_end, crate::proofs::Whole::is_script, crate::proofs::Declaring::start_declared))]
+// Reads all lines behind an empty draft.
+#[tactic(auto, using(crate::proofs::ScriptReading::comes_on, crate::proofs::ScriptReading::comes_bad, crate::proofs::ScriptReading::comes_end, crate::proofs::ScriptReading::is_script, crate::proofs::DeclaredUnits::start_declared))]
 fn read_lines(
     alloc: Global,
     text: &[u8],
@@ -192,7 +192,7 @@ fn read_lines(
 /// [`MAX_LIVE`].
 pub const MAX_EARLY_LIVE: u16 = 32;
 
-/// The greatest number of live bindings of an event, in a script of this version.
+// The greatest number of live bindings of an event, in a script of this version.
 fn most_live(version: u8) -> u16
     ensures { result ≡ most_live version }
 {
@@ -203,7 +203,7 @@ fn most_live(version: u8) -> u16
     }
 }
 
-/// The script of a sound draft.
+// The script of a sound draft.
 fn build(draft: Draft, catalogue: Catalogue) -> Result<Script, NoMemory>
     requires sound { IsSound (natives_seen catalogue.natives) (so_far draft catalogue) }
     requires sincere { ⟦<Catalogue as Sincere>⟧.sincere catalogue }
@@ -230,14 +230,13 @@ fn build(draft: Draft, catalogue: Catalogue) -> Result<Script, NoMemory>
 
 /// Reads a script, in which these natives may be named, or finds its first bad line and why it is bad.
 ///
-/// Unless memory runs out, [`ScriptFault::Bad`] comes exactly where the text isn't in the language: its line is the first that can't stand
-/// behind the lines before it, counted from 1, and its cause the number of the first [`Cause`] that applies there, or 0
-/// and 1 where the text is over [`MAX_TEXT`]. Of a script each command is valid, and at most 4,096 lines are commands.
-/// It is orderly: the numbers of its lines rise; it has 1 to 8 lanes, each line is of one of them and its command of that
-/// lane; it has at most 65,536 deeds; it has at most 64 endpoints, their names differ, and those that are retired or
-/// sent to are there.
-/// After a refusal the natives are dropped. It takes time and memory linear in the text, and no stack that grows with
-/// it.
+/// Unless memory runs out, [`ScriptFault::Bad`] comes exactly where the text isn't in the language: its line is the
+/// first that can't stand behind the lines before it, counted from 1, and its cause the number of the first [`Cause`]
+/// that applies there, or 0 and 1 where the text is over [`MAX_TEXT`]. Of a script each command is valid, and at most
+/// 4,096 lines are commands. It is orderly: the numbers of its lines rise; it has 1 to 8 lanes, each line is of one of
+/// them and its command of that lane; it has at most 65,536 deeds; it has at most 64 endpoints, their names differ, and
+/// those that are retired or sent to are there. After a refusal the natives are dropped. It takes time and memory
+/// linear in the text, and no stack that grows with it.
 ///
 /// What [`write_script`](crate::write_script) writes of the script is read again as that script, but for the numbers of
 /// its lines, unless it is over [`MAX_TEXT`].

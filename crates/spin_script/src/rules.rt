@@ -1,6 +1,7 @@
 //! The lines that declare who answers for an event, and its first default.
 
-ghost use Rattle.std.specs.Prelude.{◌≡◌, ◌<◌, ◌≤◌, ℕ, false, nat_lt, List, length, slice_get, Option, Some, None, OnOk, IfErr, IfSome, MatchOption};
+ghost use Rattle.std.specs.Prelude.{◌≡◌, ◌<◌, ◌≤◌, ℕ, false, nat_lt, List, length, slice_get};
+ghost use Rattle.std.specs.Prelude.{Option, Some, None, OnOk, IfErr, IfSome, MatchOption};
 ghost use Rattle.std.specs.List.{list_any};
 ghost use Rattle.std.specs.Option.{option_map_or};
 ghost use Rattle.spin_policy.specs.declared.rule.Rule.{Rule};
@@ -9,7 +10,8 @@ ghost use Rattle.spin_policy.specs.Verdicts.{has_wrong_guards};
 ghost use Rattle.spin_table.specs.Setups.{rules_if};
 ghost use Rattle.spin_grammar.specs.Lines as said;
 ghost use Rattle.spin_grammar.specs.declared.fault.Fault.TheVariants as fault;
-ghost use Rattle.spin_script.specs.States.{NativeData, natives_seen, policies, given_rules, with_event, with_rule, with_authoriser, with_default};
+ghost use Rattle.spin_script.specs.States.{NativeData, natives_seen, policies, given_rules};
+ghost use Rattle.spin_script.specs.States.{with_event, with_rule, with_authoriser, with_default};
 ghost use Rattle.spin_script.specs.States as states;
 ghost use Rattle.spin_script.specs.Checks as specs;
 ghost use Rattle.spin_values.specs.First.{first_of};
@@ -27,7 +29,7 @@ use spin_table::{Authority, EventDef, are_all_fit, is_fit_handler, is_fit_rule};
 use spin_values::Text;
 use spin_word::Mode;
 
-/// The event of that number, if there is one.
+// The event of that number, if there is one.
 fn event_at(draft: &Draft, event: u8) -> Option<&EventDef>
     ensures { MatchOption result (slice_get draft.now.events.items event ≡ None)
         (λ def. slice_get draft.now.events.items event ≡ Some def.now) }
@@ -35,7 +37,7 @@ fn event_at(draft: &Draft, event: u8) -> Option<&EventDef>
     draft.events.get(usize::from(event))
 }
 
-/// Whether one of the guards isn't there, where there are so many.
+// Whether one of the guards isn't there, where there are so many.
 fn any_over(count: u16, guards: &[u16]) -> bool
     ensures { result ≡ list_any (nat_lt count) guards.now }
 {
@@ -57,14 +59,14 @@ fn is_over(count: u16, handler: Option<u16>) -> bool
     }
 }
 
-/// Whether the handler or a guard of the rule isn't there, where there are so many.
+// Whether the handler or a guard of the rule isn't there, where there are so many.
 fn speaks_of_unknown(handlers: u16, guards: u16, rule: &Rule) -> bool
     ensures { result ≡ specs.speaks_of_unknown handlers guards rule.now }
 {
     is_over(handlers, rule.handler) || imposes_unknown(guards, rule)
 }
 
-/// How many rules were given.
+// How many rules were given.
 fn rule_count(authority: &Authority) -> usize
     ensures { result ≡ length (given_rules authority.now) }
 {
@@ -83,7 +85,7 @@ fn is_native(authority: &Authority) -> bool
     }
 }
 
-/// Why the rule can't be the event's next one.
+// Why the rule can't be the event's next one.
 fn rule_cause(catalogue: &Catalogue, def: &EventDef, rule: &Rule) -> Option<Cause>
     ensures { (draft : Draft) → result ≡ first_of
         (rule_checks (so_far draft catalogue.now) rule.now (Some def.now)) }
@@ -100,7 +102,7 @@ fn rule_cause(catalogue: &Catalogue, def: &EventDef, rule: &Rule) -> Option<Caus
     None
 }
 
-/// Adds a rule to those that were given, which are fewer than [`MAX_RULES`].
+// Adds a rule to those that were given, which are fewer than [`MAX_RULES`].
 fn add_to(def: &mut EventDef, rule: Rule) -> Result<(), Fault>
     requires guards { has_wrong_guards rule.effect ≡ false }
     requires few { length (given_rules def.old.authority) < MAX_RULES }
@@ -118,7 +120,7 @@ fn add_to(def: &mut EventDef, rule: Rule) -> Result<(), Fault>
     }
 }
 
-/// Adds a rule to those that were given for the event, which are fewer than [`MAX_RULES`].
+// Adds a rule to those that were given for the event, which are fewer than [`MAX_RULES`].
 fn push_rule(events: &mut Vec<EventDef>, event: u8, rule: Rule) -> Result<(), Fault>
     requires guards { has_wrong_guards rule.effect ≡ false }
     requires few { IfSome (slice_get events.old.items event)
@@ -135,7 +137,7 @@ fn push_rule(events: &mut Vec<EventDef>, event: u8, rule: Rule) -> Result<(), Fa
     add_to(def, rule)
 }
 
-/// Adds a rule.
+// Adds a rule.
 pub(crate) fn add_rule(
     draft: &mut Draft,
     catalogue: &Catalogue,
@@ -158,7 +160,7 @@ pub(crate) fn add_rule(
     Ok(())
 }
 
-/// The policy of the native authoriser of that index, if there is one.
+// The policy of the native authoriser of that index, if there is one.
 fn policy_rules(catalogue: &Catalogue, native: Option<u16>) -> &[Rule]
     requires { IfSome native (λ at. at < length (policies (natives_seen catalogue.now.natives))) }
     ensures { result.now ≡ rules_if (specs.policy_at (natives_seen catalogue.now.natives) native) }
@@ -169,14 +171,14 @@ fn policy_rules(catalogue: &Catalogue, native: Option<u16>) -> &[Rule]
     }
 }
 
-/// Whether one of the rules imposes a guard that isn't there, where there are so many.
+// Whether one of the rules imposes a guard that isn't there, where there are so many.
 fn any_imposes_unknown(guards: u16, rules: &[Rule]) -> bool
     ensures { result ≡ list_any (specs.imposes_unknown guards) rules.now }
 {
     rules.iter().any(|rule| imposes_unknown(guards, rule))
 }
 
-/// The native authoriser of that index, or why it can't answer for the event.
+// The native authoriser of that index, or why it can't answer for the event.
 fn next_authoriser(catalogue: &Catalogue, def: &EventDef, native: Option<u16>) -> Result<u16, Cause>
     requires { IfSome native (λ at. at < length (policies (natives_seen catalogue.now.natives))) }
     ensures { (draft : Draft) → Judges (λ at. native ≡ Some at)
@@ -199,7 +201,7 @@ fn next_authoriser(catalogue: &Catalogue, def: &EventDef, native: Option<u16>) -
     Ok(native)
 }
 
-/// Makes the native authoriser of that index answer for the event, where it is there.
+// Makes the native authoriser of that index answer for the event, where it is there.
 fn set_authoriser(events: &mut Vec<EventDef>, event: u8, native: u16)
     ensures { events.new.items ≡ with_event (with_authoriser native) event events.old.items }
 {
@@ -208,7 +210,7 @@ fn set_authoriser(events: &mut Vec<EventDef>, event: u8, native: u16)
     }
 }
 
-/// Adds a native authoriser.
+// Adds a native authoriser.
 pub(crate) fn add_authoriser(
     draft: &mut Draft,
     catalogue: &Catalogue,
@@ -229,7 +231,7 @@ pub(crate) fn add_authoriser(
     Ok(())
 }
 
-/// Why the handler can't be the event's first default.
+// Why the handler can't be the event's first default.
 #[tactic(auto, unfolding(crate::specs::Checks::cannot_serve))]
 fn default_cause(catalogue: &Catalogue, event: u8, def: &EventDef, handler: u16) -> Option<Cause>
     ensures { (draft : Draft) → result ≡ first_of
@@ -247,7 +249,7 @@ fn default_cause(catalogue: &Catalogue, event: u8, def: &EventDef, handler: u16)
     None
 }
 
-/// Makes the handler the event's first default, where the event is there.
+// Makes the handler the event's first default, where the event is there.
 fn set_default(events: &mut Vec<EventDef>, event: u8, handler: u16)
     ensures { events.new.items ≡ with_event (with_default handler) event events.old.items }
 {
@@ -256,7 +258,7 @@ fn set_default(events: &mut Vec<EventDef>, event: u8, handler: u16)
     }
 }
 
-/// Adds a first default.
+// Adds a first default.
 pub(crate) fn add_default(
     draft: &mut Draft,
     catalogue: &Catalogue,

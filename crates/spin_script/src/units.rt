@@ -1,18 +1,20 @@
 //! The lines that declare handlers and guards.
 
-ghost use Rattle.std.specs.Prelude.{◌≡◌, ◌+◌, ◌<◌, ◌≤◌, ℕ, ◌++◌, ◌∷◌, [], List, length, None, Ok, ⊤, IfOk, IfErr, MatchOption};
+ghost use Rattle.std.specs.Prelude.{◌≡◌, ◌+◌, ◌<◌, ◌≤◌, ℕ, ◌++◌, ◌∷◌, [], List};
+ghost use Rattle.std.specs.Prelude.{length, None, Ok, ⊤, IfOk, IfErr, MatchOption};
 ghost use Rattle.std.specs.List.{list_any};
 ghost use Rattle.spin_code.specs.declared.act.ActStep.{ActStep};
 ghost use Rattle.spin_code.specs.declared.test.Test.{Test};
 ghost use Rattle.spin_code.specs.Check.{act_check, test_check};
 ghost use Rattle.spin_code.specs.Size.{test_depth, is_step_deep};
-ghost use Rattle.spin_objects.specs.Units.{HandlerUnit, GuardUnit, handlers_of, guards_of, native_handlers, native_guards, unit_of_body, unit_of_check};
+ghost use Rattle.spin_objects.specs.Units.{HandlerUnit, GuardUnit, handlers_of, guards_of};
+ghost use Rattle.spin_objects.specs.Units.{native_handlers, native_guards, unit_of_body, unit_of_check};
 ghost use Rattle.spin_objects.specs.Adding.{handler_refusal, guard_refusal};
 ghost use Rattle.spin_grammar.specs.Lines as said;
 ghost use Rattle.spin_code.specs.declared.depth.TheConstants.{MAX_DEPTH};
 ghost use Rattle.spin_grammar.specs.declared.limits.TheConstants.{LAST_HANDLER, LAST_GUARD};
 ghost use Rattle.spin_grammar.specs.Lines.{IsKept, IsWithin};
-ghost use Rattle.spin_script.specs.States.{State, NativeData, natives_seen};
+ghost use Rattle.spin_script.specs.States.{ScriptState, NativeData, natives_seen};
 ghost use Rattle.spin_script.specs.Checks as specs;
 ghost use Rattle.spin_values.specs.First.{first_of};
 ghost use Rattle.spin_script.specs.Checks.{checked, step_checks, checks};
@@ -30,7 +32,7 @@ use spin_table::{EventDef, raises_fit};
 use spin_values::{EventType, Text};
 
 fn names_unknown(endpoints: usize, events: usize, step: &ActStep) -> bool
-    ensures { result ≡ specs.names_unknown endpoints events step.now }
+    ensures { result ≡ specs.step_names_unknown endpoints events step.now }
 {
     match step {
         ActStep::Send { endpoint, .. } => usize::from(*endpoint) >= endpoints,
@@ -40,16 +42,16 @@ fn names_unknown(endpoints: usize, events: usize, step: &ActStep) -> bool
     }
 }
 
-/// Whether a step sends to or raises what isn't there, where there are so many endpoints and events.
+// Whether a step sends to or raises what isn't there, where there are so many endpoints and events.
 fn any_unknown(endpoints: usize, events: usize, steps: &[ActStep]) -> bool
-    ensures { result ≡ list_any (specs.names_unknown endpoints events) steps.now }
+    ensures { result ≡ list_any (specs.step_names_unknown endpoints events) steps.now }
 {
     steps
         .iter()
         .any(|step| names_unknown(endpoints, events, step))
 }
 
-/// Why an act can't be done, whose steps send to and raise what is declared so far.
+// Why an act can't be done, whose steps send to and raise what is declared so far.
 fn step_cause(endpoints: usize, events: &[EventDef], act: &Act) -> Option<Cause>
     ensures { result ≡ first_of (step_checks endpoints events.now act.now.steps) }
 {
@@ -62,14 +64,14 @@ fn step_cause(endpoints: usize, events: &[EventDef], act: &Act) -> Option<Cause>
     None
 }
 
-/// How many guards there are.
+// How many guards there are.
 pub(crate) fn guard_count(catalogue: &Catalogue) -> u16
     ensures { result ≡ length (guards_of catalogue.now) }
 {
     catalogue.count()
 }
 
-/// Adds a handler that isn't refused.
+// Adds a handler that isn't refused.
 fn keep_handler(catalogue: &mut Catalogue, body: Body) -> Result<(), Fault>
     requires sincere { ⟦<Catalogue as Sincere>⟧.sincere catalogue.old }
     requires fit { handler_refusal body (length (native_handlers catalogue.old.natives))
@@ -90,7 +92,7 @@ fn keep_handler(catalogue: &mut Catalogue, body: Body) -> Result<(), Fault>
     }
 }
 
-/// Adds a guard that isn't refused.
+// Adds a guard that isn't refused.
 fn keep_guard(catalogue: &mut Catalogue, check: Check) -> Result<(), Fault>
     requires sincere { ⟦<Catalogue as Sincere>⟧.sincere catalogue.old }
     requires fit { guard_refusal check (length (native_guards catalogue.old.natives))
@@ -111,7 +113,7 @@ fn keep_guard(catalogue: &mut Catalogue, check: Check) -> Result<(), Fault>
     }
 }
 
-/// Why the act can't be that of a handler of this signature, where its steps send to and raise what is declared so far.
+// Why the act can't be that of a handler of this signature, where its steps send to and raise what is declared so far.
 fn act_fault(endpoints: usize, events: &[EventDef], sig: &EventType, act: &Act) -> Option<Cause>
     ensures first { result ≡ first_of (checked (act_check act.now sig.now)
         (step_checks endpoints events.now act.now.steps)) }
@@ -123,7 +125,7 @@ fn act_fault(endpoints: usize, events: &[EventDef], sig: &EventType, act: &Act) 
     step_cause(endpoints, events, act)
 }
 
-/// The act of these steps for the next handler, or why it can't be that.
+// The act of these steps for the next handler, or why it can't be that.
 fn next_act(
     draft: &Draft,
     handlers: u16,
@@ -152,7 +154,7 @@ fn next_act(
     }
 }
 
-/// Adds a handler, whose steps are `None` where they are too deep.
+// Adds a handler, whose steps are `None` where they are too deep.
 pub(crate) fn add_handler(
     draft: &mut Draft,
     catalogue: &mut Catalogue,
@@ -177,7 +179,7 @@ pub(crate) fn add_handler(
     Ok(())
 }
 
-/// The act of the handler that was added last.
+// The act of the handler that was added last.
 fn last_act(catalogue: &Catalogue, handler: u16) -> &Act
     requires some { 0 < handler }
     requires last { handler ≡ length (handlers_of catalogue.now) }
@@ -187,7 +189,7 @@ fn last_act(catalogue: &Catalogue, handler: u16) -> &Act
     catalogue.act_of(handler)
 }
 
-/// Adds a native handler.
+// Adds a native handler.
 pub(crate) fn add_native_handler(
     draft: &mut Draft,
     catalogue: &mut Catalogue,
@@ -219,10 +221,10 @@ pub(crate) fn add_native_handler(
     Ok(())
 }
 
-/// The test for the next guard, or why it can't be that.
+// The test for the next guard, or why it can't be that.
 fn next_test(guards: u16, guard: u16, sig: &EventType, test: Option<Test>) -> Result<Test, Cause>
     requires { guards ≤ LAST_GUARD }
-    ensures first { (n : NativeData) (s : State) (kept : Test) → length s.guards ≡ guards
+    ensures first { (n : NativeData) (s : ScriptState) (kept : Test) → length s.guards ≡ guards
         → IsWithin test_depth MAX_DEPTH test kept
         → Judges (λ t. t ≡ kept) (first_of (checks n s (said.Guard guard sig.now kept))) result }
     ensures next { IfOk result (λ _. guard ≡ guards + 1) }
@@ -240,7 +242,7 @@ fn next_test(guards: u16, guard: u16, sig: &EventType, test: Option<Test>) -> Re
     Ok(test)
 }
 
-/// Adds a guard, whose test is `None` where it is too deep.
+// Adds a guard, whose test is `None` where it is too deep.
 pub(crate) fn add_guard(
     draft: &mut Draft,
     catalogue: &mut Catalogue,
@@ -265,7 +267,7 @@ pub(crate) fn add_guard(
     Ok(())
 }
 
-/// Adds a native guard.
+// Adds a native guard.
 pub(crate) fn add_native_guard(
     draft: &mut Draft,
     catalogue: &mut Catalogue,

@@ -10,7 +10,8 @@ mod words;
 ghost use Rattle.std.specs.Prelude.{◌≡◌, ◌++◌, ◌∷◌, IfOk, OnOk, map};
 ghost use Rattle.std.specs.List.{flat_map};
 ghost use Rattle.spin_grammar.specs.Lines as said;
-ghost use Rattle.spin_script.specs.Canonical.{line_text, text_of, version_text, segment_lines, segments_lines, canonical};
+ghost use Rattle.spin_script.specs.Canonical.{line_text, text_of_lines, version_text};
+ghost use Rattle.spin_script.specs.Canonical.{segment_lines, segments_lines, canonical};
 ghost use Rattle.spin_script.specs.Canonical as specs;
 
 use crate::script::{Line, Script, Segment};
@@ -22,7 +23,7 @@ use spin_text::{end_line, put_number};
 use spin_values::{NoMemory, Octets};
 use std::alloc::Global;
 
-/// Appends the first line, and the line that says how many modules there are.
+// Appends the first line, and the line that says how many modules there are.
 fn put_head(out: &mut Octets, version: u8, modules: u16) -> Result<(), NoMemory>
     ensures { OnOk result
         (out.new ≡ out.old ++ version_text version ++ line_text (said.Modules modules)) }
@@ -53,7 +54,7 @@ fn put_line(out: &mut Octets, version: u8, line: &Line) -> Result<(), NoMemory>
 }
 
 fn put_retires(out: &mut Octets, endpoints: &[u16]) -> Result<(), NoMemory>
-    ensures { OnOk result (out.new ≡ out.old ++ text_of (map said.Retire endpoints.now)) }
+    ensures { OnOk result (out.new ≡ out.old ++ text_of_lines (map said.Retire endpoints.now)) }
 {
     for endpoint in endpoints {
         put_retire(out, *endpoint)?;
@@ -62,7 +63,7 @@ fn put_retires(out: &mut Octets, endpoints: &[u16]) -> Result<(), NoMemory>
 }
 
 fn put_lines(out: &mut Octets, version: u8, lines: &[Line]) -> Result<(), NoMemory>
-    ensures { OnOk result (out.new ≡ out.old ++ text_of (map (specs.lane_line version) lines.now)) }
+    ensures { OnOk result (out.new ≡ out.old ++ text_of_lines (map (specs.lane_line version) lines.now)) }
 {
     for line in lines {
         put_line(out, version, line)?;
@@ -71,16 +72,16 @@ fn put_lines(out: &mut Octets, version: u8, lines: &[Line]) -> Result<(), NoMemo
 }
 
 fn put_segment(out: &mut Octets, version: u8, segment: &Segment) -> Result<(), NoMemory>
-    ensures { OnOk result (out.new ≡ out.old ++ text_of (segment_lines version segment.now)) }
+    ensures { OnOk result (out.new ≡ out.old ++ text_of_lines (segment_lines version segment.now)) }
 {
     put_retires(out, segment.retires.as_slice())?;
     put_lines(out, version, segment.lines.as_slice())
 }
 
-/// Appends segments, each behind a barrier.
+// Appends segments, each behind a barrier.
 fn put_later_segments(out: &mut Octets, version: u8, segments: &[Segment]) -> Result<(), NoMemory>
     ensures { OnOk result (out.new ≡ out.old
-        ++ text_of (flat_map (λ s. said.Barrier ∷ segment_lines version s) segments.now)) }
+        ++ text_of_lines (flat_map (λ s. said.Barrier ∷ segment_lines version s) segments.now)) }
 {
     for segment in segments {
         out.extend_from_slice(b"barrier")?;
@@ -91,7 +92,7 @@ fn put_later_segments(out: &mut Octets, version: u8, segments: &[Segment]) -> Re
 }
 
 fn put_segments(out: &mut Octets, version: u8, segments: &[Segment]) -> Result<(), NoMemory>
-    ensures { OnOk result (out.new ≡ out.old ++ text_of (segments_lines version segments.now)) }
+    ensures { OnOk result (out.new ≡ out.old ++ text_of_lines (segments_lines version segments.now)) }
 {
     if segments.is_empty() {
         return Ok(());
@@ -100,10 +101,10 @@ fn put_segments(out: &mut Octets, version: u8, segments: &[Segment]) -> Result<(
     put_later_segments(out, version, &segments[1..])
 }
 
-/// The canonical text of a script: the words of its lines stand behind one space each, numbers are decimal without leading
-/// zeros, bytes have digits in lower case, natives stand by their names, no line is skipped, and the lines of each
-/// section stand by rising event, an event's rules in their order. It takes time and memory linear in the text, and stack
-/// as deep as expressions and tests are.
+/// The canonical text of a script: the words of its lines stand behind one space each, numbers are decimal without
+/// leading zeros, bytes have digits in lower case, natives stand by their names, no line is skipped, and the lines of
+/// each section stand by rising event, an event's rules in their order. It takes time and memory linear in the text,
+/// and stack as deep as expressions and tests are.
 pub fn write_script(alloc: Global, script: &Script) -> Result<Octets, NoMemory>
     ensures { IfOk result (λ text. text ≡ canonical script.now) }
 {

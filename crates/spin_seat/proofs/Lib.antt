@@ -1,7 +1,7 @@
-pub mod Replays
-pub mod Keeping
-pub mod Giving
-pub mod Counts
-pub mod Runs
-pub mod Legal
-pub mod Weaving
+pub mod RowReplays
+pub mod SeatInvariants
+pub mod SeatCalls
+pub mod LaneCounts
+pub mod SeatAnswers
+pub mod LegalAnswers
+pub mod WovenAnswers

@@ -1,5 +1,6 @@
 -- What seats answer, and when a list of answers is a history of the plain dispatcher.
-use Rattle.std.specs.Prelude.{◌≡◌, ℕ, ◌-◌, ◌≤◌, Bool, if◌then◌else◌, List, [], ◌∷◌, take, length, Option, None, Some, is_some}
+use Rattle.std.specs.Prelude.{◌≡◌, ℕ, ◌-◌, ◌≤◌, Bool, if◌then◌else◌, List, []}
+use Rattle.std.specs.Prelude.{◌∷◌, take, length, Option, None, Some, is_some}
 use Rattle.spin_word.specs.declared.row.Row.{Row}
 use Rattle.spin_word.specs.declared.command.Command.{Command}
 use Rattle.spin_word.specs.Rows.{row_of}
@@ -56,10 +57,10 @@ pub record IsAnswerIn (d : SetupData) (log : List Row) (answer : Answer) : Type 
 
 -- each answer follows on the state that those before it made, and has the place of the state to
 -- which it leads
-abbrev pub IsLegal : SetupData → State → List Answer → State → Type 0
-IsLegal d s [] last = last ≡ s
-IsLegal d s (answer ∷ answers) last =
+abbrev pub AreLegalAnswers : SetupData → State → List Answer → State → Type 0
+AreLegalAnswers d s [] last = last ≡ s
+AreLegalAnswers d s (answer ∷ answers) last =
     (next : State)
     × LeadsTo d s answer.said next
     × (answer.place ≡ next.place)
-    × IsLegal d next answers last
+    × AreLegalAnswers d next answers last

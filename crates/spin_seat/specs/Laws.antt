@@ -7,7 +7,7 @@ use Rattle.spin_log.specs.Pens.{PenValue, StandsIn}
 use Rattle.spin_table.specs.Setups.{SetupData}
 use Rattle.spin_table.specs.States.{State}
 use Rattle.spin_seat.specs.Replay.{IsReplay, IsClean, IsCleanFor}
-use Rattle.spin_seat.specs.Answers.{Answer, IsAnswerIn, IsLegal}
+use Rattle.spin_seat.specs.Answers.{Answer, IsAnswerIn, AreLegalAnswers}
 use Rattle.spin_seat.specs.Runs.{Ran}
 use Rattle.spin_seat.specs.Weaves.{IsWeave}
 
@@ -45,4 +45,4 @@ WeavesAreLegal =
     → ((k : ℕ) → k < lanes → (before k).lane ≡ k)
     → ((k : ℕ) → k < lanes → Ran d (before k) (trails k) (after k))
     → ((k : ℕ) → k < lanes → StandsIn (start ++ more) (after k))
-    → IsWeave lanes trails woven → IsLegal d first woven last
+    → IsWeave lanes trails woven → AreLegalAnswers d first woven last

@@ -1,5 +1,6 @@
 -- What a seat has answered, call after call.
-use Rattle.std.specs.Prelude.{◌≡◌, ℕ, ◌+◌, ◌<◌, ◌≤◌, ◌==◌, true, not, List, [], ◌++◌, Option, map, filter, length, drop, All}
+use Rattle.std.specs.Prelude.{◌≡◌, ℕ, ◌+◌, ◌<◌, ◌≤◌, ◌==◌, true, not, List, []}
+use Rattle.std.specs.Prelude.{◌++◌, Option, map, filter, length, drop, All}
 use Rattle.std.specs.Option.{option_map}
 use Rattle.std.specs.List.{filter_map, enumerate_from, AllAdjacentBelow}
 use Rattle.spin_word.specs.declared.row.Row.{Row}

@@ -6,7 +6,7 @@ use Rattle.spin_table.specs.Setups.{SetupData}
 use Rattle.spin_table.specs.States.{State, start_of}
 use Rattle.spin_seat.specs.Replay.{IsReplay}
 use Rattle.spin_seat.specs.Seats.{SeatValue}
-use Rattle.spin_seat.specs.Answers.{Answer, is_accepted, IsLegal}
+use Rattle.spin_seat.specs.Answers.{Answer, is_accepted, AreLegalAnswers}
 use Rattle.spin_seat.specs.Runs.{Ran, new_of}
 
 -- where an answer stands among others: by place, and at one place the accepted command first
@@ -32,4 +32,4 @@ abbrev pub AnswersAreLegal : SetupData → List SeatValue → List Row → Type 
 AnswersAreLegal d seats log =
     (trails : ℕ → List Answer) (woven : List Answer)
     → HaveAnswered d seats trails → IsWeave (length seats) trails woven
-    → (last : State) × IsReplay d log last × IsLegal d (start_of d) woven last
+    → (last : State) × IsReplay d log last × AreLegalAnswers d (start_of d) woven last

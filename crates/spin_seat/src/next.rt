@@ -16,7 +16,7 @@ use spin_word::Command;
 use std::alloc::Global;
 use std::sync::Arc;
 
-/// The version after the command, with all the memory that it needs, or why there is none.
+// The version after the command, with all the memory that it needs, or why there is none.
 pub(crate) fn next_version(
     alloc: Global,
     setup: &Setup,

@@ -1,6 +1,7 @@
 //! Seats.
 
-ghost use Rattle.std.specs.Prelude.{◌≡◌, ◌<◌, ◌≤◌, IsTrue, IfOk, IfErr, OnOk, OnErr, Some, None, Ok, All, length, MatchResult};
+ghost use Rattle.std.specs.Prelude.{◌≡◌, ◌<◌, ◌≤◌, IsTrue, IfOk, IfErr, OnOk, OnErr};
+ghost use Rattle.std.specs.Prelude.{Some, None, Ok, All, length, MatchResult};
 ghost use Rattle.std.specs.Arc.{arc_value};
 ghost use Rattle.spin_word.specs.declared.command.TheConstants.{MAX_LANES, MAX_PLACE};
 ghost use Rattle.spin_word.specs.Commands.{is_command};
@@ -14,7 +15,8 @@ ghost use Rattle.spin_table.specs.Soundness.{IsSound};
 ghost use Rattle.spin_proto.specs.Replies.{BelongsTo, calls_left};
 ghost use Rattle.spin_seat.specs.Seats.{IsSeatOf};
 ghost use Rattle.spin_seat.specs.Answers.{rows_before};
-ghost use Rattle.spin_seat.specs.Calls.{ReadsOn, ReadsToPin, AddsAtMostAPin, Gives, IsFaultAt, reply_answer, verdict_answer};
+ghost use Rattle.spin_seat.specs.Calls.{ReadsOn, ReadsToPin, AddsAtMostAPin, Gives};
+ghost use Rattle.spin_seat.specs.Calls.{IsFaultAt, reply_answer, verdict_answer};
 ghost use Rattle.spin_seat.specs.Inner.Tries.{row_seen, Tries, TurnsFor};
 
 use crate::answer::{Judged, Raised, SeatFault};

@@ -13,7 +13,7 @@ use spin_values::NoMemory;
 use std::alloc::Global;
 use std::sync::Arc;
 
-/// A seat at each pen, at the start version, where no pen knows any row.
+// A seat at each pen, at the start version, where no pen knows any row.
 pub(crate) fn seats_of(alloc: Global, setup: &Setup, pens: Pens) -> Result<Seats, NoMemory>
     requires { All (λ pen. pen.front ≡ []) pens }
     ensures pens { IfOk result (λ seats. map (λ seat. seat.pen) seats ≡ pens) }
@@ -34,7 +34,7 @@ pub(crate) fn seats_of(alloc: Global, setup: &Setup, pens: Pens) -> Result<Seats
     Ok(seats)
 }
 
-/// The pens of the seats, in order.
+// The pens of the seats, in order.
 pub(crate) fn pens_of(_hub: &Hub, alloc: Global, seats: Seats) -> Result<Pens, NoMemory>
     requires { All (IsSeatOf (data_of _hub.now.setup)) seats }
     ensures pens { IfOk result (λ pens. pens ≡ map (λ seat. seat.pen) seats) }

@@ -21,7 +21,7 @@ use Rattle.spin_table.specs.States.{State, EventState}
 use Rattle.spin_table.specs.Refusals.{refusals_at, refusal_on, refusal_of}
 use Rattle.spin_table.specs.Steps.{event_after, state_after, bindings_at, IsConflict, ChangesTo, MayConflict}
 use Rattle.spin_table.specs.Soundness.{IsSound}
-use Rattle.spin_table.proofs.Stepping.{known, next_bindings, conflict, IsOldOr, numbers_after}
+use Rattle.spin_table.proofs.CommandSteps.{known, next_bindings, conflict, IsOldOr, numbers_after}
 
 abbrev names_cycle : Refusal → Bool
 names_cycle (refusal.Conflict cycle) = true
@@ -59,7 +59,8 @@ module _ (d : SetupData) (s : State) (c : Command) (cycle : List ℕ) where
       other same
 
   -- another refusal applies
-  pub refused_before : (e : EventDef) (t : EventState) (r : Refusal) → slice_get d.events c.event ≡ Some e → slice_get s.events c.event ≡ Some t → first_of (refusals_at d e t.bindings c) ≡ Some r → MayConflict d s c cycle → ⊥
+  pub refused_before : (e : EventDef) (t : EventState) (r : Refusal) → slice_get d.events c.event ≡ Some e
+      → slice_get s.events c.event ≡ Some t → first_of (refusals_at d e t.bindings c) ≡ Some r → MayConflict d s c cycle → ⊥
   refused_before e t r read_e read_t first h =
       another r (known d s c e t read_e read_t ∙ first) (not_conflict d e t.bindings c r cycle first) h
 
@@ -93,7 +94,8 @@ module _ (d : SetupData) (s : State) (c : Command) (cycle : List ℕ) where
 
       passed : MayConflict d s c cycle → IsConflict c.op (bindings_at (state_after d c s) c.event) (refusal.Conflict cycle)
       passed h =
-          let both = subst (λ o. MatchOption o (ChangesTo d s c (verdicted.Refused (refusal.Conflict cycle)) s) (λ q. (verdicted.Refused (refusal.Conflict cycle) ≡ verdicted.Refused q) × (s ≡ s))) (known d s c e t read_e read_t ∙ none) h in
+          let both = subst (λ o. MatchOption o (ChangesTo d s c (verdicted.Refused (refusal.Conflict cycle)) s) (λ q. (verdicted.Refused (refusal.Conflict cycle) ≡ verdicted.Refused q) × (s ≡ s)))
+          (known d s c e t read_e read_t ∙ none) h in
           both.1
 
 -- another op makes no conflict
@@ -101,7 +103,8 @@ pub no_ring : (d : SetupData) (s : State) (c : Command) (cycle : List ℕ) (e : 
     → first_of (refusals_at d e t.bindings c) ≡ None → false ≡ is_install c.op → Decides false (MayConflict d s c cycle)
 no_ring d s c cycle e t read_e read_t none other = (λ f. absurd (cc (f)), λ h. absurd (by_op c.op other (both h).1)) where
   both : MayConflict d s c cycle → (s ≡ s) × IsConflict c.op (bindings_at (state_after d c s) c.event) (refusal.Conflict cycle)
-  both h = subst (λ o. MatchOption o (ChangesTo d s c (verdicted.Refused (refusal.Conflict cycle)) s) (λ q. (verdicted.Refused (refusal.Conflict cycle) ≡ verdicted.Refused q) × (s ≡ s))) (known d s c e t read_e read_t ∙ none) h
+  both h = subst (λ o. MatchOption o (ChangesTo d s c (verdicted.Refused (refusal.Conflict cycle)) s) (λ q. (verdicted.Refused (refusal.Conflict cycle) ≡ verdicted.Refused q) × (s ≡ s)))
+      (known d s c e t read_e read_t ∙ none) h
 
   by_op : (o : Op) → false ≡ is_install o → IsConflict o (bindings_at (state_after d c s) c.event) (refusal.Conflict cycle) → ⊥
   by_op op.Install is h = cc (is)
@@ -143,10 +146,12 @@ cycle_bound d s c cycle sound h = go (slice_get d.events c.event) refl (slice_ge
           | inr new ↦ omega (arith, new)
         ]
 
-    passed : (e : EventDef) (t : EventState) → slice_get d.events c.event ≡ Some e → slice_get s.events c.event ≡ Some t → (o : Option Refusal) → first_of (refusals_at d e t.bindings c) ≡ o → All (λ n. n ≤ s.place + 1) cycle
+    passed : (e : EventDef) (t : EventState) → slice_get d.events c.event ≡ Some e → slice_get s.events c.event ≡ Some t
+        → (o : Option Refusal) → first_of (refusals_at d e t.bindings c) ≡ o → All (λ n. n ≤ s.place + 1) cycle
     passed e t read_e read_t (Some r) first = absurd (refused_before d s c cycle e t r read_e read_t first h)
     passed e t read_e read_t None first =
-        let both = subst (λ o. MatchOption o (ChangesTo d s c (verdicted.Refused (refusal.Conflict cycle)) s) (λ q. (verdicted.Refused (refusal.Conflict cycle) ≡ verdicted.Refused q) × (s ≡ s))) (known d s c e t read_e read_t ∙ first) h in
+        let both = subst (λ o. MatchOption o (ChangesTo d s c (verdicted.Refused (refusal.Conflict cycle)) s) (λ q. (verdicted.Refused (refusal.Conflict cycle) ≡ verdicted.Refused q) × (s ≡ s)))
+        (known d s c e t read_e read_t ∙ first) h in
         let is = subst (λ l. IsConflict c.op l (refusal.Conflict cycle)) (next_bindings d s c e t read_e read_t) both.1 in
         let each = sound.each c.event e t read_e read_t in
         by_op c.op (event_after d.policies e (s.place + 1) c t).bindings (below (numbers_of t.bindings) _ each.installed (numbers_after d e t c (s.place + 1) c.op)) is

@@ -10,7 +10,7 @@ use Rattle.std.proofs.lemmas.List.Kept.{AllPairs-filter}
 use Rattle.std.proofs.lemmas.Option.{slice_get_cases}
 use Rattle.spin_place.specs.declared.binding.Binding.{Binding}
 use Rattle.spin_place.specs.Precedence.{must_precede, numbers_of, MustPrecede, HasLawfulOrder}
-use Rattle.spin_place.proofs.Lists.{times, times-cons, times-permutation, no_more, IsPermutation-from_times}
+use Rattle.spin_place.proofs.NumberLists.{times, times-cons, times-permutation, no_more, IsPermutation-from_times}
 use Rattle.spin_place.proofs.Precedences.{MustPrecede-more}
 
 -- a test of what is made of the elements may come before or after the making
@@ -67,8 +67,10 @@ HasLawfulOrder-filter p bs (ns, (permutation, pairs)) =
     let left = filter (λ (b : Binding). p b.number) bs in
     let within : All (Contains bs) left = All-filter (λ (b : Binding). p b.number) (Contains bs) bs (λ k d l. (k, l, get_or_default bs k (get_or bs k d) d l)) in
     let numbers : numbers_of left ≡ filter p (numbers_of bs) = map-filter (λ (b : Binding). b.number) p bs in
-    let apart = AllPairs-filter (λ m n. MustPrecede bs n m → ⊥) p ns pairs in
-    (filter p ns, (subst (λ l. IsPermutation l (filter p ns)) (sym numbers) (IsPermutation-filter p (numbers_of bs) ns permutation), λ i j d l h must. apart i j d l h (MustPrecede-more bs left within _ _ must)))
+    let apart = AllPairs-filter (λ m n. MustPrecede bs n m → ⊥) p ns pairs in (
+      filter p ns,
+      (subst (λ l. IsPermutation l (filter p ns)) (sym numbers) (IsPermutation-filter p (numbers_of bs) ns permutation), λ i j d l h must. apart i j d l h (MustPrecede-more bs left within _ _ must)),
+    )
 
 -- bindings with other handlers and guards have the same orders
 pub record Alike (f : Binding → Binding) : Type 0 where

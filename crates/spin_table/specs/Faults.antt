@@ -48,8 +48,8 @@ abbrev pub part_kind : Part → Kind
 part_kind (part.Word e) = kind.Word
 part_kind (part.Bytes arg from) = kind.Bytes
 
--- the parameters take what the headers enclose, and what they say: of IPv4 the payload, the protocol and both addresses,
--- of UDP the payload, both ports and both addresses
+-- the parameters take what the headers enclose, and what they say: of IPv4 the payload, the protocol and both
+-- addresses, of UDP the payload, both ports and both addresses
 abbrev pub takes_layer : List Param → Layer → Bool
 takes_layer params layer.Ipv4 =
     (length params == 4)

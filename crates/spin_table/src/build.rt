@@ -22,7 +22,7 @@ use spin_policy::Rule;
 use spin_values::{EventType, Kind, Param};
 use spin_word::{MAX_EVENTS, Mode};
 
-/// Whether a number of modules, of live bindings, or of events is out of its range.
+// Whether a number of modules, of live bindings, or of events is out of its range.
 pub(crate) fn has_wrong_size(modules: u16, live: u16, events: usize) -> bool
     ensures { result ≡ specs.has_wrong_size modules live events }
 {
@@ -39,7 +39,7 @@ fn has_bad_owner(modules: u16, event: &EventDef) -> bool
     u16::from(event.owner) >= modules
 }
 
-/// The first event whose owner is no module.
+// The first event whose owner is no module.
 pub(crate) fn bad_owner(modules: u16, events: &[EventDef]) -> Option<usize>
     ensures { result ≡ position (specs.has_bad_owner modules) events.now }
 {
@@ -54,7 +54,7 @@ fn has_bad_merge(event: &EventDef) -> bool
     check_merge(&event.merge).is_err()
 }
 
-/// The first event whose merge has a fault.
+// The first event whose merge has a fault.
 pub(crate) fn bad_merge(events: &[EventDef]) -> Option<usize>
     ensures { result ≡ position specs.has_bad_merge events.now }
 {
@@ -166,7 +166,7 @@ pub fn raises_fit(events: &[EventDef], act: &Act) -> bool
         .all(|step| is_step_fit(events, step))
 }
 
-/// The first handler, counted from 0, whose act raises an event that isn't there, or that takes something else.
+// The first handler, counted from 0, whose act raises an event that isn't there, or that takes something else.
 pub(crate) fn bad_up(events: &[EventDef], catalogue: &Catalogue) -> Option<u16>
     ensures { result ≡ position (specs.raises_amiss events.now) (handlers_of catalogue.now) }
 {
@@ -185,7 +185,7 @@ fn has_bad_default(catalogue: &Catalogue, number: u8, event: &EventDef) -> bool
         && !is_fit_handler(catalogue, number, event, Mode::Plain, event.first_default)
 }
 
-/// The first event whose default can't serve it.
+// The first event whose default can't serve it.
 pub(crate) fn bad_default(events: &[EventDef], catalogue: &Catalogue) -> Option<usize>
     requires few { length events.now ≤ MAX_EVENTS }
     ensures default { result
@@ -249,7 +249,7 @@ fn has_bad_policy(catalogue: &Catalogue, event: &EventDef) -> bool
     !(event.has_authority(catalogue.natives()) && are_rules_fit(catalogue, event))
 }
 
-/// The first event whose native authoriser isn't there, or whose rules impose a guard that can't serve it.
+// The first event whose native authoriser isn't there, or whose rules impose a guard that can't serve it.
 pub(crate) fn bad_policy(events: &[EventDef], catalogue: &Catalogue) -> Option<usize>
     ensures { result
         ≡ position
@@ -264,7 +264,7 @@ pub(crate) fn bad_policy(events: &[EventDef], catalogue: &Catalogue) -> Option<u
     None
 }
 
-/// The first fault of a setup with these parts.
+// The first fault of a setup with these parts.
 pub(crate) fn setup_fault(
     modules: u16,
     live: u16,

@@ -11,7 +11,7 @@ use spin_values::{NoMemory, Numbers, Sequence};
 use spin_word::{Command, Mode, NO_BINDING, Op, Place};
 use std::alloc::Global;
 
-/// Bindings in order.
+// Bindings in order.
 pub(crate) type Bindings = Sequence<Binding>;
 
 fn place_under(forced: Forced, asked: Place) -> Place
@@ -45,7 +45,7 @@ fn copy_numbers(alloc: Global, numbers: &[u16]) -> Result<Numbers, NoMemory>
     Numbers::from_slice(alloc, numbers)
 }
 
-/// The binding that the command installs under this number.
+// The binding that the command installs under this number.
 pub(crate) fn installed(
     alloc: Global,
     rules: &Policy,
@@ -69,7 +69,7 @@ pub(crate) fn installed(
     })
 }
 
-/// The binding with the command's handler and guard, and with the guards that the owner imposes now.
+// The binding with the command's handler and guard, and with the guards that the owner imposes now.
 pub(crate) fn replaced(
     alloc: Global,
     rules: &Policy,
@@ -165,7 +165,7 @@ fn copy_and_install(
     Ok(copy)
 }
 
-/// The bindings of the command's event after it, in a list of its own. An installed binding has this number.
+// The bindings of the command's event after it, in a list of its own. An installed binding has this number.
 pub(crate) fn bindings_after(
     alloc: Global,
     rules: &Policy,

@@ -11,10 +11,10 @@ use std::marker::Model;
 use std::snapshot::Snapshot;
 use std::sync::Arc;
 
-/// The tests of a catalogue's guards in the order of their numbers, as they stood. They say over which tests a plan
-/// was compiled.
-///
-/// Nothing is copied: an element has no bytes, and stands for a test in contracts alone.
+// The tests of a catalogue's guards in the order of their numbers, as they stood. They say over which tests a plan
+// was compiled.
+//
+// Nothing is copied: an element has no bytes, and stands for a test in contracts alone.
 #[derive(Drop)]
 pub(crate) struct Tests {
     seen: Sequence<Snapshot<Test>>,
@@ -36,7 +36,7 @@ impl Model for Tests {
 impl Tests {
     ghost use Rattle.spin_objects.specs.Units.{tests_of};
 
-    /// The tests of these guards.
+    // The tests of these guards.
     pub(crate) fn of(alloc: Global, catalogue: &Catalogue) -> Result<Tests, NoMemory>
         ensures { IfOk result (λ tests. tests ≡ tests_of catalogue.now) }
     {
@@ -48,7 +48,7 @@ impl Tests {
     }
 }
 
-/// One more owner of the tests.
+// One more owner of the tests.
 pub(crate) fn share_tests(tests: &Arc<Tests>) -> Result<Arc<Tests>, NoMemory>
     ensures { IfOk result (λ shared. arc_value shared ≡ arc_value tests.now) }
 {

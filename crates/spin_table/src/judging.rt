@@ -155,7 +155,7 @@ fn request_of(bindings: &[Binding], c: &Command) -> Request
 }
 
 impl EventDef {
-    /// Whether its rules are given, or its native authoriser is there.
+    // Whether its rules are given, or its native authoriser is there.
     pub(crate) fn has_authority(&self, natives: &Natives) -> bool
         ensures { result ≡ has_authority (policies_of natives.now) self.now.authority }
     {
@@ -165,7 +165,7 @@ impl EventDef {
         }
     }
 
-    /// The rules by which the owner answers, or its native authoriser.
+    // The rules by which the owner answers, or its native authoriser.
     pub(crate) fn rules<'a>(&'a self, natives: &'a Natives) -> &'a Policy
         requires there { IsTrue (has_authority (policies_of natives.now) self.now.authority) }
         ensures { result.now ≡ rules_of (policies_of natives.now) self.now.authority }
@@ -191,7 +191,7 @@ impl EventDef {
     }
 }
 
-/// The rules by which the event's owner answers, or its native authoriser.
+// The rules by which the event's owner answers, or its native authoriser.
 pub(crate) fn rules<'a>(setup: &'a Setup, def: &'a EventDef) -> &'a Policy
     requires there { IsTrue (has_authority (data_of setup.now).policies def.now.authority) }
     ensures { result.now ≡ rules_of (data_of setup.now).policies def.now.authority }
@@ -209,7 +209,7 @@ fn judged(setup: &Setup, def: &EventDef, request: &Request) -> Verdict
     def.judge(setup.catalogue().natives(), request)
 }
 
-/// What the event's owner answers to a command of its own or of another module.
+// What the event's owner answers to a command of its own or of another module.
 pub(crate) fn answer(setup: &Setup, def: &EventDef, bindings: &[Binding], c: &Command) -> Verdict
     requires few { length bindings.now ≤ MAX_LIVE }
     requires there { IsTrue (has_authority (data_of setup.now).policies def.now.authority) }
@@ -311,7 +311,7 @@ fn owner_refusal(
     None
 }
 
-/// The first refusal of a command on an event with these bindings that applies, but for a conflict.
+// The first refusal of a command on an event with these bindings that applies, but for a conflict.
 pub(crate) fn refusal(
     setup: &Setup,
     def: &EventDef,

@@ -26,8 +26,8 @@ use std::marker::Model;
 use std::sync::Arc;
 use std::sync::ledger::Ledger;
 
-/// The live bindings of one event in rising order of number, and their plan. Contracts see the bindings, and the tests
-/// over which the plan was compiled.
+// The live bindings of one event in rising order of number, and their plan. Contracts see the bindings, and the tests
+// over which the plan was compiled.
 #[derive(Drop)]
 pub(crate) struct EventLists {
     bindings: Bindings,
@@ -50,7 +50,8 @@ impl Model for EventLists {
 
     ghost view = { λ l. record { bindings = l.bindings; tests = arc_value l.tests } };
 
-    ghost invariant = { λ l. ((ns : List ℕ) → IsTheOrder l.bindings ns → l.plan.bindings ≡ arranged l.bindings ns) × IsOver (arc_value l.tests) l.plan };
+    ghost invariant = { λ l. ((ns : List ℕ) → IsTheOrder l.bindings ns → l.plan.bindings ≡ arranged l.bindings ns)
+        × IsOver (arc_value l.tests) l.plan };
 }
 
 // Adds the binding, if there is one.
@@ -87,8 +88,8 @@ fn order_of(alloc: Global, bindings: &[Binding]) -> Result<Numbers, StepFault>
 }
 
 impl EventLists {
-    /// The lists of these bindings, or a cycle where no order of them is lawful. It ticks at most once per binding,
-    /// and not at all where there is a cycle.
+    // The lists of these bindings, or a cycle where no order of them is lawful. It ticks at most once per binding,
+    // and not at all where there is a cycle.
     pub(crate) fn make<L: Ledger>(
         alloc: Global,
         setup: &Setup,

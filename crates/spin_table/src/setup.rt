@@ -86,7 +86,7 @@ impl Setup {
         self.events.len() as u8
     }
 
-    /// All events in order.
+    // All events in order.
     pub(crate) fn event_defs(&self) -> &[EventDef]
         ensures { result.now ≡ (data_of self.now).events }
     {

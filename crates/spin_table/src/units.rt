@@ -13,14 +13,14 @@ use spin_objects::Catalogue;
 use spin_values::{EventType, same_kinds, same_type};
 use spin_word::Mode;
 
-/// Whether the signatures are equal.
+// Whether the signatures are equal.
 pub(crate) fn has_signature(a: &EventType, b: &EventType) -> bool
     ensures { result ≡ specs.same_signature a.now b.now }
 {
     same_type(a, b)
 }
 
-/// Whether the signatures have the same number and kinds of parameters.
+// Whether the signatures have the same number and kinds of parameters.
 pub(crate) fn has_parameter_kinds(a: &EventType, b: &EventType) -> bool
     ensures { result ≡ specs.same_parameter_kinds a.now b.now }
 {
@@ -37,7 +37,7 @@ fn step_raises_down(event: u8, step: &ActStep) -> bool
     }
 }
 
-/// Whether the act raises an event that isn't greater than this one.
+// Whether the act raises an event that isn't greater than this one.
 pub(crate) fn raises_down(event: u8, act: &Act) -> bool
     ensures { result ≡ specs.raises_down event act.now }
 {
@@ -53,14 +53,14 @@ fn is_set(step: &ActStep) -> bool
     matches!(step, ActStep::Set { .. })
 }
 
-/// Whether the act changes an argument.
+// Whether the act changes an argument.
 pub(crate) fn sets_argument(act: &Act) -> bool
     ensures { result ≡ specs.sets_argument act.now }
 {
     act.steps.as_slice().iter().any(|step| is_set(step))
 }
 
-/// Whether the act changes an argument, and wouldn't run as a filter.
+// Whether the act changes an argument, and wouldn't run as a filter.
 pub(crate) fn has_wrong_mode(mode: Mode, act: &Act) -> bool
     ensures { result ≡ specs.has_wrong_mode mode act.now }
 {
@@ -75,7 +75,7 @@ fn is_handler_for(event: u8, def: &EventDef, mode: Mode, sig: &EventType, act: &
     has_signature(sig, &def.sig) && !raises_down(event, act) && !has_wrong_mode(mode, act)
 }
 
-/// The signature and the act of the handler of that number, if it is there.
+// The signature and the act of the handler of that number, if it is there.
 pub(crate) fn find_handler(catalogue: &Catalogue, number: u16) -> Option<(&EventType, &Act)>
     ensures { MatchOption result (numbered (handlers_of catalogue.now) number ≡ None) (λ h.
         numbered (handlers_of catalogue.now) number
@@ -87,7 +87,7 @@ pub(crate) fn find_handler(catalogue: &Catalogue, number: u16) -> Option<(&Event
     Some((catalogue.type_of(number), catalogue.act_of(number)))
 }
 
-/// The signature of the guard of that number, if it is there.
+// The signature of the guard of that number, if it is there.
 pub(crate) fn find_guard(catalogue: &Catalogue, number: u16) -> Option<&EventType>
     ensures { MatchOption result (numbered (guards_of catalogue.now) number ≡ None) (λ sig.
         option_map (λ g. g.sig) (numbered (guards_of catalogue.now) number)

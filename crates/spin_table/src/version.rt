@@ -38,7 +38,7 @@ use std::marker::{Brand, Model};
 use std::sync::Arc;
 use std::sync::ledger::{Blank, Ledger};
 
-/// The lists of one event, shared with the versions in which they are the same, and its default.
+// The lists of one event, shared with the versions in which they are the same, and its default.
 #[derive(Drop)]
 pub(crate) struct EventSlot {
     default: u16,
@@ -55,7 +55,8 @@ impl Model for EventSlot {
 
     ghost coded = { Prim.hlevel (codes, test.the_row.coded) };
 
-    ghost view = { λ s. record { bindings = (arc_value s.lists).bindings; tests = (arc_value s.lists).tests; default = s.default } };
+    ghost view = { λ s.
+        record { bindings = (arc_value s.lists).bindings; tests = (arc_value s.lists).tests; default = s.default } };
 }
 
 /// The place, and the bindings and the default of each event. Contracts see the state.
@@ -147,8 +148,8 @@ impl EventSlot {
         })
     }
 
-    /// The slot after a command to which no refusal but a conflict applies. An installed binding has the number of
-    /// the next place.
+    // The slot after a command to which no refusal but a conflict applies. An installed binding has the number of
+    // the next place.
     fn after<L: Ledger>(
         &self,
         alloc: Global,
@@ -180,7 +181,7 @@ impl EventSlot {
         }
     }
 
-    /// One more owner of the lists, with this default.
+    // One more owner of the lists, with this default.
     fn with_default(&self, default: u16) -> Result<EventSlot, NoMemory>
         ensures { IfOk result
             (λ slot.
@@ -321,10 +322,10 @@ impl Version {
     /// one thing beside: an install adds a binding under the new place as its number, a remove takes the target out,
     /// a replace gives it another handler and other guards, and a default or a no-default sets the default.
     ///
-    /// The command's event gets lists made anew, unless its default alone changes; those of all other events are shared.
-    /// It ticks at most once per
-    /// live binding that the event has in the new version, not at all where the command is refused, and at most 64
-    /// times where there is no memory. It takes time linear in the event's plan, and quadratic in its bindings.
+    /// The command's event gets lists made anew, unless its default alone changes; those of all other events are
+    /// shared. It ticks at most once per live binding that the event has in the new version, not at all where the
+    /// command is refused, and at most 64 times where there is no memory. It takes time linear in the event's plan, and
+    /// quadratic in its bindings.
     pub fn after<L: Ledger>(
         &self,
         alloc: Global,

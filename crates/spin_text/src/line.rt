@@ -13,7 +13,8 @@ pub fn end_line(out: &mut Octets) -> Result<(), NoMemory>
     out.push(b'\n')
 }
 
-/// Appends a whole line and its end; an empty `out` becomes the line, which is moved. After want of memory `out` is unchanged.
+/// Appends a whole line and its end; an empty `out` becomes the line, which is moved. After want of memory `out` is
+/// unchanged.
 pub fn put_line(out: &mut Octets, mut line: Octets) -> Result<(), NoMemory>
     ensures ok { OnOk result (out.new ≡ out.old ++ ended line) }
     ensures err { OnErr result (out.new ≡ out.old) }

@@ -16,7 +16,7 @@ pub fn put_decimal(out: &mut Octets, number: u64) -> Result<(), NoMemory>
     out.extend_from_slice(buffer.format(number).as_bytes())
 }
 
-/// The hexadecimal digit of a number below 16, in lower case.
+// The hexadecimal digit of a number below 16, in lower case.
 fn hex_digit(value: u8) -> u8
     requires { value < 16 }
     ensures { result ≡ digit_char value }

@@ -19,18 +19,20 @@ use Rattle.spin_top.specs.Loading.{IsContent, IsLoaded, IsOver, NoScriptBy}
 use Rattle.spin_top.specs.Outside.{OnlyStops, Outside}
 use Rattle.spin_top.specs.Shelves.{ShelfStood}
 use Rattle.spin_top.proofs.RunCauses.{tells_nothing}
-use Rattle.spin_top.proofs.Shelf.{stood_failed, stood_lacked, stood_stood}
+use Rattle.spin_top.proofs.ShelfLemmas.{stood_failed, stood_lacked, stood_stood}
 
 -- ---- stops before the report is judged
 
-pub not_loaded : (natives : NativeData) (before after : Outside) (name report : List ℕ) (packets : Option (List ℕ)) (end : End) → NoScriptBy natives before.shelf after.shelf name end → OnlyStops before after end → CheckHasCause natives before after name report packets end
+pub not_loaded : (natives : NativeData) (before after : Outside) (name report : List ℕ) (packets : Option (List ℕ)) (end : End)
+    → NoScriptBy natives before.shelf after.shelf name end → OnlyStops before after end → CheckHasCause natives before after name report packets end
 not_loaded natives before after name report packets (Refused line cause) by only = (by.0, by.1, only)
 not_loaded natives before after name report packets (Unread Script) by only = (by, only)
 not_loaded natives before after name report packets (Absent Script) by only = (by.0, by.1, only)
 not_loaded natives before after name report packets NoMemory by only = (by, only)
 not_loaded natives before after name report packets other by only = absurd by
 
-pub not_captured : (natives : NativeData) (before after : Outside) (mid : ShelfSeen) (name report : List ℕ) (packets : Option (List ℕ)) (script : ScriptData) (end : End) → ShelfStood before.shelf mid → IsLoaded natives before.shelf.files name script → NoWholeBy mid after.shelf packets end → OnlyStops before after end → CheckHasCause natives before after name report packets end
+pub not_captured : (natives : NativeData) (before after : Outside) (mid : ShelfSeen) (name report : List ℕ) (packets : Option (List ℕ)) (script : ScriptData) (end : End) → ShelfStood before.shelf mid
+    → IsLoaded natives before.shelf.files name script → NoWholeBy mid after.shelf packets end → OnlyStops before after end → CheckHasCause natives before after name report packets end
 not_captured natives before after mid name report packets script (Capture at fault) stood loaded by only =
     (stood_stood before.shelf mid after.shelf stood by.0, script, loaded, subst (λ files. HasBadRecord files packets at fault) stood.files by.1, only)
 not_captured natives before after mid name report packets script (Unread Packets) stood loaded by only =
@@ -41,25 +43,37 @@ not_captured natives before after mid name report packets script NoMemory stood 
 not_captured natives before after mid name report packets script other stood loaded by only = absurd by
 
 -- what was read before the report
-abbrev both_read : (natives : NativeData) (first mid : ShelfSeen) (name : List ℕ) (packets : Option (List ℕ)) (script : ScriptData) (capture : Option Captured) → ShelfStood first mid → IsLoaded natives first.files name script → IsCaptured mid.files packets capture → ReadBoth natives first.files name packets
+abbrev both_read : (natives : NativeData) (first mid : ShelfSeen) (name : List ℕ) (packets : Option (List ℕ)) (script : ScriptData) (capture : Option Captured)
+    → ShelfStood first mid → IsLoaded natives first.files name script → IsCaptured mid.files packets capture → ReadBoth natives first.files name packets
 both_read natives first mid name packets script capture stood loaded captured =
     record { script = script; loaded = loaded; capture = capture; captured = subst (λ files. IsCaptured files packets capture) stood.files captured }
 
-pub not_reported : (natives : NativeData) (before after : Outside) (mid end_shelf : ShelfSeen) (name report : List ℕ) (packets : Option (List ℕ)) (script : ScriptData) (capture : Option Captured) (end : End) → ShelfStood before.shelf mid → IsLoaded natives before.shelf.files name script → ShelfStood mid end_shelf → IsCaptured mid.files packets capture → NoReportBy end_shelf after.shelf report end → OnlyStops before after end → CheckHasCause natives before after name report packets end
+pub not_reported : (natives : NativeData) (before after : Outside) (mid end_shelf : ShelfSeen) (name report : List ℕ) (packets : Option (List ℕ)) (script : ScriptData)
+    (capture : Option Captured) (end : End) → ShelfStood before.shelf mid → IsLoaded natives before.shelf.files name script → ShelfStood mid end_shelf
+    → IsCaptured mid.files packets capture → NoReportBy end_shelf after.shelf report end → OnlyStops before after end → CheckHasCause natives before after name report packets end
 not_reported natives before after mid end_shelf name report packets script capture LongReport stood loaded stood' captured by only =
-    let all = stood_stood before.shelf mid end_shelf stood stood' in
-    (stood_stood before.shelf end_shelf after.shelf all by.0, both_read natives before.shelf mid name packets script capture stood loaded captured, subst (λ files. IsOver max_report files report) all.files by.1, only)
+    let all = stood_stood before.shelf mid end_shelf stood stood' in (
+      stood_stood before.shelf end_shelf after.shelf all by.0,
+      both_read natives before.shelf mid name packets script capture stood loaded captured,
+      subst (λ files. IsOver max_report files report) all.files by.1,
+      only,
+    )
 not_reported natives before after mid end_shelf name report packets script capture (Unread Report) stood loaded stood' captured by only =
     let all = stood_stood before.shelf mid end_shelf stood stood' in
     (stood_failed before.shelf end_shelf after.shelf all by, both_read natives before.shelf mid name packets script capture stood loaded captured, only)
 not_reported natives before after mid end_shelf name report packets script capture (Absent Report) stood loaded stood' captured by only =
-    let all = stood_stood before.shelf mid end_shelf stood stood' in
-    (stood_lacked before.shelf end_shelf after.shelf all by.0, both_read natives before.shelf mid name packets script capture stood loaded captured, subst (λ files. IsLacking files report) all.files by.1, only)
+    let all = stood_stood before.shelf mid end_shelf stood stood' in (
+      stood_lacked before.shelf end_shelf after.shelf all by.0,
+      both_read natives before.shelf mid name packets script capture stood loaded captured,
+      subst (λ files. IsLacking files report) all.files by.1,
+      only,
+    )
 not_reported natives before after mid end_shelf name report packets script capture NoMemory stood loaded stood' captured by only =
     (stood_stood before.shelf end_shelf after.shelf (stood_stood before.shelf mid end_shelf stood stood') by, only)
 not_reported natives before after mid end_shelf name report packets script capture other stood loaded stood' captured by only = absurd by
 
-pub not_judged : (before after : Outside) (mid end_shelf : ShelfSeen) → ShelfStood before.shelf mid → ShelfStood mid end_shelf → ShelfStood end_shelf after.shelf → OnlyStops before after NoMemory → ShelfStood before.shelf after.shelf × OnlyStops before after NoMemory
+pub not_judged : (before after : Outside) (mid end_shelf : ShelfSeen) → ShelfStood before.shelf mid → ShelfStood mid end_shelf
+    → ShelfStood end_shelf after.shelf → OnlyStops before after NoMemory → ShelfStood before.shelf after.shelf × OnlyStops before after NoMemory
 not_judged before after mid end_shelf stood stood' stood'' only =
     (stood_stood before.shelf end_shelf after.shelf (stood_stood before.shelf mid end_shelf stood stood') stood'', only)
 
@@ -86,7 +100,8 @@ whole_end : (whether : Bool) → stop_line (answer_end whether) ≡ []
 whole_end true = refl
 whole_end false = refl
 
-by_answer : (natives : NativeData) (before after : Outside) (name report : List ℕ) (packets : Option (List ℕ)) (whether : Bool) → ShelfStood before.shelf after.shelf → after.sink.faults ≡ before.sink.faults → Answered natives before after name report packets whether → CheckHasCause natives before after name report packets (answer_end whether)
+by_answer : (natives : NativeData) (before after : Outside) (name report : List ℕ) (packets : Option (List ℕ)) (whether : Bool) → ShelfStood before.shelf after.shelf
+    → after.sink.faults ≡ before.sink.faults → Answered natives before after name report packets whether → CheckHasCause natives before after name report packets (answer_end whether)
 by_answer natives before after name report packets true stood faults answered = (stood, faults, answered)
 by_answer natives before after name report packets false stood faults answered = (stood, faults, answered)
 
@@ -97,13 +112,19 @@ ends_silent before after whether end tells = go tells.1
     go (inl w) = ap stop_line w.0 ∙ whole_end whether
     go (inr w) = ap stop_line w.0
 
-answered_by : (natives : NativeData) (before after : Outside) (sink : SinkSeen) (name report : List ℕ) (packets : Option (List ℕ)) (whether : Bool) (end : End) → ShelfStood before.shelf after.shelf → after.sink.faults ≡ sink.faults → ((end ≡ answer_end whether) × (sink.faults ≡ before.sink.faults)) ⊎ ((end ≡ WriteFault) × Rose before.sink.faults sink.faults) → Answered natives before after name report packets whether → CheckHasCause natives before after name report packets end
+answered_by : (natives : NativeData) (before after : Outside) (sink : SinkSeen) (name report : List ℕ) (packets : Option (List ℕ)) (whether : Bool) (end : End) → ShelfStood before.shelf after.shelf
+    → after.sink.faults ≡ sink.faults → ((end ≡ answer_end whether) × (sink.faults ≡ before.sink.faults)) ⊎ ((end ≡ WriteFault) × Rose before.sink.faults sink.faults)
+    → Answered natives before after name report packets whether → CheckHasCause natives before after name report packets end
 answered_by natives before after sink name report packets whether end stood same (inl w) answered =
     subst (λ e. CheckHasCause natives before after name report packets e) (sym w.0) (by_answer natives before after name report packets whether stood (same ∙ w.1) answered)
 answered_by natives before after sink name report packets whether end stood same (inr w) answered =
     subst (λ e. CheckHasCause natives before after name report packets e) (sym w.0) (stood, subst (λ n. Rose before.sink.faults n) (sym same) w.1, whether, answered)
 
-pub was_answered : (natives : NativeData) (before after : Outside) (mid end_shelf : ShelfSeen) (sink : SinkSeen) (name report : List ℕ) (packets : Option (List ℕ)) (script : ScriptData) (capture : Option Captured) (text : List ℕ) (whether : Bool) (end : End) → ShelfStood before.shelf mid → IsLoaded natives before.shelf.files name script → ShelfStood mid end_shelf → IsCaptured mid.files packets capture → ShelfStood end_shelf after.shelf → IsContent end_shelf.files report text → length text ≤ max_report → Decides whether (IsRunText script capture before.ends text) → TellsAnswer before.sink sink whether end → Tells sink after.sink (stop_line end) → after.ends ≡ before.ends → CheckHasCause natives before after name report packets end
+pub was_answered : (natives : NativeData) (before after : Outside) (mid end_shelf : ShelfSeen) (sink : SinkSeen) (name report : List ℕ)
+    (packets : Option (List ℕ)) (script : ScriptData) (capture : Option Captured) (text : List ℕ) (whether : Bool) (end : End) → ShelfStood before.shelf mid
+    → IsLoaded natives before.shelf.files name script → ShelfStood mid end_shelf → IsCaptured mid.files packets capture → ShelfStood end_shelf after.shelf
+    → IsContent end_shelf.files report text → length text ≤ max_report → Decides whether (IsRunText script capture before.ends text)
+    → TellsAnswer before.sink sink whether end → Tells sink after.sink (stop_line end) → after.ends ≡ before.ends → CheckHasCause natives before after name report packets end
 was_answered natives before after mid end_shelf sink name report packets script capture text whether end stood loaded stood' captured stood'' read few judged tells line ends =
     let all = stood_stood before.shelf mid end_shelf stood stood' in
     let none : Tells sink after.sink [] = subst (λ bytes. Tells sink after.sink bytes) (ends_silent before.sink sink whether end tells) line in

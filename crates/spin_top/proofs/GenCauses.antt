@@ -11,7 +11,7 @@ use Rattle.spin_pcap.specs.declared.limits.TheConstants.{MAX_HELD}
 use Rattle.spin_pcap.specs.declared.next.Next.{Next}
 use Rattle.spin_pcap.specs.declared.next.Next.TheVariants as next
 use Rattle.spin_pcap.specs.declared.order.Order.TheVariants as order
-use Rattle.spin_script.proofs.Single.{one_outcome}
+use Rattle.spin_script.proofs.OutcomeUniqueness.{one_outcome}
 use Rattle.spin_script.specs.Language.{IsScript}
 use Rattle.spin_script.specs.Scripts.{IsBad}
 use Rattle.spin_script.specs.declared.script.ScriptFault.TheVariants as fault
@@ -33,7 +33,7 @@ use Rattle.spin_top.specs.Inner.Holding.{HeaderRefuses, IsBehind}
 use Rattle.spin_top.specs.Inner.Making.{RunsMade}
 use Rattle.spin_top.specs.Outside.{OnlyStops, Outside}
 use Rattle.spin_top.specs.Run.{end_of}
-use Rattle.spin_top.proofs.Holding.{good_not_bad, never, records_left}
+use Rattle.spin_top.proofs.MemoryCaptures.{good_not_bad, never, records_left}
 use Rattle.spin_top.proofs.RunCauses.{ends_moved, none_taken, tells_nothing}
 
 -- ---- what is made
@@ -43,7 +43,8 @@ pub never_refused : (natives : NativeData) (text : List ℕ) (line cause : ℕ) 
 never_refused natives text line cause made bad = one_outcome natives text (Ok made.script) (Err (line, bad.0)) made.read bad.1
 
 -- and only want of memory keeps the header of a capture that was made from being read
-pub not_behind : (natives : NativeData) (before after : Outside) (number : ℕ) (end : End) → after.shelf ≡ before.shelf → IsReadAsCapture (packets_of number) → HeaderRefuses (packets_of number) end → OnlyStops before after end → GenHasCause natives before after number end
+pub not_behind : (natives : NativeData) (before after : Outside) (number : ℕ) (end : End) → after.shelf ≡ before.shelf → IsReadAsCapture (packets_of number)
+    → HeaderRefuses (packets_of number) end → OnlyStops before after end → GenHasCause natives before after number end
 not_behind natives before after number (Capture at fault) same made refused only =
     absurd (good_not_bad order.Little refused.1 (header_of (packets_of number)) made.capture.header refused.3)
 not_behind natives before after number NoMemory same made refused only = (same, inl only)
@@ -56,7 +57,8 @@ never_bad : (wrong : PcapFault) (r : Option (Result Next PcapFault)) → r ≡ S
 never_bad wrong r good bad = cc
 
 -- a source that tells nothing of what was taken
-sums_moved : (script : ScriptData) (past past' number : ℕ) (frames : List (List ℕ)) (rest : Option (Result Next PcapFault)) (a b : RunSeen) (ended : RunEnd) → ((fs : List (List ℕ)) → IsTakenPast past' a.source b.source fs) → SumsUpBy script past number frames rest a b ended → SumsUpBy script past' number frames rest a b ended
+sums_moved : (script : ScriptData) (past past' number : ℕ) (frames : List (List ℕ)) (rest : Option (Result Next PcapFault)) (a b : RunSeen) (ended : RunEnd)
+    → ((fs : List (List ℕ)) → IsTakenPast past' a.source b.source fs) → SumsUpBy script past number frames rest a b ended → SumsUpBy script past' number frames rest a b ended
 sums_moved script past past' number frames rest a b run.Whole none h = h
 sums_moved script past past' number frames rest a b run.WriteFault none h = h
 sums_moved script past past' number frames rest a b (run.Capture n fault) none h =
@@ -68,7 +70,10 @@ sums_moved script past past' number frames rest a b run.NoMemory none h =
 sums_moved script past past' number frames rest a b (run.Endpoint n) none h =
     (ends_moved script past past' frames rest (untold a) (untold b) a.source b.source (run.Endpoint n) (λ fs _. none fs) h.0, h.1)
 
-by_end : (natives : NativeData) (before after : Outside) (script : ScriptData) (number past : ℕ) (frames : List (List ℕ)) (left left' : List ℕ) (sink : SinkSeen) (ended : RunEnd) → after.shelf ≡ before.shelf → SumsUpBy script past number frames (Some (Ok next.End)) (seen (held_seen left) before.sink before.ends) (seen (held_seen left') sink after.ends) ended → CountsBy script.endpoints (seen (held_seen left) before.sink before.ends) (seen (held_seen left') sink after.ends) ended → Tells sink after.sink (stop_line (end_of ended)) → RanMade natives before after number ended → GenHasCause natives before after number (end_of ended)
+by_end : (natives : NativeData) (before after : Outside) (script : ScriptData) (number past : ℕ) (frames : List (List ℕ)) (left left' : List ℕ) (sink : SinkSeen) (ended : RunEnd)
+    → after.shelf ≡ before.shelf → SumsUpBy script past number frames (Some (Ok next.End)) (seen (held_seen left) before.sink before.ends) (seen (held_seen left') sink after.ends) ended
+    → CountsBy script.endpoints (seen (held_seen left) before.sink before.ends) (seen (held_seen left') sink after.ends) ended
+    → Tells sink after.sink (stop_line (end_of ended)) → RanMade natives before after number ended → GenHasCause natives before after number (end_of ended)
 by_end natives before after script number past frames left left' sink run.Whole same sums counts line ran =
     (same, tells_nothing sink after.sink line ∙ counts.1, ran)
 by_end natives before after script number past frames left left' sink (run.Capture n fault) same sums counts line ran =
@@ -79,10 +84,15 @@ by_end natives before after script number past frames left left' sink run.WriteF
 by_end natives before after script number past frames left left' sink run.NoMemory same sums counts line ran = (same, inr ran)
 by_end natives before after script number past frames left left' sink (run.Endpoint n) same sums counts line ran = (same, ran)
 
-pub over_known : (script : ScriptData) (number : ℕ) (left left' : List ℕ) (reader : ReaderState) (sink sink' : SinkSeen) (ends ends' : List NamedEnd) (ended : RunEnd) → ((frames : List (List ℕ)) (rest : Option (Result Next PcapFault)) → AreRecords (Some reader) (held_seen left) frames rest → SumsUpBy script (room_of (Some reader)) number frames rest (seen (held_seen left) sink ends) (seen (held_seen left') sink' ends') ended) → CountsBy script.endpoints (seen (held_seen left) sink ends) (seen (held_seen left') sink' ends') ended → RunsMade script number left reader sink ends sink' ends' ended
+pub over_known : (script : ScriptData) (number : ℕ) (left left' : List ℕ) (reader : ReaderState) (sink sink' : SinkSeen) (ends ends' : List NamedEnd) (ended : RunEnd)
+    → ((frames : List (List ℕ)) (rest : Option (Result Next PcapFault)) → AreRecords (Some reader) (held_seen left) frames rest
+    → SumsUpBy script (room_of (Some reader)) number frames rest (seen (held_seen left) sink ends) (seen (held_seen left') sink' ends') ended)
+    → CountsBy script.endpoints (seen (held_seen left) sink ends) (seen (held_seen left') sink' ends') ended → RunsMade script number left reader sink ends sink' ends' ended
 over_known script number left left' reader sink sink' ends ends' ended by counts = record { left' = left'; ended_so = by; counts = counts }
 
-pub was_made : (natives : NativeData) (before after : Outside) (number : ℕ) (sink : SinkSeen) (script : ScriptData) (left : List ℕ) (reader : ReaderState) (ended : RunEnd) → after.shelf ≡ before.shelf → IsScript natives (script_of number) (Ok script) → IsReadAsCapture (packets_of number) → IsBehind (packets_of number) left reader → RunsMade script number left reader before.sink before.ends sink after.ends ended → Tells sink after.sink (stop_line (end_of ended)) → GenHasCause natives before after number (end_of ended)
+pub was_made : (natives : NativeData) (before after : Outside) (number : ℕ) (sink : SinkSeen) (script : ScriptData) (left : List ℕ) (reader : ReaderState) (ended : RunEnd)
+    → after.shelf ≡ before.shelf → IsScript natives (script_of number) (Ok script) → IsReadAsCapture (packets_of number) → IsBehind (packets_of number) left reader
+    → RunsMade script number left reader before.sink before.ends sink after.ends ended → Tells sink after.sink (stop_line (end_of ended)) → GenHasCause natives before after number (end_of ended)
 was_made natives before after number sink script left reader ended same read made behind over line =
     let from = held_seen left in
     let to = held_seen over.left' in
@@ -105,7 +115,8 @@ was_made natives before after number sink script left reader ended same read mad
 
 -- ---- the status
 
-pub gen_known : (natives : NativeData) (before after : Outside) (number status : ℕ) (end : End) → status ≡ ends.number end → GenHasCause natives before after number end → GenKnows before after status
+pub gen_known : (natives : NativeData) (before after : Outside) (number status : ℕ) (end : End)
+    → status ≡ ends.exit_status end → GenHasCause natives before after number end → GenKnows before after status
 gen_known natives before after number status Whole is cause calm = inl is
 gen_known natives before after number status WriteFault is cause calm = absurd (calm.sink cause.1)
 gen_known natives before after number status NoMemory is cause calm = inr is

@@ -11,7 +11,7 @@ use Rattle.spin_pcap.specs.declared.fault.PcapFault.{PcapFault}
 use Rattle.spin_pcap.specs.declared.limits.TheConstants.{MAX_HELD}
 use Rattle.spin_pcap.specs.declared.next.Next.{Next}
 use Rattle.spin_pcap.specs.declared.order.Order.TheVariants as order
-use Rattle.spin_reass.proofs.Captures.{joined_is_capture}
+use Rattle.spin_reass.proofs.CaptureLemmas.{joined_is_capture}
 use Rattle.spin_reass.specs.JoinedCaptures.{IsJoined, IsJoinedCapture}
 use Rattle.spin_reass.specs.Joining.{joined_frames}
 use Rattle.spin_script.specs.States.{NativeData, ScriptData}
@@ -32,20 +32,22 @@ use Rattle.spin_top.specs.Loading.{IsLoaded, NoScriptBy}
 use Rattle.spin_top.specs.Outside.{OnlyStops, Outside}
 use Rattle.spin_top.specs.Run.{end_of}
 use Rattle.spin_top.specs.Shelves.{ShelfStood}
-use Rattle.spin_top.proofs.Holding.{good_not_bad, never, records_left}
+use Rattle.spin_top.proofs.MemoryCaptures.{good_not_bad, never, records_left}
 use Rattle.spin_top.proofs.RunCauses.{ends_moved, none_taken, tells_nothing}
-use Rattle.spin_top.proofs.Shelf.{stood_failed, stood_lacked, stood_stood}
+use Rattle.spin_top.proofs.ShelfLemmas.{stood_failed, stood_lacked, stood_stood}
 
 -- ---- stops before the run
 
-pub not_loaded : (natives : NativeData) (before after : Outside) (name packets : List ℕ) (end : End) → NoScriptBy natives before.shelf after.shelf name end → OnlyStops before after end → JoinHasCause natives before after name packets end
+pub not_loaded : (natives : NativeData) (before after : Outside) (name packets : List ℕ) (end : End)
+    → NoScriptBy natives before.shelf after.shelf name end → OnlyStops before after end → JoinHasCause natives before after name packets end
 not_loaded natives before after name packets (Refused line cause) by only = (by.0, by.1, only)
 not_loaded natives before after name packets (Unread Script) by only = (by, only)
 not_loaded natives before after name packets (Absent Script) by only = (by.0, by.1, only)
 not_loaded natives before after name packets NoMemory by only = (by, inl only)
 not_loaded natives before after name packets other by only = absurd by
 
-pub not_joined : (natives : NativeData) (before after : Outside) (mid : ShelfSeen) (name packets : List ℕ) (script : ScriptData) (end : End) → ShelfStood before.shelf mid → IsLoaded natives before.shelf.files name script → NoWholeBy mid after.shelf (Some packets) end → OnlyStops before after end → JoinHasCause natives before after name packets end
+pub not_joined : (natives : NativeData) (before after : Outside) (mid : ShelfSeen) (name packets : List ℕ) (script : ScriptData) (end : End) → ShelfStood before.shelf mid
+    → IsLoaded natives before.shelf.files name script → NoWholeBy mid after.shelf (Some packets) end → OnlyStops before after end → JoinHasCause natives before after name packets end
 not_joined natives before after mid name packets script (Capture number fault) stood loaded by only =
     (stood_stood before.shelf mid after.shelf stood by.0, script, loaded, subst (λ files. IfSome files (λ held. IsBadAt held packets number fault)) stood.files by.1, only)
 not_joined natives before after mid name packets script (Unread Packets) stood loaded by only =
@@ -55,7 +57,8 @@ not_joined natives before after mid name packets script (Absent Packets) stood l
 not_joined natives before after mid name packets script NoMemory stood loaded by only = (stood_stood before.shelf mid after.shelf stood by, inl only)
 not_joined natives before after mid name packets script other stood loaded by only = absurd by
 
-file_joined : (files : Option (List File)) (name : List ℕ) (left : Option (List ℕ)) (bytes : List ℕ) → IsWholeFile files name left → IfSome left (λ file. IsJoined file (Ok bytes)) → IfSome files (λ held. IsJoinedFile held name bytes)
+file_joined : (files : Option (List File)) (name : List ℕ) (left : Option (List ℕ)) (bytes : List ℕ) → IsWholeFile files name left
+    → IfSome left (λ file. IsJoined file (Ok bytes)) → IfSome files (λ held. IsJoinedFile held name bytes)
 file_joined None name left bytes whole joined = tt
 file_joined (Some held) name left bytes whole joined =
     let P : Option (List ℕ) → Type 0 = λ o. IfSome o (λ file. IsJoined file (Ok bytes)) in
@@ -68,7 +71,8 @@ file_joined (Some held) name left bytes whole joined =
     }
 
 -- a file that was found, and read whole
-pub joined_by : (before mid after : ShelfSeen) (file : ℕ) (name bytes : List ℕ) → ShelfStood before mid → IsWholeFile before.files name (mid.left file) → IfSome (mid.left file) (λ text. IsJoined text (Ok bytes))
+pub joined_by : (before mid after : ShelfSeen) (file : ℕ) (name bytes : List ℕ) → ShelfStood before mid
+    → IsWholeFile before.files name (mid.left file) → IfSome (mid.left file) (λ text. IsJoined text (Ok bytes))
     → after.files ≡ mid.files → after.absences ≡ mid.absences → after.faults ≡ mid.faults → IsJoinedBy before after name bytes
 joined_by before mid after file name bytes stood whole joined files absences faults =
     (record { files = files ∙ stood.files; faults = faults ∙ stood.faults; absences = absences ∙ stood.absences }, file_joined before.files name (mid.left file) bytes whole joined)
@@ -78,10 +82,13 @@ pub joined_good : (bytes : List ℕ) (is : IsJoinedCapture bytes) → IsCapture 
 joined_good bytes is =
     subst (λ b. IsCapture b order.Little (joined_frames [] is.1.1) (Ok is.1.2)) (sym is.1.4) (joined_is_capture is.0 is.1.0 is.1.1 is.1.2 is.1.3)
 
-joined_at : (mid shelf : ShelfSeen) (files : Option (List File)) (packets bytes : List ℕ) → mid.files ≡ files → IsJoinedBy mid shelf packets bytes → IfSome files (λ held. IsJoinedFile held packets bytes)
+joined_at : (mid shelf : ShelfSeen) (files : Option (List File)) (packets bytes : List ℕ) → mid.files ≡ files
+    → IsJoinedBy mid shelf packets bytes → IfSome files (λ held. IsJoinedFile held packets bytes)
 joined_at mid shelf files packets bytes same by = subst (λ f. IfSome f (λ held. IsJoinedFile held packets bytes)) same by.1
 
-pub not_behind : (natives : NativeData) (before after : Outside) (mid : ShelfSeen) (name packets bytes : List ℕ) (script : ScriptData) (end : End) → ShelfStood before.shelf mid → IsLoaded natives before.shelf.files name script → IsJoinedBy mid after.shelf packets bytes → IsJoinedCapture bytes → HeaderRefuses bytes end → OnlyStops before after end → JoinHasCause natives before after name packets end
+pub not_behind : (natives : NativeData) (before after : Outside) (mid : ShelfSeen) (name packets bytes : List ℕ) (script : ScriptData) (end : End)
+    → ShelfStood before.shelf mid → IsLoaded natives before.shelf.files name script → IsJoinedBy mid after.shelf packets bytes
+    → IsJoinedCapture bytes → HeaderRefuses bytes end → OnlyStops before after end → JoinHasCause natives before after name packets end
 not_behind natives before after mid name packets bytes script (Capture number fault) stood loaded joined good refused only =
     absurd (good_not_bad order.Little refused.1 (header_of bytes) (joined_good bytes good).header refused.3)
 not_behind natives before after mid name packets bytes script NoMemory stood loaded joined good refused only =
@@ -90,7 +97,9 @@ not_behind natives before after mid name packets bytes script other stood loaded
 
 -- ---- the run
 
-by_end : (natives : NativeData) (names : List (List ℕ)) (before after : Outside) (sink : SinkSeen) (name packets bytes left left' : List ℕ) (ended : RunEnd) → ShelfStood before.shelf after.shelf → CountsBy names (seen (held_seen left) before.sink before.ends) (seen (held_seen left') sink after.ends) ended → Tells sink after.sink (stop_line (end_of ended)) → ((number fault : ℕ) → ended ≡ run.Capture number fault → ⊥) → RanJoined natives before after name packets ended → JoinHasCause natives before after name packets (end_of ended)
+by_end : (natives : NativeData) (names : List (List ℕ)) (before after : Outside) (sink : SinkSeen) (name packets bytes left left' : List ℕ) (ended : RunEnd) → ShelfStood before.shelf after.shelf
+    → CountsBy names (seen (held_seen left) before.sink before.ends) (seen (held_seen left') sink after.ends) ended → Tells sink after.sink (stop_line (end_of ended))
+    → ((number fault : ℕ) → ended ≡ run.Capture number fault → ⊥) → RanJoined natives before after name packets ended → JoinHasCause natives before after name packets (end_of ended)
 by_end natives names before after sink name packets bytes left left' run.Whole stood counts line never_bad ran =
     (stood, tells_nothing sink after.sink line ∙ counts.1, ran)
 by_end natives names before after sink name packets bytes left left' (run.Capture number fault) stood counts line never_bad ran = absurd (never_bad number fault refl)
@@ -104,7 +113,8 @@ ok_not_err : (last : Next) (wrong : PcapFault) (r : Option (Result Next PcapFaul
 ok_not_err last wrong r a b = cc
 
 -- over the records of a joined capture no run ends at a bad record
-not_bad : (natives : NativeData) (before after : Outside) (name packets : List ℕ) (number fault : ℕ) (ended : RunEnd) → ended ≡ run.Capture number fault → RanJoined natives before after name packets ended → ⊥
+not_bad : (natives : NativeData) (before after : Outside) (name packets : List ℕ) (number fault : ℕ) (ended : RunEnd)
+    → ended ≡ run.Capture number fault → RanJoined natives before after name packets ended → ⊥
 not_bad natives before after name packets number fault ended is ran =
     let frames : List (List ℕ) = joined_frames [] ran.good.1.1 in
     let last : Next = ran.good.1.2 in
@@ -113,7 +123,9 @@ not_bad natives before after name packets number fault ended is ran =
     (ran.over.ended_so frames (Some (Ok last)) (Ok last, refl, order.Little, joined_good ran.bytes ran.good)) in
     ok_not_err last by.0 (Some (Ok last)) refl by.1
 
-pub was_joined : (natives : NativeData) (before after : Outside) (mid : ShelfSeen) (sink : SinkSeen) (name packets bytes left : List ℕ) (script : ScriptData) (reader : ReaderState) (ended : RunEnd) → ShelfStood before.shelf mid → IsLoaded natives before.shelf.files name script → IsJoinedBy mid after.shelf packets bytes → IsJoinedCapture bytes → IsBehind bytes left reader → RunsJoined script left reader before.sink before.ends sink after.ends ended → Tells sink after.sink (stop_line (end_of ended)) → JoinHasCause natives before after name packets (end_of ended)
+pub was_joined : (natives : NativeData) (before after : Outside) (mid : ShelfSeen) (sink : SinkSeen) (name packets bytes left : List ℕ) (script : ScriptData) (reader : ReaderState) (ended : RunEnd)
+    → ShelfStood before.shelf mid → IsLoaded natives before.shelf.files name script → IsJoinedBy mid after.shelf packets bytes → IsJoinedCapture bytes → IsBehind bytes left reader
+    → RunsJoined script left reader before.sink before.ends sink after.ends ended → Tells sink after.sink (stop_line (end_of ended)) → JoinHasCause natives before after name packets (end_of ended)
 was_joined natives before after mid sink name packets bytes left script reader ended stood loaded joined good behind over line =
     let from = held_seen left in
     let to = held_seen over.left' in
@@ -139,7 +151,8 @@ was_joined natives before after mid sink name packets bytes left script reader e
     (λ number fault is. not_bad natives before after name packets number fault ended is ran) ran
 
 pub over_known : (script : ScriptData) (left left' : List ℕ) (reader : ReaderState) (sink sink' : SinkSeen) (ends ends' : List NamedEnd) (ended : RunEnd)
-    → ((frames : List (List ℕ)) (rest : Option (Result Next PcapFault)) → AreRecords (Some reader) (held_seen left) frames rest → EndsBy script (room_of (Some reader)) frames rest (seen (held_seen left) sink ends) (seen (held_seen left') sink' ends') ended)
+    → ((frames : List (List ℕ)) (rest : Option (Result Next PcapFault)) → AreRecords (Some reader) (held_seen left) frames rest
+    → EndsBy script (room_of (Some reader)) frames rest (seen (held_seen left) sink ends) (seen (held_seen left') sink' ends') ended)
     → CountsBy script.endpoints (seen (held_seen left) sink ends) (seen (held_seen left') sink' ends') ended
     → RunsJoined script left reader sink ends sink' ends' ended
 over_known script left left' reader sink sink' ends ends' ended by counts = record { left' = left'; ended_so = by; counts = counts }

@@ -2,7 +2,7 @@
 use Rattle.std.proofs.Common.{◌≡◌, ◌⊎◌, ◌+◌, ℕ, Option, Some, None, List, length, refl, sym, ap, subst, ◌∙◌, inl, inr, IfSome}
 use Rattle.std.specs.Prelude.{Result, Ok, Err}
 use Rattle.spin_outside.specs.Files.{File, content}
-use Rattle.spin_pcap.proofs.Readings.{one_reading}
+use Rattle.spin_pcap.proofs.CaptureUniqueness.{one_reading}
 use Rattle.spin_pcap.specs.Captures.{IsCapture, header_of}
 use Rattle.spin_pcap.specs.declared.fault.PcapFault.{PcapFault}
 use Rattle.spin_pcap.specs.declared.next.Next.{Next}
@@ -15,12 +15,12 @@ use Rattle.spin_top.specs.declared.end.End.{End}
 use Rattle.spin_top.specs.declared.end.End.TheVariants.{Whole, Refused, Capture, Unread, WriteFault, Absent, NoMemory, Endpoint}
 use Rattle.spin_top.specs.declared.end.Input.TheVariants.{Script, Packets}
 use Rattle.spin_top.specs.Captures.{IsBadAt, IsBadCapture, IsCaptureFile}
-use Rattle.spin_top.specs.Ends.{number}
+use Rattle.spin_top.specs.Ends.{exit_status}
 use Rattle.spin_top.specs.Join.{IsJoinedFile, JoinHasCause, JoinKnows, KnowsBadCapture, RanJoined}
 use Rattle.spin_top.specs.Loading.{KnowsNoScript, KnowsRefused}
 use Rattle.spin_top.specs.Outside.{Outside}
 use Rattle.spin_top.specs.Run.{IsComplete, KnowsNoCapture}
-use Rattle.spin_top.proofs.OneReading.{good_header, headers_differ, lacking_at, loaded_nothing, loaded_text, refused_nothing, script_good, script_there}
+use Rattle.spin_top.proofs.ReadingUniqueness.{good_header, headers_differ, lacking_at, loaded_nothing, loaded_text, refused_nothing, script_good, script_there}
 use Rattle.spin_top.proofs.RunKnown.{endpoint_rose}
 
 some_not_none : {X : Type 0} (x : X) → Some x ≡ None → ⊥
@@ -38,7 +38,8 @@ good_not_bad x wrong r good bad = cc
 -- ---- one reading of the capture
 
 -- no file is both a good capture and one with a bad rest
-one_rest : (bytes : List ℕ) (order order' : Order) (frames frames' : List (List ℕ)) (last : Next) (wrong : PcapFault) → IsCapture bytes order frames (Ok last) → IsCapture bytes order' frames' (Err wrong) → ⊥
+one_rest : (bytes : List ℕ) (order order' : Order) (frames frames' : List (List ℕ)) (last : Next) (wrong : PcapFault)
+    → IsCapture bytes order frames (Ok last) → IsCapture bytes order' frames' (Err wrong) → ⊥
 one_rest bytes order order' frames frames' last wrong good bad =
     ok_not_err last wrong (Ok last) refl (one_reading bytes order order' frames frames' (Ok last) (Err wrong) good bad).2
 
@@ -65,12 +66,14 @@ good_bad_at held name frames last at fault good bad =
 bad_at : (files : Option (List File)) (held : List File) (name : List ℕ) (at fault : ℕ) → files ≡ Some held → IfSome files (λ held. IsBadAt held name at fault) → IsBadAt held name at fault
 bad_at files held name at fault told is = subst (λ f. IfSome f (λ held. IsBadAt held name at fault)) told is
 
-file_at : (natives : NativeData) (before after : Outside) (held : List File) (name packets : List ℕ) (ended : RunEnd) → before.shelf.files ≡ Some held → (ran : RanJoined natives before after name packets ended) → IsJoinedFile held packets ran.bytes
+file_at : (natives : NativeData) (before after : Outside) (held : List File) (name packets : List ℕ) (ended : RunEnd)
+    → before.shelf.files ≡ Some held → (ran : RanJoined natives before after name packets ended) → IsJoinedFile held packets ran.bytes
 file_at natives before after held name packets ended told ran = subst (λ f. IfSome f (λ held. IsJoinedFile held packets ran.bytes)) told ran.joined
 
 -- ---- a text that is no script
 
-refused_at : (natives : NativeData) (before after : Outside) (name packets : List ℕ) (status : ℕ) (end : End) → status ≡ number end → JoinHasCause natives before after name packets end → KnowsRefused natives before after name status
+refused_at : (natives : NativeData) (before after : Outside) (name packets : List ℕ) (status : ℕ) (end : End)
+    → status ≡ exit_status end → JoinHasCause natives before after name packets end → KnowsRefused natives before after name status
 refused_at natives before after name packets status Whole is cause held text holds none calm =
     absurd (none (loaded_text natives before.shelf held name text cause.2.over.script holds cause.2.over.loaded))
 refused_at natives before after name packets status (Refused line number) is cause held text holds none calm = inl is
@@ -91,7 +94,8 @@ refused_at natives before after name packets status other is cause held text hol
 
 -- ---- a script that isn't there
 
-absent_at : (natives : NativeData) (before after : Outside) (name packets : List ℕ) (status : ℕ) (end : End) → status ≡ number end → JoinHasCause natives before after name packets end → KnowsNoScript before after name status
+absent_at : (natives : NativeData) (before after : Outside) (name packets : List ℕ) (status : ℕ) (end : End)
+    → status ≡ exit_status end → JoinHasCause natives before after name packets end → KnowsNoScript before after name status
 absent_at natives before after name packets status Whole is cause held lacks calm =
     absurd (loaded_nothing natives before.shelf held name cause.2.over.script lacks cause.2.over.loaded)
 absent_at natives before after name packets status (Refused line number) is cause held lacks calm =
@@ -114,12 +118,14 @@ file_lacks : (held : List File) (name capture : List ℕ) (frames : List (List �
 file_lacks held name capture frames last named lacking file =
     some_not_none _ (sym file.found ∙ ap (content held) (some_is name capture named) ∙ lacking)
 
-ran_lacks : (natives : NativeData) (before after : Outside) (held : List File) (name packets capture : List ℕ) (ended : RunEnd) → before.shelf.files ≡ Some held → Some packets ≡ Some capture → content held capture ≡ None → RanJoined natives before after name packets ended → ⊥
+ran_lacks : (natives : NativeData) (before after : Outside) (held : List File) (name packets capture : List ℕ) (ended : RunEnd)
+    → before.shelf.files ≡ Some held → Some packets ≡ Some capture → content held capture ≡ None → RanJoined natives before after name packets ended → ⊥
 ran_lacks natives before after held name packets capture ended told named lacking ran =
     let file = file_at natives before after held name packets ended told ran in
     file_lacks held packets capture file.frames file.last named lacking file.file
 
-lost_at : (natives : NativeData) (before after : Outside) (name packets : List ℕ) (status : ℕ) (end : End) → status ≡ number end → JoinHasCause natives before after name packets end → KnowsNoCapture natives before after name (Some packets) status
+lost_at : (natives : NativeData) (before after : Outside) (name packets : List ℕ) (status : ℕ) (end : End) → status ≡ exit_status end
+    → JoinHasCause natives before after name packets end → KnowsNoCapture natives before after name (Some packets) status
 lost_at natives before after name packets status Whole is cause held text capture holds script named lacking calm =
     absurd (ran_lacks natives before after held name packets capture run.Whole holds.told named lacking cause.2)
 lost_at natives before after name packets status (Refused line number) is cause held text capture holds script named lacking calm =
@@ -138,7 +144,8 @@ lost_at natives before after name packets status other is cause held text captur
 
 -- ---- a bad capture
 
-ran_bad : (natives : NativeData) (before after : Outside) (held : List File) (name packets : List ℕ) (ended : RunEnd) → before.shelf.files ≡ Some held → IsBadCapture held packets → RanJoined natives before after name packets ended → ⊥
+ran_bad : (natives : NativeData) (before after : Outside) (held : List File) (name packets : List ℕ) (ended : RunEnd)
+    → before.shelf.files ≡ Some held → IsBadCapture held packets → RanJoined natives before after name packets ended → ⊥
 ran_bad natives before after held name packets ended told bad ran =
     let file = file_at natives before after held name packets ended told ran in
     good_bad held packets file.frames file.last file.file bad
@@ -147,7 +154,8 @@ pub bad_lacks : (held : List File) (name : List ℕ) → content held name ≡ N
 bad_lacks held name lacking (inl header) = some_not_none _ (sym header.1.found ∙ lacking)
 bad_lacks held name lacking (inr bad) = some_not_none _ (sym bad.2.found ∙ lacking)
 
-capture_at : (natives : NativeData) (before after : Outside) (name packets : List ℕ) (status : ℕ) (end : End) → status ≡ number end → JoinHasCause natives before after name packets end → KnowsBadCapture natives before after name packets status
+capture_at : (natives : NativeData) (before after : Outside) (name packets : List ℕ) (status : ℕ) (end : End) → status ≡ exit_status end
+    → JoinHasCause natives before after name packets end → KnowsBadCapture natives before after name packets status
 capture_at natives before after name packets status Whole is cause held text holds script bad calm =
     absurd (ran_bad natives before after held name packets run.Whole holds.told bad cause.2)
 capture_at natives before after name packets status (Refused line number) is cause held text holds script bad calm =
@@ -168,7 +176,8 @@ capture_at natives before after name packets status other is cause held text hol
 
 -- ---- nothing bad
 
-complete_at : (natives : NativeData) (before after : Outside) (name packets : List ℕ) (status : ℕ) (end : End) → status ≡ number end → JoinHasCause natives before after name packets end → IsComplete natives before after name (Some packets) status
+complete_at : (natives : NativeData) (before after : Outside) (name packets : List ℕ) (status : ℕ) (end : End) → status ≡ exit_status end
+    → JoinHasCause natives before after name packets end → IsComplete natives before after name (Some packets) status
 complete_at natives before after name packets status Whole is cause held text holds script good calm = inl is
 complete_at natives before after name packets status (Refused line number) is cause held text holds script good calm =
     absurd (script_good natives before.shelf held name text line number holds script cause.1)
@@ -184,7 +193,8 @@ complete_at natives before after name packets status (Endpoint number) is cause 
     absurd (endpoint_rose natives before after name _ _ _ number cause.1.over calm)
 complete_at natives before after name packets status other is cause held text holds script good calm = absurd cause
 
-pub join_known : (natives : NativeData) (before after : Outside) (name packets : List ℕ) (status : ℕ) (end : End) → status ≡ number end → JoinHasCause natives before after name packets end → JoinKnows natives before after name packets status
+pub join_known : (natives : NativeData) (before after : Outside) (name packets : List ℕ) (status : ℕ) (end : End)
+    → status ≡ exit_status end → JoinHasCause natives before after name packets end → JoinKnows natives before after name packets status
 join_known natives before after name packets status end is cause = record {
   refused = refused_at natives before after name packets status end is cause;
   script_absent = absent_at natives before after name packets status end is cause;

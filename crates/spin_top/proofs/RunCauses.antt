@@ -27,21 +27,23 @@ use Rattle.spin_top.specs.Loading.{IsLoaded, NoScriptBy}
 use Rattle.spin_top.specs.Shelves.{ReadsOnly, ShelfStood}
 use Rattle.spin_top.specs.Outside.{OnlyStops, Outside, outside}
 use Rattle.spin_top.specs.Run.{Ran, RunHasCause, end_of}
-use Rattle.spin_pcap.proofs.Passed.{more_none, more_twice}
-use Rattle.spin_top.proofs.Ascii.{script_no_capture}
-use Rattle.spin_top.proofs.Opening.{still_named}
-use Rattle.spin_top.proofs.Shelf.{stood_failed, stood_lacked, stood_stood}
+use Rattle.spin_pcap.proofs.SourceBytes.{more_none, more_twice}
+use Rattle.spin_top.proofs.ScriptBytes.{script_no_capture}
+use Rattle.spin_top.proofs.OpenedCaptures.{still_named}
+use Rattle.spin_top.proofs.ShelfLemmas.{stood_failed, stood_lacked, stood_stood}
 
 -- ---- stops before the run
 
-pub not_loaded : (natives : NativeData) (before after : Outside) (name : List ℕ) (packets : Option (List ℕ)) (end : End) → NoScriptBy natives before.shelf after.shelf name end → OnlyStops before after end → RunHasCause natives before after name packets end
+pub not_loaded : (natives : NativeData) (before after : Outside) (name : List ℕ) (packets : Option (List ℕ)) (end : End)
+    → NoScriptBy natives before.shelf after.shelf name end → OnlyStops before after end → RunHasCause natives before after name packets end
 not_loaded natives before after name packets (Refused line cause) by only = (by.0, by.1, only)
 not_loaded natives before after name packets (Unread Script) by only = (by, only)
 not_loaded natives before after name packets (Absent Script) by only = (by.0, by.1, only)
 not_loaded natives before after name packets NoMemory by only = (by, inl only)
 not_loaded natives before after name packets other by only = absurd by
 
-pub not_opened : (natives : NativeData) (before after : Outside) (mid : ShelfSeen) (name : List ℕ) (packets : Option (List ℕ)) (script : ScriptData) (end : End) → ShelfStood before.shelf mid → IsLoaded natives before.shelf.files name script → NoCaptureBy mid after.shelf packets end → OnlyStops before after end → RunHasCause natives before after name packets end
+pub not_opened : (natives : NativeData) (before after : Outside) (mid : ShelfSeen) (name : List ℕ) (packets : Option (List ℕ)) (script : ScriptData) (end : End) → ShelfStood before.shelf mid
+    → IsLoaded natives before.shelf.files name script → NoCaptureBy mid after.shelf packets end → OnlyStops before after end → RunHasCause natives before after name packets end
 not_opened natives before after mid name packets script (Capture number fault) stood loaded by only =
     (stood_stood before.shelf mid after.shelf stood by.0, inl (script, loaded, by.1, subst (λ files. HasBadHeader files packets fault) stood.files by.2, only))
 not_opened natives before after mid name packets script (Unread Packets) stood loaded by only =
@@ -53,7 +55,8 @@ not_opened natives before after mid name packets script other stood loaded by on
 
 -- ---- the run
 
-header_known : (before after : ShelfSeen) (name : List ℕ) (file : ℕ) (reader : ReaderState) (files : Option (List File)) → before.files ≡ files → IsOpened before after name file reader → HasHeader files (Some name)
+header_known : (before after : ShelfSeen) (name : List ℕ) (file : ℕ) (reader : ReaderState) (files : Option (List File))
+    → before.files ≡ files → IsOpened before after name file reader → HasHeader files (Some name)
 header_known before after name file reader None told opened = tt
 header_known before after name file reader (Some held) told opened =
     let behind : IsBehindHeader held before after name file reader = subst (λ f. IfSome f (λ held. IsBehindHeader held before after name file reader)) told opened.behind in
@@ -72,15 +75,19 @@ one_order : (x y : Order) (r : Result Order PcapFault) → r ≡ Ok x → r ≡ 
 one_order x y r a b = cc
 
 -- the records behind the header are left for the reader
-left_by : (before after : ShelfSeen) (name : List ℕ) (file : ℕ) (reader : ReaderState) (held : List File) (frames : List (List ℕ)) (ending : Result Next PcapFault) → before.files ≡ Some held → IsOpened before after name file reader → IsCaptureFile held name frames ending → AreLeftBy reader.state reader (after.left file) frames ending
+left_by : (before after : ShelfSeen) (name : List ℕ) (file : ℕ) (reader : ReaderState) (held : List File) (frames : List (List ℕ)) (ending : Result Next PcapFault)
+    → before.files ≡ Some held → IsOpened before after name file reader → IsCaptureFile held name frames ending → AreLeftBy reader.state reader (after.left file) frames ending
 left_by before after name file reader held frames ending told opened is =
     let behind : IsBehindHeader held before after name file reader = subst (λ f. IfSome f (λ held. IsBehindHeader held before after name file reader)) told opened.behind in
     let bytes : behind.bytes ≡ is.bytes = some_is _ _ (sym behind.found ∙ is.found) in
     let order : is.order ≡ reader.order = one_order is.order reader.order (header_of behind.bytes) (ap header_of bytes ∙ is.capture.header) behind.header in
-    let body : IsBody reader.order reader.given (drop 24 behind.bytes) frames ending = subst (λ given. IsBody reader.order given (drop 24 behind.bytes) frames ending) (sym opened.fresh.0) (subst (λ bs. IsBody reader.order 0 (drop 24 bs) frames ending) (sym bytes) (subst (λ way. IsBody way 0 (drop 24 is.bytes) frames ending) order is.capture.body)) in
+    let body : IsBody reader.order reader.given (drop 24 behind.bytes) frames ending = subst (λ given. IsBody reader.order given (drop 24 behind.bytes) frames ending) (sym opened.fresh.0)
+    (subst (λ bs. IsBody reader.order 0 (drop 24 bs) frames ending) (sym bytes) (subst (λ way. IsBody way 0 (drop 24 is.bytes) frames ending) order is.capture.body)) in
     subst (λ s. AreLeftBy s reader (after.left file) frames ending) (sym opened.fresh.1) (record { bytes = drop 24 behind.bytes; told = behind.left; body = body })
 
-records_left : (before after : ShelfSeen) (packets : Option (List ℕ)) (file : ℕ) (reader : Option ReaderState) (ref : ℕ) (files : Option (List File)) (frames : List (List ℕ)) (rest : Option (Result Next PcapFault)) → before.files ≡ files → AreOpened before after packets file reader → AreRecordsOf files packets frames rest → AreRecords reader (file_seen after file ref) frames rest
+records_left : (before after : ShelfSeen) (packets : Option (List ℕ)) (file : ℕ) (reader : Option ReaderState) (ref : ℕ)
+    (files : Option (List File)) (frames : List (List ℕ)) (rest : Option (Result Next PcapFault)) → before.files ≡ files
+    → AreOpened before after packets file reader → AreRecordsOf files packets frames rest → AreRecords reader (file_seen after file ref) frames rest
 records_left before after None file None ref files frames rest told opened are = are
 records_left before after None file (Some reader) ref files frames rest told opened are = absurd opened
 records_left before after (Some name) file None ref files frames rest told opened are = absurd opened
@@ -109,15 +116,21 @@ shelf_stood : (mid after : ShelfSeen) (file file' ref ref' : ℕ) → (file_seen
 shelf_stood mid after file file' ref ref' kept faults = record { files = ap (λ k. k.files) kept; faults = faults; absences = ap (λ k. k.absences) kept }
 
 -- a run that ended so gives the end its cause
-by_end : (natives : NativeData) (names : List (List ℕ)) (before after : Outside) (mid : ShelfSeen) (sink : SinkSeen) (name : List ℕ) (packets : Option (List ℕ)) (file file' ref ref' : ℕ) (ended : RunEnd) → ShelfStood before.shelf mid → (file_seen after.shelf file' ref').keep ≡ (file_seen mid file ref).keep → CountsBy names (seen (file_seen mid file ref) before.sink before.ends) (seen (file_seen after.shelf file' ref') sink after.ends) ended → Tells sink after.sink (stop_line (end_of ended)) → Ran natives before after name packets ended → RunHasCause natives before after name packets (end_of ended)
+by_end : (natives : NativeData) (names : List (List ℕ)) (before after : Outside) (mid : ShelfSeen) (sink : SinkSeen) (name : List ℕ) (packets : Option (List ℕ))
+    (file file' ref ref' : ℕ) (ended : RunEnd) → ShelfStood before.shelf mid → (file_seen after.shelf file' ref').keep ≡ (file_seen mid file ref).keep
+    → CountsBy names (seen (file_seen mid file ref) before.sink before.ends) (seen (file_seen after.shelf file' ref') sink after.ends) ended
+    → Tells sink after.sink (stop_line (end_of ended)) → Ran natives before after name packets ended → RunHasCause natives before after name packets (end_of ended)
 by_end natives names before after mid sink name packets file file' ref ref' run.Whole stood kept counts line ran =
     (stood_stood before.shelf mid after.shelf stood (shelf_stood mid after.shelf file file' ref ref' kept counts.0), tells_nothing sink after.sink line ∙ counts.1, ran)
 by_end natives names before after mid sink name packets file file' ref ref' (run.Capture number fault) stood kept counts line ran =
     (stood_stood before.shelf mid after.shelf stood (shelf_stood mid after.shelf file file' ref ref' kept counts.0), inr ran)
 by_end natives names before after mid sink name packets file file' ref ref' run.ReadFault stood kept counts line ran =
     (stood_failed before.shelf mid after.shelf stood (record { files = ap (λ k. k.files) kept; faults = counts.0; absences = ap (λ k. k.absences) kept }), inr ran)
-by_end natives names before after mid sink name packets file file' ref ref' run.WriteFault stood kept counts line ran =
-    (stood_stood before.shelf mid after.shelf stood (shelf_stood mid after.shelf file file' ref ref' kept counts.0), subst (λ n. Rose before.sink.faults n) (sym (tells_nothing sink after.sink line)) counts.1, ran)
+by_end natives names before after mid sink name packets file file' ref ref' run.WriteFault stood kept counts line ran = (
+  stood_stood before.shelf mid after.shelf stood (shelf_stood mid after.shelf file file' ref ref' kept counts.0),
+  subst (λ n. Rose before.sink.faults n) (sym (tells_nothing sink after.sink line)) counts.1,
+  ran,
+)
 by_end natives names before after mid sink name packets file file' ref ref' run.NoMemory stood kept counts line ran =
     (stood_stood before.shelf mid after.shelf stood (shelf_stood mid after.shelf file file' ref ref' kept counts.0), inr ran)
 by_end natives names before after mid sink name packets file file' ref ref' (run.Endpoint number) stood kept counts line ran =
@@ -137,17 +150,20 @@ taken_to : (after : ShelfSeen) (source : SourceSeen) (packets : Option (List ℕ
 taken_to after source None = tt
 taken_to after source (Some name) = told_in after.files name after.reads (after.reads name) refl
 
-kept_reads_of : (before loaded : ShelfSeen) (name capture : List ℕ) (files : Option (List File)) → loaded.files ≡ files → ((held : List File) → files ≡ Some held → Some capture ≢ Some name) → IfSome files (λ _. OthersKeep before.reads loaded.reads name) → IfSome files (λ _. told_reads loaded.files (Some capture) loaded.reads ≡ Some (before.reads capture))
+kept_reads_of : (before loaded : ShelfSeen) (name capture : List ℕ) (files : Option (List File)) → loaded.files ≡ files → ((held : List File) → files ≡ Some held → Some capture ≢ Some name)
+    → IfSome files (λ _. OthersKeep before.reads loaded.reads name) → IfSome files (λ _. told_reads loaded.files (Some capture) loaded.reads ≡ Some (before.reads capture))
 kept_reads_of before loaded name capture None told other reads = tt
 kept_reads_of before loaded name capture (Some held) told other reads =
     ap (λ f. told_reads f (Some capture) loaded.reads) told ∙ ap Some (reads capture (λ same. other held refl (ap Some same)))
 
-taken_from : (before loaded : ShelfSeen) (source : SourceSeen) (name : List ℕ) (packets : Option (List ℕ)) → loaded.files ≡ before.files → ((held : List File) → before.files ≡ Some held → packets ≢ Some name) → ReadsOnly before loaded name → IsTakenUnder packets before (from_of loaded source packets)
+taken_from : (before loaded : ShelfSeen) (source : SourceSeen) (name : List ℕ) (packets : Option (List ℕ)) → loaded.files ≡ before.files
+    → ((held : List File) → before.files ≡ Some held → packets ≢ Some name) → ReadsOnly before loaded name → IsTakenUnder packets before (from_of loaded source packets)
 taken_from before loaded source name None files other reads = tt
 taken_from before loaded source name (Some capture) files other reads = kept_reads_of before loaded name capture before.files files other reads
 
 -- where the shelf tells its files, the script and the capture aren't one file
-apart : (natives : NativeData) (files : Option (List File)) (held : List File) (name : List ℕ) (packets : Option (List ℕ)) (script : ScriptData) → files ≡ Some held → IsLoaded natives files name script → HasHeader files packets → packets ≢ Some name
+apart : (natives : NativeData) (files : Option (List File)) (held : List File) (name : List ℕ) (packets : Option (List ℕ)) (script : ScriptData)
+    → files ≡ Some held → IsLoaded natives files name script → HasHeader files packets → packets ≢ Some name
 apart natives files held name None script told loaded header same = cc
 apart natives files held name (Some capture) script told loaded header same =
     let read : content held name ≡ Some loaded.text = subst (λ f. IfSome f (λ held. content held name ≡ Some loaded.text)) told loaded.read in
@@ -163,11 +179,15 @@ none_taken past a b from to frames is is' same = record {
 }
 
 -- the header was read before the run, with what the reader held then
-past_told : (loaded found after : ShelfSeen) (held : List File) (name : List ℕ) (file file' ref ref' : ℕ) (reader : ReaderState) → loaded.files ≡ Some held → found.files ≡ Some held → IsBehindHeader held loaded found name file reader → IsFresh reader → (file_seen after file' ref').keep ≡ (file_seen found file ref).keep → (frames : List (List ℕ)) → IsTakenPast (room_of (Some reader)) (file_seen found file ref) (file_seen after file' ref') frames → IsTakenPast (24 + MAX_HELD) (from_of loaded (file_seen found file ref) (Some name)) (from_of after (file_seen after file' ref') (Some name)) frames
+past_told : (loaded found after : ShelfSeen) (held : List File) (name : List ℕ) (file file' ref ref' : ℕ) (reader : ReaderState) → loaded.files ≡ Some held
+    → found.files ≡ Some held → IsBehindHeader held loaded found name file reader → IsFresh reader → (file_seen after file' ref').keep ≡ (file_seen found file ref).keep
+    → (frames : List (List ℕ)) → IsTakenPast (room_of (Some reader)) (file_seen found file ref) (file_seen after file' ref') frames
+    → IsTakenPast (24 + MAX_HELD) (from_of loaded (file_seen found file ref) (Some name)) (from_of after (file_seen after file' ref') (Some name)) frames
 past_told loaded found after held name file file' ref ref' reader told told' behind fresh kept frames p =
     let same : file' ≡ file = ap (λ k. k.file) kept in
     let files : after.files ≡ Some held = ap (λ k. k.files) kept ∙ told' in
-    let named : after.found_as file ≡ Some name = still_named found after held name file ref ref' told' behind.named (subst (λ f. (file_seen after f ref').keep ≡ (file_seen found file ref).keep) same kept) in
+    let named : after.found_as file ≡ Some name =
+    still_named found after held name file ref ref' told' behind.named (subst (λ f. (file_seen after f ref').keep ≡ (file_seen found file ref).keep) same kept) in
     let to_is : (file_seen after file' ref').taken ≡ Some (after.reads name) =
     ap (λ f. told_reads after.files (after.found_as f) after.reads) same ∙ ap (λ f. told_reads f (after.found_as file) after.reads) files ∙ ap (λ o. told_reads (Some held) o after.reads) named in
     let from_is : (file_seen found file ref).taken ≡ Some (found.reads name) =
@@ -177,12 +197,17 @@ past_told loaded found after held name file file' ref ref' reader told told' beh
     record {
       count = 24 + length reader.held + p.count;
       few = omega (arith, p.few, fresh.2);
-      taken = now_is ∙ sym to_is ∙ p.taken ∙ ap (λ t. taken_more t p.count) (from_is ∙ ap Some behind.under) ∙ more_twice (Some (loaded.reads name)) (24 + length reader.held) p.count ∙ ap (λ t. taken_more t (24 + length reader.held + p.count)) (sym before_is);
+      taken = now_is ∙ sym to_is ∙ p.taken ∙ ap (λ t. taken_more t p.count) (from_is ∙ ap Some behind.under)
+          ∙ more_twice (Some (loaded.reads name)) (24 + length reader.held) p.count ∙ ap (λ t. taken_more t (24 + length reader.held + p.count)) (sym before_is);
     }
 
-past_opened : (loaded found after : ShelfSeen) (name : List ℕ) (file file' ref ref' : ℕ) (reader : ReaderState) (files : Option (List File)) → loaded.files ≡ files → IsOpened loaded found name file reader → (file_seen after file' ref').keep ≡ (file_seen found file ref).keep → (frames : List (List ℕ)) → IsTakenPast (room_of (Some reader)) (file_seen found file ref) (file_seen after file' ref') frames → IsTakenPast (24 + MAX_HELD) (from_of loaded (file_seen found file ref) (Some name)) (from_of after (file_seen after file' ref') (Some name)) frames
+past_opened : (loaded found after : ShelfSeen) (name : List ℕ) (file file' ref ref' : ℕ) (reader : ReaderState) (files : Option (List File))
+    → loaded.files ≡ files → IsOpened loaded found name file reader → (file_seen after file' ref').keep ≡ (file_seen found file ref).keep
+    → (frames : List (List ℕ)) → IsTakenPast (room_of (Some reader)) (file_seen found file ref) (file_seen after file' ref') frames
+    → IsTakenPast (24 + MAX_HELD) (from_of loaded (file_seen found file ref) (Some name)) (from_of after (file_seen after file' ref') (Some name)) frames
 past_opened loaded found after name file file' ref ref' reader None told opened kept frames p =
-    none_taken (24 + MAX_HELD) None None (from_of loaded (file_seen found file ref) (Some name)) (from_of after (file_seen after file' ref') (Some name)) frames (ap (λ f. told_reads f (Some name) loaded.reads) told) (ap (λ f. told_reads f (Some name) after.reads) (ap (λ k. k.files) kept ∙ opened.stood.files ∙ told)) refl
+    none_taken (24 + MAX_HELD) None None (from_of loaded (file_seen found file ref) (Some name)) (from_of after (file_seen after file' ref') (Some name)) frames
+    (ap (λ f. told_reads f (Some name) loaded.reads) told) (ap (λ f. told_reads f (Some name) after.reads) (ap (λ k. k.files) kept ∙ opened.stood.files ∙ told)) refl
 past_opened loaded found after name file file' ref ref' reader (Some held) told opened kept frames p =
     let behind : IsBehindHeader held loaded found name file reader = subst (λ f. IfSome f (λ held. IsBehindHeader held loaded found name file reader)) told opened.behind in
     past_told loaded found after held name file file' ref ref' reader told (opened.stood.files ∙ told) behind opened.fresh kept frames p
@@ -191,17 +216,22 @@ none_read : (files : Option (List File)) (reads reads' : List ℕ → ℕ) → t
 none_read None reads reads' = refl
 none_read (Some held) reads reads' = more_none (Some 0)
 
-past_header : (loaded found after : ShelfSeen) (packets : Option (List ℕ)) (file file' ref ref' : ℕ) (reader : Option ReaderState) → AreOpened loaded found packets file reader → (file_seen after file' ref').keep ≡ (file_seen found file ref).keep → (frames : List (List ℕ)) → IsTakenPast (room_of reader) (file_seen found file ref) (file_seen after file' ref') frames → IsTakenPast (24 + MAX_HELD) (from_of loaded (file_seen found file ref) packets) (from_of after (file_seen after file' ref') packets) frames
+past_header : (loaded found after : ShelfSeen) (packets : Option (List ℕ)) (file file' ref ref' : ℕ) (reader : Option ReaderState) → AreOpened loaded found packets file reader
+    → (file_seen after file' ref').keep ≡ (file_seen found file ref).keep → (frames : List (List ℕ)) → IsTakenPast (room_of reader) (file_seen found file ref) (file_seen after file' ref') frames
+    → IsTakenPast (24 + MAX_HELD) (from_of loaded (file_seen found file ref) packets) (from_of after (file_seen after file' ref') packets) frames
 past_header loaded found after None file file' ref ref' None opened kept frames p =
     let files : after.files ≡ loaded.files = ap (λ k. k.files) kept ∙ opened.files in
-    none_taken (24 + MAX_HELD) (told_reads loaded.files None loaded.reads) (told_reads loaded.files None after.reads) (from_of loaded (file_seen found file ref) None) (from_of after (file_seen after file' ref') None) frames refl (ap (λ f. told_reads f None after.reads) files) (none_read loaded.files loaded.reads after.reads)
+    none_taken (24 + MAX_HELD) (told_reads loaded.files None loaded.reads) (told_reads loaded.files None after.reads) (from_of loaded (file_seen found file ref) None)
+    (from_of after (file_seen after file' ref') None) frames refl (ap (λ f. told_reads f None after.reads) files) (none_read loaded.files loaded.reads after.reads)
 past_header loaded found after None file file' ref ref' (Some reader) opened kept frames p = absurd opened
 past_header loaded found after (Some name) file file' ref ref' None opened kept frames p = absurd opened
 past_header loaded found after (Some name) file file' ref ref' (Some reader) opened kept frames p =
     past_opened loaded found after name file file' ref ref' reader loaded.files refl opened kept frames p
 
 -- the end of a run, as other sources tell what was taken
-pub ends_moved : (script : ScriptData) (past past' : ℕ) (frames : List (List ℕ)) (rest : Option (Result Next PcapFault)) (a b : RunSeen) (from to : SourceSeen) (ended : RunEnd) → ((fs : List (List ℕ)) → IsTakenPast past a.source b.source fs → IsTakenPast past' from to fs) → EndsBy script past frames rest a b ended → EndsBy script past' frames rest (seen from a.sink a.ends) (seen to b.sink b.ends) ended
+pub ends_moved : (script : ScriptData) (past past' : ℕ) (frames : List (List ℕ)) (rest : Option (Result Next PcapFault)) (a b : RunSeen) (from to : SourceSeen) (ended : RunEnd)
+    → ((fs : List (List ℕ)) → IsTakenPast past a.source b.source fs → IsTakenPast past' from to fs)
+    → EndsBy script past frames rest a b ended → EndsBy script past' frames rest (seen from a.sink a.ends) (seen to b.sink b.ends) ended
 ends_moved script past past' frames rest a b from to run.Whole move h = h
 ends_moved script past past' frames rest a b from to (run.Capture n fault) move h = h
 ends_moved script past past' frames rest a b from to run.ReadFault move h =
@@ -215,7 +245,8 @@ ends_moved script past past' frames rest a b from to run.NoMemory move h =
 ends_moved script past past' frames rest a b from to (run.Endpoint p) move h =
     (h.0, h.1, h.2, h.3, h.4, h.5, h.6, h.7, h.8, λ there le. move _ (h.9 there le))
 
-pub counts_moved : (names : List (List ℕ)) (a b : RunSeen) (from to : SourceSeen) (ended : RunEnd) → from.faults ≡ a.source.faults → to.faults ≡ b.source.faults → CountsBy names a b ended → CountsBy names (seen from a.sink a.ends) (seen to b.sink b.ends) ended
+pub counts_moved : (names : List (List ℕ)) (a b : RunSeen) (from to : SourceSeen) (ended : RunEnd) → from.faults ≡ a.source.faults
+    → to.faults ≡ b.source.faults → CountsBy names a b ended → CountsBy names (seen from a.sink a.ends) (seen to b.sink b.ends) ended
 counts_moved names a b from to run.Whole is is' h = (is' ∙ h.0 ∙ sym is, h.1, h.2)
 counts_moved names a b from to (run.Capture n fault) is is' h = (is' ∙ h.0 ∙ sym is, h.1, h.2)
 counts_moved names a b from to run.ReadFault is is' h = (subst (λ (n : ℕ × ℕ). Rose n.0 n.1) (λ i. (sym is i, sym is' i)) h.0, h.1, h.2)
@@ -223,31 +254,43 @@ counts_moved names a b from to run.WriteFault is is' h = (is' ∙ h.0 ∙ sym is
 counts_moved names a b from to run.NoMemory is is' h = (is' ∙ h.0 ∙ sym is, h.1, h.2)
 counts_moved names a b from to (run.Endpoint p) is is' h = (is' ∙ h.0 ∙ sym is, h.1, h.2)
 
-pub was_run : (natives : NativeData) (before after : Outside) (loaded_shelf opened_shelf : ShelfSeen) (sink : SinkSeen) (name : List ℕ) (packets : Option (List ℕ)) (script : ScriptData) (file : ℕ) (reader : Option ReaderState) (ended : RunEnd) → ShelfStood before.shelf loaded_shelf → IsLoaded natives before.shelf.files name script → AreOpened loaded_shelf opened_shelf packets file reader → ReadsOnly before.shelf loaded_shelf name → RunsOver script file reader (outside opened_shelf before.sink before.ends) (outside after.shelf sink after.ends) ended → Tells sink after.sink (stop_line (end_of ended)) → RunHasCause natives before after name packets (end_of ended)
+pub was_run : (natives : NativeData) (before after : Outside) (loaded_shelf opened_shelf : ShelfSeen) (sink : SinkSeen) (name : List ℕ) (packets : Option (List ℕ)) (script : ScriptData) (file : ℕ)
+    (reader : Option ReaderState) (ended : RunEnd) → ShelfStood before.shelf loaded_shelf → IsLoaded natives before.shelf.files name script → AreOpened loaded_shelf opened_shelf packets file reader
+    → ReadsOnly before.shelf loaded_shelf name → RunsOver script file reader (outside opened_shelf before.sink before.ends) (outside after.shelf sink after.ends) ended
+    → Tells sink after.sink (stop_line (end_of ended)) → RunHasCause natives before after name packets (end_of ended)
 was_run natives before after loaded_shelf opened_shelf sink name packets script file reader ended stood loaded opened reads over line =
     let header : HasHeader before.shelf.files packets = subst (λ files. HasHeader files packets) stood.files (has_header loaded_shelf opened_shelf packets file reader opened) in
     let ran : Ran natives before after name packets ended = record {
       header = header;
       from = from_of loaded_shelf (file_seen opened_shelf file over.reference) packets;
       to = from_of after.shelf (file_seen after.shelf over.file' over.reference') packets;
-      taken = (taken_from before.shelf loaded_shelf (file_seen opened_shelf file over.reference) name packets stood.files (λ held told. apart natives before.shelf.files held name packets script told loaded header) reads, taken_to after.shelf (file_seen after.shelf over.file' over.reference') packets);
+      taken = (
+        taken_from before.shelf loaded_shelf (file_seen opened_shelf file over.reference) name packets stood.files
+            (λ held told. apart natives before.shelf.files held name packets script told loaded header) reads,
+        taken_to after.shelf (file_seen after.shelf over.file' over.reference') packets,
+      );
       over = record {
         script = script;
         loaded = loaded;
         sink = sink;
         ended_so = λ frames rest are.
             let by = over.ended_so frames rest (records_left loaded_shelf opened_shelf packets file reader over.reference before.shelf.files frames rest stood.files opened are) in
-            ends_moved script (room_of reader) (24 + MAX_HELD) frames rest (seen (file_seen opened_shelf file over.reference) before.sink before.ends) (seen (file_seen after.shelf over.file' over.reference') sink after.ends) (from_of loaded_shelf (file_seen opened_shelf file over.reference) packets) (from_of after.shelf (file_seen after.shelf over.file' over.reference') packets) ended
+            ends_moved script (room_of reader) (24 + MAX_HELD) frames rest (seen (file_seen opened_shelf file over.reference) before.sink before.ends)
+            (seen (file_seen after.shelf over.file' over.reference') sink after.ends) (from_of loaded_shelf (file_seen opened_shelf file over.reference) packets)
+            (from_of after.shelf (file_seen after.shelf over.file' over.reference') packets) ended
             (past_header loaded_shelf opened_shelf after.shelf packets file over.file' over.reference over.reference' reader opened over.keep) by;
-        counts = counts_moved script.endpoints (seen (file_seen opened_shelf file over.reference) before.sink before.ends) (seen (file_seen after.shelf over.file' over.reference') sink after.ends) (from_of loaded_shelf (file_seen opened_shelf file over.reference) packets) (from_of after.shelf (file_seen after.shelf over.file' over.reference') packets) ended refl refl over.counts;
+        counts = counts_moved script.endpoints (seen (file_seen opened_shelf file over.reference) before.sink before.ends) (seen (file_seen after.shelf over.file' over.reference') sink after.ends)
+            (from_of loaded_shelf (file_seen opened_shelf file over.reference) packets) (from_of after.shelf (file_seen after.shelf over.file' over.reference') packets) ended refl refl over.counts;
         line = line;
       };
     } in
-    by_end natives script.endpoints before after opened_shelf sink name packets file over.file' over.reference over.reference' ended (stood_stood before.shelf loaded_shelf opened_shelf stood (opened_stood loaded_shelf opened_shelf packets file reader opened)) over.keep over.counts line ran
+    by_end natives script.endpoints before after opened_shelf sink name packets file over.file' over.reference over.reference' ended
+    (stood_stood before.shelf loaded_shelf opened_shelf stood (opened_stood loaded_shelf opened_shelf packets file reader opened)) over.keep over.counts line ran
 
 pub over_known : (script : ScriptData) (file file' ref ref' : ℕ) (reader : Option ReaderState) (shelf shelf' : ShelfSeen) (sink sink' : SinkSeen) (ends ends' : List NamedEnd) (ended : RunEnd)
     → (file_seen shelf' file' ref').keep ≡ (file_seen shelf file ref).keep
-    → ((frames : List (List ℕ)) (rest : Option (Result Next PcapFault)) → AreRecords reader (file_seen shelf file ref) frames rest → EndsBy script (room_of reader) frames rest (seen (file_seen shelf file ref) sink ends) (seen (file_seen shelf' file' ref') sink' ends') ended)
+    → ((frames : List (List ℕ)) (rest : Option (Result Next PcapFault)) → AreRecords reader (file_seen shelf file ref) frames rest
+    → EndsBy script (room_of reader) frames rest (seen (file_seen shelf file ref) sink ends) (seen (file_seen shelf' file' ref') sink' ends') ended)
     → CountsBy script.endpoints (seen (file_seen shelf file ref) sink ends) (seen (file_seen shelf' file' ref') sink' ends') ended
     → RunsOver script file reader (outside shelf sink ends) (outside shelf' sink' ends') ended
 over_known script file file' ref ref' reader shelf shelf' sink sink' ends ends' ended keep by counts =

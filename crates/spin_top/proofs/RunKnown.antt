@@ -12,21 +12,24 @@ use Rattle.spin_top.specs.declared.end.End.{End}
 use Rattle.spin_top.specs.declared.end.End.TheVariants.{Whole, Refused, Capture, Unread, WriteFault, Absent, NoMemory, Endpoint}
 use Rattle.spin_top.specs.declared.end.Input.TheVariants.{Script, Packets}
 use Rattle.spin_top.specs.Captures.{HasBadHeader, HasHeader, IsBadCapture}
-use Rattle.spin_top.specs.Ends.{number}
+use Rattle.spin_top.specs.Ends.{exit_status}
 use Rattle.spin_top.specs.Loading.{HoldsText, KnowsNoScript, KnowsRefused}
 use Rattle.spin_top.specs.Outside.{NoneRose, Outside}
 use Rattle.spin_top.specs.Run.{IsComplete, KnowsCapture, KnowsNoCapture, Ran, RanOver, RunHasCause, RunKnows}
-use Rattle.spin_top.proofs.OneReading.{bad_header_at, bad_header_lacks, good_records, header_at, header_lacks, headers_differ, loaded_nothing, loaded_text, neither, not_bad_header, records_at, refused_nothing, script_good, script_there}
+use Rattle.spin_top.proofs.ReadingUniqueness.{bad_header_at, bad_header_lacks, good_records, header_at, header_lacks, headers_differ, loaded_nothing}
+use Rattle.spin_top.proofs.ReadingUniqueness.{loaded_text, neither, not_bad_header, records_at, refused_nothing, script_good, script_there}
 
 -- an endpoint that failed has a count that rose
-pub endpoint_rose : (natives : NativeData) (before after : Outside) (name : List ℕ) (Has : List (List ℕ) → Option (Result Next PcapFault) → Type 0) (from to : SourceSeen) (endpoint : ℕ) → RanOver natives before after name Has from to (run.Endpoint endpoint) → NoneRose before after → ⊥
+pub endpoint_rose : (natives : NativeData) (before after : Outside) (name : List ℕ) (Has : List (List ℕ) → Option (Result Next PcapFault) → Type 0) (from to : SourceSeen) (endpoint : ℕ)
+    → RanOver natives before after name Has from to (run.Endpoint endpoint) → NoneRose before after → ⊥
 endpoint_rose natives before after name Has from to endpoint ran calm =
     let rose = ran.counts.2 in
     calm.ends rose.place rose.there rose.rose
 
 -- a text that is no script
 
-refused_at : (natives : NativeData) (before after : Outside) (name : List ℕ) (packets : Option (List ℕ)) (status : ℕ) (end : End) → status ≡ number end → RunHasCause natives before after name packets end → KnowsRefused natives before after name status
+refused_at : (natives : NativeData) (before after : Outside) (name : List ℕ) (packets : Option (List ℕ)) (status : ℕ) (end : End)
+    → status ≡ exit_status end → RunHasCause natives before after name packets end → KnowsRefused natives before after name status
 refused_at natives before after name packets status Whole is cause held text holds none calm =
     absurd (none (loaded_text natives before.shelf held name text cause.2.over.script holds cause.2.over.loaded))
 refused_at natives before after name packets status (Refused line number) is cause held text holds none calm = inl is
@@ -49,7 +52,8 @@ refused_at natives before after name packets status other is cause held text hol
 
 -- a script that isn't there
 
-absent_at : (natives : NativeData) (before after : Outside) (name : List ℕ) (packets : Option (List ℕ)) (status : ℕ) (end : End) → status ≡ number end → RunHasCause natives before after name packets end → KnowsNoScript before after name status
+absent_at : (natives : NativeData) (before after : Outside) (name : List ℕ) (packets : Option (List ℕ)) (status : ℕ) (end : End)
+    → status ≡ exit_status end → RunHasCause natives before after name packets end → KnowsNoScript before after name status
 absent_at natives before after name packets status Whole is cause held lacks calm =
     absurd (loaded_nothing natives before.shelf held name cause.2.over.script lacks cause.2.over.loaded)
 absent_at natives before after name packets status (Refused line number) is cause held lacks calm =
@@ -70,11 +74,13 @@ absent_at natives before after name packets status other is cause held lacks cal
 
 -- a capture that isn't there
 
-named_header : (natives : NativeData) (before after : Outside) (held : List File) (name capture text : List ℕ) (packets : Option (List ℕ)) (ended : RunEnd) → HoldsText before.shelf held name text → packets ≡ Some capture → content held capture ≡ None → Ran natives before after name packets ended → ⊥
+named_header : (natives : NativeData) (before after : Outside) (held : List File) (name capture text : List ℕ) (packets : Option (List ℕ)) (ended : RunEnd)
+    → HoldsText before.shelf held name text → packets ≡ Some capture → content held capture ≡ None → Ran natives before after name packets ended → ⊥
 named_header natives before after held name capture text packets ended holds named lacking ran =
     header_lacks held capture (header_at before.shelf.files held capture holds.told (subst (λ p. HasHeader before.shelf.files p) named ran.header)) lacking
 
-lost_at : (natives : NativeData) (before after : Outside) (name : List ℕ) (packets : Option (List ℕ)) (status : ℕ) (end : End) → status ≡ number end → RunHasCause natives before after name packets end → KnowsNoCapture natives before after name packets status
+lost_at : (natives : NativeData) (before after : Outside) (name : List ℕ) (packets : Option (List ℕ)) (status : ℕ) (end : End)
+    → status ≡ exit_status end → RunHasCause natives before after name packets end → KnowsNoCapture natives before after name packets status
 lost_at natives before after name packets status Whole is cause held text capture holds script named lacking calm =
     absurd (named_header natives before after held name capture text packets run.Whole holds named lacking cause.2)
 lost_at natives before after name packets status (Refused line number) is cause held text capture holds script named lacking calm =
@@ -95,13 +101,15 @@ lost_at natives before after name packets status other is cause held text captur
 
 -- a bad capture
 
-bad_whole : (natives : NativeData) (before after : Outside) (held : List File) (name capture text : List ℕ) → HoldsText before.shelf held name text → IsBadCapture held capture → Ran natives before after name (Some capture) run.Whole → ⊥
+bad_whole : (natives : NativeData) (before after : Outside) (held : List File) (name capture text : List ℕ)
+    → HoldsText before.shelf held name text → IsBadCapture held capture → Ran natives before after name (Some capture) run.Whole → ⊥
 bad_whole natives before after held name capture text holds (inl header) ran =
     headers_differ held capture header.0 (header_at before.shelf.files held capture holds.told ran.header) header.1
 bad_whole natives before after held name capture text holds (inr bad) ran =
     (ran.over.ended_so bad.0 (Some (Err bad.1)) (records_at before.shelf.files held capture bad.0 (Err bad.1) holds.told bad.2)).1.capture_is
 
-capture_at : (natives : NativeData) (before after : Outside) (name : List ℕ) (packets : Option (List ℕ)) (status : ℕ) (end : End) → status ≡ number end → RunHasCause natives before after name packets end → KnowsCapture natives before after name packets status
+capture_at : (natives : NativeData) (before after : Outside) (name : List ℕ) (packets : Option (List ℕ)) (status : ℕ) (end : End)
+    → status ≡ exit_status end → RunHasCause natives before after name packets end → KnowsCapture natives before after name packets status
 capture_at natives before after name packets status Whole is cause held text capture holds script named bad calm =
     absurd (bad_whole natives before after held name capture text holds bad (subst (λ p. Ran natives before after name p run.Whole) named cause.2))
 capture_at natives before after name packets status (Refused line number) is cause held text capture holds script named bad calm =
@@ -119,7 +127,8 @@ capture_at natives before after name packets status other is cause held text cap
 
 -- nothing bad
 
-complete_at : (natives : NativeData) (before after : Outside) (name : List ℕ) (packets : Option (List ℕ)) (status : ℕ) (end : End) → status ≡ number end → RunHasCause natives before after name packets end → IsComplete natives before after name packets status
+complete_at : (natives : NativeData) (before after : Outside) (name : List ℕ) (packets : Option (List ℕ)) (status : ℕ) (end : End)
+    → status ≡ exit_status end → RunHasCause natives before after name packets end → IsComplete natives before after name packets status
 complete_at natives before after name packets status Whole is cause held text holds script good calm = inl is
 complete_at natives before after name packets status (Refused line number) is cause held text holds script good calm =
     absurd (script_good natives before.shelf held name text line number holds script cause.1)
@@ -140,7 +149,8 @@ complete_at natives before after name packets status (Endpoint number) is cause 
     absurd (endpoint_rose natives before after name _ _ _ number cause.1.over calm)
 complete_at natives before after name packets status other is cause held text holds script good calm = absurd cause
 
-pub run_known : (natives : NativeData) (before after : Outside) (name : List ℕ) (packets : Option (List ℕ)) (status : ℕ) (end : End) → status ≡ number end → RunHasCause natives before after name packets end → RunKnows natives before after name packets status
+pub run_known : (natives : NativeData) (before after : Outside) (name : List ℕ) (packets : Option (List ℕ)) (status : ℕ) (end : End)
+    → status ≡ exit_status end → RunHasCause natives before after name packets end → RunKnows natives before after name packets status
 run_known natives before after name packets status end is cause = record {
   refused = refused_at natives before after name packets status end is cause;
   script_absent = absent_at natives before after name packets status end is cause;

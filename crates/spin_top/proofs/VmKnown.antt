@@ -7,7 +7,7 @@ use Rattle.spin_script.specs.Language.{IsScript}
 use Rattle.spin_table.specs.declared.event.EventDef.{EventDef}
 use Rattle.spin_script.specs.Laws.{bare_event, bare_script}
 use Rattle.spin_script.specs.States.{NativeData, ScriptData}
-use Rattle.spin_script.proofs.Single.{one_outcome}
+use Rattle.spin_script.proofs.OutcomeUniqueness.{one_outcome}
 use Rattle.spin_vm.specs.declared.cause.TraceCause.{TraceCause}
 use Rattle.spin_vm.specs.declared.end.VmEnd.{VmEnd}
 use Rattle.spin_vm.specs.declared.end.VmEnd.TheVariants as vm
@@ -17,11 +17,11 @@ use Rattle.spin_vm.specs.Traces.{outcome}
 use Rattle.spin_top.specs.declared.end.End.{End}
 use Rattle.spin_top.specs.declared.end.End.TheVariants.{Whole, Refused, Unread, WriteFault, Absent, NoMemory, Trace, Unsuited}
 use Rattle.spin_top.specs.declared.end.Input.TheVariants as input
-use Rattle.spin_top.specs.Ends.{number}
+use Rattle.spin_top.specs.Ends.{exit_status}
 use Rattle.spin_top.specs.Loading.{HoldsText, IsContent, IsScriptText, KnowsNoScript, KnowsRefused}
 use Rattle.spin_top.specs.Outside.{Outside}
 use Rattle.spin_top.specs.Vm.{IsBadTrace, IsSuitedText, IsTraceComplete, KnowsNoTrace, KnowsTrace, KnowsUnsuited, LoadsSuited, RanTrace, VmHasCause, VmKnows}
-use Rattle.spin_top.proofs.OneReading.{content_at, lacking_at, loaded_nothing, loaded_text, refused_nothing, script_good, script_there}
+use Rattle.spin_top.proofs.ReadingUniqueness.{content_at, lacking_at, loaded_nothing, loaded_text, refused_nothing, script_good, script_there}
 
 -- ---- one script, and one trace
 
@@ -46,7 +46,8 @@ one_kind natives text a b is_a is_b =
 some_is : {X : Type 0} (x y : X) → Some x ≡ Some y → x ≡ y
 some_is x y same = cc
 
-both_kinds : (natives : NativeData) (shelf : ShelfSeen) (held : List File) (name text : List ℕ) (a b : Bool) → HoldsText shelf held name text → IsSuitedText natives text a → LoadsSuited natives shelf.files name b → b ≡ a
+both_kinds : (natives : NativeData) (shelf : ShelfSeen) (held : List File) (name text : List ℕ) (a b : Bool)
+    → HoldsText shelf held name text → IsSuitedText natives text a → LoadsSuited natives shelf.files name b → b ≡ a
 both_kinds natives shelf held name text a b holds is loads =
     let same : loads.1.text ≡ text = some_is loads.1.text text (sym (content_at shelf.files held name loads.1.text holds.told loads.1.read) ∙ holds.found) in
     let reads : IsScript natives text (Ok loads.0) = subst (λ t. IsScript natives t (Ok loads.0)) same loads.1.reads in
@@ -73,7 +74,8 @@ lacks_trace files held trace text told lacking read = some_not_none text (sym (c
 
 -- ---- a text that is no script
 
-refused_at : (natives : NativeData) (before after : Outside) (name trace : List ℕ) (status : ℕ) (end : End) → status ≡ number end → VmHasCause natives before after name trace end → KnowsRefused natives before after name status
+refused_at : (natives : NativeData) (before after : Outside) (name trace : List ℕ) (status : ℕ) (end : End)
+    → status ≡ exit_status end → VmHasCause natives before after name trace end → KnowsRefused natives before after name status
 refused_at natives before after name trace status Whole is cause held text holds none calm =
     absurd (none (loaded_text natives before.shelf held name text cause.2.script holds cause.2.loaded))
 refused_at natives before after name trace status (Refused line number) is cause held text holds none calm = inl is
@@ -94,7 +96,8 @@ refused_at natives before after name trace status other is cause held text holds
 
 -- ---- a script that isn't there
 
-absent_at : (natives : NativeData) (before after : Outside) (name trace : List ℕ) (status : ℕ) (end : End) → status ≡ number end → VmHasCause natives before after name trace end → KnowsNoScript before after name status
+absent_at : (natives : NativeData) (before after : Outside) (name trace : List ℕ) (status : ℕ) (end : End)
+    → status ≡ exit_status end → VmHasCause natives before after name trace end → KnowsNoScript before after name status
 absent_at natives before after name trace status Whole is cause held lacks calm =
     absurd (loaded_nothing natives before.shelf held name cause.2.script lacks cause.2.loaded)
 absent_at natives before after name trace status (Refused line number) is cause held lacks calm =
@@ -113,13 +116,16 @@ absent_at natives before after name trace status other is cause held lacks calm 
 
 -- ---- a script that isn't suited
 
-suits_not : (natives : NativeData) (shelf : ShelfSeen) (held : List File) (name text : List ℕ) → HoldsText shelf held name text → IsSuitedText natives text false → LoadsSuited natives shelf.files name true → ⊥
+suits_not : (natives : NativeData) (shelf : ShelfSeen) (held : List File) (name text : List ℕ)
+    → HoldsText shelf held name text → IsSuitedText natives text false → LoadsSuited natives shelf.files name true → ⊥
 suits_not natives shelf held name text holds is loads = true_not_false true refl (both_kinds natives shelf held name text false true holds is loads)
 
-suits : (natives : NativeData) (shelf : ShelfSeen) (held : List File) (name text : List ℕ) → HoldsText shelf held name text → IsSuitedText natives text true → LoadsSuited natives shelf.files name false → ⊥
+suits : (natives : NativeData) (shelf : ShelfSeen) (held : List File) (name text : List ℕ)
+    → HoldsText shelf held name text → IsSuitedText natives text true → LoadsSuited natives shelf.files name false → ⊥
 suits natives shelf held name text holds is loads = true_not_false false (both_kinds natives shelf held name text true false holds is loads) refl
 
-unsuited_at : (natives : NativeData) (before after : Outside) (name trace : List ℕ) (status : ℕ) (end : End) → status ≡ number end → VmHasCause natives before after name trace end → KnowsUnsuited natives before after name status
+unsuited_at : (natives : NativeData) (before after : Outside) (name trace : List ℕ) (status : ℕ) (end : End)
+    → status ≡ exit_status end → VmHasCause natives before after name trace end → KnowsUnsuited natives before after name status
 unsuited_at natives before after name trace status Whole is cause held text holds script calm =
     absurd (suits_not natives before.shelf held name text holds script (suited_of natives before after name trace vm.Whole cause.2))
 unsuited_at natives before after name trace status (Refused line number) is cause held text holds script calm =
@@ -140,7 +146,8 @@ unsuited_at natives before after name trace status other is cause held text hold
 
 -- ---- a trace that isn't there
 
-lost_at : (natives : NativeData) (before after : Outside) (name trace : List ℕ) (status : ℕ) (end : End) → status ≡ number end → VmHasCause natives before after name trace end → KnowsNoTrace natives before after name trace status
+lost_at : (natives : NativeData) (before after : Outside) (name trace : List ℕ) (status : ℕ) (end : End) → status ≡ exit_status end
+    → VmHasCause natives before after name trace end → KnowsNoTrace natives before after name trace status
 lost_at natives before after name trace status Whole is cause held text holds script lacking calm =
     absurd (lacks_trace before.shelf.files held trace cause.2.text holds.told lacking cause.2.read)
 lost_at natives before after name trace status (Refused line number) is cause held text holds script lacking calm =
@@ -159,11 +166,13 @@ lost_at natives before after name trace status other is cause held text holds sc
 
 -- ---- a text that is no trace
 
-good_trace : (files : Option (List File)) (held : List File) (trace traced text : List ℕ) (line : ℕ) (why : TraceCause) (lines : List TraceLine) → files ≡ Some held → content held trace ≡ Some traced → outcome traced ≡ Err (line, why) → IsContent files trace text → outcome text ≡ Ok lines → ⊥
+good_trace : (files : Option (List File)) (held : List File) (trace traced text : List ℕ) (line : ℕ) (why : TraceCause) (lines : List TraceLine)
+    → files ≡ Some held → content held trace ≡ Some traced → outcome traced ≡ Err (line, why) → IsContent files trace text → outcome text ≡ Ok lines → ⊥
 good_trace files held trace traced text line why lines told found bad read good =
     ok_not_err (outcome text) lines (line, why) good (ap outcome (same_trace files held trace traced text told found read) ∙ bad)
 
-trace_at : (natives : NativeData) (before after : Outside) (name trace : List ℕ) (status : ℕ) (end : End) → status ≡ number end → VmHasCause natives before after name trace end → KnowsTrace natives before after name trace status
+trace_at : (natives : NativeData) (before after : Outside) (name trace : List ℕ) (status : ℕ) (end : End)
+    → status ≡ exit_status end → VmHasCause natives before after name trace end → KnowsTrace natives before after name trace status
 trace_at natives before after name trace status Whole is cause held text traced line why holds script found bad calm =
     let by = cause.2.ended_so in
     absurd (good_trace before.shelf.files held trace traced cause.2.text line why by.0 holds.told found bad cause.2.read by.2)
@@ -186,7 +195,8 @@ trace_at natives before after name trace status other is cause held text traced 
 
 -- ---- nothing bad
 
-complete_at : (natives : NativeData) (before after : Outside) (name trace : List ℕ) (status : ℕ) (end : End) → status ≡ number end → VmHasCause natives before after name trace end → IsTraceComplete natives before after name trace status
+complete_at : (natives : NativeData) (before after : Outside) (name trace : List ℕ) (status : ℕ) (end : End) → status ≡ exit_status end
+    → VmHasCause natives before after name trace end → IsTraceComplete natives before after name trace status
 complete_at natives before after name trace status Whole is cause held text traced lines holds script found good calm = inl is
 complete_at natives before after name trace status (Refused at number) is cause held text traced lines holds script found good calm =
     absurd (script_good natives before.shelf held name text at number holds (is_script natives text true script) cause.1)
@@ -203,7 +213,8 @@ complete_at natives before after name trace status Unsuited is cause held text t
     absurd (suits natives before.shelf held name text holds script cause.1)
 complete_at natives before after name trace status other is cause held text traced lines holds script found good calm = absurd cause
 
-pub vm_known : (natives : NativeData) (before after : Outside) (name trace : List ℕ) (status : ℕ) (end : End) → status ≡ number end → VmHasCause natives before after name trace end → VmKnows natives before after name trace status
+pub vm_known : (natives : NativeData) (before after : Outside) (name trace : List ℕ) (status : ℕ) (end : End)
+    → status ≡ exit_status end → VmHasCause natives before after name trace end → VmKnows natives before after name trace status
 vm_known natives before after name trace status end is cause = record {
   refused = refused_at natives before after name trace status end is cause;
   script_absent = absent_at natives before after name trace status end is cause;

@@ -9,7 +9,7 @@ use Rattle.spin_pcap.specs.declared.next.Next.{Next}
 use Rattle.spin_pcap.specs.declared.next.Next.TheVariants as next
 use Rattle.spin_pcap.specs.declared.order.Order.{Order}
 use Rattle.spin_pcap.specs.Captures.{header_of, IsCapture}
-use Rattle.spin_pcap.specs.Passing.{ReaderState, IsFresh, left_for, number}
+use Rattle.spin_pcap.specs.Passing.{ReaderState, IsFresh, left_for, fault_number}
 use Rattle.spin_reass.specs.JoinedCaptures as joined
 use Rattle.spin_report.specs.Runs.{Captured}
 use Rattle.spin_top.specs.declared.end.End.{End}
@@ -23,7 +23,7 @@ pub record IsBadHeader (held : List File) (name : List ℕ) (fault : ℕ) : Type
   pub found : content held name ≡ Some bytes
   pub wrong : PcapFault
   pub refused : header_of bytes ≡ Err wrong
-  pub fault_is : fault ≡ number wrong
+  pub fault_is : fault ≡ fault_number wrong
 
 -- The file of that name has the header of a capture.
 pub record IsGoodHeader (held : List File) (name : List ℕ) : Type 0 where
@@ -145,14 +145,14 @@ cut_of next.End = 0
 cut_of (next.Cut count) = count
 
 -- The file of that name is a good capture with these records and that rest.
-abbrev pub IsWhole : List File → List ℕ → Captured → Type 0
-IsWhole held name capture =
+abbrev pub IsWholeCapture : List File → List ℕ → Captured → Type 0
+IsWholeCapture held name capture =
     (last : Next) × IsCaptureFile held name capture.frames (Ok last) × (capture.cut ≡ cut_of last)
 
 -- This is what the capture that is named has, where the shelf tells its files; where none is named there is none.
 abbrev pub IsCaptured : Option (List File) → Option (List ℕ) → Option Captured → Type 0
 IsCaptured files None None = ⊤
-IsCaptured files (Some name) (Some capture) = IfSome files (λ held. IsWhole held name capture)
+IsCaptured files (Some name) (Some capture) = IfSome files (λ held. IsWholeCapture held name capture)
 IsCaptured files packets other = ⊥
 
 -- Why the capture that is named wasn't read whole.

@@ -1,5 +1,6 @@
 -- The command `check`: why it ends so, and what its status tells.
-use Rattle.std.specs.Prelude.{◌≡◌, ◌≤◌, ◌<◌, ◌⊎◌, ℕ, Bool, true, false, Decides, if◌then◌else◌, Option, Some, None, List, Ok, length, codes}
+use Rattle.std.specs.Prelude.{◌≡◌, ◌≤◌, ◌<◌, ◌⊎◌, ℕ, Bool, true, false, Decides}
+use Rattle.std.specs.Prelude.{if◌then◌else◌, Option, Some, None, List, Ok, length, codes}
 use Rattle.spin_outside.specs.Counts.{Rose}
 use Rattle.spin_outside.specs.Files.{File, content, IsLacking}
 use Rattle.spin_outside.specs.Seen.{ShelfSeen, SinkSeen}
@@ -11,12 +12,14 @@ use Rattle.spin_report.specs.Runs.{Captured}
 use Rattle.spin_check.specs.RunTexts.{IsRunText}
 use Rattle.spin_top.specs.declared.commands.check.TheConstants.{REPORT_LIMIT}
 use Rattle.spin_top.specs.declared.end.End.{End}
-use Rattle.spin_top.specs.declared.end.End.TheVariants.{Whole, Refused, Capture, Unread, WriteFault, Absent, NoMemory, NoHistory, LongReport}
+use Rattle.spin_top.specs.declared.end.End.TheVariants.{Whole, Refused, Capture, Unread, WriteFault}
+use Rattle.spin_top.specs.declared.end.End.TheVariants.{Absent, NoMemory, NoHistory, LongReport}
 use Rattle.spin_top.specs.declared.end.Input.TheVariants.{Script, Packets, Report}
 use Rattle.spin_top.specs.Captures.{HasBadRecord, IsCaptured, IsLackingCapture, IsNamed}
-use Rattle.spin_top.specs.Ends.{number, Tells}
+use Rattle.spin_top.specs.Ends.{exit_status, Tells}
 use Rattle.spin_top.specs.Join.{KnowsBadCapture}
-use Rattle.spin_top.specs.Loading.{IsContent, IsLoaded, IsOver, IsRefused, HoldsText, IsScriptText, KnowsRefused, KnowsNoScript}
+use Rattle.spin_top.specs.Loading.{IsContent, IsLoaded, IsOver, IsScriptRefused}
+use Rattle.spin_top.specs.Loading.{HoldsText, IsScriptText, KnowsRefused, KnowsNoScript}
 use Rattle.spin_top.specs.Outside.{Outside, OnlyStops, NoReadFailed}
 use Rattle.spin_top.specs.Run.{KnowsNoCapture}
 use Rattle.spin_top.specs.Shelves.{ShelfStood, ShelfFailed, ShelfLacked}
@@ -91,7 +94,7 @@ CheckHasCause natives before after name report packets WriteFault =
     × (whether : Bool) × Answered natives before after name report packets whether
 CheckHasCause natives before after name report packets (Refused line cause) =
     ShelfStood before.shelf after.shelf
-    × IsRefused natives before.shelf.files name line cause
+    × IsScriptRefused natives before.shelf.files name line cause
     × OnlyStops before after (Refused line cause)
 CheckHasCause natives before after name report packets (Unread Script) =
     ShelfFailed before.shelf after.shelf × OnlyStops before after (Unread Script)
@@ -135,7 +138,7 @@ CheckHasCause natives before after name report packets other = ⊥
 abbrev pub IsCheckStatus : NativeData → Outside → Outside → List ℕ → List ℕ → Option (List ℕ) → ℕ
     → Type 0
 IsCheckStatus natives before after name report packets status =
-    (end : End) × (status ≡ number end)
+    (end : End) × (status ≡ exit_status end)
     × CheckHasCause natives before after name report packets end
 
 -- ---- what the status tells where the shelf tells its files

@@ -5,25 +5,26 @@ use Rattle.spin_outside.specs.Counts.{Rose}
 use Rattle.spin_outside.specs.Seen.{SinkSeen}
 use Rattle.spin_text.specs.Words.{ended}
 use Rattle.spin_top.specs.declared.end.End.{End}
-use Rattle.spin_top.specs.declared.end.End.TheVariants.{Whole, Usage, Refused, Capture, Unread, WriteFault, Absent, NoMemory, Endpoint, NoHistory, LongReport, Trace, Unsuited}
+use Rattle.spin_top.specs.declared.end.End.TheVariants.{Whole, Usage, Refused, Capture, Unread, WriteFault, Absent}
+use Rattle.spin_top.specs.declared.end.End.TheVariants.{NoMemory, Endpoint, NoHistory, LongReport, Trace, Unsuited}
 use Rattle.spin_top.specs.declared.end.Input.{Input}
 use Rattle.spin_top.specs.declared.end.Input.TheVariants as input
 
 -- the exit status of an end
-abbrev pub number : End → ℕ
-number Whole = 0
-number Usage = 1
-number (Refused line cause) = 2
-number (Capture at fault) = 3
-number (Unread file) = 4
-number WriteFault = 5
-number (Absent file) = 6
-number NoMemory = 7
-number (Endpoint at) = 8
-number NoHistory = 9
-number LongReport = 10
-number (Trace line cause) = 11
-number Unsuited = 12
+abbrev pub exit_status : End → ℕ
+exit_status Whole = 0
+exit_status Usage = 1
+exit_status (Refused line cause) = 2
+exit_status (Capture at fault) = 3
+exit_status (Unread file) = 4
+exit_status WriteFault = 5
+exit_status (Absent file) = 6
+exit_status NoMemory = 7
+exit_status (Endpoint at) = 8
+exit_status NoHistory = 9
+exit_status LongReport = 10
+exit_status (Trace line cause) = 11
+exit_status Unsuited = 12
 
 -- the words of every command
 abbrev pub usage : List ℕ

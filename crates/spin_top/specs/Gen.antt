@@ -61,7 +61,7 @@ GenHasCause natives before after number other = ⊥
 -- The status is the number of an end that has its cause.
 abbrev pub IsGenStatus : NativeData → Outside → Outside → ℕ → ℕ → Type 0
 IsGenStatus natives before after number status =
-    (end : End) × (status ≡ ends.number end) × GenHasCause natives before after number end
+    (end : End) × (status ≡ ends.exit_status end) × GenHasCause natives before after number end
 
 -- ---- what the status tells
 

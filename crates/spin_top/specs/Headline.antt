@@ -32,8 +32,8 @@ pub record IsRunTold (natives : NativeData) (held : List File) (before after : O
   -- and which left the endpoints as they are.
   pub received : after.ends ≡ last.ends
 
--- Where the shelf tells its files, the words are `run NAME` or `run NAME PACKETS`, and the status is 0: what was written
--- is the report of one legal history of the script under that name, and each endpoint has received its sends.
+-- Where the shelf tells its files, the words are `run NAME` or `run NAME PACKETS`, and the status is 0: what was
+-- written is the report of one legal history of the script under that name, and each endpoint has received its sends.
 abbrev pub Headline : Call → Type 0
 Headline call =
     (held : List File) (name : List ℕ) (packets : Option (List ℕ))

@@ -13,11 +13,12 @@ use Rattle.spin_script.specs.States.{NativeData, ScriptData}
 use Rattle.spin_run.specs.declared.end.RunEnd.{RunEnd}
 use Rattle.spin_run.specs.declared.end.RunEnd.TheVariants as run
 use Rattle.spin_top.specs.declared.end.End.{End}
-use Rattle.spin_top.specs.declared.end.End.TheVariants.{Whole, Refused, Capture, Unread, WriteFault, Absent, NoMemory, Endpoint}
+use Rattle.spin_top.specs.declared.end.End.TheVariants.{Whole, Refused, Capture, Unread}
+use Rattle.spin_top.specs.declared.end.End.TheVariants.{WriteFault, Absent, NoMemory, Endpoint}
 use Rattle.spin_top.specs.declared.end.Input.TheVariants.{Script, Packets}
 use Rattle.spin_top.specs.Captures.{IsBadAt, IsBadCapture, IsCaptureFile}
-use Rattle.spin_top.specs.Ends.{number}
-use Rattle.spin_top.specs.Loading.{IsLoaded, IsRefused, HoldsText, IsScriptText, KnowsRefused, KnowsNoScript}
+use Rattle.spin_top.specs.Ends.{exit_status}
+use Rattle.spin_top.specs.Loading.{IsLoaded, IsScriptRefused, HoldsText, IsScriptText, KnowsRefused, KnowsNoScript}
 use Rattle.spin_top.specs.Outside.{Outside, OnlyStops, NoReadFailed}
 use Rattle.spin_top.specs.Run.{RanOver, KnowsNoCapture, IsComplete}
 use Rattle.spin_top.specs.Shelves.{ShelfStood, ShelfFailed, ShelfLacked}
@@ -58,15 +59,15 @@ pub record RanJoined (natives : NativeData) (before after : Outside) (name packe
   pub over : RanOver natives before after name (AreRecordsIn bytes) from to ended
 
 -- Why a run of this script over the joined capture ended so, what was written, and what the endpoints received. A
--- capture that isn't read or is bad stops before the run, and nothing of the report was written; that it is bad is known of
--- a shelf that tells its files.
+-- capture that isn't read or is bad stops before the run, and nothing of the report was written; that it is bad is
+-- known of a shelf that tells its files.
 abbrev pub JoinHasCause : NativeData → Outside → Outside → List ℕ → List ℕ → End → Type 0
 JoinHasCause natives before after name packets Whole =
     ShelfStood before.shelf after.shelf × (after.sink.faults ≡ before.sink.faults)
     × RanJoined natives before after name packets run.Whole
 JoinHasCause natives before after name packets (Refused line cause) =
     ShelfStood before.shelf after.shelf
-    × IsRefused natives before.shelf.files name line cause
+    × IsScriptRefused natives before.shelf.files name line cause
     × OnlyStops before after (Refused line cause)
 JoinHasCause natives before after name packets (Capture at fault) =
     ShelfStood before.shelf after.shelf
@@ -102,7 +103,7 @@ JoinHasCause natives before after name packets other = ⊥
 -- The status is the number of an end that has its cause.
 abbrev pub IsJoinStatus : NativeData → Outside → Outside → List ℕ → List ℕ → ℕ → Type 0
 IsJoinStatus natives before after name packets status =
-    (end : End) × (status ≡ number end) × JoinHasCause natives before after name packets end
+    (end : End) × (status ≡ exit_status end) × JoinHasCause natives before after name packets end
 
 -- ---- what the status tells where the shelf tells its files
 

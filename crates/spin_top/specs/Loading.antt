@@ -51,8 +51,8 @@ pub record IsLoaded (natives : NativeData) (files : Option (List File)) (name : 
   pub reads : IsScript natives text (Ok script)
 
 -- The text under the name is refused at that line for that cause.
-abbrev pub IsRefused : NativeData → Option (List File) → List ℕ → ℕ → ℕ → Type 0
-IsRefused natives files name line cause =
+abbrev pub IsScriptRefused : NativeData → Option (List File) → List ℕ → ℕ → ℕ → Type 0
+IsScriptRefused natives files name line cause =
     (text : List ℕ) × IsContent files name text × IsBad natives text (fault.Bad line cause)
 
 -- the end of a script that isn't read
@@ -63,7 +63,7 @@ end_by fault.NoMemory = NoMemory
 -- Why there is no script of that name.
 abbrev pub NoScriptBy : NativeData → ShelfSeen → ShelfSeen → List ℕ → End → Type 0
 NoScriptBy natives before after name (Refused line cause) =
-    ShelfStood before after × IsRefused natives before.files name line cause
+    ShelfStood before after × IsScriptRefused natives before.files name line cause
 NoScriptBy natives before after name (Unread Script) = ShelfFailed before after
 NoScriptBy natives before after name (Absent Script) =
     ShelfLacked before after × IsLacking before.files name

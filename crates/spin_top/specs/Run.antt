@@ -12,11 +12,13 @@ use Rattle.spin_run.specs.declared.end.RunEnd.{RunEnd}
 use Rattle.spin_run.specs.declared.end.RunEnd.TheVariants as run
 use Rattle.spin_run.specs.Ends.{seen, EndsBy, CountsBy}
 use Rattle.spin_top.specs.declared.end.End.{End}
-use Rattle.spin_top.specs.declared.end.End.TheVariants.{Whole, Refused, Capture, Unread, WriteFault, Absent, NoMemory, Endpoint}
+use Rattle.spin_top.specs.declared.end.End.TheVariants.{Whole, Refused, Capture, Unread}
+use Rattle.spin_top.specs.declared.end.End.TheVariants.{WriteFault, Absent, NoMemory, Endpoint}
 use Rattle.spin_top.specs.declared.end.Input.TheVariants.{Script, Packets}
-use Rattle.spin_top.specs.Captures.{IsNamed, HasHeader, HasBadHeader, IsLackingCapture, IsBadCapture, IsGoodCapture, AreRecordsOf, IsTakenUnder}
-use Rattle.spin_top.specs.Ends.{number, stop_line, Tells}
-use Rattle.spin_top.specs.Loading.{IsLoaded, IsRefused, HoldsText, IsScriptText, KnowsRefused, KnowsNoScript}
+use Rattle.spin_top.specs.Captures.{IsNamed, HasHeader, HasBadHeader, IsLackingCapture}
+use Rattle.spin_top.specs.Captures.{IsBadCapture, IsGoodCapture, AreRecordsOf, IsTakenUnder}
+use Rattle.spin_top.specs.Ends.{exit_status, stop_line, Tells}
+use Rattle.spin_top.specs.Loading.{IsLoaded, IsScriptRefused, HoldsText, IsScriptText, KnowsRefused, KnowsNoScript}
 use Rattle.spin_top.specs.Outside.{Outside, OnlyStops, NoReadFailed, NoneRose}
 use Rattle.spin_top.specs.Shelves.{ShelfStood, ShelfFailed, ShelfLacked}
 
@@ -66,7 +68,7 @@ RunHasCause natives before after name packets Whole =
     × Ran natives before after name packets run.Whole
 RunHasCause natives before after name packets (Refused line cause) =
     ShelfStood before.shelf after.shelf
-    × IsRefused natives before.shelf.files name line cause
+    × IsScriptRefused natives before.shelf.files name line cause
     × OnlyStops before after (Refused line cause)
 RunHasCause natives before after name packets (Capture at fault) =
     ShelfStood before.shelf after.shelf
@@ -103,7 +105,7 @@ RunHasCause natives before after name packets other = ⊥
 -- The status of a run of these files is the number of an end that has its cause.
 abbrev pub IsRunStatus : NativeData → Outside → Outside → List ℕ → Option (List ℕ) → ℕ → Type 0
 IsRunStatus natives before after name packets status =
-    (end : End) × (status ≡ number end) × RunHasCause natives before after name packets end
+    (end : End) × (status ≡ exit_status end) × RunHasCause natives before after name packets end
 
 -- ---- what the status tells where the shelf tells its files
 

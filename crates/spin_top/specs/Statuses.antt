@@ -2,12 +2,13 @@
 use Rattle.std.specs.Prelude.{◌≡◌, ◌⊎◌, ℕ, List}
 use Rattle.spin_script.specs.States.{NativeData}
 use Rattle.spin_top.specs.declared.end.End.{End}
-use Rattle.spin_top.specs.declared.end.End.TheVariants.{Usage, Refused, Capture, Unread, WriteFault, Absent, NoMemory, Endpoint, NoHistory, LongReport, Trace, Unsuited}
+use Rattle.spin_top.specs.declared.end.End.TheVariants.{Usage, Refused, Capture, Unread, WriteFault, Absent}
+use Rattle.spin_top.specs.declared.end.End.TheVariants.{NoMemory, Endpoint, NoHistory, LongReport, Trace, Unsuited}
 use Rattle.spin_top.specs.declared.end.Input.{Input}
 use Rattle.spin_top.specs.declared.words.Asked.{Asked}
 use Rattle.spin_top.specs.declared.words.Asked.TheVariants.{Run, Gen, Check, Join, Vm}
 use Rattle.spin_top.specs.Check.{CheckHasCause, CheckKnows}
-use Rattle.spin_top.specs.Ends.{number}
+use Rattle.spin_top.specs.Ends.{exit_status}
 use Rattle.spin_top.specs.Gen.{GenHasCause, GenKnows}
 use Rattle.spin_top.specs.Outside.{Outside, OnlyStops}
 use Rattle.spin_top.specs.Join.{JoinHasCause, JoinKnows}
@@ -55,7 +56,7 @@ CommandKnows natives before after (Vm name trace) status =
 -- The status of a command is the number of an end that has its cause.
 abbrev pub IsCommandStatus : NativeData → Outside → Outside → Asked → ℕ → Type 0
 IsCommandStatus natives before after asked status =
-    (end : End) × (status ≡ number end) × CommandHasCause natives before after asked end
+    (end : End) × (status ≡ exit_status end) × CommandHasCause natives before after asked end
 
 -- The words ask for a command, and that ended so.
 abbrev pub ByCommand : Call → End → Type 0
@@ -79,11 +80,11 @@ HasCause call other = ByCommand call other
 
 -- The status is the number of an end that has its cause.
 abbrev pub IsStatus : Call → Type 0
-IsStatus call = (end : End) × (call.status ≡ number end) × HasCause call end
+IsStatus call = (end : End) × (call.status ≡ exit_status end) × HasCause call end
 
 -- The status is the number of this end only where the end has its cause.
 abbrev pub Row : Call → End → Type 0
-Row call end = call.status ≡ number end → HasCause call end
+Row call end = call.status ≡ exit_status end → HasCause call end
 
 -- Words that ask for nothing are usage, unless memory ran out.
 abbrev pub KnowsUsage : Call → Type 0

@@ -9,14 +9,15 @@ use Rattle.spin_vm.specs.declared.cause.TraceCause.{TraceCause}
 use Rattle.spin_vm.specs.declared.end.VmEnd.{VmEnd}
 use Rattle.spin_vm.specs.declared.end.VmEnd.TheVariants as vm
 use Rattle.spin_vm.specs.declared.line.TraceLine.{TraceLine}
-use Rattle.spin_vm.specs.Ends.{EndsBy, CountsBy}
+use Rattle.spin_vm.specs.Ends.{TraceEndsBy, TraceCountsBy}
 use Rattle.spin_vm.specs.Scripts.{is_suited}
-use Rattle.spin_vm.specs.Traces.{outcome, cause_number}
+use Rattle.spin_vm.specs.Traces.{outcome, trace_cause_number}
 use Rattle.spin_top.specs.declared.end.End.{End}
-use Rattle.spin_top.specs.declared.end.End.TheVariants.{Whole, Refused, Unread, WriteFault, Absent, NoMemory, Trace, Unsuited}
+use Rattle.spin_top.specs.declared.end.End.TheVariants.{Whole, Refused, Unread, WriteFault}
+use Rattle.spin_top.specs.declared.end.End.TheVariants.{Absent, NoMemory, Trace, Unsuited}
 use Rattle.spin_top.specs.declared.end.Input.TheVariants as input
-use Rattle.spin_top.specs.Ends.{number, stop_line, Tells}
-use Rattle.spin_top.specs.Loading.{IsContent, IsLoaded, IsRefused, HoldsText, KnowsRefused, KnowsNoScript}
+use Rattle.spin_top.specs.Ends.{exit_status, stop_line, Tells}
+use Rattle.spin_top.specs.Loading.{IsContent, IsLoaded, IsScriptRefused, HoldsText, KnowsRefused, KnowsNoScript}
 use Rattle.spin_top.specs.Outside.{Outside, OnlyStops, NoReadFailed, NoneRose}
 use Rattle.spin_top.specs.Shelves.{ShelfStood, ShelfFailed, ShelfLacked}
 
@@ -26,7 +27,7 @@ use Rattle.spin_top.specs.Shelves.{ShelfStood, ShelfFailed, ShelfLacked}
 abbrev pub IsBadTrace : Option (List File) → List ℕ → ℕ → ℕ → Type 0
 IsBadTrace files name line cause =
     (text : List ℕ) × IsContent files name text
-    × (why : TraceCause) × (outcome text ≡ Err (line, why)) × (cause ≡ cause_number why)
+    × (why : TraceCause) × (outcome text ≡ Err (line, why)) × (cause ≡ trace_cause_number why)
 
 -- Why the text of a trace wasn't read.
 abbrev pub NoTraceBy : ShelfSeen → ShelfSeen → List ℕ → End → Type 0
@@ -63,8 +64,8 @@ pub record RanTrace (natives : NativeData) (before after : Outside) (name trace 
   pub read : IsContent before.shelf.files trace text
   -- the sink when the trace ended
   pub sink : SinkSeen
-  pub ended_so : EndsBy script text before.sink sink ended
-  pub counts : CountsBy before.sink sink ended
+  pub ended_so : TraceEndsBy script text before.sink sink ended
+  pub counts : TraceCountsBy before.sink sink ended
   pub line : Tells sink after.sink (stop_line (vm_end ended))
   pub ends : after.ends ≡ before.ends
 
@@ -76,7 +77,7 @@ VmHasCause natives before after name trace Whole =
     × RanTrace natives before after name trace vm.Whole
 VmHasCause natives before after name trace (Refused line cause) =
     ShelfStood before.shelf after.shelf
-    × IsRefused natives before.shelf.files name line cause
+    × IsScriptRefused natives before.shelf.files name line cause
     × OnlyStops before after (Refused line cause)
 VmHasCause natives before after name trace (Unread input.Script) =
     ShelfFailed before.shelf after.shelf × OnlyStops before after (Unread input.Script)
@@ -113,7 +114,7 @@ VmHasCause natives before after name trace other = ⊥
 -- The status is the number of an end that has its cause.
 abbrev pub IsVmStatus : NativeData → Outside → Outside → List ℕ → List ℕ → ℕ → Type 0
 IsVmStatus natives before after name trace status =
-    (end : End) × (status ≡ number end) × VmHasCause natives before after name trace end
+    (end : End) × (status ≡ exit_status end) × VmHasCause natives before after name trace end
 
 -- ---- what the status tells where the shelf tells its files
 

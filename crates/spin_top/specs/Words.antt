@@ -12,8 +12,8 @@ pub record IsPlain (word : List ℕ) : Type 0 where
   pub plain : slice_index word 0 ≢ 45
   pub utf8 : IsUtf8 word
 
--- The words have the form of what is asked for. A number is written as in scripts, in decimal or hexadecimal digits, and
--- is below 2^64.
+-- The words have the form of what is asked for. A number is written as in scripts, in decimal or hexadecimal digits,
+-- and is below 2^64.
 abbrev pub IsSpelled : List (List ℕ) → Asked → Type 0
 IsSpelled words (Run script None) = words ≡ codes "run" ∷ script ∷ []
 IsSpelled words (Run script (Some packets)) = words ≡ codes "run" ∷ script ∷ packets ∷ []

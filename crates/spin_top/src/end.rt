@@ -3,7 +3,7 @@
 ghost use Rattle.std.specs.Prelude.{◌≡◌, ◌<◌, ◌≤◌, ◌+◌, ◌++◌, length, decimal};
 ghost use Rattle.arrayvec.specs.ArrayVec.{array_vec_len};
 ghost use Rattle.spin_text.specs.Words.{ended};
-ghost use Rattle.spin_top.specs.Ends.{number, stop_line, input_word, Tells};
+ghost use Rattle.spin_top.specs.Ends.{exit_status, stop_line, input_word, Tells};
 
 use arrayvec::ArrayVec;
 use itoa::Buffer;
@@ -68,21 +68,21 @@ pub enum End {
     Unsuited,
 }
 
-/// The most bytes of a stop line. The longest is the usage.
+// The most bytes of a stop line. The longest is the usage.
 const LINE_ROOM: usize = 192;
 
-/// The most bytes of a number in a stop line.
+// The most bytes of a number in a stop line.
 const NUMBER_ROOM: usize = 40;
 
-/// The most bytes of the word for a file.
+// The most bytes of the word for a file.
 const WORD_ROOM: usize = 8;
 
-/// A stop line. It takes no memory.
+// A stop line. It takes no memory.
 type StopLine = ArrayVec<u8, LINE_ROOM>;
 
 /// The exit status of an end.
 pub fn status_of(end: End) -> u8
-    ensures { result ≡ number end }
+    ensures { result ≡ exit_status end }
 {
     match end {
         End::Whole => 0,
@@ -120,7 +120,7 @@ fn put_number(line: &mut StopLine, number: u64)
     put(line, buffer.format(number).as_bytes());
 }
 
-/// The word for a file in a stop line.
+// The word for a file in a stop line.
 fn word_of(input: Input) -> &'static [u8]
     ensures word { result.now ≡ input_word input }
     ensures few { length result.now ≤ WORD_ROOM }
@@ -133,7 +133,7 @@ fn word_of(input: Input) -> &'static [u8]
     }
 }
 
-/// A line of this text.
+// A line of this text.
 fn fixed(text: &[u8]) -> StopLine
     requires { length text.now < LINE_ROOM }
     ensures { result.items ≡ ended text.now }
@@ -144,7 +144,7 @@ fn fixed(text: &[u8]) -> StopLine
     line
 }
 
-/// A line of this text and the word for a file.
+// A line of this text and the word for a file.
 fn with_file(front: &[u8], input: Input) -> StopLine
     requires { length front.now + WORD_ROOM < LINE_ROOM }
     ensures { result.items ≡ ended (front.now ++ input_word input) }
@@ -156,7 +156,7 @@ fn with_file(front: &[u8], input: Input) -> StopLine
     line
 }
 
-/// A line of this text and a number.
+// A line of this text and a number.
 fn with_number(front: &[u8], number: u8) -> StopLine
     requires { length front.now + NUMBER_ROOM < LINE_ROOM }
     ensures { result.items ≡ ended (front.now ++ decimal number) }
@@ -168,7 +168,7 @@ fn with_number(front: &[u8], number: u8) -> StopLine
     line
 }
 
-/// A line of these texts, with a number behind each.
+// A line of these texts, with a number behind each.
 fn with_two(front: &[u8], first: u32, middle: &[u8], second: u8) -> StopLine
     requires { length front.now + NUMBER_ROOM + length middle.now + NUMBER_ROOM < LINE_ROOM }
     ensures { result.items
@@ -183,11 +183,11 @@ fn with_two(front: &[u8], first: u32, middle: &[u8], second: u8) -> StopLine
     line
 }
 
-/// The words of every command.
+// The words of every command.
 const USAGE: &[u8] = b"usage: spin run SCRIPT [PACKETS] | spin gen NUMBER \
     | spin check SCRIPT REPORT [PACKETS] | spin join SCRIPT PACKETS | spin vm SCRIPT TRACE";
 
-/// The line of an end, with its line feed; some have none.
+// The line of an end, with its line feed; some have none.
 fn line_of(end: End) -> StopLine
     ensures { result.items ≡ stop_line end }
 {
@@ -208,7 +208,7 @@ fn line_of(end: End) -> StopLine
 
 /// Writes the end's line, and answers its status. A line that can't be written leaves the status.
 pub fn stop<K: Sink>(out: &mut K, end: End) -> u8
-    ensures status { result ≡ number end }
+    ensures status { result ≡ exit_status end }
     ensures line { Tells (K.seen out.old) (K.seen out.new) (stop_line end) }
 {
     let line = line_of(end);

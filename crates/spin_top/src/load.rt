@@ -72,7 +72,7 @@ pub fn load<F: Shelf>(
 /// The most bytes that a script or a trace may have.
 pub const TEXT_LIMIT: u32 = MAX_TEXT as u32;
 
-/// The end of a script that isn't read.
+// The end of a script that isn't read.
 fn end_by(fault: ScriptFault) -> End
     ensures { result ≡ end_by fault }
 {

@@ -17,7 +17,7 @@ use spin_script::Frames;
 use spin_values::{NoMemory, Octets, Text};
 use std::alloc::Global;
 
-/// The end of a call at a fault of the capture's record of that number, counted from 1; 0 is its header.
+// The end of a call at a fault of the capture's record of that number, counted from 1; 0 is its header.
 fn end_at(number: u32, fault: PcapFault) -> End
     ensures { result ≡ end_at number fault }
 {
@@ -31,7 +31,7 @@ fn end_at(number: u32, fault: PcapFault) -> End
     }
 }
 
-/// Reads all records, and how many bytes stand behind them that are no record.
+// Reads all records, and how many bytes stand behind them that are no record.
 fn read_records<S: Source>(
     alloc: Global,
     reader: &mut Reader,
@@ -60,7 +60,7 @@ fn read_records<S: Source>(
     }
 }
 
-/// Reads a capture to its end.
+// Reads a capture to its end.
 fn read_capture<S: Source>(alloc: Global, source: &mut S) -> Result<Captured, End>
     ensures read { IfSome (S.seen source.old).left (λ file. ReadsFile file result) }
     ensures few { IfOk result (λ capture. length capture.frames ≤ MAX_RECORDS) }

@@ -21,7 +21,7 @@ use spin_values::{NoMemory, Text};
 use std::alloc::Global;
 use std::thread::Threads;
 
-/// Does the command that is asked for, and answers the status, which has its cause.
+// Does the command that is asked for, and answers the status, which has its cause.
 fn do_command<R: Threads + Sync, F: Shelf, K: Sink, G: Gate>(
     rt: &R,
     alloc: Global,
@@ -55,7 +55,7 @@ fn do_command<R: Threads + Sync, F: Shelf, K: Sink, G: Gate>(
     }
 }
 
-/// Does the command that the words ask for, and answers the status, which has its cause.
+// Does the command that the words ask for, and answers the status, which has its cause.
 fn choose<R: Threads + Sync, F: Shelf, K: Sink, G: Gate>(
     rt: &R,
     alloc: Global,
@@ -89,20 +89,20 @@ fn choose<R: Threads + Sync, F: Shelf, K: Sink, G: Gate>(
 /// `check SCRIPT REPORT PACKETS`, `join SCRIPT PACKETS` or `vm SCRIPT TRACE`; each is UTF-8, isn't empty, and doesn't
 /// begin with `-`. Except under `gen`, the script is found, read and checked, and may name the natives that are handed
 /// in. Then the capture, if one is named, is found and its header read; under `join` it is read whole, and its joined
-/// capture takes its place, in memory. Then the script is run over it by [`run_script`](spin_run::run_script), its lanes
-/// on threads, which writes the report and delivers what is sent to the endpoints. A stop ends the call at once, so the
-/// status is that of the first that is met.
+/// capture takes its place, in memory. Then the script is run over it by [`run_script`](spin_run::run_script), its
+/// lanes on threads, which writes the report and delivers what is sent to the endpoints. A stop ends the call at once,
+/// so the status is that of the first that is met.
 ///
 /// Under `check`, when the script is checked, the capture, if one is named, is read whole; then the report is found and
 /// read, and [`check_report`](spin_check::check_report) judges whether it is that of a history of the script with that
-/// capture and the endpoints that stand, which is written as `yes` or `no`. Under `vm`, when the script is checked, it is
-/// looked at whether it is suited to traces; then the trace is found and read, and
-/// [`run_trace`](spin_vm::run_trace) writes its output. Under both the endpoints are then as they were.
+/// capture and the endpoints that stand, which is written as `yes` or `no`. Under `vm`, when the script is checked, it
+/// is looked at whether it is suited to traces; then the trace is found and read, and [`run_trace`](spin_vm::run_trace)
+/// writes its output. Under both the endpoints are then as they were.
 ///
-/// Under `gen` a script and a capture are made from the number by [`generate`](spin_gen::generate), in memory, and run by
-/// [`run_summary`](spin_run::run_summary), which delivers as a run does and writes six lines in place of the report: the
-/// number in decimal, however it was written, and the counts of the history. The shelf isn't looked at. The status is 0,
-/// 5, 7 or 8, and after 7 and 8 nothing but the stop line was written.
+/// Under `gen` a script and a capture are made from the number by [`generate`](spin_gen::generate), in memory, and run
+/// by [`run_summary`](spin_run::run_summary), which delivers as a run does and writes six lines in place of the report:
+/// the number in decimal, however it was written, and the counts of the history. The shelf isn't looked at. The status
+/// is 0, 5, 7 or 8, and after 7 and 8 nothing but the stop line was written.
 ///
 /// | status | comes | line |
 /// |---|---|---|

@@ -52,7 +52,7 @@ pub enum Asked {
     },
 }
 
-/// The word as text, where it is UTF-8, isn't empty and doesn't begin with `-`.
+// The word as text, where it is UTF-8, isn't empty and doesn't begin with `-`.
 fn plain_word(word: &[u8]) -> Option<&str>
     ensures found { IfSome result (λ text. (text.now ≡ word.now) × IsPlain word.now) }
     ensures none { IfNone result (IsPlain word.now → ⊥) }
@@ -63,7 +63,7 @@ fn plain_word(word: &[u8]) -> Option<&str>
     std::str::from_utf8(word).ok()
 }
 
-/// The words as text, where each is plain.
+// The words as text, where each is plain.
 fn plain_words(alloc: Global, words: &[Text]) -> Result<Option<Vec<&str>>, NoMemory>
     ensures found { IfOk result (λ plain. IfSome plain
         (λ texts. (map (λ text. text.now) texts.items ≡ words.now) × All IsPlain words.now)) }
@@ -79,7 +79,7 @@ fn plain_words(alloc: Global, words: &[Text]) -> Result<Option<Vec<&str>>, NoMem
     Ok(Some(plain))
 }
 
-/// The command, which has one to four words and no option.
+// The command, which has one to four words and no option.
 fn command<'a>(alloc: Global) -> Result<Command<'a>, NoMemory>
     ensures { IfOk result (λ command. app_of command ≡ app) }
 {
@@ -93,7 +93,7 @@ fn command<'a>(alloc: Global) -> Result<Command<'a>, NoMemory>
     Ok(command.arg(words)?)
 }
 
-/// The matches of one to four words, none of which is an option.
+// The matches of one to four words, none of which is an option.
 fn parse<'a>(alloc: Global, words: &'a [&'a str]) -> Result<Option<ArgMatches<'a>>, NoMemory>
     requires plain { All IsPlain (map (λ text. text.now) words.now) }
     ensures found { IfOk result (λ parsed. IfSome parsed
@@ -127,7 +127,7 @@ pub enum Name {
     Vm,
 }
 
-/// The words that commands begin with.
+// The words that commands begin with.
 const COMMANDS: [(&[u8], Name); 5] = [
     (b"run", Name::Run),
     (b"gen", Name::Gen),
@@ -136,7 +136,7 @@ const COMMANDS: [(&[u8], Name); 5] = [
     (b"vm", Name::Vm),
 ];
 
-/// The command that begins with this word.
+// The command that begins with this word.
 fn name_of(word: &str) -> Option<Name>
     ensures found { IfSome result (λ name. word.now ≡ spelling name) }
     ensures none { IfNone result (BeginsNone word.now) }
@@ -144,7 +144,7 @@ fn name_of(word: &str) -> Option<Name>
     look_up(word.as_bytes(), COMMANDS.as_slice())
 }
 
-/// The words after `run`.
+// The words after `run`.
 fn run_form(alloc: Global, names: &[&str]) -> Result<Option<Asked>, NoMemory>
     ensures found { IfOk result (λ form. IfSome form
         (λ asked. IsSpelled (codes "run" ∷ map (λ text. text.now) names.now) asked)) }
@@ -164,7 +164,7 @@ fn run_form(alloc: Global, names: &[&str]) -> Result<Option<Asked>, NoMemory>
     }
 }
 
-/// The words after `gen`: one, which is a number as scripts have them.
+// The words after `gen`: one, which is a number as scripts have them.
 fn gen_form(names: &[&str]) -> Option<Asked>
     ensures found { IfSome result
         (λ asked. IsSpelled (codes "gen" ∷ map (λ text. text.now) names.now) asked) }
@@ -180,7 +180,7 @@ fn gen_form(names: &[&str]) -> Option<Asked>
     }
 }
 
-/// The words after `check`.
+// The words after `check`.
 fn check_form(alloc: Global, names: &[&str]) -> Result<Option<Asked>, NoMemory>
     ensures found { IfOk result (λ form. IfSome form
         (λ asked. IsSpelled (codes "check" ∷ map (λ text. text.now) names.now) asked)) }
@@ -202,7 +202,7 @@ fn check_form(alloc: Global, names: &[&str]) -> Result<Option<Asked>, NoMemory>
     }
 }
 
-/// The words after `join`.
+// The words after `join`.
 fn join_form(alloc: Global, names: &[&str]) -> Result<Option<Asked>, NoMemory>
     ensures found { IfOk result (λ form. IfSome form
         (λ asked. IsSpelled (codes "join" ∷ map (λ text. text.now) names.now) asked)) }
@@ -218,7 +218,7 @@ fn join_form(alloc: Global, names: &[&str]) -> Result<Option<Asked>, NoMemory>
     }
 }
 
-/// The words after `vm`.
+// The words after `vm`.
 fn vm_form(alloc: Global, names: &[&str]) -> Result<Option<Asked>, NoMemory>
     ensures found { IfOk result (λ form. IfSome form
         (λ asked. IsSpelled (codes "vm" ∷ map (λ text. text.now) names.now) asked)) }
@@ -234,7 +234,7 @@ fn vm_form(alloc: Global, names: &[&str]) -> Result<Option<Asked>, NoMemory>
     }
 }
 
-/// The form that the words have.
+// The form that the words have.
 fn form_of(alloc: Global, words: &[&str]) -> Result<Option<Asked>, NoMemory>
     ensures found { IfOk result (λ form. IfSome form
         (λ asked. IsSpelled (map (λ text. text.now) words.now) asked)) }

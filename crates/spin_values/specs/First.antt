@@ -1,5 +1,6 @@
 -- The first of a list of conditions that holds, and items by their numbers.
-use Rattle.std.specs.Prelude.{ℕ, ◌-◌, Bool, ◌==◌, if◌then◌else◌, List, [], ◌∷◌, slice_get, Option, Some, None, Result, Ok, Err}
+use Rattle.std.specs.Prelude.{ℕ, ◌-◌, Bool, ◌==◌, if◌then◌else◌, List, [], ◌∷◌}
+use Rattle.std.specs.Prelude.{slice_get, Option, Some, None, Result, Ok, Err}
 
 -- the answer of the first of these conditions that holds
 abbrev pub first_of : {A : Type 0} → List (Bool × A) → Option A

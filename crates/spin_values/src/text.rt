@@ -1,6 +1,7 @@
 //! Text: bytes that are no argument of an event.
 
-ghost use Rattle.std.specs.Prelude.{◌≡◌, ◌==◌, ◌<◌, ◌++◌, [], ◌∷◌, length, slice_get, Some, OnOk, OnErr, IfOk, MatchOption};
+ghost use Rattle.std.specs.Prelude.{◌≡◌, ◌==◌, ◌<◌, ◌++◌, [], ◌∷◌, length};
+ghost use Rattle.std.specs.Prelude.{slice_get, Some, OnOk, OnErr, IfOk, MatchOption};
 
 use crate::list::Sequence;
 use crate::no_memory::NoMemory;

@@ -1,6 +1,7 @@
 //! The types of events: parameters by kind, and whether the event gives a result.
 
-ghost use Rattle.std.specs.Prelude.{◌≡◌, ◌<◌, ◌≤◌, ◌++◌, ◌↔◌, [], ◌∷◌, length, map, slice_get, Some, OnOk, OnErr, IsTrue, MatchOption};
+ghost use Rattle.std.specs.Prelude.{◌≡◌, ◌<◌, ◌≤◌, ◌++◌, ◌↔◌, [], ◌∷◌, length, map};
+ghost use Rattle.std.specs.Prelude.{slice_get, Some, OnOk, OnErr, IsTrue, MatchOption};
 
 use crate::list::Sequence;
 use crate::no_memory::NoMemory;

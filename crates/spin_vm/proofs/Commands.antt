@@ -1,5 +1,6 @@
 -- Commands one after another.
-use Rattle.std.proofs.Common.{filter, Result, Err, subst, rules, ◌≡◌, ◌+◌, ◌<◌, ◌≤◌, ◌&&◌, ◌==◌, ℕ, zero, suc, Bool, true, false, List, [], ◌∷◌, length, Option, Some, None, MatchOption, count_by, slice_get, slice_index_or, refl, sym, ap, ◌∙◌, arith, append-nil}
+use Rattle.std.proofs.Common.{filter, Result, Err, subst, rules, ◌≡◌, ◌+◌, ◌<◌, ◌≤◌, ◌&&◌, ◌==◌, ℕ, zero, suc, Bool, true, false, List, [], ◌∷◌}
+use Rattle.std.proofs.Common.{length, Option, Some, None, MatchOption, count_by, slice_get, slice_index_or, refl, sym, ap, ◌∙◌, arith, append-nil}
 use Rattle.std.proofs.lemmas.Option.{same_Some}
 use Rattle.spin_script.specs.declared.script.Line.{Line}
 use Rattle.spin_script.specs.declared.script.Segment.{Segment}
@@ -25,7 +26,8 @@ changes_place : (d : SetupData) (s : State) (c : Command) (v : Verdicted) (next 
 changes_place d s c verdicted.Accepted next h = let e = ap (λ (t : State). t.place) h.0 in omega (arith, e)
 changes_place d s c (verdicted.Refused r) next h = let e = ap (λ (t : State). t.place) h.0 in omega (arith, e)
 
-step_place : (d : SetupData) (s : State) (c : Command) (v : Verdicted) (next : State) (o : Option Refusal) → MatchOption o (ChangesTo d s c v next) (λ r. (v ≡ verdicted.Refused r) × (next ≡ s)) → next.place ≤ s.place + 1
+step_place : (d : SetupData) (s : State) (c : Command) (v : Verdicted) (next : State) (o : Option Refusal)
+    → MatchOption o (ChangesTo d s c v next) (λ r. (v ≡ verdicted.Refused r) × (next ≡ s)) → next.place ≤ s.place + 1
 step_place d s c v next None h = changes_place d s c v next h
 step_place d s c v next (Some r) h = let e = ap (λ (t : State). t.place) h.1 in omega (arith, e)
 

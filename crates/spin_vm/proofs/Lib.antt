@@ -1,7 +1,7 @@
-pub mod Apart
-pub mod Reading
-pub mod Spaces
-pub mod Isolation
-pub mod Texts
+pub mod RegionOrder
+pub mod TraceLines
+pub mod SpaceRegions
+pub mod SpaceIsolation
+pub mod WrittenTexts
 pub mod Commands
-pub mod Endings
+pub mod TraceEnds

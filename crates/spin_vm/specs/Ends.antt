@@ -11,7 +11,7 @@ use Rattle.spin_vm.specs.declared.line.TraceLine.{TraceLine}
 use Rattle.spin_vm.specs.declared.cause.TraceCause.{TraceCause}
 use Rattle.spin_vm.specs.declared.end.VmEnd.{VmEnd}
 use Rattle.spin_vm.specs.declared.end.VmEnd.TheVariants as end
-use Rattle.spin_vm.specs.Traces.{outcome, cause_number}
+use Rattle.spin_vm.specs.Traces.{outcome, trace_cause_number}
 use Rattle.spin_vm.specs.Output.{output}
 use Rattle.spin_vm.specs.Scripts.{IsLast, AreReplies}
 
@@ -30,22 +30,22 @@ WritesFront before after text =
     × Appends before.told after.told front
 
 -- A trace of that text over the script ends so.
-abbrev pub EndsBy : ScriptData → List ℕ → SinkSeen → SinkSeen → VmEnd → Type 0
-EndsBy script text before after end.Whole =
+abbrev pub TraceEndsBy : ScriptData → List ℕ → SinkSeen → SinkSeen → VmEnd → Type 0
+TraceEndsBy script text before after end.Whole =
     (trace : List TraceLine) × (written : List ℕ) × (outcome text ≡ Ok trace)
     × IsOutput script trace written × Appends before.told after.told written
-EndsBy script text before after (end.Trace line number) =
-    (cause : TraceCause) × (outcome text ≡ Err (line, cause)) × (number ≡ cause_number cause)
+TraceEndsBy script text before after (end.Trace line number) =
+    (cause : TraceCause) × (outcome text ≡ Err (line, cause)) × (number ≡ trace_cause_number cause)
     × (after ≡ before)
-EndsBy script text before after end.WriteFault =
+TraceEndsBy script text before after end.WriteFault =
     (trace : List TraceLine) × (written : List ℕ) × (outcome text ≡ Ok trace)
     × IsOutput script trace written × WritesFront before after written
-EndsBy script text before after end.NoMemory =
+TraceEndsBy script text before after end.NoMemory =
     (after ≡ before)
     ⊎ ((trace : List TraceLine) × (written : List ℕ) × (outcome text ≡ Ok trace)
     × IsOutput script trace written × WritesFront before after written)
 
 -- The sink's count of faults rose at a failed write, and nowhere else.
-abbrev pub CountsBy : SinkSeen → SinkSeen → VmEnd → Type 0
-CountsBy before after end.WriteFault = Rose before.faults after.faults
-CountsBy before after other = after.faults ≡ before.faults
+abbrev pub TraceCountsBy : SinkSeen → SinkSeen → VmEnd → Type 0
+TraceCountsBy before after end.WriteFault = Rose before.faults after.faults
+TraceCountsBy before after other = after.faults ≡ before.faults

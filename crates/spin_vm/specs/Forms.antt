@@ -1,5 +1,6 @@
 -- What the words of a line say.
-use Rattle.std.specs.Prelude.{ℕ, Bool, true, false, ◌&&◌, if◌then◌else◌, List, [], ◌∷◌, Option, Some, None, codes, bytes_eq}
+use Rattle.std.specs.Prelude.{ℕ, Bool, true, false, ◌&&◌, if◌then◌else◌, List}
+use Rattle.std.specs.Prelude.{[], ◌∷◌, Option, Some, None, codes, bytes_eq}
 use Rattle.spin_text.specs.Words.{Word}
 use Rattle.spin_grammar.specs.Spelling.{number, within, greatest}
 use Rattle.spin_vm.specs.declared.line.Request.TheVariants as request
@@ -17,8 +18,8 @@ rights_of w =
     else (if bytes_eq w (codes "rw") then Some true else None)
 
 -- whether an access of this kind writes
-abbrev pub kind_of : Word → Option Bool
-kind_of w =
+abbrev pub access_kind : Word → Option Bool
+access_kind w =
     if bytes_eq w (codes "r") then Some false
     else (if bytes_eq w (codes "w") then Some true else None)
 
@@ -62,7 +63,7 @@ unmap_form ws = None
 
 -- `S ADDRESS KIND` behind `access`
 abbrev pub access_form : List Word → Option Said
-access_form (s ∷ address ∷ kind ∷ []) = access_if (number_of s) (number_of address) (kind_of kind)
+access_form (s ∷ address ∷ kind ∷ []) = access_if (number_of s) (number_of address) (access_kind kind)
 access_form ws = None
 
 -- what the words say, where they have one of the forms

@@ -1,5 +1,7 @@
 -- The language of traces: a text is a trace, or has a first bad line and its cause.
-use Rattle.std.specs.Prelude.{◌≡◌, ℕ, ◌+◌, Bool, false, true, not, ◌||◌, ◌==◌, nat_lt, nat_le, if◌then◌else◌, List, [], ◌∷◌, ◌++◌, length, Option, Some, None, Result, Ok, Err, slice_index, slice_get, slice_set}
+use Rattle.std.specs.Prelude.{◌≡◌, ℕ, ◌+◌, Bool, false, true, not, ◌||◌, ◌==◌, nat_lt}
+use Rattle.std.specs.Prelude.{nat_le, if◌then◌else◌, List, [], ◌∷◌, ◌++◌, length, Option}
+use Rattle.std.specs.Prelude.{Some, None, Result, Ok, Err, slice_index, slice_get, slice_set}
 use Rattle.std.specs.List.{list_all, list_any}
 use Rattle.std.specs.Str.Lines.{lines}
 use Rattle.spin_values.specs.First.{first_of}
@@ -57,10 +59,10 @@ region_checks regions (request.Region r) =
 region_checks regions other = []
 
 -- the causes for which what a line says can't stand behind these spaces, in order, each with its condition
-abbrev pub checks : List (List Region) → Said → List (Bool × TraceCause)
-checks spaces (said.Space space) =
+abbrev pub trace_checks : List (List Region) → Said → List (Bool × TraceCause)
+trace_checks spaces (said.Space space) =
     (not (space == length spaces) || nat_lt LAST_SPACE space, cause.Next) ∷ []
-checks spaces (said.At space asked) =
+trace_checks spaces (said.At space asked) =
     (nat_le (length spaces) space, cause.Undeclared)
     ∷ region_checks (regions_at spaces space) asked
 
@@ -68,7 +70,7 @@ checks spaces (said.At space asked) =
 abbrev pub AreGood : List (List Region) → List TraceLine → Type 0
 AreGood spaces [] = Unit {0}
 AreGood spaces (line ∷ more) =
-    (first_of (checks spaces line.said) ≡ None) × AreGood (regions_after spaces line.said) more
+    (first_of (trace_checks spaces line.said) ≡ None) × AreGood (regions_after spaces line.said) more
 
 -- ---- one line
 
@@ -97,7 +99,7 @@ line_if s number what (Some c) = Err c
 -- the trace after a line that says this: 4 where it has no form, or else the first cause that applies
 abbrev pub after_said : TraceState → ℕ → Option Said → Result TraceState TraceCause
 after_said s number None = Err cause.Form
-after_said s number (Some what) = line_if s number what (first_of (checks s.spaces what))
+after_said s number (Some what) = line_if s number what (first_of (trace_checks s.spaces what))
 
 -- the trace after its first line, or 3 where that isn't `vm 1`
 abbrev pub after_first : TraceState → Bool → Result TraceState TraceCause
@@ -119,33 +121,33 @@ after_line s number line =
 -- ---- all lines
 
 -- the lines of a trace, or a bad line's number and the cause
-abbrev pub Outcome : Type 0
-Outcome = Result (List TraceLine) (ℕ × TraceCause)
+abbrev pub TraceOutcome : Type 0
+TraceOutcome = Result (List TraceLine) (ℕ × TraceCause)
 
 -- a trace in which no first line stands is bad at line 1
-abbrev pub ended : TraceState → Outcome
-ended s = if s.begun then Ok s.lines else Err (1, cause.Version)
+abbrev pub trace_outcome_at_end : TraceState → TraceOutcome
+trace_outcome_at_end s = if s.begun then Ok s.lines else Err (1, cause.Version)
 
 -- what the lines behind the one of that number come to, where it came to this: the first bad line decides
-abbrev pub comes_to : Result TraceState TraceCause → ℕ → List (List ℕ) → Outcome
+abbrev pub comes_to : Result TraceState TraceCause → ℕ → List (List ℕ) → TraceOutcome
 comes_to (Err c) number more = Err (number, c)
-comes_to (Ok s) number [] = ended s
+comes_to (Ok s) number [] = trace_outcome_at_end s
 comes_to (Ok s) number (line ∷ more) =
     comes_to (after_line s (number + 1) line) (number + 1) more
 
 -- what a text comes to
-abbrev pub outcome : List ℕ → Outcome
+abbrev pub outcome : List ℕ → TraceOutcome
 outcome text =
     if nat_lt most_bytes (length text) then Err (0, cause.TooLarge)
     else comes_to (Ok start) 0 (lines text)
 
 -- the causes are numbered from 1
-abbrev pub cause_number : TraceCause → ℕ
-cause_number cause.TooLarge = 1
-cause_number cause.NotAscii = 2
-cause_number cause.Version = 3
-cause_number cause.Form = 4
-cause_number cause.Next = 5
-cause_number cause.Undeclared = 6
-cause_number cause.Region = 7
-cause_number cause.Regions = 8
+abbrev pub trace_cause_number : TraceCause → ℕ
+trace_cause_number cause.TooLarge = 1
+trace_cause_number cause.NotAscii = 2
+trace_cause_number cause.Version = 3
+trace_cause_number cause.Form = 4
+trace_cause_number cause.Next = 5
+trace_cause_number cause.Undeclared = 6
+trace_cause_number cause.Region = 7
+trace_cause_number cause.Regions = 8

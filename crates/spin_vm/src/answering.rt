@@ -6,9 +6,10 @@ ghost use Rattle.spin_word.specs.declared.work.Deed.{Deed};
 ghost use Rattle.spin_table.specs.SetupOf.{data_of};
 ghost use Rattle.spin_table.specs.Soundness.{IsSound};
 ghost use Rattle.spin_proto.specs.declared.reply.Reply.{Reply};
-ghost use Rattle.spin_vm.specs.Traces.{checks, region_checks, regions_with, regions_after};
+ghost use Rattle.spin_vm.specs.Traces.{trace_checks, region_checks, regions_with, regions_after};
 ghost use Rattle.spin_vm.specs.Scripts.{AreReplies};
-ghost use Rattle.spin_vm.specs.Spaces.{page_of, look_up, access_came, after_access, came_of, space_after, said_came, spaces_after, mapped_pages};
+ghost use Rattle.spin_vm.specs.Spaces.{page_of, look_up, access_came, after_access, came_of};
+ghost use Rattle.spin_vm.specs.Spaces.{space_after, said_came, spaces_after, mapped_pages};
 ghost use Rattle.spin_vm.specs.Inner.Lines.{regions_of};
 
 use crate::came::Came;
@@ -22,7 +23,7 @@ use spin_table::{Setup, Version};
 use spin_values::NoMemory;
 use std::alloc::Global;
 
-/// What an access comes to.
+// What an access comes to.
 fn access(
     alloc: Global,
     setup: &Setup,
@@ -54,7 +55,7 @@ fn access(
     Ok(Came::Faulted(fault, reply, frame))
 }
 
-/// What a request to a space comes to.
+// What a request to a space comes to.
 fn asked(
     alloc: Global,
     setup: &Setup,
@@ -87,7 +88,7 @@ fn asked(
     }
 }
 
-/// What a line comes to, if it is an access or takes a page out.
+// What a line comes to, if it is an access or takes a page out.
 pub(crate) fn answer(
     alloc: Global,
     setup: &Setup,
@@ -97,7 +98,7 @@ pub(crate) fn answer(
 ) -> Result<Option<Came>, NoMemory>
     requires sincere { ⟦<Catalogue as Sincere>⟧.sincere setup.now.catalogue }
     requires sound { IsSound (data_of setup.now) version.now }
-    requires good { first_of (checks (regions_of spaces.old.items) said.now) ≡ None }
+    requires good { first_of (trace_checks (regions_of spaces.old.items) said.now) ≡ None }
     ensures came { (reply : Deed → Reply) → AreReplies (data_of setup.now) version.now reply
         → IfOk result (λ came. came ≡ said_came reply spaces.old.items said.now) }
     ensures spaces { (reply : Deed → Reply) → AreReplies (data_of setup.now) version.now reply
@@ -120,7 +121,7 @@ pub(crate) fn answer(
     }
 }
 
-/// How many pages are mapped in all.
+// How many pages are mapped in all.
 pub(crate) fn mapped_pages(spaces: &[Space]) -> usize
     requires { mapped_pages spaces.now < 2 ^ 64 }
     ensures { result ≡ mapped_pages spaces.now }

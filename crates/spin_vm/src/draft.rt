@@ -3,7 +3,7 @@
 ghost use Rattle.std.specs.Prelude.{◌≡◌, ◌<◌, length, Some, None, OnOk, OnErr, Ok};
 ghost use Rattle.spin_values.specs.First.{first_of};
 ghost use Rattle.spin_vm.specs.Traces as specs;
-ghost use Rattle.spin_vm.specs.Traces.{checks, region_checks, regions_after, with_line, start};
+ghost use Rattle.spin_vm.specs.Traces.{trace_checks, region_checks, regions_after, with_line, start};
 
 use crate::cause::TraceCause;
 use crate::limits::{LAST_SPACE, MAX_REGIONS, PAGES};
@@ -13,7 +13,7 @@ use spin_values::NoMemory;
 use std::alloc::Global;
 use std::marker::Model;
 
-/// The trace so far: whether its first line stands, its spaces, and its other lines.
+// The trace so far: whether its first line stands, its spaces, and its other lines.
 #[derive(Drop)]
 pub(crate) struct Draft {
     pub(crate) begun: bool,
@@ -38,7 +38,7 @@ fn is_bad_region(regions: &Regions, region: &Region) -> bool
     regions.have_some(region.start, region.start + region.pages)
 }
 
-/// Why a region can't be added to these, if it can't.
+// Why a region can't be added to these, if it can't.
 fn region_cause(regions: &Regions, request: &Request) -> Option<TraceCause>
     ensures { result ≡ first_of (region_checks regions.now request.now) }
 {
@@ -55,7 +55,7 @@ fn region_cause(regions: &Regions, request: &Request) -> Option<TraceCause>
 }
 
 impl Draft {
-    /// No line stands.
+    // No line stands.
     pub(crate) fn new(alloc: Global) -> Draft
         ensures { result ≡ start }
     {
@@ -66,9 +66,9 @@ impl Draft {
         }
     }
 
-    /// Why a line can't stand here, if it can't.
+    // Why a line can't stand here, if it can't.
     pub(crate) fn cause(&self, said: &Said) -> Option<TraceCause>
-        ensures { result ≡ first_of (checks self.now.spaces said.now) }
+        ensures { result ≡ first_of (trace_checks self.now.spaces said.now) }
     {
         match said {
             Said::Space(space) => {
@@ -86,10 +86,10 @@ impl Draft {
         }
     }
 
-    /// Adds a line that can stand here to the spaces.
-    #[tactic(auto, using(crate::proofs::Spaces::keeps))]
+    // Adds a line that can stand here to the spaces.
+    #[tactic(auto, using(crate::proofs::SpaceRegions::keeps))]
     fn add_to_spaces(&mut self, alloc: Global, said: &Said) -> Result<(), NoMemory>
-        requires { first_of (checks self.old.spaces said.now) ≡ None }
+        requires { first_of (trace_checks self.old.spaces said.now) ≡ None }
         ensures { OnOk result (self.new
             ≡ record self.old { spaces = regions_after self.old.spaces said.now }) }
     {
@@ -105,16 +105,16 @@ impl Draft {
         }
     }
 
-    /// Adds a line that can stand here.
+    // Adds a line that can stand here.
     pub(crate) fn add(&mut self, alloc: Global, number: u32, said: Said) -> Result<(), NoMemory>
-        requires { first_of (checks self.old.spaces said) ≡ None }
+        requires { first_of (trace_checks self.old.spaces said) ≡ None }
         ensures { OnOk result (self.new ≡ with_line self.old number said) }
     {
         self.add_to_spaces(alloc, &said)?;
         self.lines.push(TraceLine { number, said })
     }
 
-    /// The lines.
+    // The lines.
     pub(crate) fn into_lines(self) -> Trace
         ensures { result ≡ self.lines }
     {

@@ -16,7 +16,7 @@ pub enum Fault {
 }
 
 impl Fault {
-    /// The event that it raises.
+    // The event that it raises.
     pub(crate) fn event(self) -> u8
         ensures { result ≡ event_of self }
     {
@@ -27,7 +27,7 @@ impl Fault {
         }
     }
 
-    /// Its word in the output.
+    // Its word in the output.
     pub(crate) fn word(self) -> &'static [u8]
         ensures { result.now ≡ fault_word self }
     {

@@ -18,7 +18,7 @@ use spin_values::{Args, NoMemory, Value};
 use spin_word::Deed;
 use std::alloc::Global;
 
-/// The reply to the raise of a fault: that of an access to the page of a space.
+// The reply to the raise of a fault: that of an access to the page of a space.
 pub(crate) fn raise(
     alloc: Global,
     setup: &Setup,
@@ -54,7 +54,7 @@ fn frame_if(number: u64) -> Option<u16>
     }
 }
 
-/// The frame that an answer gives.
+// The frame that an answer gives.
 fn frame_in(reply: &Reply) -> Option<u16>
     ensures { result ≡ specs.frame_in reply.now }
 {
@@ -68,7 +68,7 @@ fn frame_in(reply: &Reply) -> Option<u16>
     }
 }
 
-/// The frame that the reply to a fault gives: none but to that of a missing page.
+// The frame that the reply to a fault gives: none but to that of a missing page.
 pub(crate) fn frame_given(fault: Fault, reply: &Reply) -> Option<u16>
     ensures { result ≡ specs.frame_given fault reply.now }
 {

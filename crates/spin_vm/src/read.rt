@@ -32,7 +32,7 @@ pub enum TraceFault {
     NoMemory,
 }
 
-/// Why a line isn't added.
+// Why a line isn't added.
 enum LineFault {
     Bad(TraceCause),
     NoMemory,
@@ -48,7 +48,7 @@ impl From<NoMemory> for LineFault {
     }
 }
 
-/// Takes the first line that isn't skipped.
+// Takes the first line that isn't skipped.
 fn begin(draft: &mut Draft, is_first: bool) -> Result<(), LineFault>
     ensures { GivesState (after_first draft.old is_first) result draft.new }
 {
@@ -59,7 +59,7 @@ fn begin(draft: &mut Draft, is_first: bool) -> Result<(), LineFault>
     Ok(())
 }
 
-/// Adds what a line says, where it has one of the forms and can stand here.
+// Adds what a line says, where it has one of the forms and can stand here.
 fn add_said(
     alloc: Global,
     draft: &mut Draft,
@@ -77,7 +77,7 @@ fn add_said(
     Ok(draft.add(alloc, number, said)?)
 }
 
-/// Reads a line, and adds it to the trace so far.
+// Reads a line, and adds it to the trace so far.
 fn take_line(alloc: Global, draft: &mut Draft, number: u32, line: &[u8]) -> Result<(), LineFault>
     ensures { GivesState (after_line draft.old number line.now) result draft.new }
 {

@@ -1,6 +1,7 @@
 //! The regions of a space, in order, so that a page is looked up by halving.
 
-ghost use Rattle.std.specs.Prelude.{◌≡◌, ◌+◌, ◌<◌, ◌≤◌, ◌&&◌, false, [], ◌∷◌, length, nat_lt, is_some, IfSome, OnOk, OnErr};
+ghost use Rattle.std.specs.Prelude.{◌≡◌, ◌+◌, ◌<◌, ◌≤◌, ◌&&◌, false, [], ◌∷◌};
+ghost use Rattle.std.specs.Prelude.{length, nat_lt, is_some, IfSome, OnOk, OnErr};
 ghost use Rattle.std.specs.List.{list_any};
 ghost use Rattle.spin_vm.specs.Regions.{has_some, with_region};
 ghost use Rattle.spin_vm.specs.Inner.Apart.{AreApart, count_before, last_before};
@@ -11,7 +12,7 @@ use spin_values::NoMemory;
 use std::alloc::Global;
 use std::marker::Model;
 
-/// Regions by rising start, none of which has a page of another. Contracts see the list of them.
+// Regions by rising start, none of which has a page of another. Contracts see the list of them.
 #[derive(Drop)]
 pub(crate) struct Regions {
     items: Vec<Region>,
@@ -30,7 +31,7 @@ impl Model for Regions {
 }
 
 impl Regions {
-    /// No region.
+    // No region.
     pub(crate) fn new(alloc: Global) -> Regions
         ensures { result ≡ [] }
     {
@@ -39,14 +40,14 @@ impl Regions {
         }
     }
 
-    /// How many regions there are.
+    // How many regions there are.
     pub(crate) fn len(&self) -> usize
         ensures { result ≡ length self.now }
     {
         self.items.len()
     }
 
-    /// How many regions start before the page.
+    // How many regions start before the page.
     fn count_before(&self, page: u64) -> usize
         ensures count { result ≡ count_before page self.now }
         ensures few { result ≤ length self.now }
@@ -59,7 +60,7 @@ impl Regions {
         )
     }
 
-    /// The last region that starts before the page.
+    // The last region that starts before the page.
     fn last_before(&self, page: u64) -> Option<Region>
         ensures last { result ≡ last_before page self.now }
         ensures end { IfSome result (λ r. r.start + r.pages ≤ PAGES) }
@@ -72,7 +73,7 @@ impl Regions {
         Some(self.items[count - 1])
     }
 
-    /// Whether a region has a page from `from` on that lies before `to`.
+    // Whether a region has a page from `from` on that lies before `to`.
     pub(crate) fn have_some(&self, from: u64, to: u64) -> bool
         requires { from < to }
         ensures { result ≡ list_any (has_some from to) self.now }
@@ -83,7 +84,7 @@ impl Regions {
         }
     }
 
-    /// The region that has the page, if one has it.
+    // The region that has the page, if one has it.
     pub(crate) fn at(&self, page: u64) -> Option<Region>
         requires { page < PAGES }
         ensures there { is_some result ≡ list_any (has_some page (page + 1)) self.now }
@@ -102,8 +103,8 @@ impl Regions {
         }
     }
 
-    /// Adds a region, which has no page of another. After want of memory nothing is changed. It takes time linear in
-    /// the regions, of which there are at most 256.
+    // Adds a region, which has no page of another. After want of memory nothing is changed. It takes time linear in
+    // the regions, of which there are at most 256.
     pub(crate) fn insert(&mut self, region: Region) -> Result<(), NoMemory>
         requires some { 0 < region.pages }
         requires near { region.start + region.pages ≤ PAGES }

@@ -4,9 +4,9 @@ ghost use Rattle.std.specs.Prelude.{◌≡◌, ◌≤◌, [], IsTrue};
 ghost use Rattle.spin_word.specs.declared.command.TheConstants.{MAX_PLACE};
 ghost use Rattle.spin_script.specs.Scripts.{script_seen};
 ghost use Rattle.spin_script.specs.Soundness.{AreValid, command_lines};
-ghost use Rattle.spin_vm.specs.Traces.{AreGood, cause_number};
+ghost use Rattle.spin_vm.specs.Traces.{AreGood, trace_cause_number};
 ghost use Rattle.spin_vm.specs.Scripts.{is_suited};
-ghost use Rattle.spin_vm.specs.Ends.{EndsBy, CountsBy};
+ghost use Rattle.spin_vm.specs.Ends.{TraceEndsBy, TraceCountsBy};
 ghost use Rattle.spin_vm.specs.Inner.Endings.{OutputEnds, OutputCounts, end_of};
 
 use crate::cause::TraceCause;
@@ -21,14 +21,14 @@ use spin_outside::Sink;
 use spin_script::Script;
 use std::alloc::Global;
 
-/// The number of a cause.
+// The number of a cause.
 fn cause_number(cause: TraceCause) -> u8
-    ensures { result ≡ cause_number cause }
+    ensures { result ≡ trace_cause_number cause }
 {
     cause as u8
 }
 
-/// Writes the output of a trace.
+// Writes the output of a trace.
 fn run_lines<K: Sink>(
     alloc: Global,
     script: &Script,
@@ -48,7 +48,7 @@ fn run_lines<K: Sink>(
     write_output(alloc, &script.setup, &version, trace.as_slice(), out)
 }
 
-/// How a trace ends whose output ends so.
+// How a trace ends whose output ends so.
 fn end_of(written: Result<(), Stop>) -> VmEnd
     ensures { result ≡ end_of written }
 {
@@ -63,14 +63,14 @@ fn end_of(written: Result<(), Stop>) -> VmEnd
 ///
 /// The script's commands are applied in order, and a refused one changes nothing. The trace is read whole before
 /// anything is written: [`VmEnd::Trace`] comes exactly where it isn't in the language, with its first bad line and the
-/// number of the first cause there, and the sink is as it was. An access to a mapped page has its frame. Every other one
-/// has a fault, which is raised at the state that the script leaves, as event 0 where the page isn't mapped, 1 where it
-/// lies in no region, and 2 where it is written to and may only be read; its arguments are the space, the page, and 1
-/// for a write or 0 for a read. A page that isn't mapped is mapped to the frame that the reply gives as its value or
-/// default, if that is below 65,536. Sends and jobs of a raise are written and go no further.
+/// number of the first cause there, and the sink is as it was. An access to a mapped page has its frame. Every other
+/// one has a fault, which is raised at the state that the script leaves, as event 0 where the page isn't mapped, 1
+/// where it lies in no region, and 2 where it is written to and may only be read; its arguments are the space, the
+/// page, and 1 for a write or 0 for a read. A page that isn't mapped is mapped to the frame that the reply gives as its
+/// value or default, if that is below 65,536. Sends and jobs of a raise are written and go no further.
 ///
-/// [`VmEnd::WriteFault`] comes only where the sink's count of faults rose; the sink has then taken a front of the output,
-/// and not all of it, and so it has after want of memory. Each line is written by one call.
+/// [`VmEnd::WriteFault`] comes only where the sink's count of faults rose; the sink has then taken a front of the
+/// output, and not all of it, and so it has after want of memory. Each line is written by one call.
 ///
 /// The script is suited, and one that [`read_script`](spin_script::read_script) gives; the catalogue's objects do what
 /// they were handed in with. Beside the raises it takes time linear in the trace and in what is written, times
@@ -80,8 +80,8 @@ pub fn run_trace<K: Sink>(alloc: Global, script: Script, trace: &[u8], out: &mut
     requires sincere { ⟦<Catalogue as Sincere>⟧.sincere script.setup.catalogue }
     requires valid { AreValid script.segments }
     requires commands { command_lines script.segments ≤ MAX_PLACE }
-    ensures end { EndsBy (script_seen script) trace.now (K.seen out.old) (K.seen out.new) result }
-    ensures counts { CountsBy (K.seen out.old) (K.seen out.new) result }
+    ensures end { TraceEndsBy (script_seen script) trace.now (K.seen out.old) (K.seen out.new) result }
+    ensures counts { TraceCountsBy (K.seen out.old) (K.seen out.new) result }
 {
     let lines = match read_trace(alloc, trace) {
         Ok(lines) => lines,

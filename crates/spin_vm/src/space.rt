@@ -15,7 +15,7 @@ use std::alloc::Global;
 use std::collections::BTreeMap;
 use std::marker::Model;
 
-/// A space: its regions, and its mapped pages with their frames.
+// A space: its regions, and its mapped pages with their frames.
 #[derive(Drop)]
 pub(crate) struct Space {
     regions: Regions,
@@ -31,7 +31,7 @@ impl Model for Space {
 }
 
 impl Space {
-    /// A space without regions, in which no page is mapped.
+    // A space without regions, in which no page is mapped.
     pub(crate) fn new(alloc: Global) -> Space
         ensures { result ≡ empty_space }
     {
@@ -41,14 +41,14 @@ impl Space {
         }
     }
 
-    /// How many pages are mapped.
+    // How many pages are mapped.
     pub(crate) fn mapped(&self) -> usize
         ensures { result ≡ length self.now.pages }
     {
         self.pages.len()
     }
 
-    /// Adds a region, which has no page of another.
+    // Adds a region, which has no page of another.
     pub(crate) fn add(&mut self, region: Region) -> Result<(), NoMemory>
         requires some { 0 < region.pages }
         requires near { region.start + region.pages ≤ PAGES }
@@ -61,7 +61,7 @@ impl Space {
         self.regions.insert(region)
     }
 
-    /// Takes the page out of the map; whether it was mapped.
+    // Takes the page out of the map; whether it was mapped.
     pub(crate) fn unmap(&mut self, page: u64) -> bool
         ensures was { result ≡ is_some (frame_at page self.old.pages) }
         ensures pages { self.new ≡ record self.old { pages = without_page page self.old.pages } }
@@ -70,7 +70,7 @@ impl Space {
         self.pages.remove(&page).is_some()
     }
 
-    /// Maps a page to a frame, if there is one.
+    // Maps a page to a frame, if there is one.
     pub(crate) fn map(&mut self, page: u64, frame: Option<u16>) -> Result<(), NoMemory>
         ensures pages { OnOk result (self.new
             ≡ record self.old { pages = with_page page frame self.old.pages }) }
@@ -82,8 +82,8 @@ impl Space {
         Ok(())
     }
 
-    /// The frame of an access to the page, or its fault. It takes time logarithmic in the regions and in the mapped
-    /// pages.
+    // The frame of an access to the page, or its fault. It takes time logarithmic in the regions and in the mapped
+    // pages.
     pub(crate) fn look_up(&self, page: u64, write: bool) -> Result<u16, Fault>
         requires { page < PAGES }
         ensures { result ≡ specs.look_up self.now page write }

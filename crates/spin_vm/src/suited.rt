@@ -10,14 +10,14 @@ use spin_script::{Line, Script, Segment, Work};
 use spin_table::Setup;
 use spin_values::{EventType, Kind, Param};
 
-/// Whether a parameter is a word by value.
+// Whether a parameter is a word by value.
 fn is_word(param: &Param) -> bool
     ensures { result ≡ specs.is_word param.now }
 {
     matches!(param.kind, Kind::Word) && !param.var
 }
 
-/// Whether an event has the type of a fault's event: three words, and a result.
+// Whether an event has the type of a fault's event: three words, and a result.
 fn is_fault_type(sig: &EventType) -> bool
     ensures { result ≡ specs.is_fault_type sig.now }
 {
@@ -29,7 +29,7 @@ fn is_fault_type(sig: &EventType) -> bool
     }
 }
 
-/// Whether there is such an event, and it takes faults.
+// Whether there is such an event, and it takes faults.
 fn takes_faults(setup: &Setup, event: u8) -> bool
     ensures { result ≡ specs.takes_faults (data_of setup.now).events event }
 {
@@ -42,28 +42,28 @@ fn is_command(line: &Line) -> bool
     matches!(line.work, Work::Command(_))
 }
 
-/// Whether the lines ask for commands alone.
+// Whether the lines ask for commands alone.
 fn are_commands(lines: &[Line]) -> bool
     ensures { result ≡ specs.are_commands lines.now }
 {
     lines.iter().all(|line| is_command(line))
 }
 
-/// Whether all deeds are commands.
+// Whether all deeds are commands.
 fn asks_commands(segments: &[Segment]) -> bool
     ensures { result ≡ specs.asks_commands segments.now }
 {
     segments.iter().all(|segment| are_commands(&segment.lines))
 }
 
-/// Whether there is one segment and one lane.
+// Whether there is one segment and one lane.
 fn is_single(script: &Script) -> bool
     ensures { result ≡ specs.is_single (script_seen script.now) }
 {
     script.segments.len() == 1 && script.lanes == 1
 }
 
-/// Whether there is an event for each fault.
+// Whether there is an event for each fault.
 fn has_fault_events(setup: &Setup) -> bool
     ensures { result ≡ specs.has_fault_events (data_of setup.now).events }
 {

@@ -19,7 +19,7 @@ use spin_values::NoMemory;
 use spin_word::Command;
 use std::alloc::Global;
 
-/// The version after the command, which may be refused.
+// The version after the command, which may be refused.
 fn step(
     alloc: Global,
     setup: &Setup,
@@ -40,7 +40,7 @@ fn step(
     }
 }
 
-/// The version after what a line asks for, which is a command.
+// The version after what a line asks for, which is a command.
 fn after_work(
     alloc: Global,
     setup: &Setup,
@@ -61,7 +61,7 @@ fn after_work(
     }
 }
 
-/// The version after the commands of lines, one after another.
+// The version after the commands of lines, one after another.
 fn after_lines(alloc: Global, setup: &Setup, lines: &[Line]) -> Result<Version, NoMemory>
     requires commands { IsTrue (are_commands lines.now) }
     requires valid { All (λ line. IsValidWork line.work) lines.now }
@@ -78,7 +78,7 @@ fn after_lines(alloc: Global, setup: &Setup, lines: &[Line]) -> Result<Version, 
     Ok(version)
 }
 
-/// The version that a script leaves, whose commands are applied in order.
+// The version that a script leaves, whose commands are applied in order.
 pub(crate) fn last_version(alloc: Global, script: &Script) -> Result<Version, NoMemory>
     requires suited { IsTrue (is_suited (script_seen script.now)) }
     requires valid { AreValid script.now.segments }

@@ -6,7 +6,7 @@ ghost use Rattle.spin_vm.specs.Forms as specs;
 use crate::line::{Region, Request, Said};
 use spin_grammar::{Words, look_up, number_of};
 
-/// The end of a line.
+// The end of a line.
 fn ended(words: &mut Words) -> Option<()>
     ensures { MatchOption result (words.old ≡ [] → ⊥) (λ _. words.old ≡ []) }
 {
@@ -16,22 +16,22 @@ fn ended(words: &mut Words) -> Option<()>
     }
 }
 
-/// The rights of regions, and whether a region with these may be written to.
+// The rights of regions, and whether a region with these may be written to.
 const RIGHTS: [(&[u8], bool); 2] = [(b"r", false), (b"rw", true)];
 
-/// Whether a region with these rights may be written to.
+// Whether a region with these rights may be written to.
 fn rights_of(word: &[u8]) -> Option<bool>
     ensures { result ≡ specs.rights_of word.now }
 {
     look_up(word, RIGHTS.as_slice())
 }
 
-/// The kinds of accesses, and whether an access of this kind writes.
+// The kinds of accesses, and whether an access of this kind writes.
 const KINDS: [(&[u8], bool); 2] = [(b"r", false), (b"w", true)];
 
-/// Whether an access of this kind writes.
+// Whether an access of this kind writes.
 fn kind_of(word: &[u8]) -> Option<bool>
-    ensures { result ≡ specs.kind_of word.now }
+    ensures { result ≡ specs.access_kind word.now }
 {
     look_up(word, KINDS.as_slice())
 }
@@ -94,7 +94,7 @@ fn access_form(words: &mut Words) -> Option<Said>
     })
 }
 
-/// What the words of a line say behind the first line, where they have one of the forms.
+// What the words of a line say behind the first line, where they have one of the forms.
 pub(crate) fn says(words: &mut Words) -> Option<Said>
     ensures { result ≡ specs.says words.old }
 {
@@ -114,7 +114,7 @@ pub(crate) fn says(words: &mut Words) -> Option<Said>
     None
 }
 
-/// Whether these are the words of the first line.
+// Whether these are the words of the first line.
 pub(crate) fn is_first(words: &mut Words) -> bool
     ensures { result ≡ specs.is_first words.old }
 {

@@ -7,7 +7,7 @@ ghost use Rattle.spin_word.specs.declared.work.Deed.{Deed};
 ghost use Rattle.spin_table.specs.SetupOf.{data_of};
 ghost use Rattle.spin_table.specs.Soundness.{IsSound};
 ghost use Rattle.spin_proto.specs.declared.reply.Reply.{Reply};
-ghost use Rattle.spin_vm.specs.Traces.{checks, regions_after, AreGood};
+ghost use Rattle.spin_vm.specs.Traces.{trace_checks, regions_after, AreGood};
 ghost use Rattle.spin_vm.specs.Scripts.{AreReplies};
 ghost use Rattle.spin_vm.specs.Spaces.{said_came, spaces_after, mapped_pages};
 ghost use Rattle.spin_vm.specs.Output.{frame_words, came_words, end_line, output};
@@ -26,12 +26,12 @@ use spin_text::{end_line, put_decimal, put_number, put_word};
 use spin_values::{NoMemory, Octets};
 use std::alloc::Global;
 
-/// Why the output isn't whole.
+// Why the output isn't whole.
 #[derive(Clone, Copy)]
 pub(crate) enum Stop {
-    /// The sink failed.
+    // The sink failed.
     WriteFault,
-    /// There was no memory.
+    // There was no memory.
     NoMemory,
 }
 
@@ -82,7 +82,7 @@ fn put_came(out: &mut Octets, came: &Came) -> Result<(), NoMemory>
     }
 }
 
-/// The line of what a line of the trace came to.
+// The line of what a line of the trace came to.
 fn came_text(alloc: Global, number: u32, came: &Came) -> Result<Octets, NoMemory>
     ensures { IfOk result
         (λ text. text ≡ ended (line_of (decimal number ∷ came_words came.now))) }
@@ -94,7 +94,7 @@ fn came_text(alloc: Global, number: u32, came: &Came) -> Result<Octets, NoMemory
     Ok(text)
 }
 
-/// The last line: how many pages are mapped.
+// The last line: how many pages are mapped.
 fn end_text(alloc: Global, pages: usize) -> Result<Octets, NoMemory>
     ensures { IfOk result (λ text. text ≡ ended (end_line pages)) }
 {
@@ -105,7 +105,7 @@ fn end_text(alloc: Global, pages: usize) -> Result<Octets, NoMemory>
     Ok(text)
 }
 
-/// Writes the text.
+// Writes the text.
 fn write_text<K: Sink>(out: &mut K, text: &[u8]) -> Result<(), Stop>
     ensures written { Wrote (K.seen out.old) (K.seen out.new) text.now result }
     ensures counts { IfOk result (λ _. (K.seen out.new).faults ≡ (K.seen out.old).faults) }
@@ -116,7 +116,7 @@ fn write_text<K: Sink>(out: &mut K, text: &[u8]) -> Result<(), Stop>
     }
 }
 
-/// Writes what a line came to, if it came to something.
+// Writes what a line came to, if it came to something.
 fn write_came<K: Sink>(
     alloc: Global,
     line: &TraceLine,
@@ -133,7 +133,7 @@ fn write_came<K: Sink>(
     write_text(out, text.as_slice())
 }
 
-/// Answers a line of the trace, and writes what it came to.
+// Answers a line of the trace, and writes what it came to.
 fn write_line<K: Sink>(
     alloc: Global,
     setup: &Setup,
@@ -144,7 +144,7 @@ fn write_line<K: Sink>(
 ) -> Result<(), Stop>
     requires sincere { ⟦<Catalogue as Sincere>⟧.sincere setup.now.catalogue }
     requires sound { IsSound (data_of setup.now) version.now }
-    requires good { first_of (checks (regions_of spaces.old.items) line.now.said) ≡ None }
+    requires good { first_of (trace_checks (regions_of spaces.old.items) line.now.said) ≡ None }
     ensures written { (reply : Deed → Reply) → AreReplies (data_of setup.now) version.now reply
         → Wrote (K.seen out.old) (K.seen out.new)
         (text_if line.now (said_came reply spaces.old.items line.now.said)) result }
@@ -161,7 +161,7 @@ fn write_line<K: Sink>(
     write_came(alloc, line, came, out)
 }
 
-/// Writes the output behind its first line.
+// Writes the output behind its first line.
 fn write_lines<K: Sink>(
     alloc: Global,
     setup: &Setup,
@@ -184,7 +184,7 @@ fn write_lines<K: Sink>(
     write_text(out, text.as_slice())
 }
 
-/// Writes the whole output.
+// Writes the whole output.
 pub(crate) fn write_output<K: Sink>(
     alloc: Global,
     setup: &Setup,

@@ -8,7 +8,8 @@ use Rattle.spin_word.specs.declared.command.Place.TheVariants.{Free, First, Last
 use Rattle.spin_word.specs.declared.command.Mode.{Mode}
 use Rattle.spin_word.specs.declared.command.Mode.TheVariants.{Plain, Filter, Async}
 use Rattle.spin_word.specs.declared.command.Command.{Command}
-use Rattle.spin_word.specs.declared.command.TheConstants.{MAX_EVENTS, LANE_LIMIT, HANDLER_LIMIT, GUARD_LIMIT, MAX_PLACE, NO_BINDING, NO_BINDINGS}
+use Rattle.spin_word.specs.declared.command.TheConstants.{MAX_EVENTS, LANE_LIMIT, HANDLER_LIMIT}
+use Rattle.spin_word.specs.declared.command.TheConstants.{GUARD_LIMIT, MAX_PLACE, NO_BINDING, NO_BINDINGS}
 
 -- the number of an op
 abbrev pub number_of_op : Op → ℕ

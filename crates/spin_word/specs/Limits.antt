@@ -1,6 +1,7 @@
 -- The limits that the definitions cite, in numbers.
 use Rattle.std.specs.Prelude.{◌≡◌, ◌∷◌, []}
-use Rattle.spin_word.specs.declared.command.TheConstants.{MAX_EVENTS, MAX_LANES, LANE_LIMIT, HANDLER_LIMIT, GUARD_LIMIT, MAX_PLACE, NO_BINDING, NO_BINDINGS}
+use Rattle.spin_word.specs.declared.command.TheConstants.{MAX_EVENTS, MAX_LANES, LANE_LIMIT, HANDLER_LIMIT}
+use Rattle.spin_word.specs.declared.command.TheConstants.{GUARD_LIMIT, MAX_PLACE, NO_BINDING, NO_BINDINGS}
 
 -- each constant of the sources has its value
 pub record AreStated : Type 0 where

@@ -1,7 +1,10 @@
 //! Commands: what a module asks to be changed in the bindings of an event.
 
 ghost use Rattle.std.specs.Prelude.{◌≡◌, ◌<◌, ◌||◌, ◌==◌, nat_lt};
-ghost use Rattle.spin_word.specs.Commands.{no_number, binding_or_none, bindings_or_none, all_none, has_widths, is_placeless, leaves_unused, is_command, target_is_used, guard_is_used, handler_is_used, place_is_used, number_of_op, number_of_place, number_of_mode, bare_command};
+ghost use Rattle.spin_word.specs.Commands.{no_number, binding_or_none, bindings_or_none, all_none};
+ghost use Rattle.spin_word.specs.Commands.{has_widths, is_placeless, leaves_unused, is_command};
+ghost use Rattle.spin_word.specs.Commands.{target_is_used, guard_is_used, handler_is_used, place_is_used};
+ghost use Rattle.spin_word.specs.Commands.{number_of_op, number_of_place, number_of_mode, bare_command};
 
 /// What a command does. Every op uses the command's event, lane and requester, and each has its own number.
 #[derive(Clone, Copy, PartialEq, Eq, Debug)]

@@ -14,8 +14,8 @@ use Rattle.std.proofs.Crossing.{crosses}
 use Rattle.spin_seat.specs.contracts.answer.SeatFault as SeatFault
 use Rattle.spin_seat.specs.contracts.hub.Hub as Hub
 use Rattle.spin_seat.specs.contracts.seat.Seat as Seat
-use Rattle.spin_jobs.proofs.Crossing.{Shared}
-use Rattle.spin_run.proofs.Crossing.{hub_crosses, seat_send}
+use Rattle.spin_jobs.proofs.ThreadCrossing.{Shared}
+use Rattle.spin_run.proofs.ThreadCrossing.{hub_crosses, seat_send}
 use Rattle.host_plugins.specs.contracts.take_turns.dyn-1 as one
 use Rattle.host_plugins.specs.contracts.take_turns.dyn-2 as two
 use Rattle.host_plugins.specs.contracts.take_turns.dyn-3 as three

@@ -13,7 +13,7 @@ use Rattle.spin_table.specs.declared.refusal.Verdicted.{Verdicted}
 use Rattle.spin_proto.specs.Replies.{BelongsTo}
 use Rattle.spin_report.specs.declared.entry.Entry.{Entry}
 use Rattle.spin_report.specs.Legal.{Answers, IsNextEntry}
-use Rattle.spin_report.specs.Jobs.{calls_of}
+use Rattle.spin_report.specs.Jobs.{answer_calls}
 use Rattle.spin_report.specs.Asked.{asked_by, asked_of}
 use Rattle.spin_check.specs.declared.deeds.Ask.{Ask}
 use Rattle.spin_check.specs.declared.answer.Judged.{Judged}
@@ -55,7 +55,7 @@ IsDone d state asked report (Some done) =
     Answers d state done.what (arc_value done.version)
     × (asked ≡ asked_by done.what)
     × IsSound d (arc_value done.version)
-    × All (BelongsTo (arc_value done.version)) (calls_of done.what)
+    × All (BelongsTo (arc_value done.version)) (answer_calls done.what)
     × ((e : Entry) (next : State) → IsNextEntry d state e next → asked ≡ asked_by e.what
     → Begins report e → (e.what ≡ done.what) × (next ≡ arc_value done.version))
 
@@ -68,6 +68,6 @@ IsAnswered d state ask report (Some answered) =
     IsNextEntry d state answered.entry (arc_value answered.version)
     × (numbered ask ≡ asked_of answered.entry)
     × IsSound d (arc_value answered.version)
-    × All (BelongsTo (arc_value answered.version)) (calls_of answered.entry.what)
+    × All (BelongsTo (arc_value answered.version)) (answer_calls answered.entry.what)
     × ((e : Entry) (next : State) → IsNextEntry d state e next → numbered ask ≡ asked_of e
     → Begins report e → (e ≡ answered.entry) × (next ≡ arc_value answered.version))

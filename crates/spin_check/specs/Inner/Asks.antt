@@ -1,5 +1,6 @@
 -- What lanes are still to do.
-use Rattle.std.specs.Prelude.{◌≡◌, ℕ, ◌<◌, ◌+◌, Bool, List, [], ◌∷◌, ◌++◌, map, length, All, count_by, sum_by, slice_index_or, slice_set}
+use Rattle.std.specs.Prelude.{◌≡◌, ℕ, ◌<◌, ◌+◌, Bool, List, [], ◌∷◌, ◌++◌, map, length}
+use Rattle.std.specs.Prelude.{All, count_by, sum_by, slice_index_or, slice_set}
 use Rattle.std.specs.List.{enumerate_from}
 use Rattle.spin_word.specs.declared.work.Work.{Work}
 use Rattle.spin_word.specs.declared.work.Work.TheVariants as work

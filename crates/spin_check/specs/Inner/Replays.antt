@@ -1,5 +1,6 @@
 -- The replay of a segment's entries.
-use Rattle.std.specs.Prelude.{◌≡◌, ◌≤◌, ◌+◌, ℕ, ◌<◌, Bool, true, false, List, [], ◌∷◌, ◌++◌, map, drop, length, All, Option, None, Some, ⊤, slice_set}
+use Rattle.std.specs.Prelude.{◌≡◌, ◌≤◌, ◌+◌, ℕ, ◌<◌, Bool, true, false, List, [], ◌∷◌, ◌++◌}
+use Rattle.std.specs.Prelude.{map, drop, length, All, Option, None, Some, ⊤, slice_set}
 use denote.Ref.{Bor}
 use Rattle.std.specs.Arc.{arc_value}
 use Rattle.std.specs.List.{flat_map}
@@ -13,7 +14,7 @@ use Rattle.spin_report.specs.declared.entry.Entry.{Entry}
 use Rattle.spin_report.specs.Asked.{asked_of}
 use Rattle.spin_report.specs.Lines.{JobSeen, entry_line, job_line}
 use Rattle.spin_report.specs.Legal.{IsNextEntry, IsLegal}
-use Rattle.spin_report.specs.Jobs.{calls_of, AreJobsFrom, AreJobs}
+use Rattle.spin_report.specs.Jobs.{answer_calls, AreJobsFrom, AreJobs}
 use Rattle.spin_report.specs.Segments.{moment, moment_cmp, of_lane, IsInOrder}
 use Rattle.spin_report.specs.Runs.{sends_of, sends_of_reply}
 use Rattle.spin_check.specs.declared.deeds.Ask.{Ask}
@@ -66,7 +67,7 @@ pub record Replays (d : SetupData) (at : At) (entry : Entry) (own : List JobSeen
   pub next : IsNext d at entry after.state after.rest
   pub queues : after.queues ≡ queues_after entry at.queues
   pub last : after.last ≡ Some (moment entry)
-  pub jobs : AreJobsFrom d after.state entry 0 (calls_of entry.what) own
+  pub jobs : AreJobsFrom d after.state entry 0 (answer_calls entry.what) own
   pub owed : after.owed ≡ at.owed ++ text_of (map job_line own)
   pub sends : after.sends ≡ at.sends ++ numbers_of (sends_of entry.what)
   pub job_sends : after.job_sends ≡ at.job_sends ++ sent_by_jobs own
@@ -113,10 +114,10 @@ AreLonger room owed jobs = room < length (owed ++ text_of (map job_line jobs))
 -- longer than the room for them.
 abbrev pub DidJobs : SetupData → State → Entry → ℕ → List ℕ × List ℕ → List ℕ × List ℕ → Bool → Type 0
 DidJobs d state entry room before after true =
-    (own : List JobSeen) × AreJobsFrom d state entry 0 (calls_of entry.what) own
+    (own : List JobSeen) × AreJobsFrom d state entry 0 (answer_calls entry.what) own
     × (after.0 ≡ before.0 ++ text_of (map job_line own)) × (after.1 ≡ before.1 ++ sent_by_jobs own)
 DidJobs d state entry room before after false =
-    (own : List JobSeen) → AreJobsFrom d state entry 0 (calls_of entry.what) own
+    (own : List JobSeen) → AreJobsFrom d state entry 0 (answer_calls entry.what) own
     → AreLonger room before.0 own
 
 -- The replay goes on by the one entry that may come next. None where no entry may, or where the lines of the jobs so
@@ -124,7 +125,7 @@ DidJobs d state entry room before after false =
 abbrev pub GoesOn : SetupData → At → Option At → Type 0
 GoesOn d at None =
     (e : Entry) (next : State) (more : List ℕ) → IsNext d at e next more
-    → (own : List JobSeen) → AreJobsFrom d next e 0 (calls_of e.what) own
+    → (own : List JobSeen) → AreJobsFrom d next e 0 (answer_calls e.what) own
     → AreLonger (length more) at.owed own
 GoesOn d at (Some after) =
     (entry : Entry) × (own : List JobSeen) × Replays d at entry own after × IsOnlyNext d at entry after
@@ -149,7 +150,7 @@ IsFound d at queues (Some found) =
     IsNext d at found.0.entry (arc_value found.0.version) found.1.now
     × (queues ≡ queues_after found.0.entry at.queues)
     × IsSound d (arc_value found.0.version)
-    × All (BelongsTo (arc_value found.0.version)) (calls_of found.0.entry.what)
+    × All (BelongsTo (arc_value found.0.version)) (answer_calls found.0.entry.what)
     × ((e : Entry) (next : State) (more : List ℕ) → IsNext d at e next more
     → (e ≡ found.0.entry) × (next ≡ arc_value found.0.version) × (more ≡ found.1.now))
 

@@ -53,8 +53,8 @@ Goes d lanes names number segment mark ends None =
 Goes d lanes names number segment mark ends (Some next) =
     Passes d lanes names number segment mark ends next
 
--- What the next segment needs: a sound state, no more commands than this one has, the same endpoints, and no more records
--- left than before.
+-- What the next segment needs: a sound state, no more commands than this one has, the same endpoints, and no more
+-- records left than before.
 abbrev pub IsGoodMark : SetupData → Segment → Mark → Option Mark → Type 0
 IsGoodMark d segment mark None = ⊤
 IsGoodMark d segment mark (Some next) =

@@ -35,7 +35,7 @@ use Rattle.spin_grammar.specs.declared.heads.SpotWord.{SpotWord}
 use Rattle.spin_grammar.specs.declared.heads.SpotWord.TheVariants as spot
 use Rattle.spin_grammar.specs.declared.heads.DeedWord.{DeedWord}
 use Rattle.spin_grammar.specs.declared.heads.DeedWord.TheVariants as deed
-use Rattle.spin_grammar.specs.Grammar.{Atom, Fixed, Numeral, Argument, Want, Step, Number, Name}
+use Rattle.spin_grammar.specs.Grammar.{Atom, Fixed, Numeral, Argument, Want, WordStep, Number, Name}
 use Rattle.spin_grammar.specs.Grammar.{Expression, Test, Part, Steps, LayerKind, Mode, Counted}
 use Rattle.spin_grammar.specs.Grammar.{ForcedPlace, ForcedMode, Values, Typed, spot_wants}
 use Rattle.spin_grammar.specs.Grammar.{last_target}
@@ -46,7 +46,7 @@ abbrev pub Next : Type 0
 Next = Atom × List Want
 
 -- a word at its place, or the cause
-abbrev pub step_of : {A : Type 0} → (A → Next) → Result A Cause → Step
+abbrev pub step_of : {A : Type 0} → (A → Next) → Result A Cause → WordStep
 step_of next (Err c) = Err c
 step_of next (Ok a) = Ok (next a)
 

@@ -1,6 +1,6 @@
 use Rattle.std.proofs.Common.{refl}
 use Rattle.spin_main.specs.Natives.{natives}
-use Rattle.spin_top.proofs.Exactly.{memory_status, with_natives}
+use Rattle.spin_top.proofs.StatusCauses.{memory_status, with_natives}
 use Rattle.spin_main.proofs.run_with_natives.Goals as goal
 
 pub returns-in-Err : goal.returns-in-Err

@@ -2,11 +2,11 @@
 use Rattle.std.specs.Prelude.{ℕ, ◌==◌, ◌&&◌, ◌||◌, Bool, nat_lt, nat_eq, unwrap_or, Option, Some, None}
 use Rattle.std.specs.HashMap.{HashMap, get}
 use Rattle.spin_code.specs.declared.expr.Expr.{Expr}
-use Rattle.spin_plan.specs.Keys.{argument_of, offset_of, width_of, kind_of, comes_before}
+use Rattle.spin_plan.specs.Keys.{argument_of, offset_of, width_of, key_kind, comes_before}
 
 -- argument, offset, width and kind
 abbrev pub numbers_of : Expr → ℕ × ℕ × ℕ × ℕ
-numbers_of e = (argument_of e, offset_of e, width_of e, kind_of e)
+numbers_of e = (argument_of e, offset_of e, width_of e, key_kind e)
 
 -- all four are the same
 abbrev pub same_four : ℕ × ℕ × ℕ × ℕ → ℕ × ℕ × ℕ × ℕ → Bool

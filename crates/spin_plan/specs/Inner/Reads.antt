@@ -1,5 +1,6 @@
 -- What guards compare with a constant, as the code collects it.
-use Rattle.std.specs.Prelude.{ℕ, ◌-◌, ◌==◌, ◌&&◌, Bool, true, false, List, [], ◌∷◌, ◌++◌, if◌then◌else◌, slice_get, fold, Option, Some, None}
+use Rattle.std.specs.Prelude.{ℕ, ◌-◌, ◌==◌, ◌&&◌, Bool, true, false, List, [], ◌∷◌}
+use Rattle.std.specs.Prelude.{◌++◌, if◌then◌else◌, slice_get, fold, Option, Some, None}
 use Rattle.std.specs.List.{list_any, flat_map, count_by}
 use Rattle.spin_code.specs.declared.expr.Expr.{Expr}
 use Rattle.spin_code.specs.declared.expr.Expr.TheVariants.{Const, Arg, Field}

@@ -1,5 +1,6 @@
 -- Parts in order of start that share no byte.
-use Rattle.std.specs.Prelude.{ℕ, ◌+◌, Bool, true, ◌&&◌, ◌||◌, not, ◌==◌, nat_lt, nat_le, List, [], ◌∷◌, length, false, zero, suc, Option, Some, None, is_none, slice_get, if◌then◌else◌}
+use Rattle.std.specs.Prelude.{ℕ, ◌+◌, Bool, true, ◌&&◌, ◌||◌, not, ◌==◌, nat_lt, nat_le, List, [], ◌∷◌}
+use Rattle.std.specs.Prelude.{length, false, zero, suc, Option, Some, None, is_none, slice_get, if◌then◌else◌}
 use Rattle.std.specs.List.{prefix_len}
 use Rattle.spin_reass.specs.declared.limits.TheConstants.{MAX_PAYLOAD}
 use Rattle.spin_reass.specs.declared.piece.Part.{Part}

@@ -9,7 +9,7 @@ use Rattle.spin_pcap.specs.declared.next.Next.TheVariants as next
 use Rattle.spin_pcap.specs.declared.order.Order.{Order}
 use Rattle.spin_pcap.specs.declared.state.State.TheVariants as state
 use Rattle.spin_pcap.specs.Captures.{IsBody}
-use Rattle.spin_pcap.specs.Passing.{ReaderState, number, IsCutShort}
+use Rattle.spin_pcap.specs.Passing.{ReaderState, fault_number, IsCutShort}
 use Rattle.spin_reass.specs.declared.fault.JoinFault.{JoinFault}
 use Rattle.spin_reass.specs.declared.fault.JoinFault.TheVariants as stop
 use Rattle.spin_reass.specs.JoinedCaptures.{record_of}
@@ -28,7 +28,7 @@ EachIsFew (frame ∷ frames) = (length frame ≤ MAX_CAPTURED) × EachIsFew fram
 abbrev pub stop_of : ℕ → PcapFault → JoinFault
 stop_of at fault.ReadFault = stop.ReadFault
 stop_of at fault.NoMemory = stop.NoMemory
-stop_of at other = stop.Capture at (number other)
+stop_of at other = stop.Capture at (fault_number other)
 
 -- So many records may come with this rest behind them, where the captured bytes of each are few.
 abbrev pub AreRecords : List (List ℕ) → Next → Type 0
@@ -50,6 +50,6 @@ JoinsBody way bytes before after (Ok ending) =
     × (after ≡ before ++ flat_map record_of (joined_frames [] frames))
 JoinsBody way bytes before after (Err (stop.Capture at reason)) =
     (frames : List (List ℕ)) × (wrong : PcapFault) × IsBody way 0 bytes frames (Err wrong)
-    × (at ≡ length frames + 1) × (reason ≡ number wrong)
+    × (at ≡ length frames + 1) × (reason ≡ fault_number wrong)
 JoinsBody way bytes before after (Err stop.ReadFault) = ⊤
 JoinsBody way bytes before after (Err stop.NoMemory) = ⊤

@@ -18,12 +18,12 @@ use Rattle.spin_word.specs.declared.work.Work.{Work}
 use Rattle.spin_report.specs.Asked.{Numbered, asked_of}
 use Rattle.spin_report.specs.Segments.{raise_with}
 use Rattle.spin_run.specs.declared.lane.Lane.{Lane}
-use Rattle.spin_run.specs.Lanes.{answer_of, job_asked, jobs_from, AreJobsOf, BeginsWithCommand, IsFresh}
+use Rattle.spin_run.specs.Lanes.{seat_answer, job_asked, jobs_from, AreJobsOf, BeginsWithCommand, IsFresh}
 
 -- Since its pen had that value, the lane has given the entries of its trail and left their jobs.
 pub record HasAnswered (d : SetupData) (before : PenValue) (lane : Lane) : Type 0 where
-  pub ran : Ran d before (map answer_of lane.trail) lane.seat.pen
-  pub pins : GainsPins before (map answer_of lane.trail) lane.seat.pen
+  pub ran : Ran d before (map seat_answer lane.trail) lane.seat.pen
+  pub pins : GainsPins before (map seat_answer lane.trail) lane.seat.pen
   pub jobs_are : AreJobsOf d lane.trail lane.seat.pen.front lane.jobs
 
 -- the lane answers these

@@ -11,7 +11,7 @@ use Rattle.spin_report.specs.declared.text.CaptureCounts.{CaptureCounts}
 use Rattle.spin_report.specs.Histories.{end_line}
 use Rattle.spin_run.specs.declared.end.RunEnd.{RunEnd}
 use Rattle.spin_run.specs.declared.end.RunEnd.TheVariants as end
-use Rattle.spin_run.specs.Inner.Reading.{given_by, IsGoing, IsRefused, StopsBy}
+use Rattle.spin_run.specs.Inner.Reading.{given_by, IsGoing, IsCaptureRefused, StopsBy}
 
 -- what became of a capture of which so many records were used and so many are left, where the rest is answered so
 abbrev pub counts : ℕ → ℕ → ℕ → CaptureCounts
@@ -27,7 +27,7 @@ AreCounts used left (Some (Err wrong)) told = ⊥
 abbrev pub GivesCounts : Option ReaderState → Result (Option CaptureCounts) RunEnd
     → List (List ℕ) → Option (Result Next PcapFault) → Type 0
 GivesCounts before (Ok told) left rest = AreCounts (given_by before) (length left) rest told
-GivesCounts before (Err stop) left rest = StopsBy (IsRefused before left rest) (IsGoing before) stop
+GivesCounts before (Err stop) left rest = StopsBy (IsCaptureRefused before left rest) (IsGoing before) stop
 
 -- The sink took the last line, or a front of it and not all, or nothing.
 abbrev pub Finishes : ℕ → Option ReaderState → SinkSeen → SinkSeen → Result (Unit {0}) RunEnd
@@ -40,4 +40,4 @@ Finishes log_length before sink sink' (Err end.WriteFault) left rest =
     × (n : ℕ) × (n < length (ended (end_line log_length told)))
     × Appends sink.told sink'.told (take n (ended (end_line log_length told)))
 Finishes log_length before sink sink' (Err stop) left rest =
-    StopsBy (IsRefused before left rest) (IsGoing before) stop × Appends sink.told sink'.told []
+    StopsBy (IsCaptureRefused before left rest) (IsGoing before) stop × Appends sink.told sink'.told []

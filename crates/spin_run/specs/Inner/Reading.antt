@@ -1,5 +1,6 @@
 -- What reading on in a capture gives, of the records that are left.
-use Rattle.std.specs.Prelude.{◌≡◌, ◌<◌, ◌≤◌, ◌+◌, ℕ, List, [], ◌∷◌, length, take, drop, Option, Some, None, Result, Ok, Err, ⊤, MatchResult}
+use Rattle.std.specs.Prelude.{◌≡◌, ◌<◌, ◌≤◌, ◌+◌, ℕ, List, [], ◌∷◌, length, take, drop}
+use Rattle.std.specs.Prelude.{Option, Some, None, Result, Ok, Err, ⊤, MatchResult}
 use Rattle.spin_outside.specs.Counts.{Rose}
 use Rattle.spin_outside.specs.Sources.{SourceSeen, taken_more}
 use Rattle.spin_pcap.specs.declared.fault.PcapFault.{PcapFault}
@@ -8,7 +9,7 @@ use Rattle.spin_pcap.specs.declared.limits.TheConstants.{MAX_RECORDS}
 use Rattle.spin_pcap.specs.declared.next.Next.{Next}
 use Rattle.spin_pcap.specs.declared.next.Next.TheVariants as next
 use Rattle.spin_pcap.specs.declared.state.State.TheVariants as state
-use Rattle.spin_pcap.specs.Passing.{ReaderState, number}
+use Rattle.spin_pcap.specs.Passing.{ReaderState, fault_number}
 use Rattle.spin_run.specs.declared.end.RunEnd.{RunEnd}
 use Rattle.spin_run.specs.declared.end.RunEnd.TheVariants as end
 use Rattle.spin_run.specs.Records.{AreRecords, bytes_in, room_of, IsTakenPast}
@@ -37,13 +38,13 @@ CountsOn before after =
 abbrev pub stop_of : ℕ → PcapFault → RunEnd
 stop_of record_number fault.ReadFault = end.ReadFault
 stop_of record_number fault.NoMemory = end.NoMemory
-stop_of record_number other = end.Capture record_number (number other)
+stop_of record_number other = end.Capture record_number (fault_number other)
 
 -- The capture is refused: at its record of that number, with the number of its fault.
-abbrev pub IsRefused : Option ReaderState → List (List ℕ) → Option (Result Next PcapFault)
+abbrev pub IsCaptureRefused : Option ReaderState → List (List ℕ) → Option (Result Next PcapFault)
     → ℕ → ℕ → Type 0
-IsRefused before frames rest record_number reason =
-    (wrong : PcapFault) × (rest ≡ Some (Err wrong)) × (reason ≡ number wrong)
+IsCaptureRefused before frames rest record_number reason =
+    (wrong : PcapFault) × (rest ≡ Some (Err wrong)) × (reason ≡ fault_number wrong)
     × (record_number ≡ given_by before + length frames + 1)
     × IsGoing before
 
@@ -75,7 +76,7 @@ GivesNext before after source frame (Ok (next.Cut count)) frames rest =
     IsOver before after source frames rest (Some (Ok (next.Cut count)))
 GivesNext before after source frame (Err stop) frames rest =
     StopsBy (λ record_number reason. (frames ≡ [])
-    × IsRefused before frames rest record_number reason) (IsGoing before) stop
+    × IsCaptureRefused before frames rest record_number reason) (IsGoing before) stop
 
 -- so many records wanted: these frames are the first of those left, and the others are left
 abbrev pub GivesFrames : ℕ → Option ReaderState → Option ReaderState → SourceSeen
@@ -86,7 +87,7 @@ GivesFrames wanted before after source (Ok taken) frames rest =
     × (IsGoing after → IsGoing before × (length taken ≡ wanted))
 GivesFrames wanted before after source (Err stop) frames rest =
     StopsBy (λ record_number reason. (length frames < wanted)
-    × IsRefused before frames rest record_number reason) (IsGoing before × (0 < wanted)) stop
+    × IsCaptureRefused before frames rest record_number reason) (IsGoing before × (0 < wanted)) stop
 
 -- how many bytes behind the last record the rest has
 abbrev pub IsCutRest : Option (Result Next PcapFault) → ℕ → Type 0
@@ -102,7 +103,7 @@ abbrev pub GivesRest : Option ReaderState → Option ReaderState → Result ℕ 
 GivesRest before after (Ok cut) frames rest =
     IsCutRest rest cut × (given_by after ≡ given_by before + length frames)
 GivesRest before after (Err stop) frames rest =
-    StopsBy (IsRefused before frames rest) (IsGoing before) stop
+    StopsBy (IsCaptureRefused before frames rest) (IsGoing before) stop
 
 -- ---- how many bytes were taken
 

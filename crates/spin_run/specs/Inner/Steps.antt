@@ -21,7 +21,7 @@ use Rattle.spin_run.specs.Records.{AreRecords, room_of}
 use Rattle.spin_run.specs.Ends.{RunSeen, HasRun, segment_text, wanted_to, Writes, WritesInto, IsWhole, EndsBy, CountsBy}
 use Rattle.spin_run.specs.Summaries.{Counts, counts_in}
 use Rattle.spin_run.specs.Inner.Tallies.{TalliesOn}
-use Rattle.spin_run.specs.Inner.Reading.{given_by, IsGoing, IsRefused, HasTaken}
+use Rattle.spin_run.specs.Inner.Reading.{given_by, IsGoing, IsCaptureRefused, HasTaken}
 
 -- ---- moments between segments
 
@@ -81,7 +81,7 @@ retired_for s segment before = all_retired s.endpoints segment.retires before.ou
 abbrev pub StopsOne : Setting → ℕ → Segment → Moment → Moment → List (List ℕ)
     → Option (Result Next PcapFault) → RunEnd → Type 0
 StopsOne s number segment before after left rest (end.Capture record_number reason) =
-    IsRefused before.capture left rest record_number reason
+    IsCaptureRefused before.capture left rest record_number reason
     × (length left < wanted_by segment.lines)
     × (after.outside.ends ≡ retired_for s segment before)
     × Writes before.outside after.outside []
@@ -179,8 +179,8 @@ script_in s segments version = record {
   segments = segments;
 }
 
--- From a moment at which none was run, all were run, and the log has that length; or it stopped so: whatever the script's
--- version is, and wherever the run began that came to the moment.
+-- From a moment at which none was run, all were run, and the log has that length; or it stopped so: whatever the
+-- script's version is, and wherever the run began that came to the moment.
 abbrev pub RunsAll : Setting → List Segment → Moment → Option Counts → Option ReaderState → RunSeen
     → Option Counts → Result ℕ RunEnd → Type 0
 RunsAll s segments now counted capture after tally' result =

@@ -3,10 +3,10 @@ use Rattle.std.specs.Prelude.{List}
 use Rattle.spin_objects.specs.Units.{HandlerUnit, GuardUnit, handlers_of, guards_of}
 use Rattle.spin_objects.specs.declared.catalogue.Catalogue.{Catalogue}
 use Rattle.spin_script.specs.declared.draft.Draft.{Draft}
-use Rattle.spin_script.specs.States.{State}
+use Rattle.spin_script.specs.States.{ScriptState}
 
 -- with these handlers and guards
-abbrev pub state : Draft → List HandlerUnit → List GuardUnit → State
+abbrev pub state : Draft → List HandlerUnit → List GuardUnit → ScriptState
 state d handlers guards = record {
   version = d.version;
   section = d.section;
@@ -25,5 +25,5 @@ state d handlers guards = record {
 
 -- with the handlers and guards of a catalogue
 abbrev pub so_far : {A C E : Type 0} {B : A → Type 0} {D : C → Type 0} {F : E → Type 0} → Draft
-    → Catalogue A C E B D F → State
+    → Catalogue A C E B D F → ScriptState
 so_far d c = state d (handlers_of c) (guards_of c)

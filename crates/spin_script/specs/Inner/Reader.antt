@@ -7,13 +7,14 @@ use Rattle.spin_grammar.specs.declared.kind.Kind.{Kind}
 use Rattle.spin_grammar.specs.declared.line.Said.{Said}
 use Rattle.spin_script.specs.declared.head.Found.{Found}
 use Rattle.spin_script.specs.declared.head.Found.TheVariants as found
-use Rattle.spin_grammar.specs.Lines.{Line, Stands}
-use Rattle.spin_script.specs.States.{State, NativeData, start, after}
+use Rattle.spin_grammar.specs.Lines.{LineMeaning, Stands}
+use Rattle.spin_script.specs.States.{ScriptState, NativeData, start, after}
 use Rattle.spin_values.specs.First.{first_of}
 use Rattle.spin_script.specs.Checks.{checks}
 use Rattle.std.specs.Str.Lines.{lines}
 use Rattle.spin_script.specs.declared.script.ScriptFault.{ScriptFault}
-use Rattle.spin_script.specs.Language.{Head, Skipped, Begins, Says, SaysWell, SaysIll, head, Passes, IsRefused, Outcome, ComesTo, ended}
+use Rattle.spin_script.specs.Language.{Head, Skipped, Begins, Says, SaysWell, SaysIll, head}
+use Rattle.spin_script.specs.Language.{Passes, IsLineRefused, Outcome, ComesTo, outcome_at_end}
 use Rattle.spin_script.specs.Scripts.{IsBad}
 
 -- a line as a whole, as it was found
@@ -29,25 +30,25 @@ HasRoom (Ok (found.Says k ws)) n = length ws ≤ n
 HasRoom other n = Unit {0}
 
 -- a line was added to the script s, which is t then; or it can't stand there
-abbrev pub Adds : {A : Type 0} → NativeData → State → ℕ → Line → Result A Fault → State → Type 0
+abbrev pub Adds : {A : Type 0} → NativeData → ScriptState → ℕ → LineMeaning → Result A Fault → ScriptState → Type 0
 Adds n s number l (Ok a) t = (first_of (checks n s l) ≡ None) × (t ≡ after n s number l)
 Adds n s number l (Err f) t = (c : Cause) → f ≡ fault.Bad c → first_of (checks n s l) ≡ Some c
 
 -- whatever the line is that was read so, it was added
-abbrev pub AddsSaid : {A : Type 0} → NativeData → State → ℕ → Said → Result A Fault → State → Type 0
-AddsSaid n s number said r t = (l : Line) → Stands said l → Adds n s number l r t
+abbrev pub AddsSaid : {A : Type 0} → NativeData → ScriptState → ℕ → Said → Result A Fault → ScriptState → Type 0
+AddsSaid n s number said r t = (l : LineMeaning) → Stands said l → Adds n s number l r t
 
 -- the words of a line were read, and it was added
-abbrev pub GivesSaid : {A : Type 0} → NativeData → State → ℕ → Kind → List (List ℕ) → Result A Fault
-    → State → Type 0
+abbrev pub GivesSaid : {A : Type 0} → NativeData → ScriptState → ℕ → Kind → List (List ℕ) → Result A Fault
+    → ScriptState → Type 0
 GivesSaid n s number k ws (Ok a) t = SaysWell n s number k ws t
 GivesSaid n s number k ws (Err f) t = (c : Cause) → f ≡ fault.Bad c → SaysIll n s k ws c
 
 -- any line was read
-abbrev pub GivesState : {A : Type 0} → NativeData → State → ℕ → List ℕ → Result A Fault → State
+abbrev pub GivesState : {A : Type 0} → NativeData → ScriptState → ℕ → List ℕ → Result A Fault → ScriptState
     → Type 0
 GivesState n s number line (Ok a) t = Passes n s number (head s line) t
-GivesState n s number line (Err f) t = (c : Cause) → f ≡ fault.Bad c → IsRefused n s (head s line) c
+GivesState n s number line (Err f) t = (c : Cause) → f ≡ fault.Bad c → IsLineRefused n s (head s line) c
 
 -- what was asked for is given and is good, where there is no cause; or there is one, and this is the first
 abbrev pub Judges : {A : Type 0} → (A → Type 0) → Option Cause → Result A Cause → Type 0
@@ -55,6 +56,6 @@ Judges good first (Ok a) = (first ≡ None) × good a
 Judges good first (Err c) = first ≡ Some c
 
 -- all lines were read, and what the text comes to is what s comes to; or the text is bad
-abbrev pub GivesDraft : {A : Type 0} → NativeData → List ℕ → Result A ScriptFault → State → Type 0
-GivesDraft n text (Ok a) s = (o : Outcome) → o ≡ ended n s → ComesTo n start 1 (lines text) o
+abbrev pub GivesDraft : {A : Type 0} → NativeData → List ℕ → Result A ScriptFault → ScriptState → Type 0
+GivesDraft n text (Ok a) s = (o : Outcome) → o ≡ outcome_at_end n s → ComesTo n start 1 (lines text) o
 GivesDraft n text (Err f) s = IsBad n text f

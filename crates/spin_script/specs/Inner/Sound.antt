@@ -8,7 +8,7 @@ use Rattle.spin_table.specs.declared.event.Authority.TheVariants as authority
 use Rattle.spin_table.specs.Units.{is_fit_default}
 use Rattle.spin_table.specs.Faults.{has_bad_owner, has_bad_merge, raises_amiss, has_bad_policy}
 use Rattle.spin_script.specs.declared.script.Segment.{Segment}
-use Rattle.spin_script.specs.States.{State, NativeData, policies}
+use Rattle.spin_script.specs.States.{ScriptState, NativeData, policies}
 use Rattle.spin_script.specs.Soundness.{AreValid, command_lines}
 
 -- ---- what lanes are to do
@@ -45,7 +45,7 @@ pub record IsOrdered (section : ℕ) (events : List EventDef)
   pub no_rules : section < 6 → Each (λ at e. e.authority ≡ authority.Rules []) events
   pub no_defaults : section < 7 → Each (λ at e. e.first_default ≡ 0) events
 
-pub record IsSound (n : NativeData) (s : State) : Type 0 where
+pub record IsSound (n : NativeData) (s : ScriptState) : Type 0 where
   pub declared : IsFit (policies n) s.modules s.events s.handlers s.guards
   pub ordered : IsOrdered s.section s.events s.handlers
   pub asked : HasCommands s.commands (s.ended ++ s.segment ∷ [])

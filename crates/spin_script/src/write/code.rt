@@ -2,7 +2,8 @@
 
 ghost use Rattle.std.specs.Prelude.{◌≡◌, ◌++◌, OnOk};
 ghost use Rattle.std.specs.List.{flat_map};
-ghost use Rattle.spin_grammar.specs.Forms.{cmp_word, layer_word, expr_form, test_form, part_form, step_form, steps_form, merge_form};
+ghost use Rattle.spin_grammar.specs.Forms.{cmp_word, layer_word, expr_form, test_form};
+ghost use Rattle.spin_grammar.specs.Forms.{part_form, step_form, steps_form, merge_form};
 ghost use Rattle.spin_script.specs.Canonical.{spoken};
 
 use crate::write::words::put_argument;
@@ -10,7 +11,7 @@ use spin_code::{ActStep, Cmp, Expr, Layer, Merge, Part, Test};
 use spin_text::{put_number, put_word};
 use spin_values::{NoMemory, Octets};
 
-/// Appends an expression. It goes as deep into the stack as the expression is deep.
+// Appends an expression. It goes as deep into the stack as the expression is deep.
 fn put_expression(out: &mut Octets, expression: &Expr) -> Result<(), NoMemory>
     ensures { OnOk result (out.new ≡ out.old ++ spoken (expr_form expression.now)) }
 {
@@ -52,7 +53,7 @@ fn cmp_word(cmp: Cmp) -> &'static [u8]
     }
 }
 
-/// Appends a test. It goes as deep into the stack as the test is deep.
+// Appends a test. It goes as deep into the stack as the test is deep.
 pub(super) fn put_test(out: &mut Octets, test: &Test) -> Result<(), NoMemory>
     ensures { OnOk result (out.new ≡ out.old ++ spoken (test_form test.now)) }
 {
@@ -156,7 +157,7 @@ fn put_step(out: &mut Octets, step: &ActStep) -> Result<(), NoMemory>
     }
 }
 
-/// Appends steps in their order.
+// Appends steps in their order.
 pub(super) fn put_steps(out: &mut Octets, steps: &[ActStep]) -> Result<(), NoMemory>
     ensures { OnOk result (out.new ≡ out.old ++ spoken (steps_form steps.now)) }
 {
@@ -166,7 +167,7 @@ pub(super) fn put_steps(out: &mut Octets, steps: &[ActStep]) -> Result<(), NoMem
     Ok(())
 }
 
-/// Appends a merge.
+// Appends a merge.
 pub(super) fn put_merge(out: &mut Octets, merge: &Merge) -> Result<(), NoMemory>
     ensures { OnOk result (out.new ≡ out.old ++ spoken (merge_form merge.now)) }
 {

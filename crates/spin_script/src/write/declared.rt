@@ -9,7 +9,8 @@ ghost use Rattle.spin_table.specs.SetupOf.{data_of};
 ghost use Rattle.spin_grammar.specs.Lines as said;
 ghost use Rattle.spin_grammar.specs.Lines.{form};
 ghost use Rattle.spin_script.specs.States.{natives_seen};
-ghost use Rattle.spin_script.specs.Canonical.{spoken, line_text, text_of, by_value, event_line, endpoint_line, handler_line, guard_line, default_lines};
+ghost use Rattle.spin_script.specs.Canonical.{spoken, line_text, text_of_lines, by_value, event_line};
+ghost use Rattle.spin_script.specs.Canonical.{endpoint_line, handler_line, guard_line, default_lines};
 
 use crate::write::code::{put_merge, put_steps, put_test};
 use crate::write::words::{put_guard_signature, put_name, put_signature};
@@ -30,10 +31,10 @@ fn put_event(out: &mut Octets, event: u8, def: &EventDef) -> Result<(), NoMemory
     end_line(out)
 }
 
-/// Appends the lines of all events.
+// Appends the lines of all events.
 pub(super) fn put_events(out: &mut Octets, setup: &Setup) -> Result<(), NoMemory>
     ensures { OnOk result (out.new ≡ out.old
-        ++ text_of (map event_line (enumerate_from 0 (data_of setup.now).events))) }
+        ++ text_of_lines (map event_line (enumerate_from 0 (data_of setup.now).events))) }
 {
     for event in 0..setup.events() {
         put_event(out, event, setup.event(event))?;
@@ -50,10 +51,10 @@ fn put_endpoint(out: &mut Octets, endpoint: usize, name: &Text) -> Result<(), No
     end_line(out)
 }
 
-/// Appends the lines of all endpoints.
+// Appends the lines of all endpoints.
 pub(super) fn put_endpoints(out: &mut Octets, endpoints: &[Text]) -> Result<(), NoMemory>
     ensures { OnOk result (out.new ≡ out.old
-        ++ text_of (map endpoint_line (enumerate_from 0 endpoints.now))) }
+        ++ text_of_lines (map endpoint_line (enumerate_from 0 endpoints.now))) }
 {
     for (endpoint, name) in endpoints.iter().enumerate() {
         put_endpoint(out, endpoint, name)?;
@@ -61,7 +62,7 @@ pub(super) fn put_endpoints(out: &mut Octets, endpoints: &[Text]) -> Result<(), 
     Ok(())
 }
 
-/// Appends the line of a native handler or guard, which begins with this word.
+// Appends the line of a native handler or guard, which begins with this word.
 fn put_native(out: &mut Octets, first: &[u8], number: u16, name: &Text) -> Result<(), NoMemory>
     ensures { OnOk result (out.new ≡ out.old
         ++ ((first.now ++ spoken (form (said.NativeHandler number name.now))) ++ 10 ∷ [])) }
@@ -73,7 +74,7 @@ fn put_native(out: &mut Octets, first: &[u8], number: u16, name: &Text) -> Resul
     end_line(out)
 }
 
-/// Appends the line of a coded handler.
+// Appends the line of a coded handler.
 fn put_coded_handler(
     out: &mut Octets,
     number: u16,
@@ -90,7 +91,7 @@ fn put_coded_handler(
     end_line(out)
 }
 
-/// Appends the line of a handler that is there.
+// Appends the line of a handler that is there.
 fn put_handler(out: &mut Octets, catalogue: &Catalogue, number: u16) -> Result<(), NoMemory>
     requires first { 0 < number }
     requires last { number ≤ length (handlers_of catalogue.now) }
@@ -110,10 +111,10 @@ fn put_handler(out: &mut Octets, catalogue: &Catalogue, number: u16) -> Result<(
     }
 }
 
-/// Appends the lines of all handlers.
+// Appends the lines of all handlers.
 pub(super) fn put_handlers(out: &mut Octets, catalogue: &Catalogue) -> Result<(), NoMemory>
     ensures { OnOk result (out.new ≡ out.old
-        ++ text_of (map (λ p. handler_line (natives_seen catalogue.now.natives) p.0 p.1)
+        ++ text_of_lines (map (λ p. handler_line (natives_seen catalogue.now.natives) p.0 p.1)
         (enumerate_from 1 catalogue.now.bodies))) }
 {
     for at in 0..catalogue.handlers() {
@@ -122,7 +123,7 @@ pub(super) fn put_handlers(out: &mut Octets, catalogue: &Catalogue) -> Result<()
     Ok(())
 }
 
-/// Appends the line of a coded guard.
+// Appends the line of a coded guard.
 fn put_coded_guard(
     out: &mut Octets,
     number: u16,
@@ -139,7 +140,7 @@ fn put_coded_guard(
     end_line(out)
 }
 
-/// Appends the line of a guard that is there.
+// Appends the line of a guard that is there.
 fn put_guard(out: &mut Octets, catalogue: &Catalogue, number: u16) -> Result<(), NoMemory>
     requires first { 0 < number }
     requires last { number ≤ length (guards_of catalogue.now) }
@@ -159,10 +160,10 @@ fn put_guard(out: &mut Octets, catalogue: &Catalogue, number: u16) -> Result<(),
     }
 }
 
-/// Appends the lines of all guards.
+// Appends the lines of all guards.
 pub(super) fn put_guards(out: &mut Octets, catalogue: &Catalogue) -> Result<(), NoMemory>
     ensures { OnOk result (out.new ≡ out.old
-        ++ text_of (map (λ p. guard_line (natives_seen catalogue.now.natives) p.0 p.1)
+        ++ text_of_lines (map (λ p. guard_line (natives_seen catalogue.now.natives) p.0 p.1)
         (enumerate_from 1 catalogue.now.checks))) }
 {
     for at in 0..catalogue.count() {
@@ -172,7 +173,7 @@ pub(super) fn put_guards(out: &mut Octets, catalogue: &Catalogue) -> Result<(), 
 }
 
 fn put_default(out: &mut Octets, event: u8, handler: u16) -> Result<(), NoMemory>
-    ensures { OnOk result (out.new ≡ out.old ++ text_of (default_lines event handler)) }
+    ensures { OnOk result (out.new ≡ out.old ++ text_of_lines (default_lines event handler)) }
 {
     if handler == 0 {
         return Ok(());
@@ -183,10 +184,10 @@ fn put_default(out: &mut Octets, event: u8, handler: u16) -> Result<(), NoMemory
     end_line(out)
 }
 
-/// Appends the lines of the defaults of all events.
+// Appends the lines of the defaults of all events.
 pub(super) fn put_defaults(out: &mut Octets, setup: &Setup) -> Result<(), NoMemory>
     ensures { OnOk result (out.new ≡ out.old
-        ++ text_of (flat_map (λ p. default_lines p.0 p.1.first_default)
+        ++ text_of_lines (flat_map (λ p. default_lines p.0 p.1.first_default)
         (enumerate_from 0 (data_of setup.now).events))) }
 {
     for event in 0..setup.events() {

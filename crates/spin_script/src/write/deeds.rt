@@ -33,15 +33,15 @@ fn mode_word(mode: Mode) -> &'static [u8]
     }
 }
 
-/// The place of the first number that is no binding's.
+// The place of the first number that is no binding's.
 fn first_none(bindings: &[u16]) -> Option<usize>
     ensures { result ≡ position (λ number. number == no_number) bindings.now }
 {
     bindings.iter().position(|number| *number == NO_BINDING)
 }
 
-/// The bindings that are named, behind which there is none.
-#[tactic(auto, using(crate::proofs::Writing::named_all, crate::proofs::Writing::named_some))]
+// The bindings that are named, behind which there is none.
+#[tactic(auto, using(crate::proofs::WrittenParts::named_all, crate::proofs::WrittenParts::named_some))]
 fn named(bindings: &[u16]) -> &[u16]
     ensures { result.now ≡ specs.named bindings.now }
 {
@@ -51,7 +51,7 @@ fn named(bindings: &[u16]) -> &[u16]
     }
 }
 
-/// Appends a place that names one other binding at most.
+// Appends a place that names one other binding at most.
 fn put_narrow_spot(out: &mut Octets, place: Place, before: u16, after: u16) -> Result<(), NoMemory>
     ensures { OnOk result
         (out.new ≡ out.old ++ spoken (spot_form (narrow_spot place before after))) }
@@ -67,7 +67,7 @@ fn put_narrow_spot(out: &mut Octets, place: Place, before: u16, after: u16) -> R
     put_word(out, place_word(place))
 }
 
-/// Appends where a binding goes, in a script of this version.
+// Appends where a binding goes, in a script of this version.
 fn put_spot(out: &mut Octets, version: u8, command: &Command) -> Result<(), NoMemory>
     ensures { OnOk result (out.new ≡ out.old ++ spoken (spot_form (spot_of version command.now))) }
 {
@@ -81,7 +81,7 @@ fn put_spot(out: &mut Octets, version: u8, command: &Command) -> Result<(), NoMe
     put_counted(out, named(&command.after))
 }
 
-/// Appends an op, and the event and the module that each command names.
+// Appends an op, and the event and the module that each command names.
 fn put_front(out: &mut Octets, command: &Command) -> Result<(), NoMemory>
     ensures { OnOk result (out.new ≡ out.old
         ++ spoken (Fixed (op_word command.now.op) ∷ Numeral command.now.event
@@ -92,7 +92,7 @@ fn put_front(out: &mut Octets, command: &Command) -> Result<(), NoMemory>
     put_number(out, u64::from(command.requester))
 }
 
-/// Appends a command, in a script of this version.
+// Appends a command, in a script of this version.
 fn put_command(out: &mut Octets, version: u8, command: &Command) -> Result<(), NoMemory>
     ensures { OnOk result (out.new ≡ out.old
         ++ spoken (task_form (command_task version command.now.op command.now))) }
@@ -151,7 +151,7 @@ fn put_deed(out: &mut Octets, deed: &Deed) -> Result<(), NoMemory>
     }
 }
 
-/// Appends what a lane is told to do, in a script of this version.
+// Appends what a lane is told to do, in a script of this version.
 pub(super) fn put_work(out: &mut Octets, version: u8, work: &Work) -> Result<(), NoMemory>
     ensures { OnOk result (out.new ≡ out.old ++ spoken (task_form (task_of version work.now))) }
 {

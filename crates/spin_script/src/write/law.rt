@@ -1,6 +1,7 @@
 //! What reading says of texts that were written.
 
-ghost use Rattle.spin_script.specs.RoundTrip.{WrittenLinesAreRead, DeedsAreBack, DeclarationsAreBack, ScriptsCanBeWritten, ScriptsComeBack};
+ghost use Rattle.spin_script.specs.RoundTrip.{WrittenLinesAreRead, DeedsAreBack, DeclarationsAreBack};
+ghost use Rattle.spin_script.specs.RoundTrip.{ScriptsCanBeWritten, ScriptsComeBack};
 
 /// What is written of lines that can stand behind one another is read as just these lines.
 pub fn written_lines_are_read()

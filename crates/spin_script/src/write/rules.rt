@@ -5,10 +5,11 @@ ghost use Rattle.std.specs.List.{flat_map, enumerate_from};
 ghost use Rattle.spin_objects.specs.Units.{policies_of};
 ghost use Rattle.spin_table.specs.Setups.{has_authority};
 ghost use Rattle.spin_table.specs.SetupOf.{data_of};
-ghost use Rattle.spin_grammar.specs.Forms.{op_word, op_match_word, own_word, forced_word, apart_word, counted_form, handler_or_any, effect_form, rule_form};
+ghost use Rattle.spin_grammar.specs.Forms.{op_word, op_match_word, own_word, forced_word, apart_word};
+ghost use Rattle.spin_grammar.specs.Forms.{counted_form, handler_or_any, effect_form, rule_form};
 ghost use Rattle.spin_grammar.specs.Lines as said;
 ghost use Rattle.spin_script.specs.States.{natives_seen};
-ghost use Rattle.spin_script.specs.Canonical.{spoken, line_text, text_of, authority_lines};
+ghost use Rattle.spin_script.specs.Canonical.{spoken, line_text, text_of_lines, authority_lines};
 
 use crate::write::words::put_name;
 use spin_objects::{NativeKind, Natives};
@@ -62,7 +63,7 @@ fn apart_word(apart: bool) -> &'static [u8]
     if apart { b"async" } else { b"keep" }
 }
 
-/// Appends numbers behind their count.
+// Appends numbers behind their count.
 pub(super) fn put_counted(out: &mut Octets, numbers: &[u16]) -> Result<(), NoMemory>
     ensures { OnOk result (out.new ≡ out.old ++ spoken (counted_form numbers.now)) }
 {
@@ -127,7 +128,7 @@ fn put_rule(out: &mut Octets, event: u8, rule: &Rule) -> Result<(), NoMemory>
 }
 
 fn put_rules(out: &mut Octets, event: u8, rules: &[Rule]) -> Result<(), NoMemory>
-    ensures { OnOk result (out.new ≡ out.old ++ text_of (map (said.Rules event) rules.now)) }
+    ensures { OnOk result (out.new ≡ out.old ++ text_of_lines (map (said.Rules event) rules.now)) }
 {
     for rule in rules {
         put_rule(out, event, rule)?;
@@ -144,7 +145,7 @@ fn put_authoriser(out: &mut Octets, event: u8, name: &Text) -> Result<(), NoMemo
     end_line(out)
 }
 
-/// Appends the lines of who answers for the owner of an event.
+// Appends the lines of who answers for the owner of an event.
 fn put_authority(
     out: &mut Octets,
     event: u8,
@@ -153,7 +154,7 @@ fn put_authority(
 ) -> Result<(), NoMemory>
     requires { IsTrue (has_authority (policies_of natives.now) authority.now) }
     ensures { OnOk result (out.new ≡ out.old
-        ++ text_of (authority_lines (natives_seen natives.now) event authority.now)) }
+        ++ text_of_lines (authority_lines (natives_seen natives.now) event authority.now)) }
 {
     match authority {
         Authority::Rules(policy) => put_rules(out, event, policy.as_slice()),
@@ -164,10 +165,10 @@ fn put_authority(
     }
 }
 
-/// Appends the lines of who answers for the owners of all events.
+// Appends the lines of who answers for the owners of all events.
 pub(super) fn put_authorities(out: &mut Octets, setup: &Setup) -> Result<(), NoMemory>
     ensures { OnOk result (out.new ≡ out.old
-        ++ text_of (flat_map (λ p.
+        ++ text_of_lines (flat_map (λ p.
         authority_lines (natives_seen setup.now.catalogue.natives) p.0 p.1.authority)
         (enumerate_from 0 (data_of setup.now).events))) }
 {

@@ -9,14 +9,14 @@ ghost use Rattle.spin_script.specs.Canonical.{spoken, marked, by_value};
 use spin_text::{put_decimal, put_hex, put_word};
 use spin_values::{EventType, Kind, NoMemory, Octets, Param, Text};
 
-/// Appends a name, with a space before it.
+// Appends a name, with a space before it.
 pub(super) fn put_name(out: &mut Octets, name: &Text) -> Result<(), NoMemory>
     ensures { OnOk result (out.new ≡ out.old ++ spoken (Called name.now ∷ [])) }
 {
     put_word(out, name.as_slice())
 }
 
-/// The letter of a parameter.
+// The letter of a parameter.
 fn letter(kind: Kind, var: bool) -> u8
     ensures { result ≡ grammar.letter kind var }
 {
@@ -28,7 +28,7 @@ fn letter(kind: Kind, var: bool) -> u8
     }
 }
 
-/// Appends the letters of parameters, whose marks of var count or don't.
+// Appends the letters of parameters, whose marks of var count or don't.
 fn put_letters(out: &mut Octets, params: &[Param], marks: bool) -> Result<(), NoMemory>
     ensures { OnOk result (out.new ≡ out.old ++ letters (marked marks params.now)) }
 {
@@ -38,7 +38,7 @@ fn put_letters(out: &mut Octets, params: &[Param], marks: bool) -> Result<(), No
     Ok(())
 }
 
-/// Appends parameters, with a space before them.
+// Appends parameters, with a space before them.
 fn put_params(out: &mut Octets, params: &[Param], marks: bool) -> Result<(), NoMemory>
     ensures { OnOk result (out.new ≡ out.old ++ 32 ∷ params_word (marked marks params.now)) }
 {
@@ -49,8 +49,8 @@ fn put_params(out: &mut Octets, params: &[Param], marks: bool) -> Result<(), NoM
     put_letters(out, params, marks)
 }
 
-/// Appends a signature, with a space before it.
-#[tactic(auto, using(crate::proofs::Writing::typed_result, crate::proofs::Writing::typed_plain))]
+// Appends a signature, with a space before it.
+#[tactic(auto, using(crate::proofs::WrittenParts::typed_result, crate::proofs::WrittenParts::typed_plain))]
 pub(super) fn put_signature(out: &mut Octets, sig: &EventType) -> Result<(), NoMemory>
     ensures { OnOk result (out.new ≡ out.old ++ spoken (Typed sig.now ∷ [])) }
 {
@@ -61,14 +61,14 @@ pub(super) fn put_signature(out: &mut Octets, sig: &EventType) -> Result<(), NoM
     Ok(())
 }
 
-/// Appends the signature of a guard, which is in lower case and gives no result, with a space before it.
+// Appends the signature of a guard, which is in lower case and gives no result, with a space before it.
 pub(super) fn put_guard_signature(out: &mut Octets, sig: &EventType) -> Result<(), NoMemory>
     ensures { OnOk result (out.new ≡ out.old ++ spoken (Typed (by_value sig.now) ∷ [])) }
 {
     put_params(out, sig.params.as_slice(), false)
 }
 
-/// Appends the word of bytes, with a space before it.
+// Appends the word of bytes, with a space before it.
 pub(super) fn put_bytes(out: &mut Octets, bytes: &[u8]) -> Result<(), NoMemory>
     ensures { OnOk result (out.new ≡ out.old ++ spoken (Blob bytes.now ∷ [])) }
 {
@@ -76,7 +76,7 @@ pub(super) fn put_bytes(out: &mut Octets, bytes: &[u8]) -> Result<(), NoMemory>
     put_hex(out, bytes)
 }
 
-/// Appends the word of an argument, with a space before it.
+// Appends the word of an argument, with a space before it.
 pub(super) fn put_argument(out: &mut Octets, argument: u8) -> Result<(), NoMemory>
     ensures { OnOk result (out.new ≡ out.old ++ spoken (Argument argument ∷ [])) }
 {

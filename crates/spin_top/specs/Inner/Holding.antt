@@ -2,7 +2,7 @@
 use Rattle.std.specs.Prelude.{◌≡◌, ℕ, List, Some, Ok, Err, drop, ⊤}
 use Rattle.spin_pcap.specs.declared.fault.PcapFault.{PcapFault}
 use Rattle.spin_pcap.specs.Captures.{header_of}
-use Rattle.spin_pcap.specs.Passing.{ReaderState, IsFresh, left_for, number}
+use Rattle.spin_pcap.specs.Passing.{ReaderState, IsFresh, left_for, fault_number}
 use Rattle.spin_top.specs.declared.end.End.{End}
 use Rattle.spin_top.specs.declared.end.End.TheVariants.{Capture, NoMemory}
 
@@ -15,6 +15,6 @@ pub record IsBehind (bytes left : List ℕ) (reader : ReaderState) : Type 0 wher
 -- The header of these bytes is refused, or memory ran out.
 abbrev pub HeaderRefuses : List ℕ → End → Type 0
 HeaderRefuses bytes (Capture at fault) =
-    (at ≡ 0) × (wrong : PcapFault) × (fault ≡ number wrong) × (header_of bytes ≡ Err wrong)
+    (at ≡ 0) × (wrong : PcapFault) × (fault ≡ fault_number wrong) × (header_of bytes ≡ Err wrong)
 HeaderRefuses bytes NoMemory = ⊤
 HeaderRefuses bytes other = ⊥

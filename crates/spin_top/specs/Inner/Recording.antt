@@ -6,7 +6,7 @@ use Rattle.spin_pcap.specs.declared.fault.PcapFault.TheVariants as fault
 use Rattle.spin_pcap.specs.declared.next.Next.{Next}
 use Rattle.spin_pcap.specs.declared.order.Order.{Order}
 use Rattle.spin_pcap.specs.Captures.{IsBody, IsCapture}
-use Rattle.spin_pcap.specs.Passing.{number}
+use Rattle.spin_pcap.specs.Passing.{fault_number}
 use Rattle.spin_reass.specs.JoinedCaptures as joined
 use Rattle.spin_check.specs.declared.captured.Captured.{Captured}
 use Rattle.spin_top.specs.declared.end.End.{End}
@@ -18,7 +18,7 @@ use Rattle.spin_top.specs.Captures.{cut_of}
 abbrev pub end_at : ℕ → PcapFault → End
 end_at at fault.ReadFault = Unread Packets
 end_at at fault.NoMemory = NoMemory
-end_at at other = Capture at (number other)
+end_at at other = Capture at (fault_number other)
 
 -- What reading the records that begin these bytes gives.
 abbrev pub ReadsBody : Order → List ℕ → Result Captured End → Type 0
@@ -26,7 +26,7 @@ ReadsBody way bytes (Ok capture) =
     (last : Next) × IsBody way 0 bytes capture.frames (Ok last) × (capture.cut ≡ cut_of last)
 ReadsBody way bytes (Err (Capture at fault)) =
     (frames : List (List ℕ)) × (wrong : PcapFault) × IsBody way 0 bytes frames (Err wrong)
-    × (at ≡ length frames + 1) × (fault ≡ number wrong)
+    × (at ≡ length frames + 1) × (fault ≡ fault_number wrong)
 ReadsBody way bytes (Err (Unread Packets)) = ⊤
 ReadsBody way bytes (Err NoMemory) = ⊤
 ReadsBody way bytes (Err other) = ⊥

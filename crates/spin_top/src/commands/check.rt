@@ -29,7 +29,7 @@ use std::alloc::Global;
 /// The most bytes that a report may have.
 pub const REPORT_LIMIT: u32 = 67_108_864;
 
-/// The text of the report of that name.
+// The text of the report of that name.
 fn report_of<F: Shelf>(alloc: Global, shelf: &mut F, name: &Text) -> Result<Octets, End>
     ensures stood { IfOk result (λ _. ShelfStood (F.seen shelf.old) (F.seen shelf.new)) }
     ensures read { IfOk result (λ text. IsContent (F.seen shelf.old).files name.now text) }
@@ -45,7 +45,7 @@ fn report_of<F: Shelf>(alloc: Global, shelf: &mut F, name: &Text) -> Result<Octe
     }
 }
 
-/// The names among these under which an endpoint stands.
+// The names among these under which an endpoint stands.
 fn standing(alloc: Global, endpoints: &Texts, ends: &Ends) -> Result<Texts, NoMemory>
     ensures { IfOk result
         (λ names. StandAs endpoints.now names (⟦<Ends as EndsSeen>⟧.all ends.now)) }
@@ -59,7 +59,7 @@ fn standing(alloc: Global, endpoints: &Texts, ends: &Ends) -> Result<Texts, NoMe
     Ok(names)
 }
 
-/// Whether the report is that of a history of the script, with the capture and the endpoints that stand.
+// Whether the report is that of a history of the script, with the capture and the endpoints that stand.
 fn is_of_history(
     alloc: Global,
     script: &Script,
@@ -79,21 +79,21 @@ fn is_of_history(
     check_report(alloc, script, &names, capture.as_ref(), report)
 }
 
-/// The line of the answer.
+// The line of the answer.
 fn answer_line(yes: bool) -> &'static [u8]
     ensures { result.now ≡ answer yes }
 {
     if yes { b"yes\n" } else { b"no\n" }
 }
 
-/// How a call ends whose answer was written.
+// How a call ends whose answer was written.
 fn answer_end(yes: bool) -> End
     ensures { result ≡ answer_end yes }
 {
     if yes { End::Whole } else { End::NoHistory }
 }
 
-/// Writes the answer, and says how the call then ends.
+// Writes the answer, and says how the call then ends.
 fn tell<K: Sink>(out: &mut K, yes: bool) -> End
     ensures { TellsAnswer (K.seen out.old) (K.seen out.new) yes result }
 {
@@ -103,7 +103,7 @@ fn tell<K: Sink>(out: &mut K, yes: bool) -> End
     }
 }
 
-/// Judges the report by a script that was read, and answers the status.
+// Judges the report by a script that was read, and answers the status.
 fn check_script<F: Shelf, K: Sink>(
     alloc: Global,
     script: &Script,

@@ -28,7 +28,7 @@ use spin_values::NoMemory;
 use std::alloc::Global;
 use std::thread::Threads;
 
-/// Reads a script that was made, of which no line is bad.
+// Reads a script that was made, of which no line is bad.
 fn made_script(alloc: Global, text: &[u8], natives: Natives) -> Result<Script, NoMemory>
     requires sincere { ⟦<Natives as Sincere>⟧.sincere natives }
     requires made { IsReadAsScript (natives_seen natives) text.now }
@@ -47,7 +47,7 @@ fn made_script(alloc: Global, text: &[u8], natives: Natives) -> Result<Script, N
     }
 }
 
-/// Runs the script over the records of the capture, and writes the summary with that number.
+// Runs the script over the records of the capture, and writes the summary with that number.
 fn run_over<R: Threads + Sync, K: Sink, G: Gate>(
     rt: &R,
     alloc: Global,

@@ -29,7 +29,7 @@ use spin_values::{Octets, Text};
 use std::alloc::Global;
 use std::thread::Threads;
 
-/// The joined capture of the file of that number, which is read to its end.
+// The joined capture of the file of that number, which is read to its end.
 fn join_file<F: Shelf>(alloc: Global, shelf: &mut F, file: u32) -> Result<Octets, JoinFault>
     ensures joined { IfSome ((F.seen shelf.old).left file) (λ text. IsJoined text result) }
     ensures good { IfOk result IsJoinedCapture }
@@ -41,7 +41,7 @@ fn join_file<F: Shelf>(alloc: Global, shelf: &mut F, file: u32) -> Result<Octets
     join_capture(alloc, &mut source)
 }
 
-/// The joined capture of the file of that name, which is read to its end.
+// The joined capture of the file of that name, which is read to its end.
 fn joined_of<F: Shelf>(alloc: Global, shelf: &mut F, name: &Text) -> Result<Octets, End>
     ensures joined { IfOk result (IsJoinedBy (F.seen shelf.old) (F.seen shelf.new) name.now) }
     ensures good { IfOk result IsJoinedCapture }
@@ -56,7 +56,7 @@ fn joined_of<F: Shelf>(alloc: Global, shelf: &mut F, name: &Text) -> Result<Octe
     }
 }
 
-/// Runs the script over the records of a joined capture.
+// Runs the script over the records of a joined capture.
 fn run_over<R: Threads + Sync, K: Sink, G: Gate>(
     rt: &R,
     alloc: Global,

@@ -40,7 +40,7 @@ pub fn end_of(ended: RunEnd) -> End
     }
 }
 
-/// The file of that name and what reads its records, if one is named.
+// The file of that name and what reads its records, if one is named.
 fn capture_of<F: Shelf>(
     alloc: Global,
     shelf: &mut F,
@@ -58,7 +58,7 @@ fn capture_of<F: Shelf>(
     Ok((file, Some(reader)))
 }
 
-/// Runs the script over the records that the reader finds in the file. Without a reader no file is read.
+// Runs the script over the records that the reader finds in the file. Without a reader no file is read.
 fn run_over<R: Threads + Sync, F: Shelf, K: Sink, G: Gate>(
     rt: &R,
     alloc: Global,

@@ -17,7 +17,7 @@ use spin_values::{Octets, Text};
 use spin_vm::{TraceCause, VmEnd, is_suited, run_trace};
 use std::alloc::Global;
 
-/// The text of the trace of that name. One that is too large is no trace.
+// The text of the trace of that name. One that is too large is no trace.
 fn trace_of<F: Shelf>(alloc: Global, shelf: &mut F, name: &Text) -> Result<Octets, End>
     ensures stood { IfOk result (λ _. ShelfStood (F.seen shelf.old) (F.seen shelf.new)) }
     ensures read { IfOk result (λ text. IsContent (F.seen shelf.old).files name.now text) }
@@ -35,7 +35,7 @@ fn trace_of<F: Shelf>(alloc: Global, shelf: &mut F, name: &Text) -> Result<Octet
     }
 }
 
-/// The end of a call whose trace ended so.
+// The end of a call whose trace ended so.
 fn end_of(ended: VmEnd) -> End
     ensures { result ≡ vm_end ended }
 {

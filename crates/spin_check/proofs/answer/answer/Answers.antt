@@ -5,7 +5,7 @@ use Rattle.spin_table.specs.SetupOf.{data_of}
 use Rattle.spin_table.specs.States.{State}
 use Rattle.spin_check.specs.Inner.Asks.{work_of}
 use Rattle.spin_check.specs.Inner.Answers.{IsDone}
-use Rattle.spin_check.proofs.Judging.{one_answer, no_entry}
+use Rattle.spin_check.proofs.AnswerLemmas.{one_answer, no_entry}
 use Rattle.spin_check.proofs.answer.answer.Goals as goal
 
 pub returns-in_default : goal.returns-in_default

@@ -1,7 +1,7 @@
 use Rattle.std.proofs.Common.{sym, subst, ◌∙◌}
 use Rattle.spin_table.specs.SetupOf.{data_of}
 use Rattle.spin_table.specs.Steps.{MayConflict}
-use Rattle.spin_check.proofs.Judging.{no_cycle, other_cycle, own_cycle}
+use Rattle.spin_check.proofs.AnswerLemmas.{no_cycle, other_cycle, own_cycle}
 use Rattle.spin_check.proofs.answer.conflict_told.Goals as goal
 
 pub returns-in_default : goal.returns-in_default

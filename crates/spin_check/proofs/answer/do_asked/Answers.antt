@@ -21,4 +21,5 @@ returns-in-Command g c =
 
 pub returns-in_ok-done-in-Deed : goal.returns-in_ok-done-in-Deed
 returns-in_ok-done-in-Deed g c =
-    subst (λ (w : Work). IsDone (data_of c.args.setup.now) (arc_value c.args.version.now) w c.args.report.now (Some c.in_ok-done-in-Deed.done)) (sym (ap work_of c.in-Deed.is)) (c.in_ok-done-in-Deed.ensures c.args.report.now)
+    subst (λ (w : Work). IsDone (data_of c.args.setup.now) (arc_value c.args.version.now) w c.args.report.now (Some c.in_ok-done-in-Deed.done))
+    (sym (ap work_of c.in-Deed.is)) (c.in_ok-done-in-Deed.ensures c.args.report.now)

@@ -3,7 +3,7 @@ use Rattle.std.specs.Prelude.{Some}
 use Rattle.std.specs.Arc.{arc_value}
 use Rattle.spin_table.specs.SetupOf.{data_of}
 use Rattle.spin_check.specs.Inner.Answers.{IsJudged}
-use Rattle.spin_check.proofs.Judging.{command_done, command_none}
+use Rattle.spin_check.proofs.AnswerLemmas.{command_done, command_none}
 use Rattle.spin_check.proofs.answer.do_command.Goals as goal
 
 pub returns-in_default : goal.returns-in_default

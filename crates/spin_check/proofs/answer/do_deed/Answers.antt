@@ -4,7 +4,7 @@ use Rattle.std.specs.Arc.{arc_value}
 use Rattle.spin_table.specs.SetupOf.{data_of}
 use Rattle.spin_table.specs.States.{State}
 use Rattle.spin_proto.specs.Replies.{IsDeedReply, BelongsTo, calls_left}
-use Rattle.spin_check.proofs.Judging.{deed_done}
+use Rattle.spin_check.proofs.AnswerLemmas.{deed_done}
 use Rattle.spin_check.proofs.answer.do_deed.Goals as goal
 
 pub returns : goal.returns

@@ -6,7 +6,7 @@ use Rattle.spin_table.specs.declared.refusal.Verdicted.TheVariants as verdicted
 use Rattle.spin_table.specs.SetupOf.{data_of}
 use Rattle.spin_table.specs.States.{State}
 use Rattle.spin_table.specs.Steps.{IsStep, IsAnswer}
-use Rattle.spin_check.proofs.Judging.{one_accepted, one_refused}
+use Rattle.spin_check.proofs.AnswerLemmas.{one_accepted, one_refused}
 use Rattle.spin_check.proofs.answer.judge.Goals as goal
 
 pub judge_conflict-requires-clause-conflict : goal.judge_conflict-requires-clause-conflict
@@ -31,7 +31,9 @@ returns-in_ok-try_clone-in-Err-Refused g c =
     let d = data_of c.args.setup.now in
     let refusal = c.in-Err-Refused.refusal in
     record {
-      judged = one_refused d (arc_value c.args.version.now) (arc_value c.in_ok-try_clone-in-Err-Refused.field-0) c.args.c.now refusal c.args.report.now (sym c.tells_cycle.ensures ∙ c.if-tells_cycle.false)
+      judged =
+          one_refused d (arc_value c.args.version.now) (arc_value c.in_ok-try_clone-in-Err-Refused.field-0) c.args.c.now refusal c.args.report.now (sym c.tells_cycle.ensures ∙ c.if-tells_cycle.false)
           (subst (λ (t : State). IsStep d t c.args.c.now (verdicted.Refused refusal) t) c.deref.ensures
-          (subst (λ (f : StepFault). IsAnswer d c.deref.result.now c.args.c.now (Err f)) c.in-Err-Refused.field-0-is c.in-Err-Refused.ensures.answer)) c.requires.sound c.in_ok-try_clone-in-Err-Refused.ensures;
+          (subst (λ (f : StepFault). IsAnswer d c.deref.result.now c.args.c.now (Err f)) c.in-Err-Refused.field-0-is c.in-Err-Refused.ensures.answer))
+          c.requires.sound c.in_ok-try_clone-in-Err-Refused.ensures;
     }

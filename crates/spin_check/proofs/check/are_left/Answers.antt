@@ -12,7 +12,7 @@ use Rattle.spin_report.specs.Runs.{counts_of}
 use Rattle.spin_check.specs.RunTexts.{capture_of}
 use Rattle.spin_check.specs.Inner.Segments.{Goes, IsGoodMark, gone_to}
 use Rattle.spin_check.specs.Inner.Remains.{AreLeft}
-use Rattle.spin_check.proofs.Reporting.{on_whole_none, on_whole_more, room_here, no_more, whole_end, all_here}
+use Rattle.spin_check.proofs.ReportLemmas.{on_whole_none, on_whole_more, room_here, no_more, whole_end, all_here}
 use Rattle.spin_check.proofs.check.are_left.Goals as goal
 
 pub loop-number-init : goal.loop-number-init
@@ -102,6 +102,8 @@ returns g c = λ start flags.
     let script = script_seen c.args.script.now in
     let capture = option_map capture_of (option_copied c.args.capture) in
     let mark = c.loop-number.mark in
-    IfOk-weaker c.is_end.result (λ yes. Decides yes (mark.rest ≡ ended (end_line mark.state.place (option_map (counts_of mark.left) capture)))) (λ yes. Decides yes (AreLeft script capture start c.args.mark.now))
+    IfOk-weaker c.is_end.result (λ yes. Decides yes (mark.rest ≡ ended (end_line mark.state.place (option_map (counts_of mark.left) capture))))
+    (λ yes. Decides yes (AreLeft script capture start c.args.mark.now))
     (λ yes decides.
-    whole_end script capture c.args.mark.now c.loop-number.number mark yes (omega (arith, c.loop-number-test.false, c.len-number-end.ensures)) (λ ends. decides) c.loop-number.invariant start flags) c.is_end.ensures
+    whole_end script capture c.args.mark.now c.loop-number.number mark yes (omega (arith, c.loop-number-test.false, c.len-number-end.ensures))
+    (λ ends. decides) c.loop-number.invariant start flags) c.is_end.ensures

@@ -11,7 +11,7 @@ use Rattle.spin_script.specs.Scripts.{script_seen}
 use Rattle.spin_check.specs.RunTexts.{IsRunText, capture_of}
 use Rattle.spin_check.specs.Inner.Segments.{Mark}
 use Rattle.spin_check.specs.Inner.Remains.{AreLeft}
-use Rattle.spin_check.proofs.Reporting.{flags_first, whole_text, no_begin}
+use Rattle.spin_check.proofs.ReportLemmas.{flags_first, whole_text, no_begin}
 use Rattle.spin_check.proofs.check.check_report.Goals as goal
 
 pub returns-in_default : goal.returns-in_default

@@ -14,4 +14,5 @@ loop-line-preserved c =
 
 pub returns-clause-deeds : goal.returns-clause-deeds
 returns-clause-deeds c =
-    (gone_all c.args.lanes c.args.lines.now c.args.records.now c.loop-line.line-index c.loop-line.deeds c.loop-line.left.now (drop_all c.loop-line.line-index c.args.lines.now (omega (arith, c.loop-line-test.false))) c.loop-line.invariant).0
+    (gone_all c.args.lanes c.args.lines.now c.args.records.now c.loop-line.line-index c.loop-line.deeds c.loop-line.left.now
+    (drop_all c.loop-line.line-index c.args.lines.now (omega (arith, c.loop-line-test.false))) c.loop-line.invariant).0

@@ -1,5 +1,5 @@
 use Rattle.std.proofs.Common.{◌≡◌, ◌+◌, ◌<◌, ◌∙◌, true, false, length, sym, subst, arith}
-use Rattle.spin_check.proofs.Flagging.{IsLosing, losing_same, losing_more, losing_all, lost_by_flag}
+use Rattle.spin_check.proofs.EndpointFlags.{IsLosing, losing_same, losing_more, losing_all, lost_by_flag}
 use Rattle.spin_check.proofs.flags.lost_all.Goals as goal
 use Rattle.spin_check.proofs.flags.lost_all.Goals.{then-count-gt0+in_ok-lost_text, else-count-gt0}
 
@@ -25,5 +25,6 @@ loop-number-preserved c = λ names ends sent are same.
           (w.out-is ∙ w.in_ok-lost_text.ensures.ok) so
       | else-count-gt0 w ↦
           subst (λ o. IsLosing names ends sent (n + 1) c.args.out.now o) (sym w.out-is)
-          (losing_same names ends sent n c.args.out.now c.loop-number.out lt (let none : c.count_of-count.result ≡ 0 = omega (arith, w.if-count-gt0.false) in lost ∙ sym c.count_of-count.ensures ∙ none) so)
+          (losing_same names ends sent n c.args.out.now c.loop-number.out lt
+          (let none : c.count_of-count.result ≡ 0 = omega (arith, w.if-count-gt0.false) in lost ∙ sym c.count_of-count.ensures ∙ none) so)
     ]

@@ -1,6 +1,6 @@
 use Rattle.std.proofs.Common.{false, ◌∙◌, refl, get_or, arith}
 use Rattle.std.proofs.lemmas.List.{length-set}
-use Rattle.spin_check.proofs.Flagging.{retiring_none, retiring_more, retiring_all}
+use Rattle.spin_check.proofs.EndpointFlags.{retiring_none, retiring_more, retiring_all}
 use Rattle.spin_check.proofs.flags.retire_all.Goals as goal
 
 pub loop-number-init : goal.loop-number-init
@@ -23,4 +23,5 @@ loop-number-preserved c =
 
 pub returns : goal.returns
 returns c = λ names ends are.
-    retiring_all names ends c.args.numbers.now c.args.out.now c.loop-number.number-index c.loop-number.flags c.loop-number.out (omega (arith, c.loop-number-test.false)) (c.loop-number.invariant.so names ends are)
+    retiring_all names ends c.args.numbers.now c.args.out.now c.loop-number.number-index c.loop-number.flags c.loop-number.out
+    (omega (arith, c.loop-number-test.false)) (c.loop-number.invariant.so names ends are)

@@ -1,7 +1,7 @@
 use Rattle.std.proofs.Common.{◌≡◌, ℕ, List, length}
 use Rattle.spin_endpoint.specs.Named.{NamedEnd}
 use Rattle.spin_check.specs.Inner.Standings.{AreFlags}
-use Rattle.spin_check.proofs.Flagging.{IsRetiring}
+use Rattle.spin_check.proofs.EndpointFlags.{IsRetiring}
 use Rattle.spin_check.proofs.flags.retire_all.Given as goal
 
 abbrev pub invariant-loop-number : goal.invariant-loop-number

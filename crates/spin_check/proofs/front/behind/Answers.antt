@@ -1,6 +1,6 @@
 use Rattle.std.proofs.lemmas.Bool.Decides.{Decides-eqb}
 use Rattle.std.proofs.lemmas.Slice.Eq.{strip_prefix_is}
-use Rattle.spin_check.proofs.Fronting.{behind_from}
+use Rattle.spin_check.proofs.ReportFront.{behind_from}
 use Rattle.spin_check.proofs.front.behind.Goals as goal
 
 pub returns : goal.returns

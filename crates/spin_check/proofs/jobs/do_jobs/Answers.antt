@@ -4,8 +4,8 @@ use Rattle.spin_table.specs.SetupOf.{data_of}
 use Rattle.spin_table.specs.States.{State}
 use Rattle.spin_table.specs.Soundness.{IsSound}
 use Rattle.spin_proto.specs.Replies.{BelongsTo, IsJobReply}
-use Rattle.spin_report.specs.Jobs.{job_of}
-use Rattle.spin_check.proofs.Jobbing.{done_more, done_short, call_belongs}
+use Rattle.spin_report.specs.Jobs.{entry_job}
+use Rattle.spin_check.proofs.JobLemmas.{done_more, done_short, call_belongs}
 use Rattle.spin_check.proofs.jobs.do_jobs.Goals as goal
 
 pub do_job-requires-clause-sound : goal.do_job-requires-clause-sound
@@ -29,7 +29,7 @@ loop-call-preserved-else-len-room g c =
     let reply = did.0 in
     let is : IsJobReply d s call reply = subst (λ (t : State). IsJobReply d t call reply) c.in_ok-try_clone.ensures did.1 in
     done_more d s c.args.entry c.args.out.now c.args.sends.now call now.calls.items c.pop_front.new.self.items now.index now.out now.sends c.do_job.new.out c.do_job.new.sends
-    reply (job_of c.args.entry now.index reply) c.in-Some.ensures.items now.invariant is refl did.2 did.3
+    reply (entry_job c.args.entry now.index reply) c.in-Some.ensures.items now.invariant is refl did.2 did.3
 
 pub loop-call-preserved : goal.loop-call-preserved
 loop-call-preserved g c =
@@ -41,7 +41,7 @@ loop-call-preserved g c =
     let reply = did.0 in
     let is : IsJobReply d s call reply = subst (λ (t : State). IsJobReply d t call reply) c.in_ok-try_clone.ensures did.1 in
     done_more d s c.args.entry c.args.out.now c.args.sends.now call now.calls.items c.pop_front.new.self.items now.index now.out now.sends c.do_job.new.out c.do_job.new.sends
-    reply (job_of c.args.entry now.index reply) c.in-Some.ensures.items now.invariant is refl did.2 did.3
+    reply (entry_job c.args.entry now.index reply) c.in-Some.ensures.items now.invariant is refl did.2 did.3
 
 pub returns-then-len-room : goal.returns-then-len-room
 returns-then-len-room g c =
@@ -53,6 +53,6 @@ returns-then-len-room g c =
     let reply = did.0 in
     let is : IsJobReply d s call reply = subst (λ (t : State). IsJobReply d t call reply) c.in_ok-try_clone.ensures did.1 in
     let done = done_more d s c.args.entry c.args.out.now c.args.sends.now call now.calls.items c.pop_front.new.self.items now.index now.out now.sends c.do_job.new.out c.do_job.new.sends
-    reply (job_of c.args.entry now.index reply) c.in-Some.ensures.items now.invariant is refl did.2 did.3 in
+    reply (entry_job c.args.entry now.index reply) c.in-Some.ensures.items now.invariant is refl did.2 did.3 in
     done_short d s c.args.entry c.args.out.now c.args.sends.now c.pop_front.new.self.items (now.index + 1) c.do_job.new.out c.do_job.new.sends c.args.room done
     (omega (arith, c.if-len-room.true, c.len.ensures))

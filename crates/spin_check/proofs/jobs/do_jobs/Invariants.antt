@@ -1,7 +1,7 @@
 use Rattle.std.proofs.Common.{length}
 use Rattle.std.specs.Arc.{arc_value}
 use Rattle.spin_table.specs.SetupOf.{data_of}
-use Rattle.spin_check.proofs.Jobbing.{AreDone}
+use Rattle.spin_check.proofs.JobLemmas.{AreDone}
 use Rattle.spin_check.proofs.jobs.do_jobs.Given as goal
 
 abbrev pub invariant-loop-call : goal.invariant-loop-call

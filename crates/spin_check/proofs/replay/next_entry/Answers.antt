@@ -9,7 +9,7 @@ use Rattle.spin_check.specs.Inner.Told.{Begins}
 use Rattle.spin_check.specs.Inner.Answers.{IsAnswered}
 use Rattle.spin_check.specs.Inner.Fronts.{IsBehind}
 use Rattle.spin_check.specs.Inner.Replays.{At, Follows}
-use Rattle.spin_check.proofs.Stepping.{no_lane, no_ask, no_answer, no_line, no_order, found_next, ask_valid, ask_room}
+use Rattle.spin_check.proofs.ReplaySteps.{no_lane, no_ask, no_answer, no_line, no_order, found_next, ask_valid, ask_room}
 use Rattle.spin_check.proofs.replay.next_entry.Goals as goal
 
 pub returns-in_default : goal.returns-in_default

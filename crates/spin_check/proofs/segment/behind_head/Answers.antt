@@ -1,6 +1,6 @@
 use Rattle.std.proofs.Common.{subst}
 use Rattle.spin_check.specs.Inner.Fronts.{IsBehind}
-use Rattle.spin_check.proofs.Parting.{head_is}
+use Rattle.spin_check.proofs.SegmentLemmas.{head_is}
 use Rattle.spin_check.proofs.segment.behind_head.Goals as goal
 
 pub returns : goal.returns

@@ -1,5 +1,5 @@
 use Rattle.std.proofs.Common.{sym, arith}
-use Rattle.spin_check.proofs.Jobbing.{sends_more}
+use Rattle.spin_check.proofs.JobLemmas.{sends_more}
 use Rattle.spin_check.proofs.sends.add_of_trace.Goals as goal
 
 pub loop-step-preserved : goal.loop-step-preserved

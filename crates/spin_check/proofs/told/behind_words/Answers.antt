@@ -1,5 +1,5 @@
 use Rattle.std.proofs.Common.{◌<◌, ◌∙◌, length, ap, arith}
-use Rattle.spin_check.proofs.Telling.{word_passed, word_there}
+use Rattle.spin_check.proofs.LineWords.{word_passed, word_there}
 use Rattle.spin_check.proofs.told.behind_words.Goals as goal
 use Rattle.spin_check.proofs.told.behind_words.Goals.{in-Some, in_default}
 

@@ -1,8 +1,8 @@
 use Rattle.std.proofs.Common.{◌++◌, sym, ap, ◌∙◌}
 use Rattle.std.specs.Prelude.{decimal}
 use Rattle.spin_text.specs.Words.{spaced}
-use Rattle.spin_report.proofs.Plain.{decimal_word}
-use Rattle.spin_check.proofs.Telling.{cycle_stands, cycle_begins}
+use Rattle.spin_report.proofs.PlainWords.{decimal_word}
+use Rattle.spin_check.proofs.LineWords.{cycle_stands, cycle_begins}
 use Rattle.spin_check.proofs.told.cycle_told.Goals as goal
 
 pub returns : goal.returns

@@ -1,7 +1,7 @@
 use Rattle.std.proofs.Common.{◌≡◌, ◌+◌, ◌-◌, ◌∷◌, List, ℕ, length, get_or, refl, ap, arith}
 use Rattle.std.specs.Prelude.{Some, decimal}
-use Rattle.spin_report.proofs.Plain.{decimal_word}
-use Rattle.spin_check.proofs.Telling.{lane_stands}
+use Rattle.spin_report.proofs.PlainWords.{decimal_word}
+use Rattle.spin_check.proofs.LineWords.{lane_stands}
 use Rattle.spin_check.proofs.told.lane_told.Goals as goal
 
 pub returns-then-rest-lt2 : goal.returns-then-rest-lt2

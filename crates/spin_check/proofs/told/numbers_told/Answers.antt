@@ -1,8 +1,8 @@
 use Rattle.std.proofs.Common.{◌≡◌, ◌++◌, ◌∷◌, [], ℕ, List, get_or, length, sym, ap, ◌∙◌, append_assoc}
 use Rattle.std.specs.Prelude.{Some, decimal}
 use Rattle.std.proofs.lemmas.List.{append-nil}
-use Rattle.spin_report.proofs.Plain.{decimal_word}
-use Rattle.spin_check.proofs.Telling.{number_stands, numbers_end, low_here}
+use Rattle.spin_report.proofs.PlainWords.{decimal_word}
+use Rattle.spin_check.proofs.LineWords.{number_stands, numbers_end, low_here}
 use Rattle.spin_check.proofs.told.numbers_told.Goals as goal
 use Rattle.spin_check.proofs.told.numbers_told.Goals.{in-Some+then-first-ne32, in_default}
 
@@ -27,7 +27,8 @@ loop-first-preserved c = λ ns more low is.
 pub returns : goal.returns
 returns c = λ ns more low is.
     let inv = c.loop-first.invariant ns more low is in
-    let ended : (get_or c.loop-first.rest.now 0 0 ≡ 32 → ⊥) → c.loop-first.numbers ≡ ns = λ other. sym (inv.1 ∙ ap (λ l. c.loop-first.numbers ++ l) (numbers_end inv.0 more c.loop-first.rest.now other inv.2) ∙ append-nil c.loop-first.numbers) in
+    let ended : (get_or c.loop-first.rest.now 0 0 ≡ 32 → ⊥) → c.loop-first.numbers ≡ ns =
+    λ other. sym (inv.1 ∙ ap (λ l. c.loop-first.numbers ++ l) (numbers_end inv.0 more c.loop-first.rest.now other inv.2) ∙ append-nil c.loop-first.numbers) in
     ap Some
     (elim c.match-split_first.branch [
       | in-Some+then-first-ne32 w ↦ ended (λ space. w.if-first-ne32.true (sym (ap (λ (l : List ℕ). get_or l 0 0) w.in-Some.ensures.cases.0) ∙ space))

@@ -1,5 +1,5 @@
 use Rattle.std.proofs.Common.{◌∙◌}
-use Rattle.spin_check.proofs.Telling.{word_split}
+use Rattle.spin_check.proofs.LineWords.{word_split}
 use Rattle.spin_check.proofs.told.split_word.Goals as goal
 
 pub returns-clause-word : goal.returns-clause-word

@@ -1,5 +1,5 @@
-use Rattle.spin_counts.proofs.Whole.{counts_same}
-use Rattle.spin_counts.proofs.Summed.{summaries_same}
+use Rattle.spin_counts.proofs.HistoryCounts.{counts_same}
+use Rattle.spin_counts.proofs.SummaryLemmas.{summaries_same}
 use Rattle.spin_counts.proofs.law.counts_are_one.Goals as goal
 
 pub returns-clause-histories : goal.returns-clause-histories

@@ -1,5 +1,5 @@
 use Rattle.spin_gen.specs.Drafts.{state_behind, drafts}
-use Rattle.spin_gen.proofs.Captured.{frames_from, frames_count, file_size, is_capture}
+use Rattle.spin_gen.proofs.CaptureLemmas.{frames_from, frames_count, file_size, is_capture}
 use Rattle.spin_gen.proofs.laws.captures_are_read.Goals as goal
 
 pub returns : goal.returns

@@ -1,7 +1,7 @@
 use Rattle.std.proofs.Common.{List, sym, subst}
 use Rattle.spin_gen.specs.Drafts.{Draft}
 use Rattle.spin_gen.specs.Inner.Writing.{Writes}
-use Rattle.spin_gen.proofs.Written.{writes_none, writes_line, writes_more, lane_none, lane_more}
+use Rattle.spin_gen.proofs.ScriptText.{writes_none, writes_line, writes_more, lane_none, lane_more}
 use Rattle.spin_gen.proofs.script.put_lane.Goals as goal
 
 pub loop-number-init : goal.loop-number-init

@@ -4,7 +4,7 @@ use Rattle.spin_grammar.specs.Lines.{Barrier}
 use Rattle.spin_script.specs.Canonical.{line_text}
 use Rattle.spin_gen.specs.Drafts.{packet_line}
 use Rattle.spin_gen.specs.Inner.Writing.{packets_text}
-use Rattle.spin_gen.proofs.Written.{packets_none, packets_more}
+use Rattle.spin_gen.proofs.ScriptText.{packets_none, packets_more}
 use Rattle.spin_gen.proofs.script.put_last.Goals as goal
 
 pub loop-lane-init : goal.loop-lane-init

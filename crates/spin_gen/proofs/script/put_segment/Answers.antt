@@ -2,8 +2,8 @@ use Rattle.std.proofs.Common.{List, ◌∷◌, sym, subst}
 use Rattle.spin_grammar.specs.Lines.{Barrier}
 use Rattle.spin_gen.specs.Drafts.{Draft, Stated}
 use Rattle.spin_gen.specs.Inner.Writing.{Writes}
-use Rattle.spin_gen.proofs.Drawing.{none_after}
-use Rattle.spin_gen.proofs.Written.{writes_line, writes_more, segment_none, segment_more}
+use Rattle.spin_gen.proofs.DrawLemmas.{none_after}
+use Rattle.spin_gen.proofs.ScriptText.{writes_line, writes_more, segment_none, segment_more}
 use Rattle.spin_gen.proofs.script.put_segment.Goals as goal
 
 pub loop-lane-init : goal.loop-lane-init

@@ -1,7 +1,7 @@
 use Rattle.std.proofs.Common.{◌≡◌, ◌∙◌, sym, arith}
 use Rattle.std.proofs.lemmas.Grind.{common_steps}
 use Rattle.spin_gen.specs.Inner.Writing.{head_text}
-use Rattle.spin_gen.proofs.Written.{script_made, whole_state}
+use Rattle.spin_gen.proofs.ScriptText.{script_made, whole_state}
 use Rattle.spin_gen.proofs.script.script.Goals as goal
 
 pub returns-clause-text : goal.returns-clause-text

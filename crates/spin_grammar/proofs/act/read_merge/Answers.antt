@@ -1,8 +1,8 @@
 use Rattle.std.proofs.lemmas.Result.{err_from_is_err_and}
 use Rattle.spin_code.specs.declared.merge.Merge.TheVariants.{Fold}
 use Rattle.spin_code.specs.Size.{expr_depth}
-use Rattle.spin_grammar.proofs.Parts.{leads_then, fails_then}
-use Rattle.spin_grammar.proofs.Kept.{deep_by}
+use Rattle.spin_grammar.proofs.ReadingParts.{leads_then, fails_then}
+use Rattle.spin_grammar.proofs.DepthLemmas.{deep_by}
 use Rattle.spin_grammar.proofs.act.read_merge.Goals as goal
 
 pub returns-in_err-merge_word : goal.returns-in_err-merge_word

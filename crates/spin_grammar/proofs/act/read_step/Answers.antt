@@ -8,8 +8,8 @@ use Rattle.spin_code.specs.Size.{expr_depth}
 use Rattle.spin_grammar.specs.Grammar as grammar
 use Rattle.spin_grammar.specs.Grammar.{Fixed, Numeral, Steps}
 use Rattle.spin_grammar.specs.Forms.{part_form}
-use Rattle.spin_grammar.proofs.Parts.{leads_then, leads_with, takes_then, fails_head, fails_next, fails_then}
-use Rattle.spin_grammar.proofs.Kept.{deep_by, flat_by}
+use Rattle.spin_grammar.proofs.ReadingParts.{leads_then, leads_with, takes_then, fails_head, fails_next, fails_then}
+use Rattle.spin_grammar.proofs.DepthLemmas.{deep_by, flat_by}
 use Rattle.spin_grammar.proofs.act.read_step.Goals as goal
 
 pub returns-in_err-arg-in-Set-clause-gives : goal.returns-in_err-arg-in-Set-clause-gives
@@ -35,7 +35,8 @@ returns-in_err-arg-in-Send-clause-gives c =
 pub returns-in_err-from-in-Send-clause-gives : goal.returns-in_err-from-in-Send-clause-gives
 returns-in_err-from-in-Send-clause-gives c =
     let p = err_from_is_err_and c.from_residual-in_err-from-in-Send.result c.from_residual-in_err-from-in-Send.ensures.1 in
-    rw (p.1, p.2, c.in-Send.is) (fails_next _ _ _ _ _ _ c.in_ok-endpoint-in-Send.ensures.gives (fails_next _ _ _ _ _ _ c.in_ok-arg-in-Send.ensures.gives (fails_head _ _ _ _ c.in_err-from-in-Send.ensures.gives)))
+    rw (p.1, p.2, c.in-Send.is)
+    (fails_next _ _ _ _ _ _ c.in_ok-endpoint-in-Send.ensures.gives (fails_next _ _ _ _ _ _ c.in_ok-arg-in-Send.ensures.gives (fails_head _ _ _ _ c.in_err-from-in-Send.ensures.gives)))
 
 pub returns-in_err-read_expression-in-Result-clause-gives : goal.returns-in_err-read_expression-in-Result-clause-gives
 returns-in_err-read_expression-in-Result-clause-gives c =
@@ -55,7 +56,8 @@ returns-in_err-count-in-Up-clause-gives c =
 pub returns-in_err-read_parts-in-Up-clause-gives : goal.returns-in_err-read_parts-in-Up-clause-gives
 returns-in_err-read_parts-in-Up-clause-gives c =
     let p = err_from_is_err_and c.from_residual-in_err-read_parts-in-Up.result c.from_residual-in_err-read_parts-in-Up.ensures.1 in
-    rw (p.1, p.2, c.in-Up.is) (fails_next _ _ _ _ _ _ c.in_ok-event-in-Up.ensures.gives (fails_head _ _ _ _ (fails_then _ _ _ _ _ _ (c.in_ok-count-in-Up.ensures.opens grammar.Part) c.in_err-read_parts-in-Up.ensures.gives)))
+    rw (p.1, p.2, c.in-Up.is)
+    (fails_next _ _ _ _ _ _ c.in_ok-event-in-Up.ensures.gives (fails_head _ _ _ _ (fails_then _ _ _ _ _ _ (c.in_ok-count-in-Up.ensures.opens grammar.Part) c.in_err-read_parts-in-Up.ensures.gives)))
 
 pub returns-in_err-kind-in-Layer-clause-gives : goal.returns-in_err-kind-in-Layer-clause-gives
 returns-in_err-kind-in-Layer-clause-gives c =
@@ -76,7 +78,8 @@ pub returns-in-Some-clause-gives : goal.returns-in-Some-clause-gives
 returns-in-Some-clause-gives c =
     let e = rw c.in-Some.is at c.in_ok-read_expression-in-Set.ensures.gives in
     let arg = c.in_ok-arg-in-Set.field-0 in
-    rw c.in-Set.is (Set arg e.0, _, refl, leads_with _ [] (Steps ∷ []) _ _ _ (takes_then _ _ _ _ _ _ _ c.in_ok-arg-in-Set.ensures.gives e.1), (ap (λ (x : Expr). Set arg x) e.2.0, flat_by expr_depth e.0 e.2.1))
+    rw c.in-Set.is
+    (Set arg e.0, _, refl, leads_with _ [] (Steps ∷ []) _ _ _ (takes_then _ _ _ _ _ _ _ c.in_ok-arg-in-Set.ensures.gives e.1), (ap (λ (x : Expr). Set arg x) e.2.0, flat_by expr_depth e.0 e.2.1))
 
 pub returns-in_ok-from-in-Send-clause-gives : goal.returns-in_ok-from-in-Send-clause-gives
 returns-in_ok-from-in-Send-clause-gives c =
@@ -84,7 +87,8 @@ returns-in_ok-from-in-Send-clause-gives c =
       Send c.in_ok-endpoint-in-Send.field-0 c.in_ok-arg-in-Send.field-0 c.in_ok-from-in-Send.field-0,
       _,
       refl,
-      leads_with _ [] (Steps ∷ []) _ _ _ (takes_then _ _ _ _ _ _ _ c.in_ok-endpoint-in-Send.ensures.gives (takes_then _ _ _ _ _ _ _ c.in_ok-arg-in-Send.ensures.gives c.in_ok-from-in-Send.ensures.gives)),
+      leads_with
+          _ [] (Steps ∷ []) _ _ _ (takes_then _ _ _ _ _ _ _ c.in_ok-endpoint-in-Send.ensures.gives (takes_then _ _ _ _ _ _ _ c.in_ok-arg-in-Send.ensures.gives c.in_ok-from-in-Send.ensures.gives)),
       (refl, refl),
     )
 
@@ -102,15 +106,33 @@ pub returns-in-None-3-clause-gives : goal.returns-in-None-3-clause-gives
 returns-in-None-3-clause-gives c =
     let ps = rw c.in-None-3.is at c.in_ok-read_parts-in-Up.ensures.gives in
     let counted = leads_then _ _ _ _ _ _ _ _ (c.in_ok-count-in-Up.ensures.opens grammar.Part) ps.2 in
-    rw c.in-Up.is (Up c.in_ok-event-in-Up.field-0 ps.0, _, ap (λ (n : ℕ). Fixed (codes "up") ∷ Numeral c.in_ok-event-in-Up.field-0 ∷ Numeral n ∷ flat_map part_form ps.0) ps.1, leads_with _ [] (Steps ∷ []) _ _ _ (takes_then _ _ _ _ _ _ _ c.in_ok-event-in-Up.ensures.gives counted), ps.3)
+    rw c.in-Up.is (
+      Up c.in_ok-event-in-Up.field-0 ps.0,
+      _,
+      ap (λ (n : ℕ). Fixed (codes "up") ∷ Numeral c.in_ok-event-in-Up.field-0 ∷ Numeral n ∷ flat_map part_form ps.0) ps.1,
+      leads_with _ [] (Steps ∷ []) _ _ _ (takes_then _ _ _ _ _ _ _ c.in_ok-event-in-Up.ensures.gives counted),
+      ps.3,
+    )
 
 pub returns-in-Some-3-clause-gives : goal.returns-in-Some-3-clause-gives
 returns-in-Some-3-clause-gives c =
     let event = c.in_ok-event-in-Up.field-0 in
     let ps = rw c.in-Some-3.is at c.in_ok-read_parts-in-Up.ensures.gives in
     let counted = leads_then _ _ _ _ _ _ _ _ (c.in_ok-count-in-Up.ensures.opens grammar.Part) ps.2 in
-    rw c.in-Up.is (Up event ps.0, _, ap (λ (n : ℕ). Fixed (codes "up") ∷ Numeral event ∷ Numeral n ∷ flat_map part_form ps.0) ps.1, leads_with _ [] (Steps ∷ []) _ _ _ (takes_then _ _ _ _ _ _ _ c.in_ok-event-in-Up.ensures.gives counted), (ap (λ (x : List Part). Up event x) ps.3.0, ps.3.1))
+    rw c.in-Up.is (
+      Up event ps.0,
+      _,
+      ap (λ (n : ℕ). Fixed (codes "up") ∷ Numeral event ∷ Numeral n ∷ flat_map part_form ps.0) ps.1,
+      leads_with _ [] (Steps ∷ []) _ _ _ (takes_then _ _ _ _ _ _ _ c.in_ok-event-in-Up.ensures.gives counted),
+      (ap (λ (x : List Part). Up event x) ps.3.0, ps.3.1),
+    )
 
 pub returns-in_ok-event-in-Layer-clause-gives : goal.returns-in_ok-event-in-Layer-clause-gives
 returns-in_ok-event-in-Layer-clause-gives c =
-    rw c.in-Layer.is (Layer c.in_ok-kind-in-Layer.kind c.in_ok-event-in-Layer.field-0, _, refl, leads_with _ [] (Steps ∷ []) _ _ _ (takes_then _ _ _ _ _ _ _ c.in_ok-kind-in-Layer.ensures.opens c.in_ok-event-in-Layer.ensures.gives), (refl, refl))
+    rw c.in-Layer.is (
+      Layer c.in_ok-kind-in-Layer.kind c.in_ok-event-in-Layer.field-0,
+      _,
+      refl,
+      leads_with _ [] (Steps ∷ []) _ _ _ (takes_then _ _ _ _ _ _ _ c.in_ok-kind-in-Layer.ensures.opens c.in_ok-event-in-Layer.ensures.gives),
+      (refl, refl),
+    )

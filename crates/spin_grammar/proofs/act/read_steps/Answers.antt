@@ -9,8 +9,8 @@ use Rattle.spin_grammar.specs.Grammar.{Atom, Steps}
 use Rattle.spin_grammar.specs.Inner.Heads.{step_next}
 use Rattle.spin_grammar.specs.Forms.{step_form, steps_form}
 use Rattle.spin_grammar.specs.Inner.Reading.{Leads}
-use Rattle.spin_grammar.proofs.Parts.{leads_then, leads_over, fails_then}
-use Rattle.spin_grammar.proofs.Kept.{so_far_none, so_far_kept, so_far_deep, so_far_fails}
+use Rattle.spin_grammar.proofs.ReadingParts.{leads_then, leads_over, fails_then}
+use Rattle.spin_grammar.proofs.DepthLemmas.{so_far_none, so_far_kept, so_far_deep, so_far_fails}
 use Rattle.spin_grammar.proofs.act.read_steps.Goals as goal
 
 -- a step's first word, and the rest of it

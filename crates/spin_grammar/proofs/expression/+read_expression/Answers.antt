@@ -1,8 +1,8 @@
 use Rattle.std.proofs.Common.{◌-◌, arith}
 use Rattle.std.proofs.lemmas.Result.{err_from_is_err_and}
 use Rattle.spin_code.proofs.Sizes.{expr_depth_positive}
-use Rattle.spin_grammar.proofs.Parts.{fails_head, fails_next, fails_then, gives_made}
-use Rattle.spin_grammar.proofs.Joined.{expressions_read}
+use Rattle.spin_grammar.proofs.ReadingParts.{fails_head, fails_next, fails_then, gives_made}
+use Rattle.spin_grammar.proofs.JoinedExpressions.{expressions_read}
 use Rattle.spin_grammar.proofs.expression.+read_expression.Goals as goal
 
 pub returns-in_err-skip_expression-clause-gives : goal.returns-in_err-skip_expression-clause-gives
@@ -39,4 +39,5 @@ pub returns-in_ok-right-in-Binary-clause-gives : goal.returns-in_ok-right-in-Bin
 returns-in_ok-right-in-Binary-clause-gives t c =
     let l = c.in_ok-left-in-Binary.ensures.gives in
     let r = c.in_ok-right-in-Binary.ensures.gives in
-    gives_made _ _ _ _ _ _ _ c.join.ensures (λ o j. expressions_read c.in-Binary.operator c.args.limit (c.args.limit - 1) _ _ _ l.0 r.0 _ _ _ _ (omega arith) (rw c.in-Binary.is at c.in_ok-number.ensures.opens) l.1 l.2 r.1 r.2 j)
+    gives_made _ _ _ _ _ _ _ c.join.ensures
+    (λ o j. expressions_read c.in-Binary.operator c.args.limit (c.args.limit - 1) _ _ _ l.0 r.0 _ _ _ _ (omega arith) (rw c.in-Binary.is at c.in_ok-number.ensures.opens) l.1 l.2 r.1 r.2 j)

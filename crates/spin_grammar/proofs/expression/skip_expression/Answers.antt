@@ -2,7 +2,7 @@ use Rattle.std.proofs.Common.{◌≡◌, arith}
 use Rattle.std.proofs.lemmas.Result.{err_from_is_err_and}
 use Rattle.spin_grammar.specs.Grammar.{Expression}
 use Rattle.spin_grammar.specs.Forms.{expr_form}
-use Rattle.spin_grammar.proofs.Regrown.{regrows_none, regrows_then, regrown}
+use Rattle.spin_grammar.proofs.SkippedParts.{regrows_none, regrows_then, regrown}
 use Rattle.spin_grammar.proofs.expression.skip_expression.Goals as goal
 
 pub loop-wanted-init : goal.loop-wanted-init

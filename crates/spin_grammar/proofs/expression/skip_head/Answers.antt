@@ -3,9 +3,9 @@ use Rattle.std.proofs.lemmas.Result.{err_from_is_err_and}
 use Rattle.spin_code.specs.declared.expr.Expr.TheVariants.{Const, Arg, Field}
 use Rattle.spin_grammar.specs.Grammar.{Expression}
 use Rattle.spin_grammar.specs.Forms.{expr_form}
-use Rattle.spin_grammar.proofs.Parts.{leads_then, fails_then}
-use Rattle.spin_grammar.proofs.Regrown.{regrows_leaf, regrows_two, fails_some}
-use Rattle.spin_grammar.proofs.Joined.{joined, joined_form}
+use Rattle.spin_grammar.proofs.ReadingParts.{leads_then, fails_then}
+use Rattle.spin_grammar.proofs.SkippedParts.{regrows_leaf, regrows_two, fails_some}
+use Rattle.spin_grammar.proofs.JoinedExpressions.{joined, joined_form}
 use Rattle.spin_grammar.proofs.expression.skip_head.Goals as goal
 
 pub returns-in_err-expr_word-clause-skips : goal.returns-in_err-expr_word-clause-skips
@@ -27,7 +27,8 @@ returns-in-Arg-clause-skips c = regrows_leaf expr_form Expression (Arg c.in-Arg.
 pub returns-in_ok-field-in-Field-clause-skips : goal.returns-in_ok-field-in-Field-clause-skips
 returns-in_ok-field-in-Field-clause-skips c =
     let f = c.in_ok-field-in-Field.field-0 in
-    regrows_leaf expr_form Expression (Field f.0 f.1 f.2) c.args.wanted (c.args.wanted - 1) _ _ (omega arith) (leads_then _ _ _ _ _ _ _ _ (rw c.in-Field.is at c.in_ok-expr_word.ensures.opens) c.in_ok-field-in-Field.ensures.gives)
+    regrows_leaf expr_form Expression (Field f.0 f.1 f.2) c.args.wanted (c.args.wanted - 1) _ _ (omega arith)
+    (leads_then _ _ _ _ _ _ _ _ (rw c.in-Field.is at c.in_ok-expr_word.ensures.opens) c.in_ok-field-in-Field.ensures.gives)
 
 pub returns-in-Binary-clause-skips : goal.returns-in-Binary-clause-skips
 returns-in-Binary-clause-skips c =

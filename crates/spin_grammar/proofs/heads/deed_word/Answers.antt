@@ -1,7 +1,7 @@
 use Rattle.std.proofs.Common.{refl}
 use Rattle.spin_grammar.specs.Grammar.{accepts}
 use Rattle.spin_grammar.specs.Inner.Heads.{deed_next}
-use Rattle.spin_grammar.proofs.Tables.{IsSpelled, look_up_chosen}
+use Rattle.spin_grammar.proofs.LookupTables.{IsSpelled, look_up_chosen}
 use Rattle.spin_grammar.proofs.heads.deed_word.Goals as goal
 
 pub returns : goal.returns

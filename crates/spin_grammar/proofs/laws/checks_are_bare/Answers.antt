@@ -1,4 +1,4 @@
-use Rattle.spin_grammar.proofs.Alike.{act_check_alike, test_check_alike, merge_check_alike}
+use Rattle.spin_grammar.proofs.BareValues.{act_check_alike, test_check_alike, merge_check_alike}
 use Rattle.spin_grammar.proofs.laws.checks_are_bare.Goals as goal
 
 pub returns : goal.returns

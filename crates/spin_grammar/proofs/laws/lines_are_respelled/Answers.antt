@@ -1,4 +1,4 @@
-use Rattle.spin_grammar.proofs.Respelled.{line_respelled}
+use Rattle.spin_grammar.proofs.CanonicalSpelling.{line_respelled}
 use Rattle.spin_grammar.proofs.laws.lines_are_respelled.Goals as goal
 
 pub returns : goal.returns

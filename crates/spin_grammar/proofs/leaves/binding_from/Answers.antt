@@ -1,4 +1,4 @@
-use Rattle.spin_grammar.proofs.Numbers.{reads_binding}
+use Rattle.spin_grammar.proofs.NumberRanges.{reads_binding}
 use Rattle.spin_grammar.proofs.leaves.binding_from.Goals as goal
 
 pub returns-clause-opens : goal.returns-clause-opens

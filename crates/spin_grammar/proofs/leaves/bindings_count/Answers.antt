@@ -1,4 +1,4 @@
-use Rattle.spin_grammar.proofs.Numbers.{reads_bindings}
+use Rattle.spin_grammar.proofs.NumberRanges.{reads_bindings}
 use Rattle.spin_grammar.proofs.leaves.bindings_count.Goals as goal
 
 pub returns-clause-opens : goal.returns-clause-opens

@@ -1,4 +1,4 @@
-use Rattle.spin_grammar.proofs.Numbers.{reads_count}
+use Rattle.spin_grammar.proofs.NumberRanges.{reads_count}
 use Rattle.spin_grammar.proofs.leaves.count_from.Goals as goal
 
 pub returns-clause-opens : goal.returns-clause-opens

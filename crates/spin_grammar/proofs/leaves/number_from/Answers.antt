@@ -1,4 +1,4 @@
-use Rattle.spin_grammar.proofs.Numbers.{reads_number}
+use Rattle.spin_grammar.proofs.NumberRanges.{reads_number}
 use Rattle.spin_grammar.proofs.leaves.number_from.Goals as goal
 
 pub returns-clause-gives : goal.returns-clause-gives

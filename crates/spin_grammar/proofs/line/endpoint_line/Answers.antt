@@ -1,5 +1,5 @@
 use Rattle.std.proofs.lemmas.Result.{err_from_is_err_and}
-use Rattle.spin_grammar.proofs.Parts.{fails_head, fails_next}
+use Rattle.spin_grammar.proofs.ReadingParts.{fails_head, fails_next}
 use Rattle.spin_grammar.proofs.line.endpoint_line.Goals as goal
 
 pub returns-in_err-number-clause-gives : goal.returns-in_err-number-clause-gives

@@ -1,7 +1,7 @@
 use Rattle.std.proofs.Common.{refl}
 use Rattle.std.proofs.lemmas.Result.{err_from_is_err_and}
 use Rattle.spin_grammar.specs.Lines.{Guard}
-use Rattle.spin_grammar.proofs.Parts.{leads_then, takes_then, fails_head, fails_next, fails_then}
+use Rattle.spin_grammar.proofs.ReadingParts.{leads_then, takes_then, fails_head, fails_next, fails_then}
 use Rattle.spin_grammar.proofs.line.guard_line.Goals as goal
 
 pub returns-in_err-number-clause-gives : goal.returns-in_err-number-clause-gives

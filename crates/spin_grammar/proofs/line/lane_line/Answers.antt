@@ -1,7 +1,7 @@
 use Rattle.std.proofs.Common.{refl}
 use Rattle.std.proofs.lemmas.Result.{err_from_is_err_and}
 use Rattle.spin_grammar.specs.Lines.{Lane}
-use Rattle.spin_grammar.proofs.Parts.{takes_then, fails_head, fails_next}
+use Rattle.spin_grammar.proofs.ReadingParts.{takes_then, fails_head, fails_next}
 use Rattle.spin_grammar.proofs.line.lane_line.Goals as goal
 
 pub returns-in_err-lane-clause-gives : goal.returns-in_err-lane-clause-gives

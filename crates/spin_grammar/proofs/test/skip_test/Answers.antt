@@ -2,7 +2,7 @@ use Rattle.std.proofs.Common.{◌≡◌, arith}
 use Rattle.std.proofs.lemmas.Result.{err_from_is_err_and}
 use Rattle.spin_grammar.specs.Grammar.{Test}
 use Rattle.spin_grammar.specs.Forms.{test_form}
-use Rattle.spin_grammar.proofs.Regrown.{regrows_none, regrows_then, regrown}
+use Rattle.spin_grammar.proofs.SkippedParts.{regrows_none, regrows_then, regrown}
 use Rattle.spin_grammar.proofs.test.skip_test.Goals as goal
 
 pub loop-wanted-init : goal.loop-wanted-init

@@ -6,8 +6,8 @@ use Rattle.spin_grammar.specs.declared.fault.Fault.{Fault}
 use Rattle.spin_grammar.specs.Grammar.{Atom, Numeral, Bindings, Rising, rising}
 use Rattle.spin_grammar.specs.Forms.{padded}
 use Rattle.spin_grammar.specs.Inner.Reading.{Leads, Fails}
-use Rattle.spin_grammar.proofs.Parts.{leads_then, fails_then}
-use Rattle.spin_grammar.proofs.Valid.{rising_more, rising_bindings}
+use Rattle.spin_grammar.proofs.ReadingParts.{leads_then, fails_then}
+use Rattle.spin_grammar.proofs.BindingNumbers.{rising_more, rising_bindings}
 use Rattle.spin_grammar.proofs.work.read_bindings.Goals as goal
 
 padded_more : (ns : List ℕ) (n at : ℕ) → length ns ≡ at → at < 4 → slice_set (padded ns) at n ≡ padded (ns ++ n ∷ [])
@@ -22,7 +22,8 @@ more_read : (count low left more n : ℕ) (ns : List ℕ) (old cur new : List (L
 more_read count low left more n ns old cur new e s t =
     rw (map_push Numeral ns n) (leads_then (Bindings ∷ []) (Rising low more ∷ []) (rising (n + 1) more) (Numeral count ∷ map Numeral ns) (Numeral n ∷ []) old cur new (rw e at s) t)
 
-failed : (atoms : List Atom) (low left more : ℕ) (f : Fault) (old cur : List (List ℕ)) → left ≡ suc more → Leads (Bindings ∷ []) atoms (rising low left) old cur → Fails (Rising low more ∷ []) f cur → Fails (Bindings ∷ []) f old
+failed : (atoms : List Atom) (low left more : ℕ) (f : Fault) (old cur : List (List ℕ)) → left ≡ suc more
+    → Leads (Bindings ∷ []) atoms (rising low left) old cur → Fails (Rising low more ∷ []) f cur → Fails (Bindings ∷ []) f old
 failed atoms low left more f old cur e s h = fails_then (Bindings ∷ []) (Rising low more ∷ []) atoms f old cur (rw e at s) h
 
 pub loop-at-init : goal.loop-at-init
@@ -33,7 +34,8 @@ loop-at-init c =
 pub returns-in_err-number-clause-gives : goal.returns-in_err-number-clause-gives
 returns-in_err-number-clause-gives c =
     let p = err_from_is_err_and c.from_residual-in_err-number.result c.from_residual-in_err-number.ensures.1 in
-    rw (p.1, p.2) (failed _ c.loop-at.low (c.in_ok-count.count - c.loop-at.at) (c.in_ok-count.count - (c.loop-at.at + 1)) _ _ _ (omega arith) c.loop-at.invariant.so_far.3 (c.in_err-number.ensures.opens (c.in_ok-count.count - (c.loop-at.at + 1))))
+    rw (p.1, p.2) (failed _ c.loop-at.low (c.in_ok-count.count - c.loop-at.at) (c.in_ok-count.count - (c.loop-at.at + 1)) _ _ _ (omega arith) c.loop-at.invariant.so_far.3
+    (c.in_err-number.ensures.opens (c.in_ok-count.count - (c.loop-at.at + 1))))
 
 pub loop-at-preserved : goal.loop-at-preserved
 loop-at-preserved c =
@@ -47,12 +49,14 @@ loop-at-preserved c =
         s.0 ++ n ∷ [],
         omega (arith, length-append s.0 (n ∷ []), s.1),
         rw s.2 (padded_more s.0 n c.loop-at.at s.1 at_four),
-        more_read c.in_ok-count.count c.loop-at.low (c.in_ok-count.count - c.loop-at.at) (c.in_ok-count.count - (c.loop-at.at + 1)) n s.0 _ _ _ (omega arith) s.3 (c.in_ok-number.ensures.opens (c.in_ok-count.count - (c.loop-at.at + 1))),
+        more_read c.in_ok-count.count c.loop-at.low (c.in_ok-count.count - c.loop-at.at)
+            (c.in_ok-count.count - (c.loop-at.at + 1)) n s.0 _ _ _ (omega arith) s.3 (c.in_ok-number.ensures.opens (c.in_ok-count.count - (c.loop-at.at + 1))),
         rising_more s.0 c.loop-at.low n s.4 c.in_ok-number.ensures.range.0,
       );
     }
 
-ended : (count left low : ℕ) (ns : List ℕ) (old cur : List (List ℕ)) → left ≡ 0 → count ≡ length ns → Leads (Bindings ∷ []) (Numeral count ∷ map Numeral ns) (rising low left) old cur → Leads (Bindings ∷ []) (Numeral (length ns) ∷ map Numeral ns) [] old cur
+ended : (count left low : ℕ) (ns : List ℕ) (old cur : List (List ℕ)) → left ≡ 0 → count ≡ length ns
+    → Leads (Bindings ∷ []) (Numeral count ∷ map Numeral ns) (rising low left) old cur → Leads (Bindings ∷ []) (Numeral (length ns) ∷ map Numeral ns) [] old cur
 ended count left low ns old cur e f s = rw (e, f) at s
 
 pub returns-clause-gives : goal.returns-clause-gives

@@ -1,7 +1,7 @@
 use Rattle.std.proofs.Common.{refl}
 use Rattle.std.proofs.lemmas.Result.{err_from_is_err_and}
 use Rattle.spin_grammar.specs.Forms.{NoDefault}
-use Rattle.spin_grammar.proofs.Parts.{takes_then, fails_head, fails_next}
+use Rattle.spin_grammar.proofs.ReadingParts.{takes_then, fails_head, fails_next}
 use Rattle.spin_grammar.proofs.work.read_nodefault.Goals as goal
 
 pub returns-in_err-event-clause-gives : goal.returns-in_err-event-clause-gives
@@ -15,4 +15,5 @@ returns-in_err-requester-clause-gives c =
     rw (p.1, p.2) (fails_next _ _ _ _ _ _ c.in_ok-event.ensures.gives c.in_err-requester.ensures.gives)
 
 pub returns-clause-gives : goal.returns-clause-gives
-returns-clause-gives c = (NoDefault c.in_ok-event.field-0 c.in_ok-requester.field-0, _, refl, takes_then _ _ _ _ _ _ _ c.in_ok-event.ensures.gives c.in_ok-requester.ensures.gives, rw c.bare.ensures refl)
+returns-clause-gives c =
+    (NoDefault c.in_ok-event.field-0 c.in_ok-requester.field-0, _, refl, takes_then _ _ _ _ _ _ _ c.in_ok-event.ensures.gives c.in_ok-requester.ensures.gives, rw c.bare.ensures refl)

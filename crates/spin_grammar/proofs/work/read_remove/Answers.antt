@@ -1,7 +1,7 @@
 use Rattle.std.proofs.Common.{refl}
 use Rattle.std.proofs.lemmas.Result.{err_from_is_err_and}
 use Rattle.spin_grammar.specs.Forms.{Remove}
-use Rattle.spin_grammar.proofs.Parts.{takes_then, fails_head, fails_next}
+use Rattle.spin_grammar.proofs.ReadingParts.{takes_then, fails_head, fails_next}
 use Rattle.spin_grammar.proofs.work.read_remove.Goals as goal
 
 pub returns-in_err-event-clause-gives : goal.returns-in_err-event-clause-gives
@@ -21,5 +21,10 @@ returns-in_err-command-clause-gives c =
 
 pub returns-clause-gives : goal.returns-clause-gives
 returns-clause-gives c =
-    let target = rw c.last_target.ensures.last at c.in_ok-command.ensures.gives in
-    (Remove c.in_ok-event.field-0 c.in_ok-requester.field-0 c.in_ok-command.field-0, _, refl, takes_then _ _ _ _ _ _ _ c.in_ok-event.ensures.gives (takes_then _ _ _ _ _ _ _ c.in_ok-requester.ensures.gives target), rw c.bare-command.ensures refl)
+    let target = rw c.last_target.ensures.last at c.in_ok-command.ensures.gives in (
+      Remove c.in_ok-event.field-0 c.in_ok-requester.field-0 c.in_ok-command.field-0,
+      _,
+      refl,
+      takes_then _ _ _ _ _ _ _ c.in_ok-event.ensures.gives (takes_then _ _ _ _ _ _ _ c.in_ok-requester.ensures.gives target),
+      rw c.bare-command.ensures refl,
+    )

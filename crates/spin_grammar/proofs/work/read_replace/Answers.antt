@@ -1,7 +1,7 @@
 use Rattle.std.proofs.Common.{refl}
 use Rattle.std.proofs.lemmas.Result.{err_from_is_err_and}
 use Rattle.spin_grammar.specs.Forms.{Replace}
-use Rattle.spin_grammar.proofs.Parts.{takes_then, fails_head, fails_next}
+use Rattle.spin_grammar.proofs.ReadingParts.{takes_then, fails_head, fails_next}
 use Rattle.spin_grammar.proofs.work.read_replace.Goals as goal
 
 pub returns-in_err-event-clause-gives : goal.returns-in_err-event-clause-gives
@@ -24,13 +24,15 @@ pub returns-in_err-command-2-clause-gives : goal.returns-in_err-command-2-clause
 returns-in_err-command-2-clause-gives c =
     let p = err_from_is_err_and c.from_residual-in_err-command-2.result c.from_residual-in_err-command-2.ensures.1 in
     let target = rw c.last_target.ensures.last at c.in_ok-command.ensures.gives in
-    rw (p.1, p.2) (fails_next _ _ _ _ _ _ c.in_ok-event.ensures.gives (fails_next _ _ _ _ _ _ c.in_ok-requester.ensures.gives (fails_next _ _ _ _ _ _ target (fails_head _ _ _ _ c.in_err-command-2.ensures.gives))))
+    rw (p.1, p.2)
+    (fails_next _ _ _ _ _ _ c.in_ok-event.ensures.gives (fails_next _ _ _ _ _ _ c.in_ok-requester.ensures.gives (fails_next _ _ _ _ _ _ target (fails_head _ _ _ _ c.in_err-command-2.ensures.gives))))
 
 pub returns-in_err-command-3-clause-gives : goal.returns-in_err-command-3-clause-gives
 returns-in_err-command-3-clause-gives c =
     let p = err_from_is_err_and c.from_residual-in_err-command-3.result c.from_residual-in_err-command-3.ensures.1 in
     let target = rw c.last_target.ensures.last at c.in_ok-command.ensures.gives in
-    rw (p.1, p.2) (fails_next _ _ _ _ _ _ c.in_ok-event.ensures.gives (fails_next _ _ _ _ _ _ c.in_ok-requester.ensures.gives (fails_next _ _ _ _ _ _ target (fails_next _ _ _ _ _ _ c.in_ok-command-2.ensures.gives c.in_err-command-3.ensures.gives))))
+    rw (p.1, p.2) (fails_next _ _ _ _ _ _ c.in_ok-event.ensures.gives
+    (fails_next _ _ _ _ _ _ c.in_ok-requester.ensures.gives (fails_next _ _ _ _ _ _ target (fails_next _ _ _ _ _ _ c.in_ok-command-2.ensures.gives c.in_err-command-3.ensures.gives))))
 
 pub returns-clause-gives : goal.returns-clause-gives
 returns-clause-gives c =
@@ -38,6 +40,7 @@ returns-clause-gives c =
       Replace c.in_ok-event.field-0 c.in_ok-requester.field-0 c.in_ok-command.field-0 c.in_ok-command-2.field-0 c.in_ok-command-3.field-0,
       _,
       refl,
-      takes_then _ _ _ _ _ _ _ c.in_ok-event.ensures.gives (takes_then _ _ _ _ _ _ _ c.in_ok-requester.ensures.gives (takes_then _ _ _ _ _ _ _ target (takes_then _ _ _ _ _ _ _ c.in_ok-command-2.ensures.gives c.in_ok-command-3.ensures.gives))),
+      takes_then _ _ _ _ _ _ _ c.in_ok-event.ensures.gives
+          (takes_then _ _ _ _ _ _ _ c.in_ok-requester.ensures.gives (takes_then _ _ _ _ _ _ _ target (takes_then _ _ _ _ _ _ _ c.in_ok-command-2.ensures.gives c.in_ok-command-3.ensures.gives))),
       rw c.bare-command.ensures refl,
     )

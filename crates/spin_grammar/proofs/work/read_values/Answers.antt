@@ -9,21 +9,24 @@ use Rattle.spin_grammar.specs.Grammar.{Atom, Values, accepts}
 use Rattle.spin_grammar.specs.Forms.{value_atom}
 use Rattle.spin_grammar.specs.Inner.Reading.{Leads, Takes, Fails}
 use Rattle.spin_grammar.specs.Inner.Spots.{GivesValue}
-use Rattle.spin_grammar.proofs.Parts.{leads_then, leads_word, leads_over, fails_then, fails_word}
+use Rattle.spin_grammar.proofs.ReadingParts.{leads_then, leads_word, leads_over, fails_then, fails_word}
 use Rattle.spin_grammar.proofs.work.read_values.Goals as goal
 
 ended : (k : ℕ) (atoms : List Atom) (old cur new : List (List ℕ)) → cur ≡ [] → new ≡ [] → Leads (Values 8 ∷ []) atoms (Values k ∷ []) old cur → Takes (Values 8 ∷ []) atoms old new
 ended k atoms old cur new e f t = rw (f, ← append-nil atoms) (leads_then (Values 8 ∷ []) (Values k ∷ []) [] atoms [] old [] [] (rw e at t) (leads_over (Values k) refl))
 
-more_read : (k j : ℕ) (vs : List Value) (v : Value) (w : List ℕ) (old cur new : List (List ℕ)) → k ≡ suc j → cur ≡ w ∷ new → GivesValue w (Ok v) → Leads (Values 8 ∷ []) (map value_atom vs) (Values k ∷ []) old cur
+more_read : (k j : ℕ) (vs : List Value) (v : Value) (w : List ℕ) (old cur new : List (List ℕ)) → k ≡ suc j
+    → cur ≡ w ∷ new → GivesValue w (Ok v) → Leads (Values 8 ∷ []) (map value_atom vs) (Values k ∷ []) old cur
     → Leads (Values 8 ∷ []) (map value_atom (vs ++ v ∷ [])) (Values j ∷ []) old new
 more_read k j vs v w old cur new e first g t =
-    rw (map_push value_atom vs v) (leads_then (Values 8 ∷ []) (Values (suc j) ∷ []) (Values j ∷ []) (map value_atom vs) (value_atom v ∷ []) old cur new (rw e at t) (leads_word (Values (suc j)) w (value_atom v) (Values j ∷ []) cur new first (g j)))
+    rw (map_push value_atom vs v) (leads_then (Values 8 ∷ []) (Values (suc j) ∷ []) (Values j ∷ []) (map value_atom vs)
+    (value_atom v ∷ []) old cur new (rw e at t) (leads_word (Values (suc j)) w (value_atom v) (Values j ∷ []) cur new first (g j)))
 
 wrong : (j : ℕ) (w : List ℕ) (f : Fault) (cur new : List (List ℕ)) → cur ≡ w ∷ new → GivesValue w (Err f) → Fails (Values (suc j) ∷ []) f cur
 wrong j w f cur new first g = record { whole = λ c is more. (fails_word (Values (suc j)) w c cur new (g c is j) first).whole c refl more }
 
-failed : (k j : ℕ) (atoms : List Atom) (w : List ℕ) (f : Fault) (old cur new : List (List ℕ)) → k ≡ suc j → cur ≡ w ∷ new → GivesValue w (Err f) → Leads (Values 8 ∷ []) atoms (Values k ∷ []) old cur → Fails (Values 8 ∷ []) f old
+failed : (k j : ℕ) (atoms : List Atom) (w : List ℕ) (f : Fault) (old cur new : List (List ℕ)) → k ≡ suc j → cur ≡ w ∷ new
+    → GivesValue w (Err f) → Leads (Values 8 ∷ []) atoms (Values k ∷ []) old cur → Fails (Values 8 ∷ []) f old
 failed k j atoms w f old cur new e first g t = fails_then (Values 8 ∷ []) (Values (suc j) ∷ []) atoms f old cur (rw e at t) (wrong j w f cur new first g)
 
 no_more : (w : List ℕ) → Err cause.End ≡ accepts (Values zero) w

@@ -1,7 +1,7 @@
 use Rattle.std.proofs.Common.{refl}
 use Rattle.std.proofs.lemmas.Result.{err_from_is_err_and}
 use Rattle.spin_grammar.specs.Forms.{Raise, Later, Packet}
-use Rattle.spin_grammar.proofs.Parts.{leads_then, fails_then, gives_behind}
+use Rattle.spin_grammar.proofs.ReadingParts.{leads_then, fails_then, gives_behind}
 use Rattle.spin_grammar.proofs.work.read_work.Goals as goal
 
 pub returns-in-Install-clause-gives : goal.returns-in-Install-clause-gives

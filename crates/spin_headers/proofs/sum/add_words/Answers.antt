@@ -1,6 +1,6 @@
 use Rattle.std.proofs.Common.{arith}
 use Rattle.std.proofs.lemmas.Slice.{between_to_end}
-use Rattle.spin_headers.proofs.Sums.{step, ends_even, ends_odd}
+use Rattle.spin_headers.proofs.SumLemmas.{step, ends_even, ends_odd}
 use Rattle.spin_headers.proofs.sum.add_words.Goals as goal
 
 pub loop-rest-preserved : goal.loop-rest-preserved

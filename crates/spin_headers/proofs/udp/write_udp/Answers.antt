@@ -1,6 +1,6 @@
 use Rattle.std.proofs.Common.{arith}
 use Rattle.std.proofs.lemmas.Grind.{common_steps}
-use Rattle.spin_headers.proofs.Written.{udp_valid}
+use Rattle.spin_headers.proofs.WrittenHeaders.{udp_valid}
 use Rattle.spin_headers.proofs.udp.write_udp.Goals as goal
 
 pub returns-clause-valid : goal.returns-clause-valid

@@ -3,7 +3,7 @@ use Rattle.std.specs.Prelude.{IfOk}
 use Rattle.spin_table.specs.SetupOf.{data_of}
 use Rattle.spin_table.specs.Soundness.{IsSound}
 use Rattle.spin_proto.specs.Replies.{IsJobReply, BelongsTo}
-use Rattle.spin_jobs.proofs.Replied.{can_run_at, reply_at}
+use Rattle.spin_jobs.proofs.JobReplies.{can_run_at, reply_at}
 use Rattle.spin_jobs.proofs.doing.do_job.Goals as goal
 
 pub job_path-requires-clause-sound : goal.job_path-requires-clause-sound

@@ -5,9 +5,9 @@ use Rattle.spin_jobs.specs.contracts.doing.run_all.dyn-1 as one
 use Rattle.spin_jobs.specs.contracts.doing.run_all.dyn-2 as two
 use Rattle.spin_jobs.specs.contracts.doing.run_all.dyn-3 as three
 use Rattle.spin_jobs.specs.Jobs.{IsReplyTo}
-use Rattle.spin_jobs.proofs.Answering.{answers}
-use Rattle.spin_jobs.proofs.Crossing.{borrows_cross}
-use Rattle.spin_jobs.proofs.Placing.{ok_map}
+use Rattle.spin_jobs.proofs.ReplyLemmas.{answers}
+use Rattle.spin_jobs.proofs.ThreadCrossing.{borrows_cross}
+use Rattle.spin_jobs.proofs.ReplyPlaces.{ok_map}
 use Rattle.spin_jobs.proofs.doing.run_all.Goals as goal
 
 pub run_numbered-requires-sync-F : goal.run_numbered-requires-sync-F

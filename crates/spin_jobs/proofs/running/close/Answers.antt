@@ -1,6 +1,6 @@
 use Rattle.std.proofs.Common.{◌≡◌, ◌∙◌, ap, slice_index}
 use Rattle.spin_jobs.specs.Claims.{once_below}
-use Rattle.spin_jobs.proofs.Claiming.{learns, first_word}
+use Rattle.spin_jobs.proofs.ClaimSteps.{learns, first_word}
 use Rattle.spin_jobs.proofs.running.close.Goals as goal
 
 pub returns : goal.returns

@@ -1,5 +1,5 @@
-use Rattle.spin_jobs.proofs.Gathering.{all_done}
-use Rattle.spin_jobs.proofs.Placing.{given_by}
+use Rattle.spin_jobs.proofs.GatheredReplies.{all_done}
+use Rattle.spin_jobs.proofs.ReplyPlaces.{given_by}
 use Rattle.spin_jobs.proofs.running.run_numbered.Goals as goal
 
 pub in_order-requires-clause-within : goal.in_order-requires-clause-within

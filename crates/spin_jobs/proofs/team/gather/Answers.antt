@@ -3,9 +3,9 @@ use Rattle.std.specs.Prelude.{Result, OnOk}
 use Rattle.spin_values.specs.declared.no_memory.NoMemory.{NoMemory}
 use Rattle.spin_jobs.specs.declared.claim.Claim.{Claim}
 use Rattle.spin_jobs.specs.Inner.Workers.{Finished, ClaimedAll, Gathered, PastEnd}
-use Rattle.spin_jobs.proofs.Claiming.{joins}
-use Rattle.spin_jobs.proofs.Gathering.{gathers, past_end}
-use Rattle.spin_jobs.proofs.Ends.{all_front, all_end}
+use Rattle.spin_jobs.proofs.ClaimSteps.{joins}
+use Rattle.spin_jobs.proofs.GatheredReplies.{gathers, past_end}
+use Rattle.spin_jobs.proofs.LastItems.{all_front, all_end}
 use Rattle.spin_jobs.proofs.team.gather.Goals as goal
 
 pub join_seat-requires : goal.join_seat-requires

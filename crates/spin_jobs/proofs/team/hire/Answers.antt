@@ -1,5 +1,5 @@
 use Rattle.std.proofs.Common.{◌∙◌, ◌<◌, ◌≡◌, ap, arith}
-use Rattle.spin_jobs.proofs.Claiming.{splits}
+use Rattle.spin_jobs.proofs.ClaimSteps.{splits}
 use Rattle.spin_jobs.proofs.team.hire.Goals as goal
 
 pub split_seat-requires : goal.split_seat-requires

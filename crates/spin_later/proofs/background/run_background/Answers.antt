@@ -2,7 +2,7 @@ use Rattle.std.proofs.Common.{◌≡◌, ◌∙◌, length, sym, ap, subst, arit
 use Rattle.spin_table.specs.SetupOf.{data_of}
 use Rattle.spin_later.specs.Parties.{new_parties, IsPartyOf, AreAll}
 use Rattle.spin_later.specs.Inner.Work.{IsRight}
-use Rattle.spin_later.proofs.Team.{all_fresh, all_there, all_parties, all_right}
+use Rattle.spin_later.proofs.WorkerLemmas.{all_fresh, all_there, all_parties, all_right}
 use Rattle.spin_later.proofs.background.run_background.Goals as goal
 
 pub run_team-requires-clause-fresh : goal.run_team-requires-clause-fresh

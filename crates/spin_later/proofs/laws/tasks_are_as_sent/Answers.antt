@@ -1,4 +1,4 @@
-use Rattle.spin_later.proofs.Once.{as_sent}
+use Rattle.spin_later.proofs.TaskUniqueness.{as_sent}
 use Rattle.spin_later.proofs.laws.tasks_are_as_sent.Goals as goal
 
 pub returns : goal.returns

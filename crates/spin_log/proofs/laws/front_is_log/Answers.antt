@@ -1,4 +1,4 @@
-use Rattle.spin_log.proofs.Fronts.{front_is_log}
+use Rattle.spin_log.proofs.PenFronts.{front_is_log}
 use Rattle.spin_log.proofs.laws.front_is_log.Goals as goal
 
 pub returns : goal.returns

@@ -1,4 +1,4 @@
-use Rattle.spin_log.proofs.Meeting.{four_words}
+use Rattle.spin_log.proofs.PenNotes.{four_words}
 use Rattle.spin_log.proofs.log.read_row.Goals as goal
 
 pub returns : goal.returns

@@ -1,7 +1,7 @@
 use Rattle.std.proofs.Common.{arith, ap, sym, subst, length-append, ◌++◌, ◌∷◌, [], length, ◌+◌, ◌≡◌}
 use Rattle.spin_log.specs.Rows.{IsPrefix}
-use Rattle.spin_log.proofs.Lists.{prefix_whole}
-use Rattle.spin_log.proofs.Meeting.{reads_end, name_inside, reads_row}
+use Rattle.spin_log.proofs.RowLists.{prefix_whole}
+use Rattle.spin_log.proofs.PenNotes.{reads_end, name_inside, reads_row}
 use Rattle.spin_log.proofs.log.read_rows.Goals as goal
 
 pub loop-at-init : goal.loop-at-init
@@ -9,7 +9,8 @@ loop-at-init c = (ap (λ l. length l + 1) c.requires.empty, c.requires.room, λ 
 
 -- the next log word is 0
 pub returns-then-name-eq0 : goal.returns-then-name-eq0
-returns-then-name-eq0 c = λ lanes entries st. reads_end lanes c.loop-at.rows.items entries _ c.loop-at.at c.word-name.result st (c.loop-at.invariant.2 lanes entries st) c.loop-at.invariant.0 c.word-name.ensures c.if-name-eq0.true
+returns-then-name-eq0 c = λ lanes entries st. reads_end lanes c.loop-at.rows.items entries _ c.loop-at.at c.word-name.result st
+    (c.loop-at.invariant.2 lanes entries st) c.loop-at.invariant.0 c.word-name.ensures c.if-name-eq0.true
 
 pub read_row-requires-clause-name : goal.read_row-requires-clause-name
 read_row-requires-clause-name c =
@@ -29,7 +30,8 @@ loop-at-preserved c =
       omega arith,
       omega arith,
       λ lanes entries st. subst (λ l. IsPrefix l entries) (sym items)
-          (reads_row lanes c.loop-at.rows.items entries _ c.loop-at.at c.word-name.result st (c.loop-at.invariant.2 lanes entries st) n c.word-name.ensures c.if-name-eq0.false c.read_row.result c.read_row.ensures),
+          (reads_row lanes c.loop-at.rows.items entries _ c.loop-at.at c.word-name.result st
+          (c.loop-at.invariant.2 lanes entries st) n c.word-name.ensures c.if-name-eq0.false c.read_row.result c.read_row.ensures),
     )
 
 pub returns : goal.returns

@@ -7,4 +7,5 @@ use Rattle.spin_log.specs.Rule.{Stands}
 use Rattle.spin_log.proofs.log.read_rows.Given as goal
 
 abbrev pub invariant-loop-at : goal.invariant-loop-at
-invariant-loop-at l = (length l.rows.items + 1 ≡ l.at) × (MAX_PLACE ≤ vec_capacity l.rows) × ((lanes : ℕ) (entries : List Row) → Stands lanes entries (slots_items l.closed.words) → IsPrefix l.rows.items entries)
+invariant-loop-at l = (length l.rows.items + 1 ≡ l.at) × (MAX_PLACE ≤ vec_capacity l.rows)
+    × ((lanes : ℕ) (entries : List Row) → Stands lanes entries (slots_items l.closed.words) → IsPrefix l.rows.items entries)

@@ -1,5 +1,5 @@
 use Rattle.std.proofs.Common.{arith, ◌<◌, length, sym, ◌∙◌}
-use Rattle.spin_outside.proofs.Places.{content-skip, content-found}
+use Rattle.spin_outside.proofs.FileLists.{content-skip, content-found}
 use Rattle.spin_outside.proofs.mem_files.place_of.Goals as goal
 
 pub returns-then-is_named-clause-found : goal.returns-then-is_named-clause-found

@@ -3,8 +3,8 @@ use Rattle.std.proofs.Math.Seq.{take-nil}
 use Rattle.std.proofs.lemmas.List.{get_or_default}
 use Rattle.spin_outside.specs.Shelves.{reads_under, rest_of, name_of, file_of}
 use Rattle.spin_outside.specs.Files.{ReadsMore}
-use Rattle.spin_outside.proofs.Names.{reads-more}
-use Rattle.spin_outside.proofs.Places.{view_at-set_same, view_at-set_other, view_at-set_kept, view_at-get, view_at-past, held-set}
+use Rattle.spin_outside.proofs.FileNames.{reads-more}
+use Rattle.spin_outside.proofs.FileLists.{view_at-set_same, view_at-set_other, view_at-set_kept, view_at-get, view_at-past, held-set}
 use Rattle.spin_outside.proofs.mem_files.read_at.Goals as goal
 
 pub returns-then-at-files-clause-end : goal.returns-then-at-files-clause-end

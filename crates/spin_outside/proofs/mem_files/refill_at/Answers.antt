@@ -1,7 +1,7 @@
 use Rattle.std.proofs.Common.{◌≡◌, ap, sym, ◌∙◌, set, get_or}
 use Rattle.std.proofs.lemmas.List.{get_or_default}
 use Rattle.spin_outside.specs.Shelves.{with_file}
-use Rattle.spin_outside.proofs.Names.{with_file-at, apart-set}
+use Rattle.spin_outside.proofs.FileNames.{with_file-at, apart-set}
 use Rattle.spin_outside.proofs.mem_files.refill_at.Goals as goal
 
 pub returns-clause-put : goal.returns-clause-put

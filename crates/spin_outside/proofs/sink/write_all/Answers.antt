@@ -1,5 +1,5 @@
 use Rattle.std.proofs.Common.{◌∙◌}
-use Rattle.spin_outside.proofs.Writing.{written_more}
+use Rattle.spin_outside.proofs.WriteLoops.{written_more}
 use Rattle.spin_outside.proofs.sink.write_all.Goals as goal
 
 pub loop-rest-preserved : goal.loop-rest-preserved

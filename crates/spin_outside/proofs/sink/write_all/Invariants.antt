@@ -1,5 +1,5 @@
 use Rattle.std.proofs.Common.{◌≡◌, length}
-use Rattle.spin_outside.proofs.Writing.{IsPartlyWritten}
+use Rattle.spin_outside.proofs.WriteLoops.{IsPartlyWritten}
 use Rattle.spin_outside.proofs.sink.write_all.Given as goal
 
 abbrev pub invariant-loop-rest : goal.invariant-loop-rest

@@ -1,4 +1,4 @@
-use Rattle.spin_pcap.proofs.Totals.{each_has_body, each_is_capture}
+use Rattle.spin_pcap.proofs.CaptureTotality.{each_has_body, each_is_capture}
 use Rattle.spin_pcap.proofs.laws.each_has_reading.Goals as goal
 
 pub returns-clause-body : goal.returns-clause-body

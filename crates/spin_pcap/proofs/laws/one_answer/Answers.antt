@@ -1,4 +1,4 @@
-use Rattle.spin_pcap.proofs.Readings.{one_answer}
+use Rattle.spin_pcap.proofs.CaptureUniqueness.{one_answer}
 use Rattle.spin_pcap.proofs.laws.one_answer.Goals as goal
 
 pub returns : goal.returns

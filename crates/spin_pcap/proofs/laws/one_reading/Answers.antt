@@ -1,4 +1,4 @@
-use Rattle.spin_pcap.proofs.Readings.{one_reading}
+use Rattle.spin_pcap.proofs.CaptureUniqueness.{one_reading}
 use Rattle.spin_pcap.proofs.laws.one_reading.Goals as goal
 
 pub returns : goal.returns

@@ -1,6 +1,6 @@
 use Rattle.std.proofs.Common.{◌≡◌, ◌≤◌, ◌+◌, ◌-◌, ◌++◌, ℕ, List, length, take, sym, ap, ◌∙◌, subst, arith, rules}
 use Rattle.std.proofs.lemmas.List.{length-append, length-take}
-use Rattle.spin_pcap.proofs.Passed.{passes-more, passes-copy}
+use Rattle.spin_pcap.proofs.SourceBytes.{passes-more, passes-copy}
 use Rattle.spin_pcap.specs.Passing.{Passes}
 use Rattle.spin_pcap.proofs.reader.copy_body.Goals as goal
 
@@ -21,7 +21,15 @@ loop-rest-preserved g c =
     let frame : c.extend_from_slice.new.self ≡ c.loop-rest.frame ++ take c.min-piece.result c.need.new.self = grown ∙ ap (λ ys. c.loop-rest.frame ++ take c.min-piece.result ys) held in
     record {
       passed = passes-copy c.loop-rest.frame _ _ _ c.need.new.self _ _ _ _ c.min-piece.result c.loop-rest.invariant.passed c.need.ensures.passed within frame c.skip.ensures.skipped;
-      count = omega (arith, ap length frame, length-append c.loop-rest.frame (take c.min-piece.result c.need.new.self), length-take c.min-piece.result c.need.new.self, c.loop-rest.invariant.count, c.min-piece.ensures, within);
+      count = omega (
+        arith,
+        ap length frame,
+        length-append c.loop-rest.frame (take c.min-piece.result c.need.new.self),
+        length-take c.min-piece.result c.need.new.self,
+        c.loop-rest.invariant.count,
+        c.min-piece.ensures,
+        within,
+      );
       bound = λ _. c.skip.ensures.bound;
       stood = search rules;
     }

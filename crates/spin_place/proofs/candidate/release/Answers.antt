@@ -5,7 +5,7 @@ use Rattle.std.proofs.lemmas.List.Edits.{map_over_more}
 use Rattle.spin_place.specs.declared.candidate.Candidate.{Candidate}
 use Rattle.spin_place.specs.Precedence.{must_precede}
 use Rattle.spin_place.specs.Inner.Candidates.{released}
-use Rattle.spin_place.proofs.Lists.{one_if}
+use Rattle.spin_place.proofs.NumberLists.{one_if}
 use Rattle.spin_place.proofs.candidate.release.Goals as goal
 
 -- what a `bool` is as a number

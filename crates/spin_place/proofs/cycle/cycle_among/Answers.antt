@@ -16,5 +16,6 @@ returns c =
     let size : length new ≡ length old = c.start_at_least.auto.ring ∙ ap length is in
     let turned : new ≡ drop t.0 old ++ take t.0 old = t.2 ∙ ap (λ (ns : List ℕ). drop t.0 ns ++ take t.0 ns) is in
     let done : take c.in_ok-ring.ring.len (new ++ drop (length new) old) ≡ new = take_at new (drop (length new) old) c.in_ok-ring.ring.len (omega arith) in
-    let cycle = IsCycleOf-turn R old new t.0 (omega arith) turned (omega (arith, c.in_ok-ring.ensures.several)) c.in_ok-ring.ensures.distinct c.in_ok-ring.ensures.closed c.start_at_least.ensures.least in
+    let cycle =
+    IsCycleOf-turn R old new t.0 (omega arith) turned (omega (arith, c.in_ok-ring.ensures.several)) c.in_ok-ring.ensures.distinct c.in_ok-ring.ensures.closed c.start_at_least.ensures.least in
     subst (λ (ns : List ℕ). IsCycleOf R ns) (sym done) cycle

@@ -5,7 +5,7 @@ use Rattle.spin_place.specs.declared.candidate.Candidate.{Candidate}
 use Rattle.spin_place.specs.Inner.Candidates.{bindings_of}
 use Rattle.spin_place.specs.Orders.{AreDistinct, IsRing}
 use Rattle.spin_place.specs.Precedence.{must_precede, MustPrecede}
-use Rattle.spin_place.proofs.Walks.{IsWalk, IsWalk-cons, IsRing-from_walk, length-walk}
+use Rattle.spin_place.proofs.PrecedenceWalks.{IsWalk, IsWalk-cons, IsRing-from_walk, length-walk}
 use Rattle.spin_place.proofs.cycle.walk_back.Goals as goal
 use Rattle.spin_place.proofs.cycle.walk_back.Goals.{In-Some}
 
@@ -45,7 +45,8 @@ loop-path-preserved c =
     let read = c.deref.ensures.value ∙ inserted in
     let absent : Contains c.deref.result.now y.binding.now.number → ⊥ = c.in_default.ensures in
     subst (λ ns. IsWalk rest c.predecessor-at.result ns) (sym inserted)
-    (IsWalk-cons rest c.loop-path.at c.predecessor-at.result c.loop-path.path.items x y c.loop-path.invariant is c.predecessor-at.ensures.there is' h (subst (λ ns. Contains ns y.binding.now.number → ⊥) read absent))
+    (IsWalk-cons rest c.loop-path.at c.predecessor-at.result c.loop-path.path.items x y c.loop-path.invariant is c.predecessor-at.ensures.there is' h
+    (subst (λ ns. Contains ns y.binding.now.number → ⊥) read absent))
 
 pub loop-path-smaller : goal.loop-path-smaller
 loop-path-smaller c =

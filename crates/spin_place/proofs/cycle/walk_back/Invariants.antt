@@ -1,5 +1,5 @@
 use Rattle.std.proofs.Common.{◌-◌, length}
-use Rattle.spin_place.proofs.Walks.{IsWalk}
+use Rattle.spin_place.proofs.PrecedenceWalks.{IsWalk}
 use Rattle.spin_place.proofs.cycle.walk_back.Given as goal
 
 abbrev pub invariant-loop-path : goal.invariant-loop-path

@@ -1,5 +1,5 @@
 use Rattle.std.proofs.Common.{arith}
-use Rattle.spin_place.proofs.Lists.{repeats, distinct_more}
+use Rattle.spin_place.proofs.NumberLists.{repeats, distinct_more}
 use Rattle.spin_place.proofs.ring.are_distinct.Goals as goal
 
 pub returns-then-stands_before : goal.returns-then-stands_before

@@ -7,7 +7,7 @@ use Rattle.spin_place.specs.declared.candidate.Candidate.{Candidate}
 use Rattle.spin_place.specs.Inner.Candidates.{bindings_of, released, EachWaits, IsLeastReady}
 use Rattle.spin_place.specs.Orders.{IsCycleOf}
 use Rattle.spin_place.specs.Precedence.{must_precede, MustPrecede, IsCycle}
-use Rattle.spin_place.proofs.Placing.{IsPlacing, IsPlacing-nil, IsPlacing-more, IsPlacing-done, EachWaits-from_counted, IsCycle-from_rest, IsCycle-unlawful, waits_for}
+use Rattle.spin_place.proofs.BindingPlacing.{IsPlacing, IsPlacing-nil, IsPlacing-more, IsPlacing-done, EachWaits-from_counted, IsCycle-from_rest, IsCycle-unlawful, waits_for}
 use Rattle.spin_place.proofs.run_order.order.Goals as goal
 use Rattle.spin_place.proofs.run_order.order.Goals.{After-drop-rest-in_default}
 
@@ -55,7 +55,8 @@ loop-rest-preserved c =
     let others : c.deref_mut.result.now ≡ remove rest at = c.deref_mut.ensures.value ∙ c.remove.ensures.items in
     let same : new ≡ map (released x.binding.now) (remove rest at) = c.release.ensures ∙ ap (λ (cs : List Candidate). map (released x.binding.now) cs) others in
     let size : length new ≡ length c.remove.new.self.items = ap length same ∙ length-map (remove rest at) (released x.binding.now) ∙ sym (ap length c.remove.ensures.items) in
-    let left : take c.remove.new.self.len (new ++ drop (length new) c.remove.new.self.items) ≡ map (released x.binding.now) (remove rest at) = take_at new (drop (length new) c.remove.new.self.items) c.remove.new.self.len (omega arith) ∙ same in
+    let left : take c.remove.new.self.len (new ++ drop (length new) c.remove.new.self.items) ≡ map (released x.binding.now) (remove rest at) =
+    take_at new (drop (length new) c.remove.new.self.items) c.remove.new.self.len (omega arith) ∙ same in
     let pushed : c.push.new.self ≡ c.loop-rest.placed ++ x.binding.now.number ∷ [] = c.in_ok-push.ensures.ok in
     subst (λ (cs : List Candidate). IsPlacing c.args.bindings.now cs c.push.new.self) (sym left)
     (subst (λ ns. IsPlacing c.args.bindings.now (map (released x.binding.now) (remove rest at)) ns) (sym pushed)

@@ -1,5 +1,5 @@
 use Rattle.std.proofs.Common.{vec_len}
-use Rattle.spin_place.proofs.Placing.{IsPlacing}
+use Rattle.spin_place.proofs.BindingPlacing.{IsPlacing}
 use Rattle.spin_place.proofs.run_order.order.Given as goal
 
 abbrev pub invariant-loop-rest : goal.invariant-loop-rest

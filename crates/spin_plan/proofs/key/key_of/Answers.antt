@@ -6,7 +6,7 @@ use Rattle.spin_code.specs.declared.expr.Expr.{Expr}
 use Rattle.spin_plan.specs.Keys.{IsLeader}
 use Rattle.spin_plan.specs.Planned.{expr_of}
 use Rattle.spin_plan.specs.Inner.Reads.{is_read, times_in}
-use Rattle.spin_plan.proofs.Counting.{all_are, of_all}
+use Rattle.spin_plan.proofs.RequirementCounts.{all_are, of_all}
 use Rattle.spin_plan.proofs.key.key_of.Goals as goal
 
 pub leader-requires : goal.leader-requires

@@ -1,7 +1,7 @@
 use Rattle.std.proofs.Common.{take}
 use Rattle.std.specs.Option.{option_map}
 use Rattle.spin_plan.specs.Planned.{expr_of}
-use Rattle.spin_plan.proofs.Leading.{Noted}
+use Rattle.spin_plan.proofs.LeaderLemmas.{Noted}
 use Rattle.spin_plan.proofs.key.leader.Given as goal
 
 abbrev pub invariant-loop-e : goal.invariant-loop-e

@@ -1,7 +1,7 @@
 use Rattle.std.proofs.Common.{arith, ◌∷◌, suc, get_or, subst, ◌<◌, length}
 use Rattle.std.proofs.lemmas.Grind.{common_steps}
 use Rattle.std.proofs.lemmas.Option.{slice_get-get_or}
-use Rattle.spin_plan.proofs.Requiring.{first_at, none_more}
+use Rattle.spin_plan.proofs.RequirementLemmas.{first_at, none_more}
 use Rattle.spin_plan.proofs.reads.required_of.Goals as goal
 
 pub returns-then-is_some-2 : goal.returns-then-is_some-2

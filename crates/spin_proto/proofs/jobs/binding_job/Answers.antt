@@ -11,20 +11,22 @@ use Rattle.spin_proto.specs.declared.reply.Reply.TheVariants as reply
 use Rattle.spin_proto.specs.Whole.{marks_of, raised_after, reply_of, job_of, job_answer, starts, ups_of}
 use Rattle.spin_proto.specs.Inner.Walks.{UpsRise, Gained}
 use Rattle.spin_proto.specs.Replies.{units_in}
-use Rattle.spin_proto.proofs.Climbs.{items_rise}
-use Rattle.spin_proto.proofs.Served.{job_found, spent, ran}
+use Rattle.spin_proto.proofs.RisingRaises.{items_rise}
+use Rattle.spin_proto.proofs.RaiseLemmas.{job_found, spent, ran}
 use Rattle.spin_proto.proofs.jobs.binding_job.Goals as goal
 
 pub run_handler-requires-clause-first : goal.run_handler-requires-clause-first
 run_handler-requires-clause-first g c =
     let a = c.args in
-    let job = job_found (data_of a.setup.now) a.version.now a.event a.number c.handler_of-handler.result c.bindings.result.now a.setup.now.sound c.requires.sound c.requires.belongs c.bindings.ensures c.handler_of-handler.ensures in
+    let job = job_found (data_of a.setup.now) a.version.now a.event a.number c.handler_of-handler.result c.bindings.result.now
+    a.setup.now.sound c.requires.sound c.requires.belongs c.bindings.ensures c.handler_of-handler.ensures in
     job.fits.first
 
 pub run_handler-requires-clause-last : goal.run_handler-requires-clause-last
 run_handler-requires-clause-last g c =
     let a = c.args in
-    let job = job_found (data_of a.setup.now) a.version.now a.event a.number c.handler_of-handler.result c.bindings.result.now a.setup.now.sound c.requires.sound c.requires.belongs c.bindings.ensures c.handler_of-handler.ensures in
+    let job = job_found (data_of a.setup.now) a.version.now a.event a.number c.handler_of-handler.result c.bindings.result.now
+    a.setup.now.sound c.requires.sound c.requires.belongs c.bindings.ensures c.handler_of-handler.ensures in
     subst (λ cat. c.handler_of-handler.result ≤ length (acts_of cat)) (sym c.catalogue-cat.ensures) job.fits.last
 
 pub follow-requires-clause-rise : goal.follow-requires-clause-rise
@@ -36,7 +38,8 @@ follow-requires-clause-rise g c =
     let job = job_found d s a.event a.number handler c.bindings.result.now a.setup.now.sound c.requires.sound c.requires.belongs c.bindings.ensures c.handler_of-handler.ensures in
     let steps = steps_at (units_in d) handler in
     let given : c.run_handler.new.out ≡ item.Ran a.number ∷ items_of steps a.args =
-    (subst (λ cat. c.run_handler.new.out ≡ c.new-given.result ++ item.Ran a.number ∷ items_of (steps_at (units_of cat) handler) a.args) c.catalogue-cat.ensures c.in_ok-word.ensures.out) ∙ ap (λ o. o ++ item.Ran a.number ∷ items_of steps a.args) c.new-given.ensures in
+    (subst (λ cat. c.run_handler.new.out ≡ c.new-given.result ++ item.Ran a.number ∷ items_of (steps_at (units_of cat) handler) a.args) c.catalogue-cat.ensures c.in_ok-word.ensures.out)
+    ∙ ap (λ o. o ++ item.Ran a.number ∷ items_of steps a.args) c.new-given.ensures in
     let rises = items_rise (length d.events) a.event steps a.args job.fits.rises in
     subst (λ n. UpsRise n a.event (ups_of c.run_handler.new.out)) (sym c.requires.sound.events)
     (subst (λ (given : List Item). UpsRise (length d.events) a.event (ups_of given)) (sym given) rises)
@@ -51,7 +54,8 @@ returns-then-not-branch g c = λ bounds are.
     let job = job_found d s a.event a.number handler c.bindings.result.now a.setup.now.sound c.requires.sound c.requires.belongs c.bindings.ensures c.handler_of-handler.ensures in
     let steps = steps_at u handler in
     let given : c.run_handler.new.out ≡ item.Ran a.number ∷ items_of steps a.args =
-    (subst (λ cat. c.run_handler.new.out ≡ c.new-given.result ++ item.Ran a.number ∷ items_of (steps_at (units_of cat) handler) a.args) c.catalogue-cat.ensures c.in_ok-word.ensures.out) ∙ ap (λ o. o ++ item.Ran a.number ∷ items_of steps a.args) c.new-given.ensures in
+    (subst (λ cat. c.run_handler.new.out ≡ c.new-given.result ++ item.Ran a.number ∷ items_of (steps_at (units_of cat) handler) a.args) c.catalogue-cat.ensures c.in_ok-word.ensures.out)
+    ∙ ap (λ o. o ++ item.Ran a.number ∷ items_of steps a.args) c.new-given.ensures in
     let raise = raised_after runner.Job u bounds a.event in
     let followed = rw c.if-not-branch.true at c.in_ok-follow.ensures in
     let many : c.new-walk.result.left < starts (marks_of a.event raise c.run_handler.new.out) = followed bounds are in
@@ -70,7 +74,8 @@ returns g c = λ bounds are.
     let job = job_found d s a.event a.number handler c.bindings.result.now a.setup.now.sound c.requires.sound c.requires.belongs c.bindings.ensures c.handler_of-handler.ensures in
     let steps = steps_at u handler in
     let given : c.run_handler.new.out ≡ item.Ran a.number ∷ items_of steps a.args =
-    (subst (λ cat. c.run_handler.new.out ≡ c.new-given.result ++ item.Ran a.number ∷ items_of (steps_at (units_of cat) handler) a.args) c.catalogue-cat.ensures c.in_ok-word.ensures.out) ∙ ap (λ o. o ++ item.Ran a.number ∷ items_of steps a.args) c.new-given.ensures in
+    (subst (λ cat. c.run_handler.new.out ≡ c.new-given.result ++ item.Ran a.number ∷ items_of (steps_at (units_of cat) handler) a.args) c.catalogue-cat.ensures c.in_ok-word.ensures.out)
+    ∙ ap (λ o. o ++ item.Ran a.number ∷ items_of steps a.args) c.new-given.ensures in
     let raise = raised_after runner.Job u bounds a.event in
     let followed = rw c.if-not-branch.false at c.in_ok-follow.ensures in
     let went : Gained (marks_of a.event raise c.run_handler.new.out) c.new-walk.result c.follow.new.walk = followed bounds are in

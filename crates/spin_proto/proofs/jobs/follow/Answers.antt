@@ -1,7 +1,7 @@
 use Rattle.std.proofs.Common.{length}
 use Rattle.spin_table.specs.SetupOf.{data_of}
 use Rattle.spin_proto.specs.Replies.{units_in}
-use Rattle.spin_proto.proofs.Turning.{follow_on, follow_spent, rest_rises}
+use Rattle.spin_proto.proofs.RaiseTurns.{follow_on, follow_spent, rest_rises}
 use Rattle.spin_proto.proofs.jobs.follow.Goals as goal
 
 pub returns-in-None : goal.returns-in-None

@@ -4,7 +4,7 @@ use Rattle.spin_table.specs.SetupOf.{data_of}
 use Rattle.spin_proto.specs.Replies.{units_in}
 use Rattle.spin_proto.specs.Whole.{marks_up, marks_of, raised_after}
 use Rattle.spin_proto.specs.Inner.Walks.{OnBounds, UpsRise}
-use Rattle.spin_proto.proofs.Owes.{Owes}
+use Rattle.spin_proto.proofs.WalkLemmas.{Owes}
 use Rattle.spin_proto.proofs.jobs.follow.Given as goal
 
 abbrev pub invariant-loop-up : goal.invariant-loop-up

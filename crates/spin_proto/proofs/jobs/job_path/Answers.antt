@@ -3,7 +3,7 @@ use Rattle.spin_table.specs.SetupOf.{data_of}
 use Rattle.spin_proto.specs.declared.deed.JobCall.TheVariants as call
 use Rattle.spin_proto.specs.Replies.{units_in, job_reply, IsJobReply, calls_left}
 use Rattle.spin_proto.specs.Inner.Walks.{OnBounds}
-use Rattle.spin_proto.proofs.Replying.{ok_map, job_done, no_calls_of}
+use Rattle.spin_proto.proofs.ReplyLemmas.{ok_map, job_done, no_calls_of}
 use Rattle.spin_proto.proofs.jobs.job_path.Goals as goal
 
 pub returns-in_ok-args-in-Whole-clause-reply : goal.returns-in_ok-args-in-Whole-clause-reply

@@ -5,10 +5,11 @@ use Rattle.spin_raise.specs.Firing.{units_of, bound_of, IsThere}
 use Rattle.spin_table.specs.SetupOf.{data_of}
 use Rattle.spin_proto.specs.Replies.{units_in}
 use Rattle.spin_proto.specs.Whole.{raised_after, marks_of}
-use Rattle.spin_proto.proofs.Bounds.{over_here}
-use Rattle.spin_proto.proofs.Owes.{owes_all}
-use Rattle.spin_proto.proofs.Turning.{follow_on, follow_spent, rest_rises, begins_owing, turn_unnoted, turn_short, turn_over, turn_answer, turn_rises, turn_waits, nothing_waits, turn_full, turn_end, turn_shorter, from_empty, begins, comes_at}
-use Rattle.spin_proto.proofs.Served.{served, bound_here}
+use Rattle.spin_proto.proofs.BoundEvents.{over_here}
+use Rattle.spin_proto.proofs.WalkLemmas.{owes_all}
+use Rattle.spin_proto.proofs.RaiseTurns.{follow_on, follow_spent, rest_rises, begins_owing, turn_unnoted, turn_short, turn_over, turn_answer}
+use Rattle.spin_proto.proofs.RaiseTurns.{turn_rises, turn_waits, nothing_waits, turn_full, turn_end, turn_shorter, from_empty, begins, comes_at}
+use Rattle.spin_proto.proofs.RaiseLemmas.{served, bound_here}
 use Rattle.spin_proto.proofs.rising.+raise_event.Goals as goal
 
 pub turns-init : goal.turns-init
@@ -18,9 +19,15 @@ turns-init g t c =
     let s = a.version.now in
     let e = c.event-def.result.now in
     let b = bound_of c.plan-plan.result.now.bindings e.merge c.default_of-default.result in
-    let serving = served d s a.event e c.plan-plan.result.now.bindings c.default_of-default.result c.requires.sound c.event-def.ensures c.default_of-default.ensures c.plan-plan.ensures.order a.setup.now.sound in
-    let from = begins (length s.events) a.event a.runner (units_in d) b c.start-progress.result a.args serving c.start-progress.ensures.from c.start-progress.ensures.answer c.start-progress.ensures.args in
-    ((λ bounds are. begins_owing (marks_of a.event (raised_after a.runner (units_in d) bounds a.event)) a.runner (units_in d) b c.start-progress.result a.args a.walk.now c.start-progress.ensures.from c.start-progress.ensures.answer c.start-progress.ensures.args), from.0, from.1)
+    let serving =
+    served d s a.event e c.plan-plan.result.now.bindings c.default_of-default.result c.requires.sound c.event-def.ensures c.default_of-default.ensures c.plan-plan.ensures.order a.setup.now.sound in
+    let from =
+    begins (length s.events) a.event a.runner (units_in d) b c.start-progress.result a.args serving c.start-progress.ensures.from c.start-progress.ensures.answer c.start-progress.ensures.args in (
+      (λ bounds are. begins_owing (marks_of a.event (raised_after a.runner (units_in d) bounds a.event)) a.runner
+          (units_in d) b c.start-progress.result a.args a.walk.now c.start-progress.ensures.from c.start-progress.ensures.answer c.start-progress.ensures.args),
+      from.0,
+      from.1,
+    )
 
 pub step-requires-clause-there : goal.step-requires-clause-there
 step-requires-clause-there g t c =
@@ -28,7 +35,8 @@ step-requires-clause-there g t c =
     let d = data_of a.setup.now in
     let e = c.event-def.result.now in
     let b = bound_of c.plan-plan.result.now.bindings e.merge c.default_of-default.result in
-    let serving = served d a.version.now a.event e c.plan-plan.result.now.bindings c.default_of-default.result c.requires.sound c.event-def.ensures c.default_of-default.ensures c.plan-plan.ensures.order a.setup.now.sound in
+    let serving = served d a.version.now a.event e c.plan-plan.result.now.bindings c.default_of-default.result
+    c.requires.sound c.event-def.ensures c.default_of-default.ensures c.plan-plan.ensures.order a.setup.now.sound in
     subst (λ cat. IsThere (units_of cat) b) (sym c.catalogue-cat.ensures) serving.there
 
 pub step-requires-clause-over : goal.step-requires-clause-over
@@ -43,10 +51,12 @@ returns-in-End g t c = λ bounds are.
     let d = data_of a.setup.now in
     let e = c.event-def.result.now in
     let b = bound_of c.plan-plan.result.now.bindings e.merge c.default_of-default.result in
-    let here = bound_here d a.version.now a.event e c.plan-plan.result.now.bindings c.default_of-default.result c.requires.sound c.event-def.ensures c.default_of-default.ensures c.plan-plan.ensures.order bounds are in
+    let here = bound_here d a.version.now a.event e c.plan-plan.result.now.bindings c.default_of-default.result
+    c.requires.sound c.event-def.ensures c.default_of-default.ensures c.plan-plan.ensures.order bounds are in
     let stepped = rw c.catalogue-cat.ensures at c.in_ok-step.ensures in
     comes_at a.runner (units_in d) bounds b a.event a.args (Some c.step.new.progress.answer) a.walk.now c.turns.walk here
-    (turn_end e.merge true _ _ (marks_of a.event (raised_after a.runner (units_in d) bounds a.event)) _ [] _ _ _ _ a.walk.now c.turns.walk (rw c.in-End.is at stepped) (c.turns.invariant.0 bounds are) c.turns.invariant.1)
+    (turn_end e.merge true _ _ (marks_of a.event (raised_after a.runner (units_in d) bounds a.event)) _ [] _ _ _ _ a.walk.now c.turns.walk
+    (rw c.in-End.is at stepped) (c.turns.invariant.0 bounds are) c.turns.invariant.1)
 
 pub returns-in-Full : goal.returns-in-Full
 returns-in-Full g t c = λ bounds are.
@@ -54,7 +64,8 @@ returns-in-Full g t c = λ bounds are.
     let d = data_of a.setup.now in
     let e = c.event-def.result.now in
     let b = bound_of c.plan-plan.result.now.bindings e.merge c.default_of-default.result in
-    let here = bound_here d a.version.now a.event e c.plan-plan.result.now.bindings c.default_of-default.result c.requires.sound c.event-def.ensures c.default_of-default.ensures c.plan-plan.ensures.order bounds are in
+    let here = bound_here d a.version.now a.event e c.plan-plan.result.now.bindings c.default_of-default.result
+    c.requires.sound c.event-def.ensures c.default_of-default.ensures c.plan-plan.ensures.order bounds are in
     let stepped = rw c.catalogue-cat.ensures at c.in_ok-step.ensures in
     comes_at a.runner (units_in d) bounds b a.event a.args None a.walk.now c.turns.walk here
     (turn_full a.event (raised_after a.runner (units_in d) bounds a.event) e.merge _ _ _ _ _ _ _ a.walk.now c.turns.walk (rw c.in-Full.is at stepped) (c.turns.invariant.0 bounds are))
@@ -65,7 +76,8 @@ returns-in_default g t c = λ bounds are.
     let d = data_of a.setup.now in
     let e = c.event-def.result.now in
     let b = bound_of c.plan-plan.result.now.bindings e.merge c.default_of-default.result in
-    let here = bound_here d a.version.now a.event e c.plan-plan.result.now.bindings c.default_of-default.result c.requires.sound c.event-def.ensures c.default_of-default.ensures c.plan-plan.ensures.order bounds are in
+    let here = bound_here d a.version.now a.event e c.plan-plan.result.now.bindings c.default_of-default.result
+    c.requires.sound c.event-def.ensures c.default_of-default.ensures c.plan-plan.ensures.order bounds are in
     let empty = from_empty _ _ _ _ _ _ _ _ _ c.new-given.ensures (rw c.catalogue-cat.ensures at c.in_ok-step.ensures) in
     let stepped = rw c.in-Ran.is at empty in
     let short = rw c.in_default.is at c.in_ok-ups-in-Ran.ensures in
@@ -88,15 +100,18 @@ returns-in-None g t c = λ bounds are.
     let d = data_of a.setup.now in
     let e = c.event-def.result.now in
     let b = bound_of c.plan-plan.result.now.bindings e.merge c.default_of-default.result in
-    let here = bound_here d a.version.now a.event e c.plan-plan.result.now.bindings c.default_of-default.result c.requires.sound c.event-def.ensures c.default_of-default.ensures c.plan-plan.ensures.order bounds are in
+    let here = bound_here d a.version.now a.event e c.plan-plan.result.now.bindings c.default_of-default.result
+    c.requires.sound c.event-def.ensures c.default_of-default.ensures c.plan-plan.ensures.order bounds are in
     let empty = from_empty _ _ _ _ _ _ _ _ _ c.new-given.ensures (rw c.catalogue-cat.ensures at c.in_ok-step.ensures) in
     let stepped = rw c.in-Ran.is at empty in
     let notes = rw c.in-Some.is at c.in_ok-ups-in-Ran.ensures in
     let waiting = c.from-queue.ensures.0 ∙ c.into_vec.ensures in
     let came = rw c.in-None.is at c.in_ok-raise_event-in-Ran.ensures in
-    let short = follow_spent a.runner (units_in d) bounds (length a.version.now.events) a.event _ c.in-Some-pop_front.up _ c.pop_front.new.self.items _ _ _ c.raise_event.new.walk c.in-Some-pop_front.ensures.items c.loop-up.invariant.1 (c.loop-up.invariant.0 bounds are) c.in_ok-note-in-Ran.ensures (came bounds are) in
+    let short = follow_spent a.runner (units_in d) bounds (length a.version.now.events) a.event _ c.in-Some-pop_front.up _ c.pop_front.new.self.items
+    _ _ _ c.raise_event.new.walk c.in-Some-pop_front.ensures.items c.loop-up.invariant.1 (c.loop-up.invariant.0 bounds are) c.in_ok-note-in-Ran.ensures (came bounds are) in
     comes_at a.runner (units_in d) bounds b a.event a.args None a.walk.now c.raise_event.new.walk here
-    (turn_short a.event (raised_after a.runner (units_in d) bounds a.event) _ _ _ _ _ _ _ _ _ _ a.walk.now c.turns.walk c.note_items.new.walk stepped (c.turns.invariant.0 bounds are) waiting notes short)
+    (turn_short a.event (raised_after a.runner (units_in d) bounds a.event) _ _ _ _ _ _ _ _ _ _ a.walk.now c.turns.walk c.note_items.new.walk stepped
+    (c.turns.invariant.0 bounds are) waiting notes short)
 
 pub loop-up-preserved : goal.loop-up-preserved
 loop-up-preserved g t c =
@@ -122,7 +137,9 @@ turns-preserved g t c =
     let stepped = rw c.in-Ran.is at empty in
     let notes = rw c.in-Some.is at c.in_ok-ups-in-Ran.ensures in
     let waiting = c.from-queue.ensures.0 ∙ c.into_vec.ensures in (
-      (λ bounds are. turn_over a.event (raised_after a.runner (units_in d) bounds a.event) _ _ _ _ _ _ _ _ _ _ _ a.walk.now c.turns.walk c.note_items.new.walk c.loop-up.walk stepped (c.turns.invariant.0 bounds are) waiting notes (nothing_waits c.loop-up.queue.items _ c.in_default-pop_front.ensures.items c.in_default-pop_front.ensures.rest) (c.loop-up.invariant.0 bounds are)),
+      (λ bounds are. turn_over a.event (raised_after a.runner (units_in d) bounds a.event) _ _ _ _ _ _ _ _ _ _ _ a.walk.now c.turns.walk c.note_items.new.walk c.loop-up.walk stepped
+          (c.turns.invariant.0 bounds are) waiting notes
+          (nothing_waits c.loop-up.queue.items _ c.in_default-pop_front.ensures.items c.in_default-pop_front.ensures.rest) (c.loop-up.invariant.0 bounds are)),
       turn_answer _ _ _ _ _ _ _ _ _ stepped c.turns.invariant.1,
       turn_rises (length a.version.now.events) a.event _ _ _ _ _ _ _ _ stepped c.turns.invariant.2,
     )

@@ -6,8 +6,8 @@ use Rattle.spin_table.specs.SetupOf.{data_of}
 use Rattle.spin_proto.specs.Replies.{units_in}
 use Rattle.spin_proto.specs.Whole.{marks_up, marks_of, raised_after}
 use Rattle.spin_proto.specs.Inner.Walks.{OnBounds, UpsRise}
-use Rattle.spin_proto.proofs.Owes.{Owes}
-use Rattle.spin_proto.proofs.Climbs.{FiringsRise}
+use Rattle.spin_proto.proofs.WalkLemmas.{Owes}
+use Rattle.spin_proto.proofs.RisingRaises.{FiringsRise}
 use Rattle.spin_proto.proofs.rising.+raise_event.Given as goal
 
 abbrev pub decreases-raise_event : goal.decreases-raise_event
@@ -20,7 +20,8 @@ invariant-turns g l =
     let rest = to_come l.runner u b l.progress in
     let all = fired l.runner u b l.fn.args in
     OnBounds (data_of l.setup) l.version (λ bounds.
-    Owes (flat_map (λ f. marks_of l.event (raised_after l.runner u bounds l.event) (items_by f)) all) (flat_map (λ f. marks_of l.event (raised_after l.runner u bounds l.event) (items_by f)) rest) l.fn.walk l.walk)
+    Owes (flat_map (λ f. marks_of l.event (raised_after l.runner u bounds l.event) (items_by f)) all)
+    (flat_map (λ f. marks_of l.event (raised_after l.runner u bounds l.event) (items_by f)) rest) l.fn.walk l.walk)
     × (fold (answer_after b.merge) l.progress.answer rest ≡ answer_of b.merge all)
     × FiringsRise (length l.version.events) l.event rest
 

@@ -1,7 +1,7 @@
 use Rattle.std.proofs.Common.{◌≡◌, ◌++◌, length}
 use Rattle.std.specs.List.{flat_map}
 use Rattle.spin_proto.specs.Whole.{marks_at, ups_of}
-use Rattle.spin_proto.proofs.Owes.{Owes}
+use Rattle.spin_proto.proofs.WalkLemmas.{Owes}
 use Rattle.spin_proto.proofs.rising.note_items.Given as goal
 
 abbrev pub invariant-loop-item : goal.invariant-loop-item

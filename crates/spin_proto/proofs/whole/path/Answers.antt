@@ -7,7 +7,7 @@ use Rattle.spin_proto.specs.declared.deed.JobCall.TheVariants as call
 use Rattle.spin_proto.specs.declared.reply.Reply.TheVariants as reply
 use Rattle.spin_proto.specs.Replies.{units_in, IsDeedReply, BelongsTo, calls_left}
 use Rattle.spin_proto.specs.Whole.{raised, reply_of}
-use Rattle.spin_proto.proofs.Replying.{ok_map, deed_refused, deed_done, deed_calls, deed_left, IsOfRaise}
+use Rattle.spin_proto.proofs.ReplyLemmas.{ok_map, deed_refused, deed_done, deed_calls, deed_left, IsOfRaise}
 use Rattle.spin_proto.proofs.whole.path.Goals as goal
 
 pub returns-in-Some-clause-reply : goal.returns-in-Some-clause-reply
@@ -43,4 +43,5 @@ returns-in_ok-args-in-None-clause-calls g c =
 pub returns-in_ok-copy-in-None-refusal-clause-reply : goal.returns-in_ok-copy-in-None-refusal-clause-reply
 returns-in_ok-copy-in-None-refusal-clause-reply g c =
     let d = data_of c.args.setup.now in
-    deed_left d c.args.version.now c.requires.sound c.args.deed.now c.in-Later.event c.in-Later.args c.in_ok-copy-in-None-refusal.field-0 c.in-Later.is c.in_ok-copy-in-None-refusal.ensures c.in-None-refusal.ensures.1
+    deed_left d c.args.version.now c.requires.sound c.args.deed.now c.in-Later.event c.in-Later.args
+    c.in_ok-copy-in-None-refusal.field-0 c.in-Later.is c.in_ok-copy-in-None-refusal.ensures c.in-None-refusal.ensures.1

@@ -2,7 +2,7 @@ use Rattle.std.proofs.Common.{refl, ap, ◌∙◌, cond}
 use Rattle.std.proofs.lemmas.Option.{slice_get_within}
 use Rattle.spin_table.specs.SetupOf.{data_of}
 use Rattle.spin_proto.specs.declared.reply.Reply.TheVariants as reply
-use Rattle.spin_proto.proofs.Served.{fit_answers}
+use Rattle.spin_proto.proofs.RaiseLemmas.{fit_answers}
 use Rattle.spin_proto.proofs.whole.refusal.Goals as goal
 
 pub returns-then-not-fits : goal.returns-then-not-fits

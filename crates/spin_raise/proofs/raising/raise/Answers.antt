@@ -1,6 +1,6 @@
 use Rattle.std.proofs.Common.{◌∙◌, ap, true, []}
 use Rattle.spin_raise.specs.Firing.{units_of, bound_of, fired, answer_of}
-use Rattle.spin_raise.proofs.Goes.{goes_on, end_answer}
+use Rattle.spin_raise.proofs.RaiseProgress.{goes_on, end_answer}
 use Rattle.spin_raise.proofs.raising.raise.Goals as goal
 
 pub turns-preserved : goal.turns-preserved

@@ -1,7 +1,7 @@
 use Rattle.std.proofs.Common.{length}
 use Rattle.spin_raise.specs.Firing.{units_of, as_found, fired}
 use Rattle.spin_raise.specs.Progress.{to_come}
-use Rattle.spin_raise.proofs.Goes.{Goes}
+use Rattle.spin_raise.proofs.RaiseProgress.{Goes}
 use Rattle.spin_raise.proofs.raising.raise.Given as goal
 
 abbrev pub invariant-turns : goal.invariant-turns

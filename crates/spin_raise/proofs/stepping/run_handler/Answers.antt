@@ -1,4 +1,4 @@
-use Rattle.spin_raise.proofs.Walk.{done_items}
+use Rattle.spin_raise.proofs.HandlerWalk.{done_items}
 use Rattle.spin_raise.proofs.stepping.run_handler.Goals as goal
 
 pub returns-clause-out : goal.returns-clause-out

@@ -3,13 +3,16 @@ use Rattle.std.proofs.lemmas.Bool.Decides.{nat_tests}
 use Rattle.spin_raise.specs.declared.answer.Answer.TheVariants as answer
 use Rattle.spin_objects.specs.Units.{acts_of}
 use Rattle.spin_raise.specs.Firing.{units_of, as_found, firing_of, IsHandler}
-use Rattle.spin_raise.proofs.Steps.{all_here, is_full, is_ran, comes_binding, comes_after, comes_nothing, comes_default, comes_no_more, merged_after}
+use Rattle.spin_raise.proofs.RaiseSteps.{all_here, is_full, is_ran, comes_binding, comes_after, comes_nothing, comes_default, comes_no_more, merged_after}
 use Rattle.spin_raise.proofs.stepping.step.Goals as goal
 
 pub returns-then-handler-eq0 : goal.returns-then-handler-eq0
 returns-then-handler-eq0 g c =
-    let a = c.args in
-    (comes_nothing a.runner (units_of a.cat.now) (as_found a.bound.now) a.progress.now c.default_next-handler.result c.in-None.ensures.next c.default_next-handler.ensures c.if-handler-eq0.true, (refl, refl))
+    let a = c.args in (
+      comes_nothing a.runner (units_of a.cat.now)
+          (as_found a.bound.now) a.progress.now c.default_next-handler.result c.in-None.ensures.next c.default_next-handler.ensures c.if-handler-eq0.true,
+      (refl, refl),
+    )
 
 pub returns-then-not-room : goal.returns-then-not-room
 returns-then-not-room g c =
@@ -18,10 +21,12 @@ returns-then-not-room g c =
     is_full a.bound.now.merge.now a.room _ _ _ _ _ _ _ _ comes c.if-not-room.true comes (refl, refl)
 
 pub fire-requires-clause-first : goal.fire-requires-clause-first
-fire-requires-clause-first g c = (all_here (IsHandler (length (acts_of c.args.cat.now))) c.args.bound.now.plan.now.bindings c.in-Some.at c.binding-binding.result.now c.requires.there.handlers c.binding-binding.ensures).0
+fire-requires-clause-first g c =
+    (all_here (IsHandler (length (acts_of c.args.cat.now))) c.args.bound.now.plan.now.bindings c.in-Some.at c.binding-binding.result.now c.requires.there.handlers c.binding-binding.ensures).0
 
 pub fire-requires-clause-last : goal.fire-requires-clause-last
-fire-requires-clause-last g c = (all_here (IsHandler (length (acts_of c.args.cat.now))) c.args.bound.now.plan.now.bindings c.in-Some.at c.binding-binding.result.now c.requires.there.handlers c.binding-binding.ensures).1
+fire-requires-clause-last g c =
+    (all_here (IsHandler (length (acts_of c.args.cat.now))) c.args.bound.now.plan.now.bindings c.in-Some.at c.binding-binding.result.now c.requires.there.handlers c.binding-binding.ensures).1
 
 pub returns-in_ok-progress-in-Some : goal.returns-in_ok-progress-in-Some
 returns-in_ok-progress-in-Some g c =

@@ -2,7 +2,7 @@ use Rattle.std.proofs.Common.{◌≤◌, ◌-◌, nat_le, sym, ap, subst, ◌∙
 use Rattle.spin_reass.specs.declared.limits.TheConstants.{MAX_PAYLOAD}
 use Rattle.spin_reass.specs.declared.piece.Part.{Part}
 use Rattle.spin_reass.specs.Fragments.{end_of}
-use Rattle.spin_reass.proofs.Orders.{small_at, ends_is}
+use Rattle.spin_reass.proofs.PartOrder.{small_at, ends_is}
 use Rattle.spin_reass.proofs.datagram.ends_before.Goals as goal
 
 pub end-requires : goal.end-requires

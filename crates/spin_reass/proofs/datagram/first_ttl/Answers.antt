@@ -1,5 +1,5 @@
 use Rattle.std.proofs.Common.{◌∙◌}
-use Rattle.spin_reass.proofs.Orders.{ttl_at_front}
+use Rattle.spin_reass.proofs.PartOrder.{ttl_at_front}
 use Rattle.spin_reass.proofs.datagram.first_ttl.Goals as goal
 
 pub returns : goal.returns

@@ -3,8 +3,8 @@ use Rattle.std.proofs.lemmas.Result.{err_from_is_err_and}
 use Rattle.spin_pcap.specs.Passing.{left_for, IsStart}
 use Rattle.spin_reass.specs.Inner.Reading.{JoinsBody}
 use Rattle.spin_reass.specs.JoinedCaptures.{file_header, rest_of}
-use Rattle.spin_reass.proofs.Given.{some_capture}
-use Rattle.spin_reass.proofs.Reading.{told_each, at_told, capture_stopped}
+use Rattle.spin_reass.proofs.GivenRecords.{some_capture}
+use Rattle.spin_reass.proofs.JoinedRecords.{told_each, at_told, capture_stopped}
 use Rattle.spin_reass.proofs.join.join_capture.Goals as goal
 
 pub returns-in_err-rest-clause-joined : goal.returns-in_err-rest-clause-joined
@@ -16,7 +16,8 @@ returns-in_err-rest-clause-joined g c =
     let left' = (seen c.start.new.source).left in
     rw (p.1, p.2) (told_each _ left (λ file told.
     let s = at_told (λ bytes. IsStart bytes (Ok reader) left') left file told c.in-Ok.ensures.answer in
-    let b = at_told (λ bytes. JoinsBody reader.order bytes c.put_file_header.new.out.items c.join_records.new.out.items (Err c.in_err-rest.field-0.0)) (left_for reader.held left') (drop 24 file) s.1 c.in_err-rest.ensures.joined in
+    let b = at_told (λ bytes. JoinsBody reader.order bytes c.put_file_header.new.out.items c.join_records.new.out.items (Err c.in_err-rest.field-0.0))
+    (left_for reader.held left') (drop 24 file) s.1 c.in_err-rest.ensures.joined in
     capture_stopped file reader.order c.put_file_header.new.out.items c.join_records.new.out.items c.in_err-rest.field-0.0 s.0 b))
 
 pub returns-clause-capture : goal.returns-clause-capture

@@ -1,7 +1,7 @@
 use Rattle.std.proofs.Common.{◌≡◌, Ok, length, rules, ap, refl, ◌∙◌, arith}
 use Rattle.spin_pcap.specs.Passing.{left_for}
-use Rattle.spin_reass.proofs.Given.{given_none, given_packet, given_end, given_cut}
-use Rattle.spin_reass.proofs.Reading.{told_each, told_more, joined_none, after_packet, packet_few, next_packet, ends_joined, cuts_joined, stops_joined}
+use Rattle.spin_reass.proofs.GivenRecords.{given_none, given_packet, given_end, given_cut}
+use Rattle.spin_reass.proofs.JoinedRecords.{told_each, told_more, joined_none, after_packet, packet_few, next_packet, ends_joined, cuts_joined, stops_joined}
 use Rattle.spin_reass.proofs.join.join_records.Goals as goal
 
 pub records-init : goal.records-init
@@ -28,8 +28,12 @@ records-preserved g c =
       reading = after.0;
       order = after.1 ∙ i.order;
       joined = told_more _ _ (left_for c.args.reader.now.held (g.S.Source.seen c.args.source.now).left) i.joined (λ bytes h.
-          next_packet _ bytes _ c.records.reader c.next.new.self c.in-Ok-Packet.field-0 _ _ c.records.joiner c.join.new.self c.records.out.items _ c.next.new.frame c.join.new.frame _ _ i.reading i.order c.in-Ok-Packet.field-0-is c.in-Ok-Packet.ensures.answer c.in-Ok-Packet.ensures.reader c.in_ok-join-in-Ok-Packet.ensures.datagrams c.in_ok-join-in-Ok-Packet.ensures.frame (search rules) h);
-      given = given_packet _ c.records.reader c.next.new.self c.in-Ok-Packet.field-0 c.records.joiner c.join.new.self c.records.out.items _ _ c.next.new.frame c.join.new.frame _ i.reading c.in-Ok-Packet.field-0-is c.in-Ok-Packet.ensures.passed.2 (c.in-Ok-Packet.ensures.few (ap Ok c.in-Ok-Packet.field-0-is)) c.in-Ok-Packet.ensures.reader c.in_ok-join-in-Ok-Packet.ensures.datagrams c.in_ok-join-in-Ok-Packet.ensures.frame (search rules) i.given;
+          next_packet _ bytes _ c.records.reader c.next.new.self c.in-Ok-Packet.field-0 _ _ c.records.joiner c.join.new.self
+          c.records.out.items _ c.next.new.frame c.join.new.frame _ _ i.reading i.order c.in-Ok-Packet.field-0-is c.in-Ok-Packet.ensures.answer
+          c.in-Ok-Packet.ensures.reader c.in_ok-join-in-Ok-Packet.ensures.datagrams c.in_ok-join-in-Ok-Packet.ensures.frame (search rules) h);
+      given = given_packet _ c.records.reader c.next.new.self c.in-Ok-Packet.field-0 c.records.joiner c.join.new.self c.records.out.items _ _ c.next.new.frame
+          c.join.new.frame _ i.reading c.in-Ok-Packet.field-0-is c.in-Ok-Packet.ensures.passed.2 (c.in-Ok-Packet.ensures.few (ap Ok c.in-Ok-Packet.field-0-is))
+          c.in-Ok-Packet.ensures.reader c.in_ok-join-in-Ok-Packet.ensures.datagrams c.in_ok-join-in-Ok-Packet.ensures.frame (search rules) i.given;
       keep = c.next.ensures.passed.1.keep ∙ i.keep;
       stood = c.in-Ok-Packet.ensures.cause ∙ i.stood;
     }
@@ -52,10 +56,12 @@ pub returns-in-Ok-Cut-clause-joined : goal.returns-in-Ok-Cut-clause-joined
 returns-in-Ok-Cut-clause-joined g c =
     let i = c.records.invariant in
     told_more _ _ (left_for c.args.reader.now.held (g.S.Source.seen c.args.source.now).left) i.joined (λ bytes h.
-    cuts_joined _ bytes _ c.records.reader c.in-Ok-Cut.field-0 c.in-Ok-Cut.count _ _ c.records.joiner c.records.out.items c.next.new.frame _ i.reading i.order c.in-Ok-Cut.field-0-is c.in-Ok-Cut.ensures.answer h)
+    cuts_joined _ bytes _ c.records.reader c.in-Ok-Cut.field-0 c.in-Ok-Cut.count _ _ c.records.joiner
+    c.records.out.items c.next.new.frame _ i.reading i.order c.in-Ok-Cut.field-0-is c.in-Ok-Cut.ensures.answer h)
 
 pub returns-in-Err-clause-joined : goal.returns-in-Err-clause-joined
 returns-in-Err-clause-joined g c =
     let i = c.records.invariant in
     told_more _ _ (left_for c.args.reader.now.held (g.S.Source.seen c.args.source.now).left) i.joined (λ bytes h.
-    stops_joined _ bytes _ c.records.reader c.next.new.self c.in-Err.fault _ c.taken.result c.at.result _ (left_for c.next.new.self.held (g.S.Source.seen c.next.new.source).left) c.records.joiner c.records.out.items c.next.new.frame _ _ i.reading i.order c.in-Err.ensures.answer c.in-Err.ensures.reader c.taken.ensures.taken refl c.at.ensures h)
+    stops_joined _ bytes _ c.records.reader c.next.new.self c.in-Err.fault _ c.taken.result c.at.result _ (left_for c.next.new.self.held (g.S.Source.seen c.next.new.source).left)
+    c.records.joiner c.records.out.items c.next.new.frame _ _ i.reading i.order c.in-Err.ensures.answer c.in-Err.ensures.reader c.taken.ensures.taken refl c.at.ensures h)

@@ -2,8 +2,8 @@ use Rattle.std.proofs.Common.{◌≡◌, ◌-◌, IfSome}
 use Rattle.spin_pcap.specs.declared.limits.TheConstants.{MAX_RECORDS}
 use Rattle.spin_pcap.specs.declared.state.State.TheVariants as state
 use Rattle.spin_pcap.specs.Passing.{left_for}
-use Rattle.spin_reass.proofs.Given.{HasGiven}
-use Rattle.spin_reass.proofs.Reading.{HasJoined}
+use Rattle.spin_reass.proofs.GivenRecords.{HasGiven}
+use Rattle.spin_reass.proofs.JoinedRecords.{HasJoined}
 use Rattle.spin_reass.proofs.join.join_records.Given as goal
 
 abbrev pub invariant-records : goal.invariant-records
@@ -12,7 +12,8 @@ invariant-records g l =
     record {
       reading : l.reader.state ≡ state.Reading;
       order : l.reader.order ≡ l.fn.reader.order;
-      joined : IfSome (left_for l.fn.reader.held (seen l.fn.source).left) (λ bytes. HasJoined l.fn.reader.order bytes l.fn.out.items l.reader.given (left_for l.reader.held (seen l.source).left) l.joiner l.out.items);
+      joined : IfSome (left_for l.fn.reader.held (seen l.fn.source).left)
+          (λ bytes. HasJoined l.fn.reader.order bytes l.fn.out.items l.reader.given (left_for l.reader.held (seen l.source).left) l.joiner l.out.items);
       given : HasGiven l.fn.out.items l.reader.given l.joiner l.out.items;
       keep : (seen l.source).keep ≡ (seen l.fn.source).keep;
       stood : (seen l.source).faults ≡ (seen l.fn.source).faults;

@@ -1,4 +1,4 @@
-use Rattle.spin_reass.proofs.Gathering as all
+use Rattle.spin_reass.proofs.DatagramParts as all
 use Rattle.spin_reass.proofs.laws.whole_in_any_order.Goals as goal
 
 pub returns : goal.returns

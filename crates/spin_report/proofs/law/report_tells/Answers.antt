@@ -1,6 +1,6 @@
 use Rattle.spin_report.proofs.ReportLines.{digits_tell}
-use Rattle.spin_report.proofs.Shows.{law, one_list_of_jobs}
-use Rattle.spin_report.proofs.ByLanes.{answered_by_lanes}
+use Rattle.spin_report.proofs.HistoryUniqueness.{law, one_list_of_jobs}
+use Rattle.spin_report.proofs.LaneAnswers.{answered_by_lanes}
 use Rattle.spin_report.proofs.law.report_tells.Goals as goal
 
 pub returns-clause-digits : goal.returns-clause-digits

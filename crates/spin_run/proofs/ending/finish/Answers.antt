@@ -2,13 +2,14 @@ use Rattle.std.proofs.Common.{[], refl}
 use Rattle.spin_text.specs.Words.{ended}
 use Rattle.spin_report.specs.Histories.{end_line}
 use Rattle.spin_run.specs.Ends.{seen}
-use Rattle.spin_run.proofs.Endings.{finishes}
-use Rattle.spin_run.proofs.Faults.{results_telling}
+use Rattle.spin_run.proofs.RunEnds.{finishes}
+use Rattle.spin_run.proofs.FaultCounts.{results_telling}
 use Rattle.spin_run.proofs.ending.finish.Goals as goal
 
 pub returns-clause-answer : goal.returns-clause-answer
 returns-clause-answer g c left rest r =
-    finishes c.args.length c.args.capture.now (g.T.Telling.seen c.args.out.now) (g.T.Telling.seen c.end.new.self) c.in_ok-counts.counts left rest c.end.result (c.in_ok-counts.ensures.answer left rest r) c.end.ensures.told
+    finishes c.args.length c.args.capture.now (g.T.Telling.seen c.args.out.now)
+    (g.T.Telling.seen c.end.new.self) c.in_ok-counts.counts left rest c.end.result (c.in_ok-counts.ensures.answer left rest r) c.end.ensures.told
 
 pub returns-clause-counts : goal.returns-clause-counts
 returns-clause-counts g c =

@@ -3,16 +3,16 @@ use Rattle.std.specs.Arc.{arc_value}
 use Rattle.std.proofs.lemmas.List.{take_more, length-take-le}
 use Rattle.spin_proto.specs.declared.deed.Job.{Job}
 use Rattle.spin_proto.specs.Replies.{BelongsTo}
-use Rattle.spin_report.specs.Jobs.{calls_of}
+use Rattle.spin_report.specs.Jobs.{answer_calls}
 use Rattle.spin_run.specs.Inner.Answering.{AddsJobs}
-use Rattle.spin_run.proofs.Jobs.{adds_one}
+use Rattle.spin_run.proofs.EntryJobs.{adds_one}
 use Rattle.spin_run.proofs.jobs_left.leave_jobs.Goals as goal
 
 pub loop-call-preserved : goal.loop-call-preserved
 loop-call-preserved c =
     let entry = c.args.entry.now in
     let version = arc_value c.args.pinned.now in
-    let calls = calls_of entry.what in
+    let calls = answer_calls entry.what in
     let i = c.loop-call.call-index in
     let test = c.loop-call-test.true in
     let lt : i < length calls = omega (arith, test, ap length c.calls_by-call-items.ensures) in
@@ -31,6 +31,7 @@ loop-call-preserved c =
     } in
     let belongs : BelongsTo version job.call = subst (BelongsTo version) same (c.requires.belong i c.call-item.result lt) in
     let one : AddsJobs entry version (take i calls ++ job.call ∷ []) c.args.jobs.now c.push.new.self =
-    adds_one entry version (take i calls) c.args.jobs.now c.loop-call.jobs c.push.new.self job c.loop-call.invariant.0 c.in_ok-push.ensures.ok refl refl refl refl index c.in_ok-try_clone.ensures belongs in
+    adds_one entry version
+    (take i calls) c.args.jobs.now c.loop-call.jobs c.push.new.self job c.loop-call.invariant.0 c.in_ok-push.ensures.ok refl refl refl refl index c.in_ok-try_clone.ensures belongs in
     let more : take (i + 1) calls ≡ take i calls ++ job.call ∷ [] = take_more calls i c.call-item.result lt ∙ ap (λ x. take i calls ++ x ∷ []) same in
     (subst (λ l. AddsJobs entry version l c.args.jobs.now c.push.new.self) (sym more) one, omega (arith, c.loop-call.invariant.1))

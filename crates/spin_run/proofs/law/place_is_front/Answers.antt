@@ -1,4 +1,4 @@
-use Rattle.spin_run.proofs.Places.{place_is_front}
+use Rattle.spin_run.proofs.ReadyLanes.{place_is_front}
 use Rattle.spin_run.proofs.law.place_is_front.Goals as goal
 
 pub returns : goal.returns

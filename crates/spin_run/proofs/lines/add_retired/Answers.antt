@@ -15,8 +15,10 @@ loop-at-preserved c =
     let b = get_or c.args.stood.now at false in
     let text : c.retire_text.new.out ≡ ended (retire_line (record { endpoint = n; stood = b })) = search rules in
     let side = side_at one_of c.args.numbers.now c.args.stood.now at 0 false c.requires.room (omega (arith, c.loop-at-test.true)) in
-    added retire_line c.args.lines.now c.loop-at.lines c.push.new.self _ (retired_as c.args.numbers.now c.args.stood.now) at (one_of (n, b)) side.0 side.1 c.loop-at.invariant text c.in_ok-push.ensures.ok
+    added retire_line c.args.lines.now c.loop-at.lines c.push.new.self _ (retired_as c.args.numbers.now c.args.stood.now) at
+    (one_of (n, b)) side.0 side.1 c.loop-at.invariant text c.in_ok-push.ensures.ok
 
 pub returns : goal.returns
 returns c =
-    c.loop-at.invariant ∙ ap (λ x. c.args.lines.now ++ map ended (map retire_line x)) (side_all one_of c.args.numbers.now c.args.stood.now c.loop-at.at c.requires.room (omega (arith, c.loop-at-test.false)))
+    c.loop-at.invariant
+    ∙ ap (λ x. c.args.lines.now ++ map ended (map retire_line x)) (side_all one_of c.args.numbers.now c.args.stood.now c.loop-at.at c.requires.room (omega (arith, c.loop-at-test.false)))

@@ -11,7 +11,8 @@ one_of done = job_seen done.0 done.1
 
 pub loop-at-preserved : goal.loop-at-preserved
 loop-at-preserved c =
-    text_added_side one_of job_line c.args.text.now c.loop-at.text c.job_text.new.out c.args.jobs.now c.args.replies.now c.loop-at.at c.index-jobs-at.result c.index-replies-at.result c.requires.room (omega (arith, c.loop-at-test.true)) (sym c.index-jobs-at.is) (sym c.index-replies-at.is) c.loop-at.invariant c.in_ok-job_text.ensures.ok
+    text_added_side one_of job_line c.args.text.now c.loop-at.text c.job_text.new.out c.args.jobs.now c.args.replies.now c.loop-at.at c.index-jobs-at.result c.index-replies-at.result c.requires.room
+    (omega (arith, c.loop-at-test.true)) (sym c.index-jobs-at.is) (sym c.index-replies-at.is) c.loop-at.invariant c.in_ok-job_text.ensures.ok
 
 pub returns : goal.returns
 returns c =

@@ -1,7 +1,7 @@
 use Rattle.std.proofs.Common.{arith}
 use Rattle.std.proofs.lemmas.Result.{on_ok_weaker}
 use Rattle.spin_table.specs.SetupOf.{data_of}
-use Rattle.spin_run.proofs.Rounds.{settled_hubs, still_of_hubs, have_met}
+use Rattle.spin_run.proofs.LaneMeetings.{settled_hubs, still_of_hubs, have_met}
 use Rattle.spin_run.proofs.meeting.meet_all.Goals as goal
 
 pub settle_first-requires : goal.settle_first-requires
@@ -36,5 +36,6 @@ pub returns : goal.returns
 returns g c =
     let d = data_of c.args.hub.now.setup in
     on_ok_weaker c.meet_each-2.result
-    (have_met d c.args.hub.now.log.id c.args.lanes.now c.settle_first.new.lanes c.meet_each.new.lanes c.meet_each-2.new.lanes c.requires.some c.requires.seats c.in_ok-settle_first.ensures c.in_ok-meet_each.ensures)
+    (have_met d c.args.hub.now.log.id c.args.lanes.now c.settle_first.new.lanes c.meet_each.new.lanes
+    c.meet_each-2.new.lanes c.requires.some c.requires.seats c.in_ok-settle_first.ensures c.in_ok-meet_each.ensures)
     c.meet_each-2.ensures

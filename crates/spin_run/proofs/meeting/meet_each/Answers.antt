@@ -1,6 +1,6 @@
 use Rattle.std.proofs.Common.{arith}
 use Rattle.spin_table.specs.SetupOf.{data_of}
-use Rattle.spin_run.proofs.Rounds.{round_begins, round_more}
+use Rattle.spin_run.proofs.LaneMeetings.{round_begins, round_more}
 use Rattle.spin_run.proofs.meeting.meet_each.Goals as goal
 
 pub loop-k-init : goal.loop-k-init

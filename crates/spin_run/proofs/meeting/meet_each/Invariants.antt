@@ -1,5 +1,5 @@
 use Rattle.spin_table.specs.SetupOf.{data_of}
-use Rattle.spin_run.proofs.Rounds.{Round}
+use Rattle.spin_run.proofs.LaneMeetings.{Round}
 use Rattle.spin_run.proofs.meeting.meet_each.Given as goal
 
 abbrev pub invariant-loop-k : goal.invariant-loop-k

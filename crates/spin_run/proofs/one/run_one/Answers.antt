@@ -15,10 +15,10 @@ use Rattle.spin_run.specs.Inner.Sending.{sends_made}
 use Rattle.spin_run.specs.Inner.Lining.{counts_to}
 use Rattle.spin_run.specs.Inner.Writing.{joined}
 use Rattle.spin_run.specs.Inner.Steps.{moment, setting}
-use Rattle.spin_run.proofs.Sent.{all_sent}
-use Rattle.spin_run.proofs.Faults.{counts_reading, counts_sending, results_telling}
-use Rattle.spin_run.proofs.Taking.{past_none, takes_before, takes_reading, takes_told}
-use Rattle.spin_run.proofs.Segmenting.{rest_of_ready, woven_ready}
+use Rattle.spin_run.proofs.SentNames.{all_sent}
+use Rattle.spin_run.proofs.FaultCounts.{counts_reading, counts_sending, results_telling}
+use Rattle.spin_run.proofs.CaptureBytes.{past_none, takes_before, takes_reading, takes_told}
+use Rattle.spin_run.proofs.SegmentLemmas.{rest_of_ready, woven_ready}
 use Rattle.spin_run.proofs.OneSegment.{HasAnswered, HasLines, sends_are, sends_as, stops_retiring, stops_reading_in, stops_sending, one_told}
 use Rattle.spin_run.proofs.one.run_one.Goals as goal
 
@@ -65,14 +65,17 @@ returns-in_err-frames g c =
     let s = setting d (length c.args.lanes.now) c.args.names.now in
     let before = moment (state_of d c.args.lanes.now) c.args.capture.now (source c.args.source.now) (sink c.args.out.now) (all c.args.ends.now.ends.items) in
     let after = moment (state_of d c.args.lanes.now) c.read_records.new.capture (source c.read_records.new.source) (sink c.args.out.now) (all c.retire.new.ends.ends.items) in
-    let retired : all c.retire.new.ends.ends.items ≡ all_retired c.args.names.now c.args.segment.now.retires (all c.args.ends.now.ends.items) = c.in_ok-retired.ensures.ends ∙ ap (λ x. all_retired c.args.names.now x (all c.args.ends.now.ends.items)) c.as_slice.ensures in
+    let retired : all c.retire.new.ends.ends.items ≡ all_retired c.args.names.now c.args.segment.now.retires (all c.args.ends.now.ends.items) =
+    c.in_ok-retired.ensures.ends ∙ ap (λ x. all_retired c.args.names.now x (all c.args.ends.now.ends.items)) c.as_slice.ensures in
     let wanted : c.wanted_by-wanted.result ≡ wanted_by c.args.segment.now.lines = c.wanted_by-wanted.ensures ∙ ap wanted_by c.as_slice-2.ensures in
     let p = err_from_is_err_and c.from_residual-in_err-frames.result c.from_residual-in_err-frames.ensures.1 in
     rw (p.1, p.2) (record {
-      one = λ left rest r. stops_reading_in s c.args.number c.args.segment.now before after left rest c.wanted_by-wanted.result c.read_records.new.capture (source c.read_records.new.source) c.in_err-frames.field-0.0 refl retired wanted (c.in_err-frames.ensures.answer left rest r);
+      one = λ left rest r. stops_reading_in s c.args.number c.args.segment.now before after left rest c.wanted_by-wanted.result c.read_records.new.capture
+          (source c.read_records.new.source) c.in_err-frames.field-0.0 refl retired wanted (c.in_err-frames.ensures.answer left rest r);
       ready = tt;
       taken = tt;
-      took = λ left rest r. takes_reading c.args.capture.now (source c.args.source.now) (source c.read_records.new.source) left c.wanted_by-wanted.result (wanted_by c.args.segment.now.lines) wanted (c.in_err-frames.ensures.took left rest r);
+      took = λ left rest r. takes_reading c.args.capture.now (source c.args.source.now) (source c.read_records.new.source) left c.wanted_by-wanted.result
+          (wanted_by c.args.segment.now.lines) wanted (c.in_err-frames.ensures.took left rest r);
       keep = c.in_err-frames.ensures.keep;
       same = refl;
       counts = counts_reading c.args.names.now c.in_err-frames.field-0.0 before.outside after.outside c.in_err-frames.ensures.cause refl c.in_ok-retired.ensures.faults;
@@ -87,14 +90,16 @@ returns-in_err-woven g c =
     let s = setting d (length c.args.lanes.now) c.args.names.now in
     let before = moment (state_of d c.args.lanes.now) c.args.capture.now (source c.args.source.now) (sink c.args.out.now) (all c.args.ends.now.ends.items) in
     let after = moment (state_of d c.run_segment.new.lanes) c.read_records.new.capture (source c.read_records.new.source) (sink c.args.out.now) (all c.retire.new.ends.ends.items) in
-    let retired : all c.retire.new.ends.ends.items ≡ all_retired c.args.names.now c.args.segment.now.retires (all c.args.ends.now.ends.items) = c.in_ok-retired.ensures.ends ∙ ap (λ x. all_retired c.args.names.now x (all c.args.ends.now.ends.items)) c.as_slice.ensures in
+    let retired : all c.retire.new.ends.ends.items ≡ all_retired c.args.names.now c.args.segment.now.retires (all c.args.ends.now.ends.items) =
+    c.in_ok-retired.ensures.ends ∙ ap (λ x. all_retired c.args.names.now x (all c.args.ends.now.ends.items)) c.as_slice.ensures in
     let wanted : c.wanted_by-wanted.result ≡ wanted_by c.args.segment.now.lines = c.wanted_by-wanted.ensures ∙ ap wanted_by c.as_slice-2.ensures in
     let p = err_from_is_err_and c.from_residual-in_err-woven.result c.from_residual-in_err-woven.ensures.1 in
     rw (p.1, p.2) (record {
       one = λ left rest r. stops_retiring s c.args.number c.args.segment.now before after left rest refl (inr retired);
       ready = tt;
       taken = tt;
-      took = λ left rest r. takes_before c.args.capture.now c.read_records.new.capture (source c.args.source.now) (source c.read_records.new.source) left c.wanted_by-wanted.result (wanted_by c.args.segment.now.lines) wanted (c.in_ok-frames.ensures.took left rest r);
+      took = λ left rest r. takes_before c.args.capture.now c.read_records.new.capture (source c.args.source.now)
+          (source c.read_records.new.source) left c.wanted_by-wanted.result (wanted_by c.args.segment.now.lines) wanted (c.in_ok-frames.ensures.took left rest r);
       keep = c.in_ok-frames.ensures.keep;
       same = refl;
       counts = (c.in_ok-frames.ensures.cause, refl, c.in_ok-retired.ensures.faults);
@@ -109,11 +114,13 @@ returns-in_err-lost g c =
     let s = setting d (length c.args.lanes.now) c.args.names.now in
     let before = moment (state_of d c.args.lanes.now) c.args.capture.now (source c.args.source.now) (sink c.args.out.now) (all c.args.ends.now.ends.items) in
     let after = moment (state_of d c.run_segment.new.lanes) c.read_records.new.capture (source c.read_records.new.source) (sink c.args.out.now) (all c.send_all.new.ends.ends.items) in
-    let retired : all c.retire.new.ends.ends.items ≡ all_retired c.args.names.now c.args.segment.now.retires (all c.args.ends.now.ends.items) = c.in_ok-retired.ensures.ends ∙ ap (λ x. all_retired c.args.names.now x (all c.args.ends.now.ends.items)) c.as_slice.ensures in
+    let retired : all c.retire.new.ends.ends.items ≡ all_retired c.args.names.now c.args.segment.now.retires (all c.args.ends.now.ends.items) =
+    c.in_ok-retired.ensures.ends ∙ ap (λ x. all_retired c.args.names.now x (all c.args.ends.now.ends.items)) c.as_slice.ensures in
     let wanted : c.wanted_by-wanted.result ≡ wanted_by c.args.segment.now.lines = c.wanted_by-wanted.ensures ∙ ap wanted_by c.as_slice-2.ensures in
     let w = c.in_ok-woven.woven in
     let sends = sends_made c.as_slice-entries.result.now c.as_slice-3.result.now in
-    let sent = sends_as c.args.names.now _ w.entries _ w.replies _ _ (all c.send_all.new.ends.ends.items) (Err c.in_err-lost.field-0.0) c.as_slice-entries.ensures c.as_slice-3.ensures retired c.in_err-lost.ensures.sends in
+    let sent = sends_as c.args.names.now _ w.entries _ w.replies _ _ (all c.send_all.new.ends.ends.items)
+    (Err c.in_err-lost.field-0.0) c.as_slice-entries.ensures c.as_slice-3.ensures retired c.in_err-lost.ensures.sends in
     let p = err_from_is_err_and c.from_residual-in_err-lost.result c.from_residual-in_err-lost.ensures.1 in
     rw (p.1, p.2) (record {
       one = λ left rest r.
@@ -123,13 +130,16 @@ returns-in_err-lost g c =
             woven = woven_ready d c.args.hub.now.log.id c.args.hub.now.log.lanes c.args.lanes.now _ _ _ _ c.requires.ready c.in_ok-woven.ensures.woven;
             replies_are = c.in_ok-woven.ensures.replies;
           } in
-          stops_sending s c.args.number c.args.segment.now before after left c.in_ok-frames.frames rest (state_of d c.run_segment.new.lanes) w.entries w.jobs w.replies c.in_err-lost.field-0.0 refl answered sent;
+          stops_sending s c.args.number c.args.segment.now before after left c.in_ok-frames.frames rest
+          (state_of d c.run_segment.new.lanes) w.entries w.jobs w.replies c.in_err-lost.field-0.0 refl answered sent;
       ready = tt;
       taken = tt;
-      took = λ left rest r. takes_before c.args.capture.now c.read_records.new.capture (source c.args.source.now) (source c.read_records.new.source) left c.wanted_by-wanted.result (wanted_by c.args.segment.now.lines) wanted (c.in_ok-frames.ensures.took left rest r);
+      took = λ left rest r. takes_before c.args.capture.now c.read_records.new.capture (source c.args.source.now)
+          (source c.read_records.new.source) left c.wanted_by-wanted.result (wanted_by c.args.segment.now.lines) wanted (c.in_ok-frames.ensures.took left rest r);
       keep = c.in_ok-frames.ensures.keep;
       same = refl;
-      counts = counts_sending c.args.names.now sends c.in_err-lost.field-0.0 before.outside after.outside (all c.retire.new.ends.ends.items) c.in_ok-frames.ensures.cause refl c.in_ok-retired.ensures.faults c.in_err-lost.ensures.sends;
+      counts = counts_sending c.args.names.now sends c.in_err-lost.field-0.0 before.outside after.outside
+          (all c.retire.new.ends.ends.items) c.in_ok-frames.ensures.cause refl c.in_ok-retired.ensures.faults c.in_err-lost.ensures.sends;
     })
 
 pub returns : goal.returns
@@ -141,11 +151,14 @@ returns g c =
     let s = setting d (length c.args.lanes.now) c.args.names.now in
     let before = moment (state_of d c.args.lanes.now) c.args.capture.now (source c.args.source.now) (sink c.args.out.now) (all c.args.ends.now.ends.items) in
     let after = moment (state_of d c.run_segment.new.lanes) c.read_records.new.capture (source c.read_records.new.source) (sink c.tell.new.self) (all c.send_all.new.ends.ends.items) in
-    let retired : all c.retire.new.ends.ends.items ≡ all_retired c.args.names.now c.args.segment.now.retires (all c.args.ends.now.ends.items) = c.in_ok-retired.ensures.ends ∙ ap (λ x. all_retired c.args.names.now x (all c.args.ends.now.ends.items)) c.as_slice.ensures in
+    let retired : all c.retire.new.ends.ends.items ≡ all_retired c.args.names.now c.args.segment.now.retires (all c.args.ends.now.ends.items) =
+    c.in_ok-retired.ensures.ends ∙ ap (λ x. all_retired c.args.names.now x (all c.args.ends.now.ends.items)) c.as_slice.ensures in
     let wanted : c.wanted_by-wanted.result ≡ wanted_by c.args.segment.now.lines = c.wanted_by-wanted.ensures ∙ ap wanted_by c.as_slice-2.ensures in
     let w = c.in_ok-woven.woven in
-    let sent = sends_as c.args.names.now _ w.entries _ w.replies _ _ (all c.send_all.new.ends.ends.items) (Ok c.in_ok-lost.lost) c.as_slice-entries.ensures c.as_slice-3.ensures retired c.in_ok-lost.ensures.sends in
-    let lines_told = c.in_ok-retired.retired ++ map ended (segment_line c.args.number c.place-start.result ∷ map entry_line w.entries ++ map job_line (jobs_seen w.jobs w.replies) ++ lost_lines (counts_to c.in_ok-lost.lost (length c.args.names.now))) in
+    let sent = sends_as c.args.names.now _ w.entries _ w.replies _ _ (all c.send_all.new.ends.ends.items)
+    (Ok c.in_ok-lost.lost) c.as_slice-entries.ensures c.as_slice-3.ensures retired c.in_ok-lost.ensures.sends in
+    let lines_told = c.in_ok-retired.retired ++ map ended
+    (segment_line c.args.number c.place-start.result ∷ map entry_line w.entries ++ map job_line (jobs_seen w.jobs w.replies) ++ lost_lines (counts_to c.in_ok-lost.lost (length c.args.names.now))) in
     let made : HasLines s c.args.number c.args.segment.now before w.entries w.jobs w.replies c.in_ok-lost.lost c.in_ok-retired.retired lines_told = record {
       few = c.requires.few;
       retired_are = c.in_ok-retired.ensures.lines ∙ ap (λ x. map ended (map retire_line (retirements c.args.names.now x (all c.args.ends.now.ends.items)))) c.as_slice.ensures;
@@ -161,11 +174,14 @@ returns g c =
             woven = woven_ready d c.args.hub.now.log.id c.args.hub.now.log.lanes c.args.lanes.now _ _ _ _ c.requires.ready c.in_ok-woven.ensures.woven;
             replies_are = c.in_ok-woven.ensures.replies;
           } in
-          one_told s c.args.number c.args.segment.now before after left c.in_ok-frames.frames rest w.entries w.jobs w.replies c.in_ok-lost.lost c.in_ok-retired.retired lines_told c.wanted_by-wanted.result answered (record { sent = sent }) made wanted given _ _ c.tell.result c.tell.ensures.told c.tell.ensures.counts;
+          one_told s c.args.number c.args.segment.now before after left c.in_ok-frames.frames rest w.entries w.jobs w.replies c.in_ok-lost.lost c.in_ok-retired.retired
+          lines_told c.wanted_by-wanted.result answered (record { sent = sent }) made wanted given _ _ c.tell.result c.tell.ensures.told c.tell.ensures.counts;
       ready = on_ok_weaker c.tell.result (λ _. c.in_ok-woven.ensures.ready) c.tell.ensures.counts;
       taken = on_ok_weaker c.tell.result (λ _. c.in_ok-woven.ensures.taken) c.tell.ensures.counts;
-      took = λ left rest r. takes_told c.args.capture.now c.read_records.new.capture (source c.args.source.now) (source c.read_records.new.source) left c.wanted_by-wanted.result (wanted_by c.args.segment.now.lines) c.tell.result wanted (c.in_ok-frames.ensures.took left rest r);
+      took = λ left rest r. takes_told c.args.capture.now c.read_records.new.capture (source c.args.source.now)
+          (source c.read_records.new.source) left c.wanted_by-wanted.result (wanted_by c.args.segment.now.lines) c.tell.result wanted (c.in_ok-frames.ensures.took left rest r);
       keep = c.in_ok-frames.ensures.keep;
       same = c.tell.ensures.same;
-      counts = results_telling c.args.names.now (joined lines_told) c.tell.result before.outside after.outside c.in_ok-frames.ensures.cause (c.in_ok-lost.ensures.counts ∙ c.in_ok-retired.ensures.faults) c.tell.ensures.told c.tell.ensures.cause;
+      counts = results_telling c.args.names.now (joined lines_told) c.tell.result before.outside after.outside c.in_ok-frames.ensures.cause
+          (c.in_ok-lost.ensures.counts ∙ c.in_ok-retired.ensures.faults) c.tell.ensures.told c.tell.ensures.cause;
     }

@@ -1,7 +1,7 @@
 use Rattle.std.proofs.Common.{None}
 use Rattle.spin_pcap.specs.Passing.{left_for}
-use Rattle.spin_run.proofs.Reading.{next_gives, stop_gives}
-use Rattle.spin_run.proofs.Taking.{next_takes, took_part}
+use Rattle.spin_run.proofs.ReaderCalls.{next_gives, stop_gives}
+use Rattle.spin_run.proofs.CaptureBytes.{next_takes, took_part}
 use Rattle.spin_run.proofs.records.next_record.Goals as goal
 
 pub returns-in-Ok-clause-answer : goal.returns-in-Ok-clause-answer
@@ -11,7 +11,8 @@ returns-in-Ok-clause-answer g c =
 pub returns-in-Err-clause-answer : goal.returns-in-Err-clause-answer
 returns-in-Err-clause-answer g c =
     let now = g.S.Source.seen c.next.new.source in
-    stop_gives _ _ None c.next.new.self _ now c.next.new.frame _ (left_for c.next.new.self.held now.left) _ _ _ _ c.in-Some.is c.taken.ensures.taken c.stop_at.ensures c.in-Err.ensures.repeats c.in-Err.ensures.answer c.in-Err.ensures.reader
+    stop_gives _ _ None c.next.new.self _ now c.next.new.frame _ (left_for c.next.new.self.held now.left) _ _ _ _ c.in-Some.is
+    c.taken.ensures.taken c.stop_at.ensures c.in-Err.ensures.repeats c.in-Err.ensures.answer c.in-Err.ensures.reader
 
 pub returns-in-Ok-clause-took : goal.returns-in-Ok-clause-took
 returns-in-Ok-clause-took g c =

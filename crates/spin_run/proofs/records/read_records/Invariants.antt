@@ -1,7 +1,7 @@
 use Rattle.std.proofs.Common.{◌≡◌, length}
 use Rattle.spin_run.specs.Inner.Reading.{HasTaken}
 use Rattle.spin_run.specs.Records.{ForRecords}
-use Rattle.spin_run.proofs.Reading.{HasRead}
+use Rattle.spin_run.proofs.ReaderCalls.{HasRead}
 use Rattle.spin_run.proofs.records.read_records.Given as goal
 
 abbrev pub invariant-loop : goal.invariant-loop

@@ -2,7 +2,7 @@ use Rattle.std.proofs.Common.{◌≡◌, ◌-◌, ℕ, List}
 use Rattle.spin_pcap.specs.declared.limits.TheConstants.{MAX_RECORDS}
 use Rattle.spin_run.specs.Inner.Reading.{given_by}
 use Rattle.spin_run.specs.Records.{ForRecords}
-use Rattle.spin_run.proofs.Reading.{HasRead}
+use Rattle.spin_run.proofs.ReaderCalls.{HasRead}
 use Rattle.spin_run.proofs.records.read_rest.Given as goal
 
 abbrev pub invariant-loop-frame : goal.invariant-loop-frame

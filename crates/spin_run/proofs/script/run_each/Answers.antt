@@ -6,9 +6,9 @@ use Rattle.spin_run.specs.Ends.{seen}
 use Rattle.spin_run.specs.Records.{room_of}
 use Rattle.spin_run.specs.Segments.{IsFitSegment, state_of}
 use Rattle.spin_run.specs.Inner.Steps.{moment, setting, script_in, StopsOne, HasTold, HasToldAll}
-use Rattle.spin_run.proofs.Fitting.{fits, retires_named, commands_more}
-use Rattle.spin_run.proofs.Faults.{counts_later}
-use Rattle.spin_run.proofs.Steps.{told_next, one_ends, one_walks}
+use Rattle.spin_run.proofs.OrderlySegments.{fits, retires_named, commands_more}
+use Rattle.spin_run.proofs.FaultCounts.{counts_later}
+use Rattle.spin_run.proofs.SegmentRuns.{told_next, one_ends, one_walks}
 use Rattle.spin_run.proofs.script.run_each.Goals as goal
 
 pub loop-number-init : goal.loop-number-init
@@ -32,7 +32,8 @@ run_one-requires-clause-ready g c κs lives = c.loop-number.invariant.ready
 pub run_one-requires-clause-lines : goal.run_one-requires-clause-lines
 run_one-requires-clause-lines g c κs lives =
     subst (λ (n : ℕ). IsFitSegment n c.get-segment.result.now.lines) (c.requires.ready.all ∙ sym c.loop-number.invariant.ready.all)
-    (fits (script_in (setting (data_of c.args.hub.now.setup) (length c.args.lanes.now) c.args.names.now) c.args.segments.now 0) c.loop-number.number c.get-segment.result.now c.get-segment.ensures c.requires.orderly c.requires.valid)
+    (fits (script_in (setting (data_of c.args.hub.now.setup) (length c.args.lanes.now) c.args.names.now) c.args.segments.now 0)
+    c.loop-number.number c.get-segment.result.now c.get-segment.ensures c.requires.orderly c.requires.valid)
 
 pub run_one-requires-clause-room : goal.run_one-requires-clause-room
 run_one-requires-clause-room g c =
@@ -44,7 +45,8 @@ run_one-requires-clause-few g c κs lives = c.requires.orderly.endpoints.few
 
 pub run_one-requires-clause-retired : goal.run_one-requires-clause-retired
 run_one-requires-clause-retired g c κs lives =
-    retires_named (script_in (setting (data_of c.args.hub.now.setup) (length c.args.lanes.now) c.args.names.now) c.args.segments.now 0) c.loop-number.number c.get-segment.result.now c.get-segment.ensures c.requires.orderly
+    retires_named (script_in (setting (data_of c.args.hub.now.setup) (length c.args.lanes.now) c.args.names.now) c.args.segments.now 0)
+    c.loop-number.number c.get-segment.result.now c.get-segment.ensures c.requires.orderly
 
 pub run_one-requires-clause-sent : goal.run_one-requires-clause-sent
 run_one-requires-clause-sent g c κs lives = c.requires.orderly.endpoints.sent
@@ -95,8 +97,10 @@ loop-number-preserved g c =
     record {
       stands = λ version reader start tally frames rest told.
           let t = c.loop-number.invariant.stands version reader start tally frames rest told in
-          let one = subst (λ (n : ℕ). HasTold (setting d n names) number segment now next counted counted' t.stands.left rest) lanes_are (c.in_ok-run_one.ensures.one t.stands.left rest t.stands.records) in
-          told_next (script_in s c.args.segments.now version) reader frames rest start number segment now next tally counted counted' c.get-segment.ensures t one (c.in_ok-run_one.ensures.took t.stands.left rest t.stands.records);
+          let one =
+          subst (λ (n : ℕ). HasTold (setting d n names) number segment now next counted counted' t.stands.left rest) lanes_are (c.in_ok-run_one.ensures.one t.stands.left rest t.stands.records) in
+          told_next (script_in s c.args.segments.now version) reader frames rest start number segment now next tally counted counted' c.get-segment.ensures t one
+          (c.in_ok-run_one.ensures.took t.stands.left rest t.stands.records);
       ready = c.in_ok-run_one.ensures.ready;
       room = omega (arith, c.in_ok-run_one.ensures.taken, c.loop-number.invariant.room, more.0);
       keep = c.in_ok-run_one.ensures.keep ∙ c.loop-number.invariant.keep;
@@ -121,7 +125,8 @@ returns g c =
       end = λ version reader start tally frames rest told. (
         state_of d lanes,
         c.place.ensures,
-        subst (λ (n : ℕ). HasToldAll (script_in s c.args.segments.now version) reader frames rest start n now tally (g.T.Telling.counts c.loop-number.out)) done (c.loop-number.invariant.stands version reader start tally frames rest told),
+        subst (λ (n : ℕ). HasToldAll (script_in s c.args.segments.now version) reader frames rest start n now tally (g.T.Telling.counts c.loop-number.out)) done
+            (c.loop-number.invariant.stands version reader start tally frames rest told),
       );
       keep = c.loop-number.invariant.keep;
       same = c.loop-number.invariant.same;

@@ -8,9 +8,9 @@ use Rattle.spin_seat.specs.Seats.{IsSeatOf}
 use Rattle.spin_run.specs.Ends.{seen}
 use Rattle.spin_run.specs.Segments.{state_of}
 use Rattle.spin_run.specs.Inner.Steps.{moment, setting, script_in}
-use Rattle.spin_run.proofs.Fitting.{orderly_in}
-use Rattle.spin_run.proofs.Faults.{results_later}
-use Rattle.spin_run.proofs.Steps.{ends_first, ends_empty, told_start, fresh_given, runs_script}
+use Rattle.spin_run.proofs.OrderlySegments.{orderly_in}
+use Rattle.spin_run.proofs.FaultCounts.{results_later}
+use Rattle.spin_run.proofs.SegmentRuns.{ends_first, ends_empty, told_start, fresh_given, runs_script}
 use Rattle.spin_run.proofs.script.run_over.Goals as goal
 
 pub returns-in-Err : goal.returns-in-Err
@@ -83,7 +83,8 @@ run_each-requires-clause-commands g c κs lives = c.requires.commands
 pub run_each-requires-clause-orderly : goal.run_each-requires-clause-orderly
 run_each-requires-clause-orderly g c κs lives =
     let lanes_are : length c.in_ok-lanes.lanes ≡ c.args.lane_count = c.in_ok-lanes.ensures.ready.all ∙ c.in_ok-hub.ensures.lanes in
-    orderly_in (script_in (setting (data_of c.args.setup) c.args.lane_count c.args.names.now) c.args.segments.now 0) (setting (data_of c.in_ok-hub.hub.setup) (length c.in_ok-lanes.lanes) c.args.names.now)
+    orderly_in (script_in (setting (data_of c.args.setup) c.args.lane_count c.args.names.now) c.args.segments.now 0)
+    (setting (data_of c.in_ok-hub.hub.setup) (length c.in_ok-lanes.lanes) c.args.names.now)
     (λ i. setting (data_of (c.in_ok-hub.ensures.setup i)) (lanes_are i) c.args.names.now) c.requires.orderly
 
 pub returns : goal.returns
@@ -104,8 +105,10 @@ returns g c =
     record {
       end = λ version frames rest r.
           let script = script_in s c.args.segments.now version in
-          let told = told_start script c.args.capture.now frames rest before now (counts c.args.out.now) (counts c.begin.new.self) refl refl start refl (fresh_given c.args.capture.now c.requires.fresh) r c.in_default.ensures.told c.in_default.ensures.counts in
-          runs_script script made c.args.capture.now frames rest before now (counts c.args.out.now) (counts c.begin.new.self) c.run_each.new.capture after (counts c.run_each.new.out) c.run_each.result same c.run_each.ensures.end told;
+          let told = told_start script c.args.capture.now frames rest before now (counts c.args.out.now) (counts c.begin.new.self) refl refl start refl
+          (fresh_given c.args.capture.now c.requires.fresh) r c.in_default.ensures.told c.in_default.ensures.counts in
+          runs_script script made c.args.capture.now frames rest before now (counts c.args.out.now)
+          (counts c.begin.new.self) c.run_each.new.capture after (counts c.run_each.new.out) c.run_each.result same c.run_each.ensures.end told;
       keep = c.run_each.ensures.keep;
       same = c.run_each.ensures.same ∙ c.in_default.ensures.same;
       counts = results_later c.args.names.now c.run_each.result before now.outside after refl c.in_default.ensures.cause refl c.run_each.ensures.counts;

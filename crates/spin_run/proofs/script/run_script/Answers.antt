@@ -3,7 +3,7 @@ use Rattle.spin_endpoint.specs.Inner.View.{view_of}
 use Rattle.spin_script.specs.Scripts.{script_seen}
 use Rattle.spin_run.specs.Ends.{seen}
 use Rattle.spin_run.specs.Records.{room_of}
-use Rattle.spin_run.proofs.Steps.{walk_ends, ends_seen, counts_seen}
+use Rattle.spin_run.proofs.SegmentRuns.{walk_ends, ends_seen, counts_seen}
 use Rattle.spin_run.proofs.script.run_script.Goals as goal
 
 pub returns-clause-end : goal.returns-clause-end
@@ -15,10 +15,13 @@ returns-clause-end g c =
     let sink = g.K.Sink.seen c.walk.new.out.out.now in
     let ends = all c.walk.new.ends.ends.items in
     λ frames rest r.
-    ends_seen script (room_of c.args.capture) frames rest before source sink (g.K.Sink.seen c.out-1.given.0) ends c.walk.result (walk_ends script (room_of c.args.capture) frames rest before (seen source sink ends) None None c.walk.result (c.walk.ensures.end frames rest r)) (ap g.K.Sink.seen (sym (c.out-1.given.1 (sym c.walk.ensures.same))))
+    ends_seen script (room_of c.args.capture) frames rest before source sink (g.K.Sink.seen c.out-1.given.0) ends c.walk.result
+    (walk_ends script (room_of c.args.capture) frames rest before (seen source sink ends) None None c.walk.result (c.walk.ensures.end frames rest r))
+    (ap g.K.Sink.seen (sym (c.out-1.given.1 (sym c.walk.ensures.same))))
 
 pub returns-clause-counts : goal.returns-clause-counts
 returns-clause-counts g c =
     let all = λ (ends : _). map (view_of (λ e. (goal.Endpoint-dyn g (e.object.vtable, e.object.value)).seen e.object.value)) ends in
     let before = seen (g.S.Source.seen c.args.source.now) (g.K.Sink.seen c.args.out.now) (all c.args.ends.now.ends.items) in
-    counts_seen c.args.script.endpoints before (g.S.Source.seen c.walk.new.source) (g.K.Sink.seen c.walk.new.out.out.now) (g.K.Sink.seen c.out-1.given.0) (all c.walk.new.ends.ends.items) c.walk.result c.walk.ensures.counts (ap g.K.Sink.seen (sym (c.out-1.given.1 (sym c.walk.ensures.same))))
+    counts_seen c.args.script.endpoints before (g.S.Source.seen c.walk.new.source) (g.K.Sink.seen c.walk.new.out.out.now) (g.K.Sink.seen c.out-1.given.0)
+    (all c.walk.new.ends.ends.items) c.walk.result c.walk.ensures.counts (ap g.K.Sink.seen (sym (c.out-1.given.1 (sym c.walk.ensures.same))))

@@ -4,7 +4,7 @@ use Rattle.spin_table.specs.SetupOf.{data_of}
 use Rattle.spin_script.specs.Scripts.{script_seen}
 use Rattle.spin_run.specs.Ends.{seen}
 use Rattle.spin_run.specs.Inner.Steps.{setting, script_in, AllBy, ResultCounts}
-use Rattle.spin_run.proofs.Fitting.{orderly_in}
+use Rattle.spin_run.proofs.OrderlySegments.{orderly_in}
 use Rattle.spin_run.proofs.script.run_segments.Goals as goal
 
 pub run_over-requires-clause-sincere : goal.run_over-requires-clause-sincere
@@ -35,7 +35,8 @@ returns g c =
     let after = seen (source c.run_over.new.source) (sink c.run_over.new.out) (all c.run_over.new.ends.ends.items) in
     record {
       end = λ frames rest r.
-          subst (λ (names : List (List ℕ)). AllBy (script_in (setting script.setup script.lanes names) script.segments script.version) c.args.capture.now before (counts c.args.out.now) c.run_over.new.capture after (counts c.run_over.new.out) c.run_over.result frames rest)
+          subst (λ (names : List (List ℕ)). AllBy (script_in (setting script.setup script.lanes names) script.segments script.version) c.args.capture.now before
+          (counts c.args.out.now) c.run_over.new.capture after (counts c.run_over.new.out) c.run_over.result frames rest)
           c.as_slice.ensures (c.run_over.ensures.end script.version frames rest r);
       keep = c.run_over.ensures.keep;
       same = c.run_over.ensures.same;

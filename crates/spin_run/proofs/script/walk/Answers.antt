@@ -3,7 +3,7 @@ use Rattle.spin_endpoint.specs.Inner.View.{view_of}
 use Rattle.spin_script.specs.Scripts.{script_seen}
 use Rattle.spin_run.specs.Ends.{seen}
 use Rattle.spin_run.specs.Inner.Steps.{moment}
-use Rattle.spin_run.proofs.Endings.{walks_whole, walks_stopped}
+use Rattle.spin_run.proofs.RunEnds.{walks_whole, walks_stopped}
 use Rattle.spin_run.proofs.script.walk.Goals as goal
 
 pub returns-in-Ok-finish-clause-end : goal.returns-in-Ok-finish-clause-end
@@ -16,7 +16,8 @@ returns-in-Ok-finish-clause-end g c =
     λ frames rest r.
     let a = c.in-Ok.ensures.end frames rest r in
     let now = moment a.0 c.run_segments.new.capture (source c.run_segments.new.source) (sink c.run_segments.new.out) (all c.run_segments.new.ends.ends.items) in
-    walks_whole (script_seen c.args.script) c.args.capture frames rest before now c.in-Ok.length after _ _ _ refl a.1 r a.2 (c.in-Ok-finish.ensures.answer a.2.stands.left rest a.2.stands.records) c.in-Ok-finish.ensures.tally
+    walks_whole (script_seen c.args.script) c.args.capture frames rest before now c.in-Ok.length after _ _ _ refl a.1 r a.2
+    (c.in-Ok-finish.ensures.answer a.2.stands.left rest a.2.stands.records) c.in-Ok-finish.ensures.tally
 
 pub returns-in-Ok-clause-end : goal.returns-in-Ok-clause-end
 returns-in-Ok-clause-end g c =
@@ -28,4 +29,5 @@ returns-in-Ok-clause-end g c =
     λ frames rest r.
     let a = c.in-Ok.ensures.end frames rest r in
     let now = moment a.0 c.run_segments.new.capture (source c.run_segments.new.source) (sink c.run_segments.new.out) (all c.run_segments.new.ends.ends.items) in
-    walks_stopped (script_seen c.args.script) c.args.capture frames rest before now c.in-Ok.length after _ _ c.in-Err-finish.end refl a.1 r a.2.stands (c.in-Err-finish.ensures.answer a.2.stands.left rest a.2.stands.records)
+    walks_stopped (script_seen c.args.script) c.args.capture frames rest before now c.in-Ok.length after _ _ c.in-Err-finish.end refl a.1 r a.2.stands
+    (c.in-Err-finish.ensures.answer a.2.stands.left rest a.2.stands.records)

@@ -10,13 +10,16 @@ use Rattle.spin_jobs.specs.Jobs.{CanRun, IsReplyTo}
 use Rattle.spin_report.specs.Segments.{asked_in, IsWoven}
 use Rattle.spin_run.specs.Lanes.{AreJobsOf}
 use Rattle.spin_run.specs.Segments.{front_of, jobs_seen}
-use Rattle.spin_run.proofs.Segmenting.{Facts, Wove, some_lane, known, trails_lanes, trails_order, jobs_lanes, jobs_order, few_jobs, jobs_can_run, woven_made, first, replay_first, jobs_left, front_told, front_after, state_after, ready_again, room_taken}
+use Rattle.spin_run.proofs.SegmentLemmas.{Facts, Wove, some_lane, known, trails_lanes, trails_order, jobs_lanes, jobs_order, few_jobs, jobs_can_run}
+use Rattle.spin_run.proofs.SegmentLemmas.{woven_made, first, replay_first, jobs_left, front_told, front_after, state_after, ready_again, room_taken}
 use Rattle.spin_run.proofs.segment.run_segment.Goals as goal
 use Rattle.spin_script.specs.Soundness.{commands_in}
 
 pub weave-requires : goal.weave-requires
 weave-requires g c =
-    let facts : Facts (data_of c.args.hub.now.setup) c.args.hub.now.log.id c.args.hub.now.log.lanes c.args.segment.now.lines c.args.frames.now c.args.lanes.now c.run_lanes.new.lanes c.meet.new.self (some_lane c.args.lanes.now c.requires.ready.some) = known _ _ _ _ _ _ _ _ c.requires.ready c.requires.lines c.requires.room c.run_lanes.ensures (c.lacked_memory.ensures.had c.if-lacked_memory.false) c.in_ok-meet.ensures in
+    let facts : Facts (data_of c.args.hub.now.setup) c.args.hub.now.log.id c.args.hub.now.log.lanes c.args.segment.now.lines c.args.frames.now c.args.lanes.now c.run_lanes.new.lanes c.meet.new.self
+    (some_lane c.args.lanes.now c.requires.ready.some) =
+    known _ _ _ _ _ _ _ _ c.requires.ready c.requires.lines c.requires.room c.run_lanes.ensures (c.lacked_memory.ensures.had c.if-lacked_memory.false) c.in_ok-meet.ensures in
     record {
       trails = trails_lanes _ _ _ _ _ _ _ _ _ facts;
       trails_order = trails_order _ _ _ _ _ _ _ _ _ facts;
@@ -26,28 +29,39 @@ weave-requires g c =
 
 pub run_all-requires-clause-few : goal.run_all-requires-clause-few
 run_all-requires-clause-few g c κs within =
-    let facts : Facts (data_of c.args.hub.now.setup) c.args.hub.now.log.id c.args.hub.now.log.lanes c.args.segment.now.lines c.args.frames.now c.args.lanes.now c.run_lanes.new.lanes c.meet.new.self (some_lane c.args.lanes.now c.requires.ready.some) = known _ _ _ _ _ _ _ _ c.requires.ready c.requires.lines c.requires.room c.run_lanes.ensures (c.lacked_memory.ensures.had c.if-lacked_memory.false) c.in_ok-meet.ensures in
-    let wove : Wove _ _ _ _ _ _ _ _ _ facts c.in_ok-entries.entries c.in_ok-entries.jobs = record { entries_are = c.in_ok-entries.ensures.entries; order = c.in_ok-entries.ensures.entries_order; jobs_are = c.in_ok-entries.ensures.jobs; jobs_rise = c.in_ok-entries.ensures.jobs_order } in
+    let facts : Facts (data_of c.args.hub.now.setup) c.args.hub.now.log.id c.args.hub.now.log.lanes c.args.segment.now.lines c.args.frames.now c.args.lanes.now c.run_lanes.new.lanes c.meet.new.self
+    (some_lane c.args.lanes.now c.requires.ready.some) =
+    known _ _ _ _ _ _ _ _ c.requires.ready c.requires.lines c.requires.room c.run_lanes.ensures (c.lacked_memory.ensures.had c.if-lacked_memory.false) c.in_ok-meet.ensures in
+    let wove : Wove _ _ _ _ _ _ _ _ _ facts c.in_ok-entries.entries c.in_ok-entries.jobs =
+    record { entries_are = c.in_ok-entries.ensures.entries; order = c.in_ok-entries.ensures.entries_order; jobs_are = c.in_ok-entries.ensures.jobs; jobs_rise = c.in_ok-entries.ensures.jobs_order } in
     few_jobs _ _ _ _ _ _ _ _ _ facts _ _ wove
 
 pub run_all-requires-clause-jobs : goal.run_all-requires-clause-jobs
 run_all-requires-clause-jobs g c κs within =
-    let facts : Facts (data_of c.args.hub.now.setup) c.args.hub.now.log.id c.args.hub.now.log.lanes c.args.segment.now.lines c.args.frames.now c.args.lanes.now c.run_lanes.new.lanes c.meet.new.self (some_lane c.args.lanes.now c.requires.ready.some) = known _ _ _ _ _ _ _ _ c.requires.ready c.requires.lines c.requires.room c.run_lanes.ensures (c.lacked_memory.ensures.had c.if-lacked_memory.false) c.in_ok-meet.ensures in
-    let wove : Wove _ _ _ _ _ _ _ _ _ facts c.in_ok-entries.entries c.in_ok-entries.jobs = record { entries_are = c.in_ok-entries.ensures.entries; order = c.in_ok-entries.ensures.entries_order; jobs_are = c.in_ok-entries.ensures.jobs; jobs_rise = c.in_ok-entries.ensures.jobs_order } in
+    let facts : Facts (data_of c.args.hub.now.setup) c.args.hub.now.log.id c.args.hub.now.log.lanes c.args.segment.now.lines c.args.frames.now c.args.lanes.now c.run_lanes.new.lanes c.meet.new.self
+    (some_lane c.args.lanes.now c.requires.ready.some) =
+    known _ _ _ _ _ _ _ _ c.requires.ready c.requires.lines c.requires.room c.run_lanes.ensures (c.lacked_memory.ensures.had c.if-lacked_memory.false) c.in_ok-meet.ensures in
+    let wove : Wove _ _ _ _ _ _ _ _ _ facts c.in_ok-entries.entries c.in_ok-entries.jobs =
+    record { entries_are = c.in_ok-entries.ensures.entries; order = c.in_ok-entries.ensures.entries_order; jobs_are = c.in_ok-entries.ensures.jobs; jobs_rise = c.in_ok-entries.ensures.jobs_order } in
     subst (λ (d : SetupData). All (CanRun d) c.in_ok-entries.jobs) (ap (λ setup. data_of setup) (sym c.setup.ensures)) (jobs_can_run _ _ _ _ _ _ _ _ _ facts _ _ wove)
 
 pub returns : goal.returns
 returns g c =
-    let facts : Facts (data_of c.args.hub.now.setup) c.args.hub.now.log.id c.args.hub.now.log.lanes c.args.segment.now.lines c.args.frames.now c.args.lanes.now c.run_lanes.new.lanes c.meet.new.self (some_lane c.args.lanes.now c.requires.ready.some) = known _ _ _ _ _ _ _ _ c.requires.ready c.requires.lines c.requires.room c.run_lanes.ensures (c.lacked_memory.ensures.had c.if-lacked_memory.false) c.in_ok-meet.ensures in
-    let wove : Wove _ _ _ _ _ _ _ _ _ facts c.in_ok-entries.entries c.in_ok-entries.jobs = record { entries_are = c.in_ok-entries.ensures.entries; order = c.in_ok-entries.ensures.entries_order; jobs_are = c.in_ok-entries.ensures.jobs; jobs_rise = c.in_ok-entries.ensures.jobs_order } in
+    let facts : Facts (data_of c.args.hub.now.setup) c.args.hub.now.log.id c.args.hub.now.log.lanes c.args.segment.now.lines c.args.frames.now c.args.lanes.now c.run_lanes.new.lanes c.meet.new.self
+    (some_lane c.args.lanes.now c.requires.ready.some) =
+    known _ _ _ _ _ _ _ _ c.requires.ready c.requires.lines c.requires.room c.run_lanes.ensures (c.lacked_memory.ensures.had c.if-lacked_memory.false) c.in_ok-meet.ensures in
+    let wove : Wove _ _ _ _ _ _ _ _ _ facts c.in_ok-entries.entries c.in_ok-entries.jobs =
+    record { entries_are = c.in_ok-entries.ensures.entries; order = c.in_ok-entries.ensures.entries_order; jobs_are = c.in_ok-entries.ensures.jobs; jobs_rise = c.in_ok-entries.ensures.jobs_order } in
     let new_front : front_of c.weave.new.self ≡ front_of c.meet.new.self = front_after _ _ _ _ _ _ _ _ _ facts c.weave.new.self c.in_ok-entries.ensures.seats c.in_ok-entries.ensures.stops in
     record {
       woven = (
         first _ _ _ _ _ _ _ _ _ facts,
         replay_first _ _ _ _ _ _ _ _ _ facts,
-        subst (λ (after : State). IsWoven (data_of c.args.hub.now.setup) (length c.args.lanes.now) (asked_in c.args.segment.now.lines c.args.frames.now) (first _ _ _ _ _ _ _ _ _ facts) after c.in_ok-entries.entries (jobs_seen c.in_ok-entries.jobs c.in_ok-replies.replies))
+        subst (λ (after : State). IsWoven (data_of c.args.hub.now.setup) (length c.args.lanes.now) (asked_in c.args.segment.now.lines c.args.frames.now)
+            (first _ _ _ _ _ _ _ _ _ facts) after c.in_ok-entries.entries (jobs_seen c.in_ok-entries.jobs c.in_ok-replies.replies))
             (sym (state_after _ _ _ _ _ _ _ _ _ facts c.weave.new.self c.in_ok-entries.ensures.seats c.in_ok-entries.ensures.stops))
-            (woven_made _ _ _ _ _ _ _ _ _ facts _ _ wove c.in_ok-replies.replies (subst (λ (d : SetupData). AllZip (IsReplyTo d) c.in_ok-entries.jobs c.in_ok-replies.replies) (ap (λ setup. data_of setup) c.setup.ensures) c.in_ok-replies.ensures)),
+            (woven_made _ _ _ _ _ _ _ _ _ facts _ _ wove c.in_ok-replies.replies
+            (subst (λ (d : SetupData). AllZip (IsReplyTo d) c.in_ok-entries.jobs c.in_ok-replies.replies) (ap (λ setup. data_of setup) c.setup.ensures) c.in_ok-replies.ensures)),
       );
       jobs = subst (λ (front : List Row). AreJobsOf (data_of c.args.hub.now.setup) c.in_ok-entries.entries front c.in_ok-entries.jobs) (sym new_front) (jobs_left _ _ _ _ _ _ _ _ _ facts _ _ wove);
       front = new_front ∙ front_told _ _ _ _ _ _ _ _ _ facts _ _ wove;

@@ -4,4 +4,5 @@ use Rattle.spin_run.proofs.sends.add_of_reply.Goals as goal
 
 pub loop-step-preserved : goal.loop-step-preserved
 loop-step-preserved c =
-    sends_more _ _ _ c.as_slice-step-items.result.now c.loop-step.step-index c.step-item.result (omega (arith, c.loop-step-test.true)) (sym c.step-item.is) c.loop-step.invariant c.in_ok-add_step.ensures
+    sends_more _ _ _ c.as_slice-step-items.result.now c.loop-step.step-index c.step-item.result
+    (omega (arith, c.loop-step-test.true)) (sym c.step-item.is) c.loop-step.invariant c.in_ok-add_step.ensures

@@ -1,7 +1,7 @@
 use Rattle.std.proofs.Common.{map, Ok, Err}
 use Rattle.spin_endpoint.specs.Inner.View.{view_of}
 use Rattle.spin_run.specs.declared.end.RunEnd.TheVariants as end
-use Rattle.spin_run.proofs.Faults.{sends_counted}
+use Rattle.spin_run.proofs.FaultCounts.{sends_counted}
 use Rattle.spin_run.proofs.sends.send_all.Goals as goal
 
 pub returns-in-Ok-clause-counts : goal.returns-in-Ok-clause-counts

@@ -7,7 +7,7 @@ use Rattle.spin_run.specs.Ends.{seen}
 use Rattle.spin_run.specs.Records.{room_of}
 use Rattle.spin_run.specs.Summaries.{Counts, counts_in, untold}
 use Rattle.spin_run.specs.Inner.Steps.{WalksBy}
-use Rattle.spin_run.proofs.SummedUp.{whole_summed, whole_unwritten}
+use Rattle.spin_run.proofs.SummaryEnds.{whole_summed, whole_unwritten}
 use Rattle.spin_run.proofs.summary.run_summary.Goals as goal
 
 pub returns-in-Ok-clause-end : goal.returns-in-Ok-clause-end
@@ -19,7 +19,8 @@ returns-in-Ok-clause-end g c =
     let tally = c.walk-ended.new.out in
     let whole : c.walk-ended.result ≡ end.Whole = search rules in
     λ frames rest r.
-    let walked = subst (λ (t : Counts). WalksBy script (room_of c.args.capture) frames rest (untold before) (Some t) (untold after) (Some tally) c.walk-ended.result) c.new-tally.ensures (c.walk-ended.ensures.end frames rest r) in
+    let walked = subst (λ (t : Counts). WalksBy script (room_of c.args.capture) frames rest (untold before) (Some t) (untold after) (Some tally) c.walk-ended.result) c.new-tally.ensures
+    (c.walk-ended.ensures.end frames rest r) in
     whole_summed script (room_of c.args.capture) c.args.number frames rest before after tally
     (subst (λ (e : RunEnd). WalksBy script (room_of c.args.capture) frames rest (untold before) (Some (counts_in [])) (untold after) (Some tally) e) whole walked) c.in-Ok.ensures.told
 
@@ -33,6 +34,7 @@ returns-in-Err-clause-end g c =
     let tally = c.walk-ended.new.out in
     let whole : c.walk-ended.result ≡ end.Whole = search rules in
     λ frames rest r.
-    let walked = subst (λ (t : Counts). WalksBy script (room_of c.args.capture) frames rest (untold before) (Some t) (untold after) (Some tally) c.walk-ended.result) c.new-tally.ensures (c.walk-ended.ensures.end frames rest r) in
+    let walked = subst (λ (t : Counts). WalksBy script (room_of c.args.capture) frames rest (untold before) (Some t) (untold after) (Some tally) c.walk-ended.result) c.new-tally.ensures
+    (c.walk-ended.ensures.end frames rest r) in
     whole_unwritten script (room_of c.args.capture) c.args.number c.args.capture source frames rest before after tally c.in-Err.end r
     (subst (λ (e : RunEnd). WalksBy script (room_of c.args.capture) frames rest (untold before) (Some (counts_in [])) (untold after) (Some tally) e) whole walked) c.in-Err.ensures.told

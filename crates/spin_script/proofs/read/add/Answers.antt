@@ -1,17 +1,17 @@
 use Rattle.std.proofs.Common.{◌≡◌, ℕ, Result, sym, subst}
 use Rattle.spin_grammar.specs.declared.fault.Fault.{Fault}
 use Rattle.spin_grammar.specs.declared.line.Said.{Said}
-use Rattle.spin_grammar.specs.Lines.{Line}
-use Rattle.spin_script.specs.States.{NativeData, State, natives_seen}
+use Rattle.spin_grammar.specs.Lines.{LineMeaning}
+use Rattle.spin_script.specs.States.{NativeData, ScriptState, natives_seen}
 use Rattle.spin_script.specs.Inner.Drafts.{so_far}
 use Rattle.spin_script.specs.Inner.Reader.{Adds, AddsSaid}
 use Rattle.spin_script.proofs.read.add.Goals as goal
 
 -- what was added is the line
-adds_as : {A : Type 0} (n : NativeData) (s t : State) (number : ℕ) (l m : Line) (r : Result A Fault) → l ≡ m → Adds n s number m r t → Adds n s number l r t
-adds_as n s t number l m r is adds = subst (λ (z : Line). Adds n s number z r t) (sym is) adds
+adds_as : {A : Type 0} (n : NativeData) (s t : ScriptState) (number : ℕ) (l m : LineMeaning) (r : Result A Fault) → l ≡ m → Adds n s number m r t → Adds n s number l r t
+adds_as n s t number l m r is adds = subst (λ (z : LineMeaning). Adds n s number z r t) (sym is) adds
 
-said_as : {A : Type 0} (n : NativeData) (s t : State) (number : ℕ) (what known : Said) (r : Result A Fault) → what ≡ known → AddsSaid n s number known r t → AddsSaid n s number what r t
+said_as : {A : Type 0} (n : NativeData) (s t : ScriptState) (number : ℕ) (what known : Said) (r : Result A Fault) → what ≡ known → AddsSaid n s number known r t → AddsSaid n s number what r t
 said_as n s t number what known r is adds = subst (λ (z : Said). AddsSaid n s number z r t) (sym is) adds
 
 pub returns-in-Handler-clause-adds : goal.returns-in-Handler-clause-adds
@@ -19,14 +19,16 @@ returns-in-Handler-clause-adds g c =
     let n = natives_seen c.args.catalogue.now.natives in
     let s = so_far c.args.draft.now c.args.catalogue.now in
     let t = so_far c.add_handler.new.draft c.add_handler.new.catalogue in
-    said_as n s t c.args.number c.args.said _ c.add_handler.result c.in-Handler.is (λ l is. adds_as n s t c.args.number l _ c.add_handler.result is.1 (c.add_handler.ensures.adds c.args.number is.0 is.2))
+    said_as n s t c.args.number c.args.said _ c.add_handler.result c.in-Handler.is
+    (λ l is. adds_as n s t c.args.number l _ c.add_handler.result is.1 (c.add_handler.ensures.adds c.args.number is.0 is.2))
 
 pub returns-in-NativeHandler-clause-adds : goal.returns-in-NativeHandler-clause-adds
 returns-in-NativeHandler-clause-adds g c =
     let n = natives_seen c.args.catalogue.now.natives in
     let s = so_far c.args.draft.now c.args.catalogue.now in
     let t = so_far c.add_native_handler.new.draft c.add_native_handler.new.catalogue in
-    said_as n s t c.args.number c.args.said _ c.add_native_handler.result c.in-NativeHandler.is (λ l is. adds_as n s t c.args.number l _ c.add_native_handler.result is (c.add_native_handler.ensures.adds c.args.number))
+    said_as n s t c.args.number c.args.said _ c.add_native_handler.result c.in-NativeHandler.is
+    (λ l is. adds_as n s t c.args.number l _ c.add_native_handler.result is (c.add_native_handler.ensures.adds c.args.number))
 
 pub returns-in-Guard-clause-adds : goal.returns-in-Guard-clause-adds
 returns-in-Guard-clause-adds g c =
@@ -40,7 +42,8 @@ returns-in-NativeGuard-clause-adds g c =
     let n = natives_seen c.args.catalogue.now.natives in
     let s = so_far c.args.draft.now c.args.catalogue.now in
     let t = so_far c.add_native_guard.new.draft c.add_native_guard.new.catalogue in
-    said_as n s t c.args.number c.args.said _ c.add_native_guard.result c.in-NativeGuard.is (λ l is. adds_as n s t c.args.number l _ c.add_native_guard.result is (c.add_native_guard.ensures.adds c.args.number))
+    said_as n s t c.args.number c.args.said _ c.add_native_guard.result c.in-NativeGuard.is
+    (λ l is. adds_as n s t c.args.number l _ c.add_native_guard.result is (c.add_native_guard.ensures.adds c.args.number))
 
 pub returns-in-Rule-clause-adds : goal.returns-in-Rule-clause-adds
 returns-in-Rule-clause-adds g c =

@@ -3,7 +3,7 @@ use Rattle.spin_table.specs.declared.event.EventDef.{EventDef}
 use Rattle.spin_table.specs.Catalogues.{data_from}
 use Rattle.spin_script.specs.States.{natives_seen}
 use Rattle.spin_script.specs.Inner.Drafts.{so_far}
-use Rattle.spin_script.proofs.Sound.{never_err}
+use Rattle.spin_script.proofs.LineSoundness.{never_err}
 use Rattle.spin_script.proofs.read.build.Goals as goal
 
 pub unreachable-requires : goal.unreachable-requires

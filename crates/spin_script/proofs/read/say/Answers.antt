@@ -1,7 +1,7 @@
 use Rattle.spin_script.specs.States.{natives_seen}
 use Rattle.spin_script.specs.Inner.Drafts.{so_far}
-use Rattle.spin_script.proofs.Keeping.{said_sound}
-use Rattle.spin_script.proofs.Declaring.{said_declared}
+use Rattle.spin_script.proofs.ReadLineSoundness.{said_sound}
+use Rattle.spin_script.proofs.DeclaredUnits.{said_declared}
 use Rattle.spin_script.proofs.read.say.Goals as goal
 
 pub returns-clause-sound : goal.returns-clause-sound
@@ -9,7 +9,8 @@ returns-clause-sound g c =
     let n = natives_seen c.args.catalogue.now.natives in
     let s = so_far c.args.draft.now c.args.catalogue.now in
     let t = so_far c.add.new.draft c.add.new.catalogue in
-    said_sound n s c.args.number c.args.kind c.args.words.now c.in_ok-said.said c.add.result t c.in_ok-said.ensures.gives c.in_ok-said.ensures.ranges c.add.ensures.adds c.requires.order c.requires.sound
+    said_sound n s c.args.number c.args.kind c.args.words.now c.in_ok-said.said c.add.result t
+    c.in_ok-said.ensures.gives c.in_ok-said.ensures.ranges c.add.ensures.adds c.requires.order c.requires.sound
 
 pub returns-clause-declared : goal.returns-clause-declared
 returns-clause-declared g c =
@@ -18,4 +19,5 @@ returns-clause-declared g c =
     let n = natives_seen old.natives in
     let s = so_far c.args.draft.now old in
     let t = so_far c.add.new.draft new in
-    said_declared n s t old.bodies new.bodies old.checks new.checks c.args.number c.args.kind c.args.words.now c.in_ok-said.said c.add.result c.in_ok-said.ensures.gives c.add.ensures.adds c.add.ensures.grows c.requires.order c.requires.begun c.requires.declared
+    said_declared n s t old.bodies new.bodies old.checks new.checks c.args.number c.args.kind c.args.words.now c.in_ok-said.said
+    c.add.result c.in_ok-said.ensures.gives c.add.ensures.adds c.add.ensures.grows c.requires.order c.requires.begun c.requires.declared

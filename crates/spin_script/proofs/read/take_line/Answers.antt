@@ -2,8 +2,8 @@ use Rattle.std.proofs.Common.{sym}
 use Rattle.spin_objects.specs.Units.{handlers_of, guards_of}
 use Rattle.spin_script.specs.States.{natives_seen}
 use Rattle.spin_script.specs.Inner.Drafts.{so_far}
-use Rattle.spin_script.proofs.Keeping.{head_in_order}
-use Rattle.spin_script.proofs.Declaring.{begun_declared, says_begun}
+use Rattle.spin_script.proofs.ReadLineSoundness.{head_in_order}
+use Rattle.spin_script.proofs.DeclaredUnits.{begun_declared, says_begun}
 use Rattle.spin_script.proofs.read.take_line.Goals as goal
 
 pub say-requires-clause-order : goal.say-requires-clause-order

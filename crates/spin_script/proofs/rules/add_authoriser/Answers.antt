@@ -5,7 +5,7 @@ use Rattle.spin_script.specs.States.{native_at, natives_seen}
 use Rattle.spin_values.specs.First.{first_of}
 use Rattle.spin_script.specs.Checks.{authoriser_checks, policy_at}
 use Rattle.spin_script.specs.Inner.Drafts.{so_far}
-use Rattle.spin_script.proofs.Judged.{refused}
+use Rattle.spin_script.proofs.LineCauses.{refused}
 use Rattle.spin_script.proofs.rules.add_authoriser.Goals as goal
 
 pub returns-in_err-native : goal.returns-in_err-native

@@ -1,5 +1,5 @@
 use Rattle.std.proofs.Common.{refl, sym, ◌∙◌}
-use Rattle.spin_script.proofs.Judged.{cause_is}
+use Rattle.spin_script.proofs.LineCauses.{cause_is}
 use Rattle.spin_script.proofs.rules.add_default.Goals as goal
 
 pub returns-in-Some-default_cause : goal.returns-in-Some-default_cause

@@ -1,6 +1,6 @@
 use Rattle.std.proofs.Common.{refl, sym, ◌∙◌}
 use Rattle.spin_script.specs.Inner.Drafts.{so_far}
-use Rattle.spin_script.proofs.Judged.{cause_is, rule_fits}
+use Rattle.spin_script.proofs.LineCauses.{cause_is, rule_fits}
 use Rattle.spin_script.proofs.rules.add_rule.Goals as goal
 
 pub returns-in-Some-rule_cause : goal.returns-in-Some-rule_cause

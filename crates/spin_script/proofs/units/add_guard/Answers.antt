@@ -6,8 +6,8 @@ use Rattle.spin_grammar.specs.Lines as said
 use Rattle.spin_objects.specs.Units.{handlers_of, guards_of}
 use Rattle.spin_script.specs.States.{natives_seen}
 use Rattle.spin_script.specs.Inner.Drafts.{so_far}
-use Rattle.spin_script.proofs.Judged.{refused}
-use Rattle.spin_script.proofs.Added.{next_fits, guard_added}
+use Rattle.spin_script.proofs.LineCauses.{refused}
+use Rattle.spin_script.proofs.AddedUnits.{next_fits, guard_added}
 use Rattle.spin_script.proofs.units.add_guard.Goals as goal
 
 pub returns-in_err-test-clause-adds : goal.returns-in_err-test-clause-adds
@@ -25,8 +25,11 @@ pub returns-clause-adds : goal.returns-clause-adds
 returns-clause-adds g c = λ number kept is.
     let old = c.args.catalogue.now in
     let n = natives_seen old.natives in
-    let first = c.in_ok-test.ensures.first n (so_far c.args.draft.now old) kept (sym c.guard_count.ensures) is in
-    (first.0, guard_added n c.args.draft.now (handlers_of old) (handlers_of c.keep_guard.new.catalogue) (guards_of old) (guards_of c.keep_guard.new.catalogue) number c.args.guard c.args.sig c.in_ok-test.test kept c.in_ok-keep_guard.ensures.added c.in_ok-keep_guard.ensures.handlers first.1)
+    let first = c.in_ok-test.ensures.first n (so_far c.args.draft.now old) kept (sym c.guard_count.ensures) is in (
+      first.0,
+      guard_added n c.args.draft.now (handlers_of old) (handlers_of c.keep_guard.new.catalogue) (guards_of old)
+          (guards_of c.keep_guard.new.catalogue) number c.args.guard c.args.sig c.in_ok-test.test kept c.in_ok-keep_guard.ensures.added c.in_ok-keep_guard.ensures.handlers first.1,
+    )
 
 pub returns-clause-grows : goal.returns-clause-grows
 returns-clause-grows g c = λ kept is.

@@ -1,6 +1,6 @@
 use Rattle.std.proofs.Common.{ap}
 use Rattle.spin_objects.specs.Units.{native_handlers, native_guards}
-use Rattle.spin_script.proofs.Bodies.{check_added, same_bodies}
+use Rattle.spin_script.proofs.CatalogueBodies.{check_added, same_bodies}
 use Rattle.spin_script.proofs.units.keep_guard.Goals as goal
 
 pub returns-in-Ok-clause-checks : goal.returns-in-Ok-clause-checks

@@ -1,5 +1,5 @@
 use Rattle.spin_objects.specs.Units.{handlers_of}
-use Rattle.spin_script.proofs.Last.{last_is}
+use Rattle.spin_script.proofs.LastHandler.{last_is}
 use Rattle.spin_script.proofs.units.last_act.Goals as goal
 
 pub returns : goal.returns

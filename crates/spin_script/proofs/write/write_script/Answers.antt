@@ -7,8 +7,8 @@ use Rattle.spin_table.specs.SetupOf.{data_of}
 use Rattle.spin_grammar.specs.Lines.{Modules}
 use Rattle.spin_script.specs.declared.script.Segment.{Segment}
 use Rattle.spin_script.specs.States.{natives_seen}
-use Rattle.spin_script.specs.Canonical.{line_text, text_of, version_text, event_line, endpoint_line, handler_line, guard_line, authority_lines, default_lines, segments_lines}
-use Rattle.spin_script.proofs.Writing.{one_by_one}
+use Rattle.spin_script.specs.Canonical.{line_text, text_of_lines, version_text, event_line, endpoint_line, handler_line, guard_line, authority_lines, default_lines, segments_lines}
+use Rattle.spin_script.proofs.WrittenParts.{one_by_one}
 use Rattle.spin_script.proofs.write.write_script.Goals as goal
 
 pub returns : goal.returns
@@ -19,17 +19,18 @@ returns g c =
     let head =
     subst (λ (m : ℕ). c.put_head.new.out ≡ c.new-out.result ++ version_text c.args.script.now.version ++ line_text (Modules m)) c.modules.ensures c.in_ok-put_head.ensures in
     let endpoints =
-    subst (λ (ps : List (List ℕ)). c.put_endpoints.new.out ≡ c.put_events.new.out ++ text_of (map endpoint_line (enumerate_from 0 ps))) c.as_slice.ensures c.in_ok-put_endpoints.ensures in
+    subst (λ (ps : List (List ℕ)). c.put_endpoints.new.out ≡ c.put_events.new.out ++ text_of_lines (map endpoint_line (enumerate_from 0 ps))) c.as_slice.ensures c.in_ok-put_endpoints.ensures in
     let handlers =
-    subst (λ cat. c.put_handlers.new.out ≡ c.put_endpoints.new.out ++ text_of (map (λ (p : ℕ × Body). handler_line (natives_seen cat.natives) p.0 p.1) (enumerate_from 1 cat.bodies)))
+    subst (λ cat. c.put_handlers.new.out ≡ c.put_endpoints.new.out ++ text_of_lines (map (λ (p : ℕ × Body). handler_line (natives_seen cat.natives) p.0 p.1) (enumerate_from 1 cat.bodies)))
     c.catalogue-catalogue.ensures c.in_ok-put_handlers.ensures in
     let guards =
-    subst (λ cat. c.put_guards.new.out ≡ c.put_handlers.new.out ++ text_of (map (λ (p : ℕ × Check). guard_line (natives_seen cat.natives) p.0 p.1) (enumerate_from 1 cat.checks)))
+    subst (λ cat. c.put_guards.new.out ≡ c.put_handlers.new.out ++ text_of_lines (map (λ (p : ℕ × Check). guard_line (natives_seen cat.natives) p.0 p.1) (enumerate_from 1 cat.checks)))
     c.catalogue-catalogue.ensures c.in_ok-put_guards.ensures in
     let segments =
-    subst (λ (ss : List Segment). c.put_segments.new.out ≡ c.put_defaults.new.out ++ text_of (segments_lines c.args.script.now.version ss)) c.as_slice-2.ensures c.in_ok-put_segments.ensures in
+    subst (λ (ss : List Segment). c.put_segments.new.out ≡ c.put_defaults.new.out ++ text_of_lines (segments_lines c.args.script.now.version ss)) c.as_slice-2.ensures c.in_ok-put_segments.ensures in
     one_by_one (version_text c.args.script.now.version) (Modules setup.modules) (map event_line events) (map endpoint_line (enumerate_from 0 c.args.script.now.endpoints))
     (map (λ (p : ℕ × Body). handler_line natives p.0 p.1) (enumerate_from 1 setup.catalogue.bodies)) (map (λ (p : ℕ × Check). guard_line natives p.0 p.1) (enumerate_from 1 setup.catalogue.checks))
     (flat_map (λ (p : ℕ × EventDef). authority_lines natives p.0 p.1.authority) events) (flat_map (λ (p : ℕ × EventDef). default_lines p.0 p.1.first_default) events)
-    (segments_lines c.args.script.now.version c.args.script.now.segments) c.new-out.result c.put_head.new.out c.put_events.new.out c.put_endpoints.new.out c.put_handlers.new.out c.put_guards.new.out c.put_authorities.new.out
+    (segments_lines c.args.script.now.version c.args.script.now.segments) c.new-out.result c.put_head.new.out
+    c.put_events.new.out c.put_endpoints.new.out c.put_handlers.new.out c.put_guards.new.out c.put_authorities.new.out
     c.put_defaults.new.out c.put_segments.new.out c.new-out.ensures head c.in_ok-put_events.ensures endpoints handlers guards c.in_ok-put_authorities.ensures c.in_ok-put_defaults.ensures segments

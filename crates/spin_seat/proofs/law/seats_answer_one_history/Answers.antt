@@ -1,7 +1,7 @@
-use Rattle.spin_seat.proofs.Replays.{IsReplay-one}
-use Rattle.spin_seat.proofs.Keeping.{clean_by_lanes}
-use Rattle.spin_seat.proofs.Runs.{answer_stands}
-use Rattle.spin_seat.proofs.Weaving.{weaves_are_legal}
+use Rattle.spin_seat.proofs.RowReplays.{IsReplay-one}
+use Rattle.spin_seat.proofs.SeatInvariants.{clean_by_lanes}
+use Rattle.spin_seat.proofs.SeatAnswers.{answer_stands}
+use Rattle.spin_seat.proofs.WovenAnswers.{weaves_are_legal}
 use Rattle.spin_seat.proofs.law.seats_answer_one_history.Goals as goal
 
 pub returns-clause-replay : goal.returns-clause-replay

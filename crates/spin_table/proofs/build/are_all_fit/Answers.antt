@@ -1,7 +1,7 @@
 use Rattle.std.proofs.Common.{◌∙◌, sym}
 use Rattle.spin_objects.specs.Units.{guards_of}
 use Rattle.spin_table.specs.Faults.{is_fit_rule}
-use Rattle.spin_table.proofs.Alls.{passes_more, passes_all, fails_at}
+use Rattle.spin_table.proofs.AllTests.{passes_more, passes_all, fails_at}
 use Rattle.spin_table.proofs.build.are_all_fit.Goals as goal
 
 pub returns-then-not-is_fit_rule : goal.returns-then-not-is_fit_rule

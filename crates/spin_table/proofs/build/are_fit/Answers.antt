@@ -2,7 +2,7 @@ use Rattle.std.proofs.Common.{◌∙◌, sym}
 use Rattle.std.proofs.lemmas.List.Folds.{list_all_at}
 use Rattle.spin_objects.specs.Units.{guards_of}
 use Rattle.spin_table.specs.Units.{is_fit_guard}
-use Rattle.spin_table.proofs.Alls.{passes_next, passes_all}
+use Rattle.spin_table.proofs.AllTests.{passes_next, passes_all}
 use Rattle.spin_table.proofs.build.are_fit.Goals as goal
 
 pub returns-then-not-is_fit_guard : goal.returns-then-not-is_fit_guard

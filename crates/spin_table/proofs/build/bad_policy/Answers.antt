@@ -2,7 +2,7 @@ use Rattle.std.proofs.Common.{◌≡◌, ◌∙◌, sym, arith, false}
 use Rattle.std.proofs.lemmas.List.Elements.{AllWithin-more, at_read}
 use Rattle.spin_objects.specs.Units.{guards_of, policies_of}
 use Rattle.spin_table.specs.Faults.{has_bad_policy}
-use Rattle.spin_table.proofs.Positions.{position-none, position-at}
+use Rattle.spin_table.proofs.FirstPlaces.{position-none, position-at}
 use Rattle.spin_table.proofs.build.bad_policy.Goals as goal
 
 pub returns-then-has_bad_policy : goal.returns-then-has_bad_policy

@@ -3,8 +3,8 @@ use Rattle.std.specs.List.{list_all}
 use Rattle.std.proofs.lemmas.List.Elements.{AllWithin-more, at_read}
 use Rattle.spin_objects.specs.Units.{handlers_of}
 use Rattle.spin_table.specs.Faults.{is_step_fit, raises_amiss}
-use Rattle.spin_table.proofs.Numbered.{act_unit}
-use Rattle.spin_table.proofs.Positions.{position-none, position-at}
+use Rattle.spin_table.proofs.NumberedUnits.{act_unit}
+use Rattle.spin_table.proofs.FirstPlaces.{position-none, position-at}
 use Rattle.spin_table.proofs.build.bad_up.Goals as goal
 
 pub returns-then-not-raises_fit : goal.returns-then-not-raises_fit

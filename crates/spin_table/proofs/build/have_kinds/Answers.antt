@@ -1,11 +1,12 @@
 use Rattle.std.proofs.Common.{◌≡◌, length, sym, ◌∙◌, arith, rules, below_more}
-use Rattle.spin_values.proofs.Alike.{get_map, same_maps, differ_at, kind_alike, kind_apart}
+use Rattle.spin_values.proofs.ListEquality.{get_map, same_maps, differ_at, kind_alike, kind_apart}
 use Rattle.spin_table.specs.Faults.{part_kind}
 use Rattle.spin_table.proofs.build.have_kinds.Goals as goal
 
 pub returns-then-ne : goal.returns-then-ne
 returns-then-ne c =
-    let apart = differ_at (λ p. p.kind) part_kind c.args.sig.now.params c.args.parts.now _ _ _ c.get.ensures c.get-in-loop-at.ensures (λ e. kind_apart _ _ _ c.ne.ensures c.if-ne.true (e ∙ sym c.part_kind.ensures)) in
+    let apart = differ_at (λ p. p.kind) part_kind c.args.sig.now.params c.args.parts.now _ _ _ c.get.ensures c.get-in-loop-at.ensures
+    (λ e. kind_apart _ _ _ c.ne.ensures c.if-ne.true (e ∙ sym c.part_kind.ensures)) in
     (λ f. cc, λ e. absurd (apart e))
 
 pub loop-at-preserved : goal.loop-at-preserved

@@ -1,4 +1,4 @@
-use Rattle.spin_table.proofs.Types.{is_same_kinds}
+use Rattle.spin_table.proofs.SignatureTests.{is_same_kinds}
 use Rattle.spin_table.proofs.build.takes_parts.Goals as goal
 
 pub returns : goal.returns

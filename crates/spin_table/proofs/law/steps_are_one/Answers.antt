@@ -1,4 +1,4 @@
-use Rattle.spin_table.proofs.OneStep.{one_step}
+use Rattle.spin_table.proofs.StepUniqueness.{one_step}
 use Rattle.spin_table.proofs.law.steps_are_one.Goals as goal
 
 pub returns : goal.returns

@@ -1,7 +1,7 @@
 use Rattle.std.proofs.Common.{◌++◌, ◌∙◌, get_or, refl, sym, ap, arith}
 use Rattle.std.specs.Option.{option_to_list}
 use Rattle.spin_table.specs.States.{binding_of}
-use Rattle.spin_table.proofs.Arranged.{arranged-more}
+use Rattle.spin_table.proofs.ArrangedBindings.{arranged-more}
 use Rattle.spin_table.proofs.lists.arrange.Goals as goal
 
 pub loop-number-preserved : goal.loop-number-preserved

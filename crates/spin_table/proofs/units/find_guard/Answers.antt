@@ -1,6 +1,6 @@
 use Rattle.spin_values.specs.First.{numbered}
 use Rattle.spin_objects.specs.Units.{guards_of}
-use Rattle.spin_table.proofs.Numbered.{sig_from}
+use Rattle.spin_table.proofs.NumberedUnits.{sig_from}
 use Rattle.spin_table.proofs.units.find_guard.Goals as goal
 
 pub returns : goal.returns

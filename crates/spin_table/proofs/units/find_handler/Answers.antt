@@ -1,5 +1,5 @@
 use Rattle.spin_objects.specs.Units.{handlers_of}
-use Rattle.spin_table.proofs.Numbered.{numbered_handler}
+use Rattle.spin_table.proofs.NumberedUnits.{numbered_handler}
 use Rattle.spin_table.proofs.units.find_handler.Goals as goal
 
 pub returns : goal.returns

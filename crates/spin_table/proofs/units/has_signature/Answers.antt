@@ -1,4 +1,4 @@
-use Rattle.spin_table.proofs.Types.{is_same_signature}
+use Rattle.spin_table.proofs.SignatureTests.{is_same_signature}
 use Rattle.spin_table.proofs.units.has_signature.Goals as goal
 
 pub returns : goal.returns

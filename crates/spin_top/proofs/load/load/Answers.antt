@@ -1,5 +1,5 @@
 use Rattle.std.proofs.Common.{ap, Err}
-use Rattle.spin_top.proofs.Shelf.{too_large_file}
+use Rattle.spin_top.proofs.ShelfLemmas.{too_large_file}
 use Rattle.spin_top.proofs.load.load.Goals as goal
 
 pub returns-in-Err-TooLarge-clause-large : goal.returns-in-Err-TooLarge-clause-large

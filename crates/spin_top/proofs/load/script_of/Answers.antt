@@ -1,6 +1,6 @@
 use Rattle.std.proofs.Common.{ap, Err}
 use Rattle.spin_script.specs.States.{natives_seen}
-use Rattle.spin_top.proofs.Outcomes.{bad_as_a_whole}
+use Rattle.spin_top.proofs.LargeTexts.{bad_as_a_whole}
 use Rattle.spin_top.proofs.load.script_of.Goals as goal
 
 pub returns-in-Err-TooLarge-clause-refused : goal.returns-in-Err-TooLarge-clause-refused

@@ -1,4 +1,4 @@
-use Rattle.spin_top.proofs.Recording.{file_from}
+use Rattle.spin_top.proofs.CaptureRecords.{file_from}
 use Rattle.spin_top.proofs.records.read_capture.Goals as goal
 
 pub returns-clause-read : goal.returns-clause-read

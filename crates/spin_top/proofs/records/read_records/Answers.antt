@@ -1,6 +1,6 @@
 use Rattle.std.proofs.Common.{◌≡◌, ◌+◌, ◌++◌, ◌∷◌, [], Ok, length, ap, ◌∙◌, arith, length-append}
 use Rattle.spin_pcap.specs.Passing.{left_for}
-use Rattle.spin_top.proofs.Recording.{after_fault, after_packet, cuts_read, ends_read, next_read, stops_read, told_more}
+use Rattle.spin_top.proofs.CaptureRecords.{after_fault, after_packet, cuts_read, ends_read, next_read, stops_read, told_more}
 use Rattle.spin_top.proofs.records.read_records.Goals as goal
 
 pub returns-in-Ok-End-clause-read : goal.returns-in-Ok-End-clause-read
@@ -27,7 +27,8 @@ returns-in-Err-clause-read g c =
     let given = after_fault c.records.reader c.next.new.self c.in-Err.fault _ i.reading c.in-Err.ensures.reader in
     let place : c.taken.result + 1 ≡ length c.records.frames + 1 = omega (arith, c.taken.ensures.taken, given, i.count) in
     told_more _ _ (left_for c.args.reader.now.held (g.S.Source.seen c.args.source.now).left) i.read (λ bytes h.
-    stops_read _ bytes c.records.reader c.in-Err.fault _ c.end_at.result _ (left_for c.next.new.self.held (g.S.Source.seen c.next.new.source).left) c.records.frames c.next.new.frame _ i.reading i.order i.count place c.end_at.ensures c.in-Err.ensures.answer h)
+    stops_read _ bytes c.records.reader c.in-Err.fault _ c.end_at.result _ (left_for c.next.new.self.held (g.S.Source.seen c.next.new.source).left)
+    c.records.frames c.next.new.frame _ i.reading i.order i.count place c.end_at.ensures c.in-Err.ensures.answer h)
 
 pub records-preserved : goal.records-preserved
 records-preserved g c =
@@ -40,7 +41,8 @@ records-preserved g c =
       count = omega (arith, after.2, i.count, ap length grown, length-append c.records.frames (c.next.new.frame ∷ []));
       few = omega (arith, after.2, c.in-Ok-Packet.ensures.few (ap Ok c.in-Ok-Packet.field-0-is));
       read = told_more _ _ (left_for c.args.reader.now.held (g.S.Source.seen c.args.source.now).left) i.read (λ bytes h.
-          next_read _ bytes c.records.reader c.next.new.self.held c.in-Ok-Packet.field-0 _ _ c.records.frames c.push.new.self c.next.new.frame _ i.reading i.order i.count c.in-Ok-Packet.field-0-is c.in-Ok-Packet.ensures.answer grown h);
+          next_read _ bytes c.records.reader c.next.new.self.held c.in-Ok-Packet.field-0 _ _ c.records.frames c.push.new.self
+          c.next.new.frame _ i.reading i.order i.count c.in-Ok-Packet.field-0-is c.in-Ok-Packet.ensures.answer grown h);
       keep = c.next.ensures.passed.1.keep ∙ i.keep;
       stood = c.in-Ok-Packet.ensures.cause ∙ i.stood;
     }

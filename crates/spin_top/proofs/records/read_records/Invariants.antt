@@ -2,7 +2,7 @@ use Rattle.std.proofs.Common.{◌≡◌, ◌≤◌, ◌-◌, length, IfSome}
 use Rattle.spin_pcap.specs.declared.limits.TheConstants.{MAX_RECORDS}
 use Rattle.spin_pcap.specs.declared.state.State.TheVariants as state
 use Rattle.spin_pcap.specs.Passing.{left_for}
-use Rattle.spin_top.proofs.Recording.{HasRead}
+use Rattle.spin_top.proofs.CaptureRecords.{HasRead}
 use Rattle.spin_top.proofs.records.read_records.Given as goal
 
 abbrev pub invariant-records : goal.invariant-records

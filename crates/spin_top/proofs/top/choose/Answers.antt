@@ -1,5 +1,5 @@
 use Rattle.std.proofs.Common.{refl}
-use Rattle.spin_top.proofs.Exactly.{command_status, memory_status, usage_status}
+use Rattle.spin_top.proofs.StatusCauses.{command_status, memory_status, usage_status}
 use Rattle.spin_top.proofs.top.choose.Goals as goal
 
 pub returns-in-Ok-Some : goal.returns-in-Ok-Some

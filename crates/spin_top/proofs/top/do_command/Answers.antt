@@ -1,5 +1,5 @@
 use Rattle.std.proofs.Common.{rules}
-use Rattle.spin_top.proofs.Exactly.{vm_status}
+use Rattle.spin_top.proofs.StatusCauses.{vm_status}
 use Rattle.spin_top.proofs.top.do_command.Goals as goal
 
 pub returns-in-Gen : goal.returns-in-Gen

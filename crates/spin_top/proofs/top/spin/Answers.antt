@@ -1,5 +1,5 @@
-use Rattle.spin_top.proofs.Exactly.{table_known, whole_known}
-use Rattle.spin_top.proofs.Headline.{headline_holds}
+use Rattle.spin_top.proofs.StatusCauses.{table_known, whole_known}
+use Rattle.spin_top.proofs.HeadlineLemmas.{headline_holds}
 use Rattle.spin_top.proofs.top.spin.Goals as goal
 
 pub returns-clause-headline : goal.returns-clause-headline

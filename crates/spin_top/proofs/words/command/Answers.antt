@@ -22,6 +22,7 @@ returns c =
     ∙ ap (λ a. rule_of (record a { num_vals = c.num_args.result.num_vals; trailing_var_arg = true })) c.required.ensures
     ∙ ap₂ with_range range_is c.new.ensures.rule in
     let bare_is : app_of c.disable_help_flag-command.result ≡ bare =
-    ap app_of_fields c.disable_help_flag-command.ensures ∙ ap (on_top (λ s. record s { disable_help_flag = true })) (ap app_of_fields c.no_binary_name.ensures ∙ ap (on_top (λ s. record s { no_binary_name = true })) c.new-3.ensures.app) in
+    ap app_of_fields c.disable_help_flag-command.ensures
+    ∙ ap (on_top (λ s. record s { disable_help_flag = true })) (ap app_of_fields c.no_binary_name.ensures ∙ ap (on_top (λ s. record s { no_binary_name = true })) c.new-3.ensures.app) in
     let local = ap (λ a. a.global) c.trailing_var_arg-words.ensures ∙ ap (λ a. a.global) c.num_args.ensures.0 ∙ ap (λ a. a.global) c.required.ensures ∙ c.new.ensures.optional.1 in
     c.in_ok-arg.ensures.shape local ∙ ap₂ with_rule bare_is argument_is

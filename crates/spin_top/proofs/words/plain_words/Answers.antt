@@ -1,6 +1,6 @@
 use Rattle.std.proofs.Common.{◌∙◌, subst, sym}
 use Rattle.spin_top.specs.Words.{IsPlain}
-use Rattle.spin_top.proofs.Parsing.{more_words}
+use Rattle.spin_top.proofs.ArgumentParsing.{more_words}
 use Rattle.spin_top.proofs.words.plain_words.Goals as goal
 
 pub loop-word-preserved : goal.loop-word-preserved

@@ -1,6 +1,6 @@
 use Rattle.std.proofs.Common.{ap, ◌∙◌}
 use Rattle.spin_table.specs.SetupOf.{data_of}
-use Rattle.spin_report.proofs.Answering.{one_reply}
+use Rattle.spin_report.proofs.AnswerUniqueness.{one_reply}
 use Rattle.spin_vm.specs.declared.came.Came.{Came}
 use Rattle.spin_vm.specs.declared.came.Came.TheVariants as came
 use Rattle.spin_vm.specs.Spaces.{page_of, access_came, raise_of, faulted, mapped}

@@ -1,4 +1,4 @@
-use Rattle.spin_vm.proofs.Spaces.{there, came_there, spaces_there, regions_there}
+use Rattle.spin_vm.proofs.SpaceRegions.{there, came_there, spaces_there, regions_there}
 use Rattle.spin_vm.proofs.answering.answer.Goals as goal
 
 pub returns-in-At-clause-came : goal.returns-in-At-clause-came

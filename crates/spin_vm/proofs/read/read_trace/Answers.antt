@@ -1,7 +1,7 @@
 use Rattle.std.proofs.Common.{◌+◌, [], length, Ok, sym, ap, subst, ◌∙◌, arith}
 use Rattle.std.proofs.lemmas.List.{append-nil}
 use Rattle.spin_vm.specs.Traces.{comes_to, AreGood}
-use Rattle.spin_vm.proofs.Reading.{goes_line}
+use Rattle.spin_vm.proofs.TraceLines.{goes_line}
 use Rattle.spin_vm.proofs.read.read_trace.Goals as goal
 
 pub loop-line-preserved : goal.loop-line-preserved

@@ -1,7 +1,7 @@
 use Rattle.std.proofs.Common.{◌≡◌, ◌+◌, ◌≤◌, length, Ok}
 use Rattle.std.specs.Str.Lines.{lines}
 use Rattle.spin_vm.specs.Traces.{start, comes_to}
-use Rattle.spin_vm.proofs.Reading.{GoesOn}
+use Rattle.spin_vm.proofs.TraceLines.{GoesOn}
 use Rattle.spin_vm.proofs.read.read_trace.Given as goal
 
 -- what the lines that are left come to behind the trace so far is what the text comes to

@@ -2,7 +2,7 @@ use Rattle.std.proofs.Common.{◌<◌, ◌≤◌, List, length, refl, sym, subst
 use Rattle.spin_script.specs.declared.script.Line.{Line}
 use Rattle.spin_table.specs.SetupOf.{data_of}
 use Rattle.spin_vm.specs.Scripts.{AllLead}
-use Rattle.spin_vm.proofs.Texts.{next_line, no_more}
+use Rattle.spin_vm.proofs.WrittenTexts.{next_line, no_more}
 use Rattle.spin_vm.proofs.Commands.{leads_place}
 use Rattle.spin_vm.proofs.version.after_lines.Goals as goal
 

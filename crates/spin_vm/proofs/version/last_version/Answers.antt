@@ -30,4 +30,5 @@ pub returns-clause-last : goal.returns-clause-last
 returns-clause-last g c =
     let one = one_segment (script_seen c.args.script.now) c.requires.suited in
     let d = data_of c.args.script.now.setup in
-    subst (λ (lines : List Line). IfOk c.after_lines.result (AllLead d (start_of d) lines)) (c.deref.ensures ∙ sym (lines_are c.args.script.now.segments c.get.result.now one c.get.ensures)) c.after_lines.ensures.last
+    subst (λ (lines : List Line). IfOk c.after_lines.result (AllLead d (start_of d) lines))
+    (c.deref.ensures ∙ sym (lines_are c.args.script.now.segments c.get.result.now one c.get.ensures)) c.after_lines.ensures.last

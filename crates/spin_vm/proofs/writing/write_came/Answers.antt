@@ -1,6 +1,6 @@
 use Rattle.std.proofs.Common.{ℕ, List, sym, ap, subst, ◌∙◌}
 use Rattle.spin_vm.specs.Inner.Lines.{text_if, Wrote}
-use Rattle.spin_vm.proofs.Texts.{text_some}
+use Rattle.spin_vm.proofs.WrittenTexts.{text_some}
 use Rattle.spin_vm.proofs.writing.write_came.Goals as goal
 
 pub returns-clause-written : goal.returns-clause-written

@@ -8,7 +8,7 @@ use Rattle.spin_vm.specs.Traces.{AreGood}
 use Rattle.spin_vm.specs.Spaces.{said_came, mapped_pages}
 use Rattle.spin_vm.specs.Output.{end_line}
 use Rattle.spin_vm.specs.Inner.Lines.{regions_of, text_if, text_behind, WroteWithin}
-use Rattle.spin_vm.proofs.Texts.{Appends-append, next_at, no_more, text_next, text_last, stopped, some_behind, wrote_behind}
+use Rattle.spin_vm.proofs.WrittenTexts.{Appends-append, next_at, no_more, text_next, text_last, stopped, some_behind, wrote_behind}
 use Rattle.spin_vm.proofs.writing.write_lines.Goals as goal
 
 pub loop-line-preserved : goal.loop-line-preserved
@@ -27,7 +27,8 @@ loop-line-preserved g c =
           let text = text_if line (said_came reply spaces line.said) in (
             before.0 ++ text,
             text_next reply spaces next trace i line (text_behind reply [] trace) before.0 at (c.in_ok-write_line.ensures.spaces reply are) before.1,
-            Appends-append (g.K.Sink.seen c.args.out.now).told (g.K.Sink.seen c.loop-line.out).told (g.K.Sink.seen c.write_line.new.out).told before.0 text before.2 (c.in_ok-write_line.ensures.written reply are),
+            Appends-append (g.K.Sink.seen c.args.out.now).told (g.K.Sink.seen c.loop-line.out).told
+                (g.K.Sink.seen c.write_line.new.out).told before.0 text before.2 (c.in_ok-write_line.ensures.written reply are),
           );
       good = subst (λ (rs : List (List Region)). AreGood rs (drop (i + 1) trace)) (sym c.in_ok-write_line.ensures.regions) good.1;
       pages = omega (arith, c.in_ok-write_line.ensures.pages, c.loop-line.invariant.pages);

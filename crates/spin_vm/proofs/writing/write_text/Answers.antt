@@ -1,4 +1,4 @@
-use Rattle.spin_vm.proofs.Texts.{front_of}
+use Rattle.spin_vm.proofs.WrittenTexts.{front_of}
 use Rattle.spin_vm.proofs.writing.write_text.Goals as goal
 
 pub returns-in-Err-clause-written : goal.returns-in-Err-clause-written

@@ -1,6 +1,6 @@
 use Rattle.std.proofs.Common.{sym}
 use Rattle.spin_word.specs.Rows.{StandsFor}
-use Rattle.spin_word.proofs.Fields.{lane_field, is_of_command}
+use Rattle.spin_word.proofs.RowFields.{lane_field, is_of_command}
 use Rattle.spin_word.proofs.row.pack.Goals as goal
 
 pub returns-clause-stands : goal.returns-clause-stands

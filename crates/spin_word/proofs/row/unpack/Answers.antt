@@ -3,7 +3,7 @@ use Rattle.std.specs.Prelude.{IsTrue}
 use Rattle.spin_word.specs.declared.command.Command.{Command}
 use Rattle.spin_word.specs.Commands.{is_command}
 use Rattle.spin_word.specs.Rows.{row_of}
-use Rattle.spin_word.proofs.Fields.{absurd_row, absurd_valid, fields, same_op, same_place, same_mode}
+use Rattle.spin_word.proofs.RowFields.{absurd_row, absurd_valid, fields, same_op, same_place, same_mode}
 use Rattle.spin_word.proofs.row.unpack.Goals.{else-is_valid-via-then-is_valid+else-eq, else-is_valid-via-else-is_valid}
 use Rattle.spin_word.proofs.row.unpack.Goals as goal
 

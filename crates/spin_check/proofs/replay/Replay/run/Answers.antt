@@ -2,7 +2,7 @@ use Rattle.std.proofs.Common.{◌≡◌, [], sym, subst, arith}
 use Rattle.std.specs.Prelude.{All, None, Some}
 use Rattle.spin_table.specs.SetupOf.{data_of}
 use Rattle.spin_check.specs.Inner.Replays.{At, GoesOn}
-use Rattle.spin_check.proofs.Stepping.{on_way_none, on_way_more, rest_shorter, on_way_end, on_way_stuck}
+use Rattle.spin_check.proofs.ReplaySteps.{on_way_none, on_way_more, rest_shorter, on_way_end, on_way_stuck}
 use Rattle.spin_check.proofs.replay.Replay.run.Goals as goal
 
 pub loop-alloc-init : goal.loop-alloc-init

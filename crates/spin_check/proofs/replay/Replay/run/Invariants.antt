@@ -1,6 +1,6 @@
 use Rattle.std.proofs.Common.{length}
 use Rattle.spin_table.specs.SetupOf.{data_of}
-use Rattle.spin_check.proofs.Stepping.{IsOnWay}
+use Rattle.spin_check.proofs.ReplaySteps.{IsOnWay}
 use Rattle.spin_check.proofs.replay.Replay.run.Given as goal
 
 abbrev pub invariant-loop-alloc : goal.invariant-loop-alloc

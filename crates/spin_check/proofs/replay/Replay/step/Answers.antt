@@ -6,8 +6,8 @@ use Rattle.spin_table.specs.SetupOf.{data_of}
 use Rattle.spin_table.specs.Soundness.{IsSound}
 use Rattle.spin_check.specs.Inner.Asks.{IsValid, commands_left}
 use Rattle.spin_check.specs.Inner.Replays.{At, DidJobs, IsFound, GoesOn}
-use Rattle.spin_check.proofs.Few.{entry_few}
-use Rattle.spin_check.proofs.Stepping.{no_room, goes_on}
+use Rattle.spin_check.proofs.JobCounts.{entry_few}
+use Rattle.spin_check.proofs.ReplaySteps.{no_room, goes_on}
 use Rattle.spin_check.proofs.replay.Replay.step.Goals as goal
 
 pub next_entry-requires-clause-sound : goal.next_entry-requires-clause-sound
@@ -35,7 +35,8 @@ do_jobs-requires-clause-sound g c =
     let d = data_of c.args.setup.now in
     let i = c.self.inside in
     let now : At = record { state = arc_value i.version; queues = i.deeds; last = i.last; rest = i.rest.now; owed = i.owed; sends = i.sends; job_sends = i.job_sends } in
-    let found : IsFound d now c.next_entry.new.deeds (Some (c.in-Some.answered, c.in-Some.rest)) = subst (IsFound d now c.next_entry.new.deeds) c.in-Some.is (c.in_ok-next.ensures i.owed i.sends i.job_sends) in
+    let found : IsFound d now c.next_entry.new.deeds (Some (c.in-Some.answered, c.in-Some.rest)) =
+    subst (IsFound d now c.next_entry.new.deeds) c.in-Some.is (c.in_ok-next.ensures i.owed i.sends i.job_sends) in
     found.2
 
 pub do_jobs-requires-clause-belong : goal.do_jobs-requires-clause-belong
@@ -43,7 +44,8 @@ do_jobs-requires-clause-belong g c =
     let d = data_of c.args.setup.now in
     let i = c.self.inside in
     let now : At = record { state = arc_value i.version; queues = i.deeds; last = i.last; rest = i.rest.now; owed = i.owed; sends = i.sends; job_sends = i.job_sends } in
-    let found : IsFound d now c.next_entry.new.deeds (Some (c.in-Some.answered, c.in-Some.rest)) = subst (IsFound d now c.next_entry.new.deeds) c.in-Some.is (c.in_ok-next.ensures i.owed i.sends i.job_sends) in
+    let found : IsFound d now c.next_entry.new.deeds (Some (c.in-Some.answered, c.in-Some.rest)) =
+    subst (IsFound d now c.next_entry.new.deeds) c.in-Some.is (c.in_ok-next.ensures i.owed i.sends i.job_sends) in
     found.3
 
 pub do_jobs-requires-clause-few : goal.do_jobs-requires-clause-few
@@ -51,7 +53,8 @@ do_jobs-requires-clause-few g c =
     let d = data_of c.args.setup.now in
     let i = c.self.inside in
     let now : At = record { state = arc_value i.version; queues = i.deeds; last = i.last; rest = i.rest.now; owed = i.owed; sends = i.sends; job_sends = i.job_sends } in
-    let found : IsFound d now c.next_entry.new.deeds (Some (c.in-Some.answered, c.in-Some.rest)) = subst (IsFound d now c.next_entry.new.deeds) c.in-Some.is (c.in_ok-next.ensures i.owed i.sends i.job_sends) in
+    let found : IsFound d now c.next_entry.new.deeds (Some (c.in-Some.answered, c.in-Some.rest)) =
+    subst (IsFound d now c.next_entry.new.deeds) c.in-Some.is (c.in_ok-next.ensures i.owed i.sends i.job_sends) in
     let answered = c.in-Some.answered in
     let few = entry_few d now.state answered.entry.what (arc_value answered.version) found.0.answers.0 in
     omega (arith, few)
@@ -61,7 +64,8 @@ returns-then-not-fits g c =
     let d = data_of c.args.setup.now in
     let i = c.self.inside in
     let now : At = record { state = arc_value i.version; queues = i.deeds; last = i.last; rest = i.rest.now; owed = i.owed; sends = i.sends; job_sends = i.job_sends } in
-    let found : IsFound d now c.next_entry.new.deeds (Some (c.in-Some.answered, c.in-Some.rest)) = subst (IsFound d now c.next_entry.new.deeds) c.in-Some.is (c.in_ok-next.ensures i.owed i.sends i.job_sends) in
+    let found : IsFound d now c.next_entry.new.deeds (Some (c.in-Some.answered, c.in-Some.rest)) =
+    subst (IsFound d now c.next_entry.new.deeds) c.in-Some.is (c.in_ok-next.ensures i.owed i.sends i.job_sends) in
     let answered = c.in-Some.answered in
     let short : DidJobs d (arc_value answered.version) answered.entry (length c.in-Some.rest.now) (i.owed, i.job_sends) (c.do_jobs.new.out, c.do_jobs.new.sends) false =
     subst (DidJobs d (arc_value answered.version) answered.entry (length c.in-Some.rest.now) (i.owed, i.job_sends) (c.do_jobs.new.out, c.do_jobs.new.sends)) c.if-not-fits.true c.in_ok-fits.ensures in
@@ -73,7 +77,8 @@ returns g c =
     let d = data_of c.args.setup.now in
     let i = c.self.inside in
     let now : At = record { state = arc_value i.version; queues = i.deeds; last = i.last; rest = i.rest.now; owed = i.owed; sends = i.sends; job_sends = i.job_sends } in
-    let found : IsFound d now c.next_entry.new.deeds (Some (c.in-Some.answered, c.in-Some.rest)) = subst (IsFound d now c.next_entry.new.deeds) c.in-Some.is (c.in_ok-next.ensures i.owed i.sends i.job_sends) in
+    let found : IsFound d now c.next_entry.new.deeds (Some (c.in-Some.answered, c.in-Some.rest)) =
+    subst (IsFound d now c.next_entry.new.deeds) c.in-Some.is (c.in_ok-next.ensures i.owed i.sends i.job_sends) in
     let answered = c.in-Some.answered in
     let after : At = record {
       state = arc_value answered.version;

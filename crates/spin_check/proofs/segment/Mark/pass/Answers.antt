@@ -17,7 +17,7 @@ use Rattle.spin_check.specs.Inner.Fronts.{IsBehind}
 use Rattle.spin_check.specs.Inner.Standings.{AreFlags}
 use Rattle.spin_check.specs.Inner.Replays.{At, EndsAt}
 use Rattle.spin_check.specs.Inner.Segments.{Mark, Goes, Passes, IsGoodMark, head_text}
-use Rattle.spin_check.proofs.Parting.{TellsTail, head_here, begins, as_many, no_head, no_entries, no_tail, passes, good_mark}
+use Rattle.spin_check.proofs.SegmentLemmas.{TellsTail, head_here, begins, as_many, no_head, no_entries, no_tail, passes, good_mark}
 use Rattle.spin_check.proofs.segment.Mark.pass.Goals as goal
 
 pub returns-in_default-clause-goes : goal.returns-in_default-clause-goes
@@ -49,7 +49,8 @@ returns-in_default-ran-clause-goes g c =
     let cut = head_here d c.args.lanes names c.args.number segment now ends c.place-place.result c.as_slice.result.now (Some rest) at c.as_slice.ensures
     (subst (IsBehind (head_text c.args.number c.place-place.result (retirements names c.as_slice.result.now ends)) now.rest) c.in-Some.is head.0) in
     let start = c.new.result in
-    let begun = begins d c.args.lanes names c.args.number segment now ends rest.now start c.as_slice-2.result.now c.in_ok-deeds.deeds (c.new.ensures.state ∙ c.in_ok-version.ensures) c.new.ensures.queues c.as_slice-2.ensures
+    let begun = begins d c.args.lanes names c.args.number segment now ends rest.now start c.as_slice-2.result.now c.in_ok-deeds.deeds
+    (c.new.ensures.state ∙ c.in_ok-version.ensures) c.new.ensures.queues c.as_slice-2.ensures
     c.in_ok-deeds.ensures.deeds c.new.ensures.rest in
     let none : EndsAt d start None = subst (EndsAt d start) c.in_default-ran.is c.in_ok-ran.ensures in
     subst (λ (m : Mark). Goes d c.args.lanes names c.args.number segment m ends None) c.self.view_is
@@ -69,7 +70,8 @@ returns-in_default-tail-clause-goes g c =
     let cut = head_here d c.args.lanes names c.args.number segment now ends c.place-place.result c.as_slice.result.now (Some rest) at c.as_slice.ensures
     (subst (IsBehind (head_text c.args.number c.place-place.result (retirements names c.as_slice.result.now ends)) now.rest) c.in-Some.is head.0) in
     let start = c.new.result in
-    let begun = begins d c.args.lanes names c.args.number segment now ends rest.now start c.as_slice-2.result.now c.in_ok-deeds.deeds (c.new.ensures.state ∙ c.in_ok-version.ensures) c.new.ensures.queues c.as_slice-2.ensures
+    let begun = begins d c.args.lanes names c.args.number segment now ends rest.now start c.as_slice-2.result.now c.in_ok-deeds.deeds
+    (c.new.ensures.state ∙ c.in_ok-version.ensures) c.new.ensures.queues c.as_slice-2.ensures
     c.in_ok-deeds.ensures.deeds c.new.ensures.rest in
     let r = c.replay.inside in
     let at_end : At = record { state = arc_value r.version; queues = r.deeds; last = r.last; rest = r.rest.now; owed = r.owed; sends = r.sends; job_sends = r.job_sends } in
@@ -81,7 +83,8 @@ returns-in_default-tail-clause-goes g c =
     let now_kept : (with_items i.flags new).items ≡ new = with_items_is i.flags new long in
     let flags_kept : AreFlags names ends_now (with_items i.flags new).items = subst (AreFlags names ends_now) (sym now_kept) flags_now in
     let tells : TellsTail at_end (with_items i.flags new).items None = λ ns es sent so same.
-    subst (IsBehind (at_end.owed ++ text_of (lost_lines (lost_counts ns es sent))) at_end.rest) c.in_default-tail.is (c.in_ok-tail.ensures ns es sent (subst (AreFlags ns es) (sym c.as_slice-flags.ensures.value) so) same) in
+    subst (IsBehind (at_end.owed ++ text_of (lost_lines (lost_counts ns es sent))) at_end.rest) c.in_default-tail.is
+    (c.in_ok-tail.ensures ns es sent (subst (AreFlags ns es) (sym c.as_slice-flags.ensures.value) so) same) in
     subst (λ (m : Mark). Goes d c.args.lanes names c.args.number segment m ends None) c.self.view_is
     (no_tail d c.args.lanes names c.args.number segment now ends rest.now start at_end cut begun ended_so (with_items i.flags new).items flags_kept tells)
 
@@ -99,7 +102,8 @@ returns-clause-goes g c =
     let cut = head_here d c.args.lanes names c.args.number segment now ends c.place-place.result c.as_slice.result.now (Some rest) at c.as_slice.ensures
     (subst (IsBehind (head_text c.args.number c.place-place.result (retirements names c.as_slice.result.now ends)) now.rest) c.in-Some.is head.0) in
     let start = c.new.result in
-    let begun = begins d c.args.lanes names c.args.number segment now ends rest.now start c.as_slice-2.result.now c.in_ok-deeds.deeds (c.new.ensures.state ∙ c.in_ok-version.ensures) c.new.ensures.queues c.as_slice-2.ensures
+    let begun = begins d c.args.lanes names c.args.number segment now ends rest.now start c.as_slice-2.result.now c.in_ok-deeds.deeds
+    (c.new.ensures.state ∙ c.in_ok-version.ensures) c.new.ensures.queues c.as_slice-2.ensures
     c.in_ok-deeds.ensures.deeds c.new.ensures.rest in
     let r = c.replay.inside in
     let at_end : At = record { state = arc_value r.version; queues = r.deeds; last = r.last; rest = r.rest.now; owed = r.owed; sends = r.sends; job_sends = r.job_sends } in
@@ -112,10 +116,12 @@ returns-clause-goes g c =
     let flags_kept : AreFlags names ends_now (with_items i.flags new).items = subst (AreFlags names ends_now) (sym now_kept) flags_now in
     let last = c.in-Some-tail.rest in
     let tells : TellsTail at_end (with_items i.flags new).items (Some last) = λ ns es sent so same.
-    subst (IsBehind (at_end.owed ++ text_of (lost_lines (lost_counts ns es sent))) at_end.rest) c.in-Some-tail.is (c.in_ok-tail.ensures ns es sent (subst (AreFlags ns es) (sym c.as_slice-flags.ensures.value) so) same) in
+    subst (IsBehind (at_end.owed ++ text_of (lost_lines (lost_counts ns es sent))) at_end.rest) c.in-Some-tail.is
+    (c.in_ok-tail.ensures ns es sent (subst (AreFlags ns es) (sym c.as_slice-flags.ensures.value) so) same) in
     let next : Mark = record { state = arc_value r.version; left = c.in_ok-deeds.left.now; flags = (with_items i.flags new).items; rest = last.now } in
     subst (λ (m : Mark). Passes d c.args.lanes names c.args.number segment m ends next) c.self.view_is
-    (passes d c.args.lanes names c.args.number segment now ends rest.now start at_end cut begun ended_so last next flags_kept tells refl (c.in_ok-deeds.ensures.left ∙ ap (λ (ls : List Line). drop (wanted_by ls) now.left) c.as_slice-2.ensures) refl)
+    (passes d c.args.lanes names c.args.number segment now ends rest.now start at_end cut begun ended_so last next flags_kept tells refl
+    (c.in_ok-deeds.ensures.left ∙ ap (λ (ls : List Line). drop (wanted_by ls) now.left) c.as_slice-2.ensures) refl)
 
 pub returns-clause-good : goal.returns-clause-good
 returns-clause-good g c =

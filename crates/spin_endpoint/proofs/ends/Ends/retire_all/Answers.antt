@@ -2,7 +2,7 @@ use Rattle.std.proofs.Common.{◌≡◌, ◌<◌, ℕ, [], refl, length, map, ge
 use Rattle.std.proofs.lemmas.List.{get_or_default, length-set}
 use Rattle.spin_endpoint.specs.Inner.View.{view_of}
 use Rattle.spin_endpoint.specs.Sends.{name_of, stands_in_turn}
-use Rattle.spin_endpoint.proofs.Retired.{all_retired_none, step_retired, stood_in_turn, noted_more}
+use Rattle.spin_endpoint.proofs.RetiredEndpoints.{all_retired_none, step_retired, stood_in_turn, noted_more}
 use Rattle.spin_endpoint.proofs.ends.Ends.retire_all.Goals as goal
 
 pub loop-at-init : goal.loop-at-init
@@ -27,6 +27,7 @@ loop-at-preserved g c =
     let inside : c.loop-at.at < length c.loop-at.stood = omega (arith, lt, c.loop-at.invariant.len) in
     record {
       retired = step_retired names numbers at number before _ _ c.index-names-numbers.result lt refl named c.loop-at.invariant.retired c.retire_if.ensures.ends;
-      stood = λ turn below. noted_more c.loop-at.stood at turn c.retire_if.result (stands_in_turn names numbers before) inside (c.retire_if.ensures.stood ∙ stood_in_turn names numbers at before _ c.index-names-numbers.result named c.loop-at.invariant.retired) c.loop-at.invariant.stood below;
+      stood = λ turn below. noted_more c.loop-at.stood at turn c.retire_if.result (stands_in_turn names numbers before) inside
+          (c.retire_if.ensures.stood ∙ stood_in_turn names numbers at before _ c.index-names-numbers.result named c.loop-at.invariant.retired) c.loop-at.invariant.stood below;
       len = length-set c.loop-at.stood at c.retire_if.result ∙ c.loop-at.invariant.len;
     }

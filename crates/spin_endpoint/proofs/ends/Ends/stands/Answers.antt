@@ -1,5 +1,5 @@
 use Rattle.std.proofs.Common.{sym}
-use Rattle.spin_endpoint.proofs.Changes.{stands_at}
+use Rattle.spin_endpoint.proofs.EndpointChanges.{stands_at}
 use Rattle.spin_endpoint.proofs.ends.Ends.stands.Goals as goal
 
 pub returns-in-Some : goal.returns-in-Some

@@ -1,7 +1,7 @@
 use Rattle.std.proofs.Common.{refl, arith, slice_index, ◌∷◌, [], ◌++◌}
 use Rattle.atomic_table.specs.Table.{keeps}
 use Rattle.spin_jobs.specs.Claims.{claim}
-use Rattle.spin_jobs.proofs.Claiming.{claims, below_word}
+use Rattle.spin_jobs.proofs.ClaimSteps.{claims, below_word}
 use Rattle.spin_jobs.proofs.worker.Worker.claim.Goals as goal
 
 pub fetch_add-requires : goal.fetch_add-requires

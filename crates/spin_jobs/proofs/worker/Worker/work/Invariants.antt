@@ -1,6 +1,6 @@
 use Rattle.std.proofs.Common.{◌-◌}
 use Rattle.spin_jobs.specs.Inner.Workers.{OfWord}
-use Rattle.spin_jobs.proofs.Working.{Works}
+use Rattle.spin_jobs.proofs.WorkerLemmas.{Works}
 use Rattle.spin_jobs.proofs.worker.Worker.work.Given as goal
 
 abbrev pub invariant-loop-number : goal.invariant-loop-number

@@ -1,7 +1,7 @@
 use Rattle.std.proofs.Common.{◌∙◌, ap, sym, length}
 use Rattle.crossbeam_queue.specs.Passes.{view}
 use Rattle.spin_later.specs.Parties.{PartyValue, QueueValue}
-use Rattle.spin_later.proofs.Passes.{puts_alone, learns_alone, party_of, full_at}
+use Rattle.spin_later.proofs.PassSteps.{puts_alone, learns_alone, party_of, full_at}
 use Rattle.spin_later.proofs.party.Party.put.Goals as goal
 
 pub push_as-requires-clause-rule : goal.push_as-requires-clause-rule

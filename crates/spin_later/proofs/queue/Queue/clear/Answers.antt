@@ -1,6 +1,6 @@
 use Rattle.crossbeam_queue.specs.Passes.{view}
-use Rattle.spin_later.proofs.Keeping.{clears, learns}
-use Rattle.spin_later.proofs.Making.{still_all, still_some, cleared}
+use Rattle.spin_later.proofs.QueueSteps.{clears, learns}
+use Rattle.spin_later.proofs.NewPasses.{still_all, still_some, cleared}
 use Rattle.spin_later.proofs.queue.Queue.clear.Goals as goal
 
 pub pop_as-requires-clause-rule : goal.pop_as-requires-clause-rule

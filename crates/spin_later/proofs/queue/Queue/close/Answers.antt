@@ -1,5 +1,5 @@
 use Rattle.crossbeam_queue.specs.Passes.{view}
-use Rattle.spin_later.proofs.Making.{has_all}
+use Rattle.spin_later.proofs.NewPasses.{has_all}
 use Rattle.spin_later.proofs.queue.Queue.close.Goals as goal
 
 pub clear-requires-clause-all : goal.clear-requires-clause-all

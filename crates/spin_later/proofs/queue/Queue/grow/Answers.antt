@@ -1,6 +1,6 @@
 use Rattle.std.proofs.Common.{◌∙◌, arith}
 use Rattle.crossbeam_queue.specs.Passes.{view}
-use Rattle.spin_later.proofs.Making.{grows_at, grown}
+use Rattle.spin_later.proofs.NewPasses.{grows_at, grown}
 use Rattle.spin_later.proofs.queue.Queue.grow.Goals as goal
 
 pub another-requires-clause-rule : goal.another-requires-clause-rule

@@ -1,7 +1,7 @@
 use Rattle.std.proofs.Common.{◌∙◌, ◌<◌, ◌-◌, ◌+◌, ap, arith}
 use Rattle.crossbeam_queue.specs.Passes.{view}
 use Rattle.spin_later.specs.Parties.{QueueValue}
-use Rattle.spin_later.proofs.Making.{parts_at, parted, first_of, one_more}
+use Rattle.spin_later.proofs.NewPasses.{parts_at, parted, first_of, one_more}
 use Rattle.spin_later.proofs.queue.Queue.members.Goals as goal
 
 pub another-pass-requires-clause-rule : goal.another-pass-requires-clause-rule

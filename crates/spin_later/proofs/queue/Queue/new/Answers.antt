@@ -1,4 +1,4 @@
-use Rattle.spin_later.proofs.Keeping.{opens}
+use Rattle.spin_later.proofs.QueueSteps.{opens}
 use Rattle.spin_later.proofs.queue.Queue.new.Goals as goal
 
 pub ruled-requires-clause-rule : goal.ruled-requires-clause-rule

@@ -3,12 +3,13 @@ use Rattle.std.specs.Prelude.{All}
 use Rattle.spin_word.specs.declared.command.TheConstants.{MAX_PLACE}
 use Rattle.spin_log.specs.Rows.{IsCommandBelow}
 use Rattle.spin_log.specs.Pens.{LogValue, StandsIn}
-use Rattle.spin_log.proofs.Meeting.{stands_in, rows_below, history_of}
+use Rattle.spin_log.proofs.PenNotes.{stands_in, rows_below, history_of}
 use Rattle.spin_log.proofs.log.Log.close.Goals as goal
 
 pub returns-clause-pens : goal.returns-clause-pens
 returns-clause-pens c =
-    subst (All (StandsIn c.from_vec.result)) c.gather-taker.ensures.pens (stands_in _ _ _ _ _ _ c.close_with-closed.ensures.values.2 c.from_vec.result (λ log st. c.from_vec.ensures ∙ c.read_rows.ensures _ log st))
+    subst (All (StandsIn c.from_vec.result)) c.gather-taker.ensures.pens
+    (stands_in _ _ _ _ _ _ c.close_with-closed.ensures.values.2 c.from_vec.result (λ log st. c.from_vec.ensures ∙ c.read_rows.ensures _ log st))
 
 pub returns-clause-history : goal.returns-clause-history
 returns-clause-history c =

@@ -1,8 +1,8 @@
 use Rattle.std.proofs.Common.{rules, arith, ap, [], ◌∷◌}
 use Rattle.spin_log.specs.declared.view.Hand.{Hand}
 use Rattle.spin_log.specs.Pens.{LogValue, only_hand}
-use Rattle.spin_log.proofs.Keeps as keeps
-use Rattle.spin_log.proofs.Seats.{drafts_on}
+use Rattle.spin_log.proofs.RuleSteps as keeps
+use Rattle.spin_log.proofs.PenSeats.{drafts_on}
 use Rattle.spin_log.proofs.log.Log.draft.Goals as goal
 
 pub store-requires : goal.store-requires

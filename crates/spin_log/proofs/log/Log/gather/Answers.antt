@@ -2,8 +2,8 @@ use Rattle.std.proofs.Common.{rules, arith, ap, ◌∙◌, sym, ◌≡◌, []}
 use Rattle.atomic_table.specs.Seated.{TableId}
 use Rattle.spin_log.specs.Rule.{first_view}
 use Rattle.spin_log.specs.Pens.{PenValue, LogValue, pen_value, only_hand}
-use Rattle.spin_log.proofs.Keeps as keeps
-use Rattle.spin_log.proofs.Meeting.{gathers, popped_log}
+use Rattle.spin_log.proofs.RuleSteps as keeps
+use Rattle.spin_log.proofs.PenNotes.{gathers, popped_log}
 use Rattle.spin_log.proofs.log.Log.gather.Goals as goal
 
 pub load_new_seat-taker-requires : goal.load_new_seat-taker-requires
@@ -21,5 +21,6 @@ loop-pen-preserved c =
     let same : c.pen.inside.seat.table_id ≡ id = ap (λ (p : PenValue). p.log) c.pen.view_is ∙ log in (
       search rules,
       search rules,
-      gathers id _ _ _ c.in-Some.pen _ _ _ c.in-Some.ensures.items c.pen.invariant.alone (ap (λ (z : TableId). pen_value z (only_hand c.pen.inside.seat.me.0.hands)) (sym same) ∙ c.pen.view_is) c.join_seat.ensures.2 c.loop-pen.invariant.2,
+      gathers id _ _ _ c.in-Some.pen _ _ _ c.in-Some.ensures.items c.pen.invariant.alone
+          (ap (λ (z : TableId). pen_value z (only_hand c.pen.inside.seat.me.0.hands)) (sym same) ∙ c.pen.view_is) c.join_seat.ensures.2 c.loop-pen.invariant.2,
     )

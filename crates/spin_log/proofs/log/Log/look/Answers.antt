@@ -1,7 +1,7 @@
 use Rattle.std.proofs.Common.{rules, arith, ap}
 use Rattle.spin_log.specs.Pens.{PenValue}
-use Rattle.spin_log.proofs.Keeps as keeps
-use Rattle.spin_log.proofs.Seats.{seat_pins, found_inside, stays_read, says}
+use Rattle.spin_log.proofs.RuleSteps as keeps
+use Rattle.spin_log.proofs.PenSeats.{seat_pins, found_inside, stays_read, says}
 use Rattle.spin_log.proofs.log.Log.look.Goals as goal
 
 -- the log word after the front
@@ -23,4 +23,5 @@ pub invariant_of-pen-2 : goal.invariant_of-pen-2
 invariant_of-pen-2 c = stays_read _ _ _ _ _ _ _ _ c.pen.invariant c.pen.invariant.alone _ (c.load-name.ensures.2.1 c.if-name-eq0.false) _ _ (search rules) c.row-row.ensures.seat.1
 
 pub returns-clause-answer : goal.returns-clause-answer
-returns-clause-answer c = says _ _ _ _ _ _ _ _ c.pen.invariant c.pen.invariant.alone _ (c.load-name.ensures.2.1 c.if-name-eq0.false) _ _ _ _ (search rules) c.row-row.ensures.seat.1 c.pen.view_is c.row-row.ensures.row
+returns-clause-answer c =
+    says _ _ _ _ _ _ _ _ c.pen.invariant c.pen.invariant.alone _ (c.load-name.ensures.2.1 c.if-name-eq0.false) _ _ _ _ (search rules) c.row-row.ensures.seat.1 c.pen.view_is c.row-row.ensures.row

@@ -1,7 +1,7 @@
 use Rattle.std.proofs.Common.{List, ℕ, ◌≡◌, ◌+◌, ◌*◌, subst, sym, arith}
 use Rattle.spin_log.specs.Rows.{part_size, rows_start, size_of}
 use Rattle.spin_log.specs.Inner.Blank.{IsBlank}
-use Rattle.spin_log.proofs.Keeps as keeps
+use Rattle.spin_log.proofs.RuleSteps as keeps
 use Rattle.spin_log.proofs.log.Log.new.Goals as goal
 
 pub of_words-requires : goal.of_words-requires

@@ -1,5 +1,5 @@
 use Rattle.std.proofs.Common.{rules, arith}
-use Rattle.spin_log.proofs.Keeps as keeps
+use Rattle.spin_log.proofs.RuleSteps as keeps
 use Rattle.spin_log.proofs.log.Log.note.Goals as goal
 
 pub split_seat-seat-requires : goal.split_seat-seat-requires

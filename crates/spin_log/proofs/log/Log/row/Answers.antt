@@ -1,7 +1,7 @@
 use Rattle.std.proofs.Common.{rules, arith, ap}
 use Rattle.spin_log.specs.Pens.{LogValue}
-use Rattle.spin_log.proofs.Keeps as keeps
-use Rattle.spin_log.proofs.Seats.{rereads_on, row_loaded}
+use Rattle.spin_log.proofs.RuleSteps as keeps
+use Rattle.spin_log.proofs.PenSeats.{rereads_on, row_loaded}
 use Rattle.spin_log.proofs.log.Log.row.Goals as goal
 
 pub load-a-requires : goal.load-a-requires

@@ -2,8 +2,8 @@ use Rattle.std.proofs.Common.{rules, arith, ap, length, ◌∙◌, sym, subst, �
 use Rattle.spin_log.specs.Pens.{PenValue}
 use Rattle.spin_log.specs.Inner.Seats.{NoteValue, IsPenSeat}
 use Rattle.spin_log.specs.Steps.{AreOfOne}
-use Rattle.spin_log.proofs.Keeps as keeps
-use Rattle.spin_log.proofs.Meeting.{tells_one, tells_seat, longer_note}
+use Rattle.spin_log.proofs.RuleSteps as keeps
+use Rattle.spin_log.proofs.PenNotes.{tells_one, tells_seat, longer_note}
 use Rattle.spin_log.proofs.log.Log.tell.Goals as goal
 
 pub join_seat-requires : goal.join_seat-requires
@@ -16,7 +16,8 @@ pub invariant_of-pen : goal.invariant_of-pen
 invariant_of-pen c =
     let same : c.load.new.seat.table_id ≡ c.pen.inside.seat.table_id = search rules in
     let longer_is = longer_note _ _ _ _ _ _ _ _ _ c.pen.invariant c.note.invariant c.join_seat.ensures.2 c.load.ensures.2 c.if-pen-length.true in
-    subst (λ t. IsPenSeat t c.load.new.seat.me c.pen.inside.lane c.note.inside.length c.pen.inside.published) (sym same) (tells_seat _ _ _ _ _ _ _ _ _ c.pen.invariant c.note.invariant c.join_seat.ensures.2 c.load.ensures.2 _ (ap length longer_is ∙ c.note.invariant.front) c.note.invariant.room)
+    subst (λ t. IsPenSeat t c.load.new.seat.me c.pen.inside.lane c.note.inside.length c.pen.inside.published) (sym same)
+    (tells_seat _ _ _ _ _ _ _ _ _ c.pen.invariant c.note.invariant c.join_seat.ensures.2 c.load.ensures.2 _ (ap length longer_is ∙ c.note.invariant.front) c.note.invariant.room)
 
 pub returns-then-pen-length-clause-one : goal.returns-then-pen-length-clause-one
 returns-then-pen-length-clause-one c =

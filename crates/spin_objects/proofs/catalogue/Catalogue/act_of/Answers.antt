@@ -3,8 +3,8 @@ use Rattle.std.specs.Prelude.{Some}
 use Rattle.std.proofs.lemmas.List.{length-map}
 use Rattle.spin_objects.specs.There.{IsBodyThere}
 use Rattle.spin_objects.specs.Units.{handlers_of, HandlerUnit, unit_of_body, native_handlers}
-use Rattle.spin_objects.proofs.Numbered.{numbered_mapped}
-use Rattle.spin_objects.proofs.Doings.{handler_known}
+use Rattle.spin_objects.proofs.NumberedItems.{numbered_mapped}
+use Rattle.spin_objects.proofs.NativeLemmas.{handler_known}
 use Rattle.spin_objects.proofs.catalogue.Catalogue.act_of.Goals as goal
 
 pub body-requires : goal.body-requires

@@ -3,7 +3,7 @@ use Rattle.std.proofs.lemmas.List.{length-map}
 use Rattle.spin_objects.specs.Adding.{guard_refusal}
 use Rattle.spin_objects.specs.There.{IsCheckThere}
 use Rattle.spin_objects.specs.Units.{known_guard, native_guards, unit_of_check, native_of_check}
-use Rattle.spin_objects.proofs.Adding.{known_after, all_after, answered, few_checks, check_fits}
+use Rattle.spin_objects.proofs.AddedItems.{known_after, all_after, answered, few_checks, check_fits}
 use Rattle.spin_objects.proofs.catalogue.Catalogue.add_guard.Goals as goal
 
 pub invariant_of-self : goal.invariant_of-self

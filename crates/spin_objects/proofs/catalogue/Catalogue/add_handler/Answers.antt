@@ -3,7 +3,7 @@ use Rattle.std.proofs.lemmas.List.{length-map}
 use Rattle.spin_objects.specs.Adding.{handler_refusal}
 use Rattle.spin_objects.specs.There.{IsBodyThere}
 use Rattle.spin_objects.specs.Units.{known_handler, native_handlers, unit_of_body, native_of_body}
-use Rattle.spin_objects.proofs.Adding.{known_after, all_after, answered, few_bodies, body_fits}
+use Rattle.spin_objects.proofs.AddedItems.{known_after, all_after, answered, few_bodies, body_fits}
 use Rattle.spin_objects.proofs.catalogue.Catalogue.add_handler.Goals as goal
 
 pub invariant_of-self : goal.invariant_of-self

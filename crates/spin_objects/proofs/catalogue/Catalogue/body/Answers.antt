@@ -1,8 +1,8 @@
 use Rattle.std.proofs.Common.{length, ◌-◌, ◌∙◌, arith}
 use Rattle.spin_objects.specs.There.{IsBodyThere}
 use Rattle.spin_objects.specs.Units.{unit_of_body, native_handlers}
-use Rattle.spin_objects.proofs.Numbered.{numbered-at}
-use Rattle.spin_objects.proofs.Read.{read_all, place_there}
+use Rattle.spin_objects.proofs.NumberedItems.{numbered-at}
+use Rattle.spin_objects.proofs.MappedLists.{read_all, place_there}
 use Rattle.spin_objects.proofs.catalogue.Catalogue.body.Goals as goal
 
 pub get-requires : goal.get-requires

@@ -1,8 +1,8 @@
 use Rattle.std.proofs.Common.{◌≡◌, ◌∙◌, length, ap, sym, subst}
 use Rattle.spin_objects.specs.There.{IsCheckThere}
 use Rattle.spin_objects.specs.Units.{GuardUnit, unit_of_check, native_guards}
-use Rattle.spin_objects.proofs.Numbered.{numbered_and}
-use Rattle.spin_objects.proofs.Doings.{guard_known}
+use Rattle.spin_objects.proofs.NumberedItems.{numbered_and}
+use Rattle.spin_objects.proofs.NativeLemmas.{guard_known}
 use Rattle.spin_objects.proofs.catalogue.Catalogue.guard_type.Goals as goal
 
 pub guard-requires : goal.guard-requires

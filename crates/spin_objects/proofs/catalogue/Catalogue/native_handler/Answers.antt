@@ -1,8 +1,8 @@
 use Rattle.std.proofs.Common.{length, refl}
 use Rattle.std.proofs.lemmas.List.{length-map}
 use Rattle.spin_objects.specs.Units.{native_of_body, known_handler}
-use Rattle.spin_objects.proofs.Numbered.{numbered-map}
-use Rattle.spin_objects.proofs.Doings.{native_body_there}
+use Rattle.spin_objects.proofs.NumberedItems.{numbered-map}
+use Rattle.spin_objects.proofs.NativeLemmas.{native_body_there}
 use Rattle.spin_objects.proofs.catalogue.Catalogue.native_handler.Goals as goal
 
 pub returns-clause-native : goal.returns-clause-native

@@ -3,7 +3,7 @@ use Rattle.std.specs.Prelude.{Some, OnOk}
 use Rattle.spin_code.specs.declared.act.Act.{Act}
 use Rattle.spin_objects.specs.Doing.{IsDone}
 use Rattle.spin_objects.specs.Units.{native_handlers, act_if}
-use Rattle.spin_objects.proofs.Doings.{native_act}
+use Rattle.spin_objects.proofs.NativeLemmas.{native_act}
 use Rattle.spin_objects.proofs.catalogue.Catalogue.run.Goals as goal
 
 pub returns-in-None : goal.returns-in-None

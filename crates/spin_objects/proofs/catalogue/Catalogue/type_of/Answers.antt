@@ -1,8 +1,8 @@
 use Rattle.std.proofs.Common.{◌≡◌, ◌∙◌, length, ap, sym, subst}
 use Rattle.spin_objects.specs.There.{IsBodyThere}
 use Rattle.spin_objects.specs.Units.{HandlerUnit, unit_of_body, native_handlers}
-use Rattle.spin_objects.proofs.Numbered.{numbered_and}
-use Rattle.spin_objects.proofs.Doings.{handler_known}
+use Rattle.spin_objects.proofs.NumberedItems.{numbered_and}
+use Rattle.spin_objects.proofs.NativeLemmas.{handler_known}
 use Rattle.spin_objects.proofs.catalogue.Catalogue.type_of.Goals as goal
 
 pub handler-requires : goal.handler-requires

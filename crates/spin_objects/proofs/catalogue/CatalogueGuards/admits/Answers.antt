@@ -2,8 +2,8 @@ use Rattle.std.proofs.Common.{◌-◌, ◌∙◌, sym, ap}
 use Rattle.std.specs.Prelude.{Some}
 use Rattle.spin_code.specs.Truth.{holds_if}
 use Rattle.spin_objects.specs.Units.{native_guards, guard_natives}
-use Rattle.spin_objects.proofs.Numbered.{numbered-reads}
-use Rattle.spin_objects.proofs.Doings.{native_test}
+use Rattle.spin_objects.proofs.NumberedItems.{numbered-reads}
+use Rattle.spin_objects.proofs.NativeLemmas.{native_test}
 use Rattle.spin_objects.proofs.catalogue.CatalogueGuards.admits.Goals as goal
 
 pub returns-in-None-clause-value : goal.returns-in-None-clause-value

@@ -3,9 +3,9 @@ use Rattle.std.specs.Prelude.{Some}
 use Rattle.std.proofs.lemmas.List.{length-map}
 use Rattle.spin_objects.specs.There.{IsCheckThere}
 use Rattle.spin_objects.specs.Units.{guards_of, GuardUnit, unit_of_check, native_guards}
-use Rattle.spin_objects.proofs.Numbered.{numbered-reads}
-use Rattle.spin_objects.proofs.Read.{read_mapped}
-use Rattle.spin_objects.proofs.Doings.{guard_known}
+use Rattle.spin_objects.proofs.NumberedItems.{numbered-reads}
+use Rattle.spin_objects.proofs.MappedLists.{read_mapped}
+use Rattle.spin_objects.proofs.NativeLemmas.{guard_known}
 use Rattle.spin_objects.proofs.catalogue.CatalogueGuards.test_of.Goals as goal
 
 pub check-requires : goal.check-requires

@@ -3,7 +3,7 @@ use Rattle.std.specs.Prelude.{Ok}
 use Rattle.spin_policy.specs.declared.rule.Rule.{Rule}
 use Rattle.spin_objects.specs.Adding.{IsNativeBy}
 use Rattle.spin_objects.specs.Units.{Named, known_authoriser}
-use Rattle.spin_objects.proofs.Adding.{known_after, all_after, few_natives, in_any_case}
+use Rattle.spin_objects.proofs.AddedItems.{known_after, all_after, few_natives, in_any_case}
 use Rattle.spin_objects.proofs.natives.Natives.add_authoriser.Goals as goal
 
 pub invariant_of-self : goal.invariant_of-self

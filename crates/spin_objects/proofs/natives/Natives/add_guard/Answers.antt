@@ -1,7 +1,7 @@
 use Rattle.std.proofs.Common.{◌≡◌, subst}
 use Rattle.spin_objects.specs.Adding.{IsNativeBy}
 use Rattle.spin_objects.specs.Units.{Named, GuardUnit, known_guard}
-use Rattle.spin_objects.proofs.Adding.{known_after, all_after, few_natives, in_any_case}
+use Rattle.spin_objects.proofs.AddedItems.{known_after, all_after, few_natives, in_any_case}
 use Rattle.spin_objects.proofs.natives.Natives.add_guard.Goals as goal
 
 pub invariant_of-self : goal.invariant_of-self

@@ -1,7 +1,7 @@
 use Rattle.std.proofs.Common.{◌≡◌, subst}
 use Rattle.spin_objects.specs.Adding.{IsNativeBy}
 use Rattle.spin_objects.specs.Units.{Named, HandlerUnit, known_handler}
-use Rattle.spin_objects.proofs.Adding.{known_after, all_after, few_natives, in_any_case}
+use Rattle.spin_objects.proofs.AddedItems.{known_after, all_after, few_natives, in_any_case}
 use Rattle.spin_objects.proofs.natives.Natives.add_handler.Goals as goal
 
 pub invariant_of-self : goal.invariant_of-self

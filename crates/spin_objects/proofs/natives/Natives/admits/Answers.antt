@@ -1,8 +1,8 @@
 use Rattle.std.proofs.Common.{◌≡◌, ap, sym, ◌∙◌}
 use Rattle.spin_code.specs.Truth.{truth_of}
 use Rattle.spin_objects.specs.Units.{GuardUnit, known_guard}
-use Rattle.spin_objects.proofs.Read.{place_mapped, read_all}
-use Rattle.spin_objects.proofs.Doings.{guard_known}
+use Rattle.spin_objects.proofs.MappedLists.{place_mapped, read_all}
+use Rattle.spin_objects.proofs.NativeLemmas.{guard_known}
 use Rattle.spin_objects.proofs.natives.Natives.admits.Goals as goal
 
 pub guard-requires : goal.guard-requires

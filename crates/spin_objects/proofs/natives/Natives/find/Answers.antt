@@ -2,7 +2,7 @@ use Rattle.std.proofs.Common.{List, ◌∙◌}
 use Rattle.std.specs.Prelude.{bytes_eq}
 use Rattle.spin_policy.specs.declared.rule.Rule.{Rule}
 use Rattle.spin_objects.specs.Units.{Named, HandlerUnit, GuardUnit, known_handler, known_guard, known_authoriser}
-use Rattle.spin_objects.proofs.Read.{found_mapped}
+use Rattle.spin_objects.proofs.MappedLists.{found_mapped}
 use Rattle.spin_objects.proofs.natives.Natives.find.Goals as goal
 
 pub returns-in-Handler : goal.returns-in-Handler
@@ -21,4 +21,5 @@ pub returns-in-Authoriser : goal.returns-in-Authoriser
 returns-in-Authoriser g c =
     rw c.in-Authoriser.is
     (c.as_index-in-Authoriser.ensures ∙ c.place_of-in-Authoriser.ensures.at
-    ∙ found_mapped (λ n. bytes_eq n c.args.name.now) known_authoriser (λ (n : Named (List Rule)). n.name) c.args.self.now.authorisers c.as_slice-in-Authoriser.result.now c.as_slice-in-Authoriser.ensures)
+    ∙ found_mapped (λ n. bytes_eq n c.args.name.now) known_authoriser
+    (λ (n : Named (List Rule)). n.name) c.args.self.now.authorisers c.as_slice-in-Authoriser.result.now c.as_slice-in-Authoriser.ensures)

@@ -1,7 +1,7 @@
 use Rattle.std.proofs.Common.{◌<◌, List, length, subst}
 use Rattle.spin_policy.specs.declared.rule.Rule.{Rule}
 use Rattle.spin_objects.specs.Units.{names_of, Named, HandlerUnit, GuardUnit, known_handler, known_guard, known_authoriser}
-use Rattle.spin_objects.proofs.Read.{read_mapped, place_mapped_twice}
+use Rattle.spin_objects.proofs.MappedLists.{read_mapped, place_mapped_twice}
 use Rattle.spin_objects.proofs.natives.Natives.name_of.Goals as goal
 
 pub get-requires : goal.get-requires

@@ -1,7 +1,7 @@
 use Rattle.std.proofs.Common.{List}
 use Rattle.spin_policy.specs.declared.rule.Rule.{Rule}
 use Rattle.spin_objects.specs.Units.{Named, known_authoriser}
-use Rattle.spin_objects.proofs.Read.{read_mapped, place_mapped_twice}
+use Rattle.spin_objects.proofs.MappedLists.{read_mapped, place_mapped_twice}
 use Rattle.spin_objects.proofs.natives.Natives.policy_of.Goals as goal
 
 pub get-requires : goal.get-requires

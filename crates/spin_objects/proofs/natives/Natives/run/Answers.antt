@@ -3,8 +3,8 @@ use Rattle.std.specs.Prelude.{OnOk}
 use Rattle.spin_code.specs.declared.act.Act.{Act}
 use Rattle.spin_objects.specs.Doing.{IsDone}
 use Rattle.spin_objects.specs.Units.{HandlerUnit, known_handler}
-use Rattle.spin_objects.proofs.Read.{place_mapped, read_all}
-use Rattle.spin_objects.proofs.Doings.{handler_known}
+use Rattle.spin_objects.proofs.MappedLists.{place_mapped, read_all}
+use Rattle.spin_objects.proofs.NativeLemmas.{handler_known}
 use Rattle.spin_objects.proofs.natives.Natives.run.Goals as goal
 
 pub handler-requires : goal.handler-requires

@@ -1,6 +1,6 @@
 use Rattle.std.proofs.Common.{ap, sym, ◌∙◌}
 use Rattle.spin_pcap.specs.Captures.{header_of}
-use Rattle.spin_pcap.proofs.Started.{starts, starts-refused, took-header}
+use Rattle.spin_pcap.proofs.FileHeaders.{starts, starts-refused, took-header}
 use Rattle.spin_pcap.proofs.reader.Reader.start.Goals as goal
 
 pub returns-in-Err-clause-answer : goal.returns-in-Err-clause-answer

@@ -1,5 +1,5 @@
 use Rattle.std.proofs.Common.{[], ◌∙◌}
-use Rattle.spin_pcap.proofs.Passed.{passes-then}
+use Rattle.spin_pcap.proofs.SourceBytes.{passes-then}
 use Rattle.spin_pcap.proofs.window.Window.need.Goals as goal
 
 pub loop-self-preserved : goal.loop-self-preserved

@@ -1,7 +1,7 @@
 use Rattle.std.proofs.Common.{◌≡◌, ◌+◌}
 use Rattle.std.specs.Option.{option_map}
 use Rattle.spin_plan.specs.Planned.{expr_of}
-use Rattle.spin_plan.proofs.Filing.{Filed}
+use Rattle.spin_plan.proofs.IndexLemmas.{Filed}
 use Rattle.spin_plan.proofs.plan.Plan.compile.Given as goal
 
 abbrev pub invariant-loop-binding : goal.invariant-loop-binding

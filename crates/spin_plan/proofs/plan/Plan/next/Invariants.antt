@@ -1,6 +1,6 @@
 use Rattle.std.proofs.Common.{◌+◌, ◌-◌, ◌≤◌, length}
 use Rattle.spin_plan.specs.Next.{NonePass, guards_hold}
-use Rattle.spin_plan.proofs.Walking.{asked}
+use Rattle.spin_plan.proofs.CandidateWalks.{asked}
 use Rattle.spin_plan.proofs.plan.Plan.next.Given as goal
 
 abbrev pub invariant-candidates : goal.invariant-candidates

@@ -3,7 +3,7 @@ use Rattle.std.specs.List.{insert}
 use Rattle.spin_reass.specs.Fragments.{end_of}
 use Rattle.spin_reass.specs.Joining.{fits}
 use Rattle.spin_reass.specs.Inner.Orderly.{place_from}
-use Rattle.spin_reass.proofs.Orders.{IsAdded, sound, small_size, added, added_is, whole_added}
+use Rattle.spin_reass.proofs.PartOrder.{IsAdded, sound, small_size, added, added_is, whole_added}
 use Rattle.spin_reass.proofs.datagram.Datagram.add.Goals as goal
 
 pub overflow_add-self : goal.overflow_add-self

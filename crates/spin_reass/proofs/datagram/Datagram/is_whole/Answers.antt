@@ -1,6 +1,6 @@
 use Rattle.std.proofs.Common.{sym, ap, ◌∙◌}
 use Rattle.spin_reass.specs.Joining.{are_whole}
-use Rattle.spin_reass.proofs.Covers.{whole_is, whole_none}
+use Rattle.spin_reass.proofs.PartCovers.{whole_is, whole_none}
 use Rattle.spin_reass.proofs.datagram.Datagram.is_whole.Goals as goal
 
 pub returns-in-Some : goal.returns-in-Some

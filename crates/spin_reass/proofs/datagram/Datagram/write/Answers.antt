@@ -1,7 +1,7 @@
 use Rattle.std.proofs.Common.{◌≡◌, ◌+◌, ◌++◌, length, take, rules, ap, ◌∙◌, arith}
 use Rattle.std.proofs.lemmas.List.{length-append, length-take}
 use Rattle.spin_reass.specs.Joining.{whole_frame, payload}
-use Rattle.spin_reass.proofs.Orders.{small_size, payload_size, frame_is}
+use Rattle.spin_reass.proofs.PartOrder.{small_size, payload_size, frame_is}
 use Rattle.spin_reass.proofs.datagram.Datagram.write.Goals as goal
 
 pub overflow_cast-self-inside : goal.overflow_cast-self-inside

@@ -1,5 +1,5 @@
 use Rattle.std.proofs.Common.{sym, ◌∙◌}
-use Rattle.spin_reass.proofs.Positions.{opened_found, not_found}
+use Rattle.spin_reass.proofs.DatagramPlaces.{opened_found, not_found}
 use Rattle.spin_reass.proofs.joiner.Joiner.find_or_open.Goals as goal
 
 pub returns-in-Some-clause-opened : goal.returns-in-Some-clause-opened

@@ -4,7 +4,7 @@ use Rattle.std.specs.List.{remove}
 use Rattle.spin_reass.specs.Joining.{OpenDatagram, gathered, whole_frame}
 use Rattle.spin_reass.specs.Inner.Orderly.{added_to, makes_whole}
 use Rattle.spin_reass.specs.Inner.Places.{IsAt}
-use Rattle.spin_reass.proofs.Gathers.{IsThere, gathers_on, gathers_all}
+use Rattle.spin_reass.proofs.AddedParts.{IsThere, gathers_on, gathers_all}
 use Rattle.spin_reass.proofs.joiner.Joiner.gather.Goals as goal
 
 pub returns-then-not-branch-clause-datagrams : goal.returns-then-not-branch-clause-datagrams

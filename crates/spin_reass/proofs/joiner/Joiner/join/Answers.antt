@@ -1,7 +1,7 @@
 use Rattle.std.proofs.Common.{◌≡◌, None, Some, rules, ap, ◌∙◌, ℕ, List}
 use Rattle.spin_reass.specs.Fragments.{piece_of}
 use Rattle.spin_reass.specs.Joining.{OpenDatagram, joined_by}
-use Rattle.spin_reass.proofs.Gathers.{joins_piece}
+use Rattle.spin_reass.proofs.AddedParts.{joins_piece}
 use Rattle.spin_reass.proofs.joiner.Joiner.join.Goals as goal
 
 pub returns-in-None-clause-datagrams : goal.returns-in-None-clause-datagrams

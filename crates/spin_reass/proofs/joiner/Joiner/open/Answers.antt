@@ -1,6 +1,6 @@
 use Rattle.std.proofs.Common.{◌≡◌, ◌++◌, ◌∷◌, [], length, position, Some, rules, sym, ap, ◌∙◌}
 use Rattle.spin_reass.specs.Joining.{has_key, with_room}
-use Rattle.spin_reass.proofs.Positions.{fresh, none_with_room, pushed_at}
+use Rattle.spin_reass.proofs.DatagramPlaces.{fresh, none_with_room, pushed_at}
 use Rattle.spin_reass.proofs.joiner.Joiner.open.Goals as goal
 
 pub returns-clause-place : goal.returns-clause-place

@@ -1,7 +1,7 @@
 use Rattle.std.proofs.Common.{◌≡◌, true, false, rules, ap, ◌∙◌, ℕ, List}
 use Rattle.spin_reass.specs.Fragments.{is_sound}
 use Rattle.spin_reass.specs.Joining.{OpenDatagram, opened, gathered}
-use Rattle.spin_reass.proofs.Gathers.{takes_unsound, takes_sound}
+use Rattle.spin_reass.proofs.AddedParts.{takes_unsound, takes_sound}
 use Rattle.spin_reass.proofs.joiner.Joiner.take.Goals as goal
 
 pub returns-then-not-is_sound-clause-datagrams : goal.returns-then-not-is_sound-clause-datagrams

@@ -4,7 +4,7 @@ use Rattle.spin_report.specs.declared.entry.What.TheVariants as what
 use Rattle.spin_report.specs.declared.entry.Entry.{Entry}
 use Rattle.spin_run.specs.declared.lane.Lane.{Lane}
 use Rattle.spin_run.specs.Inner.Answering.{Comes, asked_alone}
-use Rattle.spin_run.proofs.Answering.{verdict_more, command_ends, err_is}
+use Rattle.spin_run.proofs.LaneAnswers.{verdict_more, command_ends, err_is}
 use Rattle.spin_word.specs.declared.work.Work.TheVariants as work
 use Rattle.spin_run.proofs.lane.Lane.answer_command.Goals as goal
 

@@ -1,5 +1,5 @@
 use Rattle.std.proofs.Common.{arith}
-use Rattle.spin_run.proofs.Asked.{packet_count}
+use Rattle.spin_run.proofs.AskedOfLane.{packet_count}
 use Rattle.spin_run.proofs.lane.Lane.answer_line.Goals as goal
 
 pub answer_packets-requires-clause-few : goal.answer_packets-requires-clause-few

@@ -3,14 +3,15 @@ use Rattle.std.specs.Prelude.{Err}
 use Rattle.spin_table.specs.SetupOf.{data_of}
 use Rattle.spin_report.specs.Segments.{asked_at, asked_in, asked_of_lane}
 use Rattle.spin_run.specs.Inner.Answering.{Answers, Comes}
-use Rattle.spin_run.proofs.Answering.{err_is}
-use Rattle.spin_run.proofs.Lining.{Progress, rest_at, begins, skips, goes_on, ends, line_few}
+use Rattle.spin_run.proofs.LaneAnswers.{err_is}
+use Rattle.spin_run.proofs.LaneProgress.{Progress, rest_at, begins, skips, goes_on, ends, line_few}
 use Rattle.spin_run.proofs.lane.Lane.answer_lines.Goals as goal
 use Rattle.spin_run.proofs.lane.Lane.answer_lines.Goals.{then-line-lane+in_ok-answer_line, else-line-lane}
 
 pub loop-line-init : goal.loop-line-init
 loop-line-init g c =
-    begins (data_of c.args.hub.now.setup) c.args.self.now.seat.pen.lane c.args.segment.now.lines c.args.frames.now c.as_slice-left.result.now c.args.self.now c.as_slice-left.ensures c.requires.ready.seat
+    begins (data_of c.args.hub.now.setup) c.args.self.now.seat.pen.lane c.args.segment.now.lines
+    c.args.frames.now c.as_slice-left.result.now c.args.self.now c.as_slice-left.ensures c.requires.ready.seat
 
 pub answer_line-requires-clause-few : goal.answer_line-requires-clause-few
 answer_line-requires-clause-few g c κs within =
@@ -66,7 +67,8 @@ loop-line-preserved g c =
     (elim c.if-line-lane.branch [
       | then-line-lane+in_ok-answer_line w ↦
           let answers = subst (λ l. Answers d (asked_at line l) now w.answer_line.new.self) records w.in_ok-answer_line.ensures.comes in
-          subst (Progress d own _ old) (sym w.self-is) (goes_on d k i lines line c.loop-line.left.now own old now w.answer_line.new.self lt is (w.if-line-lane.true ∙ its) c.loop-line.invariant answers w.answer_line.ensures.stays)
+          subst (Progress d own _ old) (sym w.self-is)
+          (goes_on d k i lines line c.loop-line.left.now own old now w.answer_line.new.self lt is (w.if-line-lane.true ∙ its) c.loop-line.invariant answers w.answer_line.ensures.stays)
       | else-line-lane w ↦
           subst (Progress d own _ old) (sym w.self-is) (skips d k i lines line c.loop-line.left.now own old now lt is (λ same. w.if-line-lane.false (same ∙ sym its)) c.loop-line.invariant)
     ])

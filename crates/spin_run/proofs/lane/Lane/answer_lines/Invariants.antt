@@ -1,6 +1,6 @@
 use Rattle.spin_table.specs.SetupOf.{data_of}
 use Rattle.spin_report.specs.Segments.{asked_in, asked_of_lane}
-use Rattle.spin_run.proofs.Lining.{Progress, rest_at}
+use Rattle.spin_run.proofs.LaneProgress.{Progress, rest_at}
 use Rattle.spin_run.proofs.lane.Lane.answer_lines.Given as goal
 
 abbrev pub invariant-loop-line : goal.invariant-loop-line

@@ -5,9 +5,9 @@ use Rattle.spin_values.specs.declared.values.Value.{Value}
 use Rattle.spin_table.specs.SetupOf.{data_of}
 use Rattle.spin_report.specs.Segments.{raise_with}
 use Rattle.spin_run.specs.Inner.Answering.{Answers, asked_alone, asked_packets}
-use Rattle.spin_run.proofs.Asked.{packets_more, packets_count}
-use Rattle.spin_run.proofs.Answering.{answers_then, answers_count}
-use Rattle.spin_run.proofs.Lining.{stays_then}
+use Rattle.spin_run.proofs.AskedOfLane.{packets_more, packets_count}
+use Rattle.spin_run.proofs.LaneAnswers.{answers_then, answers_count}
+use Rattle.spin_run.proofs.LaneProgress.{stays_then}
 use Rattle.spin_run.proofs.lane.Lane.answer_packets.Goals as goal
 
 pub answer_deed-requires-clause-few : goal.answer_deed-requires-clause-few
@@ -35,7 +35,8 @@ loop-frame-preserved g c =
     let first = asked_packets lane c.args.line c.args.event 1 (take i c.args.records.now) in
     let one = asked_alone lane c.args.line part (raise_with c.args.event frame) in
     let step : Answers d one now new =
-    subst (λ (x : ℕ × List Value). Answers d (asked_alone x.0 c.args.line part (work.Deed (deed.Raise c.args.event x.1))) now new) (λ j. (c.loop-frame.invariant.1.1.2 j, c.in_ok-args.ensures j)) c.in_ok-answer_deed.ensures.ok in
+    subst (λ (x : ℕ × List Value). Answers d (asked_alone x.0 c.args.line part (work.Deed (deed.Raise c.args.event x.1))) now new)
+    (λ j. (c.loop-frame.invariant.1.1.2 j, c.in_ok-args.ensures j)) c.in_ok-answer_deed.ensures.ok in
     let more = packets_more lane c.args.line c.args.event i part c.args.records.now frame lt c.frame-item.is (omega (arith, number)) in (
       subst (λ l. Answers d l old new) (sym more) (answers_then d first one old now new c.loop-frame.invariant.0 step),
       stays_then d old now new c.loop-frame.invariant.1.1 c.answer_deed.ensures.stays,

@@ -1,5 +1,5 @@
 use Rattle.std.proofs.Common.{refl, arith}
-use Rattle.spin_run.proofs.Gathering.{gathers}
+use Rattle.spin_run.proofs.GatheredTrails.{gathers}
 use Rattle.spin_run.proofs.lanes.Lanes.gather.Goals as goal
 
 pub loop-lane-preserved : goal.loop-lane-preserved

@@ -1,4 +1,4 @@
-use Rattle.spin_run.proofs.Gathering.{Gathered}
+use Rattle.spin_run.proofs.GatheredTrails.{Gathered}
 use Rattle.spin_run.proofs.lanes.Lanes.gather.Given as goal
 
 abbrev pub invariant-loop-lane : goal.invariant-loop-lane

@@ -1,5 +1,5 @@
 use Rattle.std.proofs.Common.{◌≡◌, ◌∙◌, ap, sym, length, get_or, rules}
-use Rattle.spin_run.proofs.Places.{place_is_front, first_front}
+use Rattle.spin_run.proofs.ReadyLanes.{place_is_front, first_front}
 use Rattle.spin_run.proofs.lanes.Lanes.place.Goals as goal
 
 pub returns : goal.returns

@@ -4,8 +4,8 @@ use Rattle.spin_proto.specs.declared.deed.Job.{Job}
 use Rattle.spin_report.specs.declared.entry.Entry.{Entry}
 use Rattle.spin_report.specs.Segments.{moment, IsInOrder}
 use Rattle.spin_run.specs.Inner.Weaves.{job_moment, AreJobsInOrder, IsInterleaving, trails_of, jobs_by_lane}
-use Rattle.spin_run.proofs.Joining.{sorted_interleaving}
-use Rattle.spin_run.proofs.Moments.{earlier, earlier_weak}
+use Rattle.spin_run.proofs.JoinedLanes.{sorted_interleaving}
+use Rattle.spin_run.proofs.EntryOrder.{earlier, earlier_weak}
 use Rattle.spin_run.proofs.JobOrder.{job_sooner, job_sooner_weak}
 use Rattle.spin_run.proofs.lanes.Lanes.weave.Goals as goal
 

@@ -1,7 +1,7 @@
 use Rattle.std.proofs.Common.{arith}
 use Rattle.spin_table.specs.SetupOf.{data_of}
 use Rattle.spin_script.specs.Canonical.{event_line}
-use Rattle.spin_script.proofs.Writing.{lines_step}
+use Rattle.spin_script.proofs.WrittenParts.{lines_step}
 use Rattle.spin_script.proofs.write.declared.put_events.Goals as goal
 
 pub loop-event-preserved : goal.loop-event-preserved

@@ -7,7 +7,7 @@ use Rattle.spin_objects.specs.declared.unit.Check.{Check}
 use Rattle.spin_objects.specs.declared.unit.Check.TheVariants as unit
 use Rattle.spin_script.specs.States.{natives_seen}
 use Rattle.spin_script.specs.Canonical.{guard_line}
-use Rattle.spin_script.proofs.Writing.{lines_step}
+use Rattle.spin_script.proofs.WrittenParts.{lines_step}
 use Rattle.spin_script.proofs.write.declared.put_guards.Goals as goal
 
 pub loop-at-preserved : goal.loop-at-preserved

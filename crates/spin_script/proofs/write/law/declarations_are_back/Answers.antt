@@ -1,4 +1,4 @@
-use Rattle.spin_script.proofs.Declared.{declarations_back}
+use Rattle.spin_script.proofs.WrittenDeclarations.{declarations_back}
 use Rattle.spin_script.proofs.write.law.declarations_are_back.Goals as goal
 
 pub returns : goal.returns

@@ -1,4 +1,4 @@
-use Rattle.spin_script.proofs.Rewritten.{rewritten}
+use Rattle.spin_script.proofs.WritableScripts.{rewritten}
 use Rattle.spin_script.proofs.write.law.scripts_can_be_written.Goals as goal
 
 pub returns : goal.returns

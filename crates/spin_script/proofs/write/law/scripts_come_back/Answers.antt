@@ -1,4 +1,4 @@
-use Rattle.spin_script.proofs.Back.{come_back}
+use Rattle.spin_script.proofs.CanonicalRoundTrip.{come_back}
 use Rattle.spin_script.proofs.write.law.scripts_come_back.Goals as goal
 
 pub returns : goal.returns

@@ -1,4 +1,4 @@
-use Rattle.spin_script.proofs.Reread.{lines_read}
+use Rattle.spin_script.proofs.WrittenLines.{lines_read}
 use Rattle.spin_script.proofs.write.law.written_lines_are_read.Goals as goal
 
 pub returns : goal.returns

@@ -2,8 +2,9 @@ use Rattle.std.proofs.Common.{◌≡◌, ◌++◌, take}
 use Rattle.std.specs.List.{flat_map, enumerate_from}
 use Rattle.spin_table.specs.SetupOf.{data_of}
 use Rattle.spin_script.specs.States.{natives_seen}
-use Rattle.spin_script.specs.Canonical.{text_of, authority_lines}
+use Rattle.spin_script.specs.Canonical.{text_of_lines, authority_lines}
 use Rattle.spin_script.proofs.write.rules.put_authorities.Given as goal
 
 abbrev pub invariant-loop-event : goal.invariant-loop-event
-invariant-loop-event g l = l.out ≡ l.fn.out ++ text_of (flat_map (λ p. authority_lines (natives_seen l.setup.catalogue.natives) p.0 p.1.authority) (enumerate_from 0 (take l.event (data_of l.setup).events)))
+invariant-loop-event g l =
+    l.out ≡ l.fn.out ++ text_of_lines (flat_map (λ p. authority_lines (natives_seen l.setup.catalogue.natives) p.0 p.1.authority) (enumerate_from 0 (take l.event (data_of l.setup).events)))

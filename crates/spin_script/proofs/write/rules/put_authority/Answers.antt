@@ -1,6 +1,6 @@
 use Rattle.std.proofs.Common.{◌≡◌, ◌++◌, List, ℕ, OnOk, subst}
 use Rattle.spin_script.specs.States.{natives_seen}
-use Rattle.spin_script.proofs.Writing.{authorised}
+use Rattle.spin_script.proofs.WrittenParts.{authorised}
 use Rattle.spin_script.proofs.write.rules.put_authority.Goals as goal
 
 pub returns-in-Native : goal.returns-in-Native

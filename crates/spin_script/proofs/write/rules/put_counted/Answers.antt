@@ -1,7 +1,7 @@
 use Rattle.std.proofs.Common.{◌≡◌, [], ◌∷◌, ◌++◌, length, decimal}
 use Rattle.std.proofs.lemmas.Result.{on_ok_weaker}
 use Rattle.spin_text.specs.Words.{spaced}
-use Rattle.spin_script.proofs.Writing.{counted_spoken}
+use Rattle.spin_script.proofs.WrittenParts.{counted_spoken}
 use Rattle.spin_script.proofs.write.rules.put_counted.Goals as goal
 
 pub returns : goal.returns

@@ -7,26 +7,28 @@ use Rattle.spin_word.specs.Rows.{lane_of}
 use Rattle.spin_log.specs.Rows.{IsCommandBelow}
 use Rattle.spin_log.specs.History.{Moment}
 use Rattle.spin_log.specs.Pens.{PenValue, StandsIn, IsHistory}
-use Rattle.spin_log.proofs.Lists.{all_map}
+use Rattle.spin_log.proofs.RowLists.{all_map}
 use Rattle.spin_table.specs.SetupOf.{data_of}
 use Rattle.spin_table.specs.States.{start_of}
 use Rattle.spin_seat.specs.Replay.{IsClean}
 use Rattle.spin_seat.specs.Seats.{SeatValue, AreOfLanes}
 use Rattle.spin_seat.specs.Weaves.{AnswersAreLegal}
-use Rattle.spin_seat.proofs.Keeping.{if_ok, if_ok_both, all_unmap, pen_at, clean_by_lanes, of_lanes_at}
-use Rattle.spin_seat.proofs.Weaving.{answers_are_legal}
+use Rattle.spin_seat.proofs.SeatInvariants.{if_ok, if_ok_both, all_unmap, pen_at, clean_by_lanes, of_lanes_at}
+use Rattle.spin_seat.proofs.WovenAnswers.{answers_are_legal}
 use Rattle.spin_seat.proofs.hub.Hub.close.Goals as goal
 
 pub close-requires : goal.close-requires
 close-requires g c =
-    subst (All (λ (p : PenValue). p.log ≡ c.args.self.log.id)) (sym c.in_ok-pens.ensures.pens) (all_map (λ (p : PenValue). p.log ≡ c.args.self.log.id) (λ (s : SeatValue). s.pen) c.args.seats c.requires.own)
+    subst (All (λ (p : PenValue). p.log ≡ c.args.self.log.id)) (sym c.in_ok-pens.ensures.pens)
+    (all_map (λ (p : PenValue). p.log ≡ c.args.self.log.id) (λ (s : SeatValue). s.pen) c.args.seats c.requires.own)
 
 -- the k-th seat is lane k's
 lane_at : (seats : List SeatValue) (k : ℕ) (s : SeatValue) → AreOfLanes 0 seats → k < length seats → (get_or seats k s).pen.lane ≡ k
 lane_at seats k s order h = let e = of_lanes_at 0 k seats s order h in omega (arith, e)
 
 -- the k-th of these pens is lane k's
-lanes_of : (seats : List SeatValue) (pens : List PenValue) (lanes : ℕ) (nobody : SeatValue) → pens ≡ map (λ (s : SeatValue). s.pen) seats → length seats ≡ lanes → AreOfLanes 0 seats → (k : ℕ) → k < lanes → (get_or pens k nobody.pen).lane ≡ k
+lanes_of : (seats : List SeatValue) (pens : List PenValue) (lanes : ℕ) (nobody : SeatValue) → pens ≡ map (λ (s : SeatValue). s.pen) seats
+    → length seats ≡ lanes → AreOfLanes 0 seats → (k : ℕ) → k < lanes → (get_or pens k nobody.pen).lane ≡ k
 lanes_of seats pens lanes nobody is all order k h =
     ap (λ (l : List PenValue). (get_or l k nobody.pen).lane) is ∙ ap (λ (q : PenValue). q.lane) (pen_at seats k nobody) ∙ lane_at seats k nobody order (omega (arith, all))
 
@@ -43,7 +45,8 @@ returns-clause-clean g c =
     let count : length c.in_ok-pens.pens ≡ lanes = ap length is ∙ (length-map c.args.seats (λ (s : SeatValue). s.pen) ∙ c.requires.all) in
     let inside : (k : ℕ) → k < lanes → k < length c.in_ok-pens.pens = λ k h. subst (λ n. k < n) (sym count) h in
     if_ok_both c.close.result (λ log. All (StandsIn log) c.in_ok-pens.pens) (λ log. All (IsCommandBelow lanes) log × (length log ≤ MAX_PLACE)) (λ log. IsClean d log)
-    (λ log stand words. clean_by_lanes d lanes log (λ k. get_or c.in_ok-pens.pens k nobody.pen) (rows_below lanes log words.0) (lanes_of c.args.seats c.in_ok-pens.pens lanes nobody is c.requires.all c.requires.order)
+    (λ log stand words. clean_by_lanes d lanes log (λ k. get_or c.in_ok-pens.pens k nobody.pen)
+    (rows_below lanes log words.0) (lanes_of c.args.seats c.in_ok-pens.pens lanes nobody is c.requires.all c.requires.order)
     (λ k h. stand k nobody.pen (inside k h)) (λ k h. c.in_ok-pens.ensures.clean k nobody.pen (inside k h))) c.close.ensures.pens c.close.ensures.rows
 
 pub returns-clause-legal : goal.returns-clause-legal
@@ -58,7 +61,8 @@ returns-clause-legal g c =
     (λ log clean facts. answers_are_legal d c.args.seats log nobody clean (subst (λ n. All (λ row. lane_of row < n) log) (sym all) (rows_below lanes log facts.1)) lane
     (all_unmap (StandsIn log) (λ (s : SeatValue). s.pen) c.args.seats (subst (All (StandsIn log)) is facts.0)))
     (returns-clause-clean g c)
-    (if_ok_both c.close.result (λ log. All (StandsIn log) c.in_ok-pens.pens) (λ log. All (IsCommandBelow lanes) log × (length log ≤ MAX_PLACE)) (λ log. All (StandsIn log) c.in_ok-pens.pens × All (IsCommandBelow lanes) log) (λ log stand words. (stand, words.0)) c.close.ensures.pens c.close.ensures.rows)
+    (if_ok_both c.close.result (λ log. All (StandsIn log) c.in_ok-pens.pens) (λ log. All (IsCommandBelow lanes) log × (length log ≤ MAX_PLACE))
+    (λ log. All (StandsIn log) c.in_ok-pens.pens × All (IsCommandBelow lanes) log) (λ log stand words. (stand, words.0)) c.close.ensures.pens c.close.ensures.rows)
 
 pub returns-clause-each : goal.returns-clause-each
 returns-clause-each g c =

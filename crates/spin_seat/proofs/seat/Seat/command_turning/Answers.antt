@@ -3,7 +3,7 @@ use Rattle.spin_log.specs.Pens.{PenValue}
 use Rattle.spin_table.specs.SetupOf.{data_of}
 use Rattle.spin_seat.specs.Calls.{ReadsOn}
 use Rattle.spin_seat.specs.Inner.Tries.{Tries}
-use Rattle.spin_seat.proofs.Giving.{judges_later, reads_further}
+use Rattle.spin_seat.proofs.SeatCalls.{judges_later, reads_further}
 use Rattle.spin_seat.proofs.seat.Seat.command_turning.Goals as goal
 
 pub returns-in-Some-clause-answer : goal.returns-in-Some-clause-answer

@@ -2,7 +2,7 @@ use Rattle.std.proofs.Common.{◌≡◌, ap, arith}
 use Rattle.std.specs.Arc.{arc_value}
 use Rattle.spin_table.specs.SetupOf.{data_of}
 use Rattle.spin_seat.specs.Seats.{SeatValue}
-use Rattle.spin_seat.proofs.Keeping.{place_fits, is_refused}
+use Rattle.spin_seat.proofs.SeatInvariants.{place_fits, is_refused}
 use Rattle.spin_seat.proofs.seat.Seat.judge.Goals as goal
 
 pub next_version-requires-clause-room : goal.next_version-requires-clause-room
@@ -15,4 +15,5 @@ next_version-requires-clause-room g c =
 pub refuse-requires-clause-step : goal.refuse-requires-clause-step
 refuse-requires-clause-step g c =
     let is : ◌≡◌ {A = SeatValue} (record { pen = c.self.inside.pen; state = arc_value c.self.inside.version; kept = c.self.inside.kept }) c.args.self.now = c.self.view_is in
-    is_refused (data_of c.args.hub.now.setup) (arc_value c.self.inside.version) c.args.self.now.state c.args.c.now c.in-Err-Refused.field-0 c.in-Err-Refused.refusal c.in-Err-Refused.field-0-is (ap (λ (s : SeatValue). s.state) is) c.in-Err-Refused.ensures.answer
+    is_refused (data_of c.args.hub.now.setup) (arc_value c.self.inside.version) c.args.self.now.state c.args.c.now c.in-Err-Refused.field-0 c.in-Err-Refused.refusal c.in-Err-Refused.field-0-is
+    (ap (λ (s : SeatValue). s.state) is) c.in-Err-Refused.ensures.answer

@@ -5,7 +5,7 @@ use Rattle.spin_table.specs.SetupOf.{data_of}
 use Rattle.spin_table.specs.States.{State}
 use Rattle.spin_seat.specs.Seats.{SeatValue, IsSeatOf}
 use Rattle.spin_seat.specs.Calls.{ReadsOn}
-use Rattle.spin_seat.proofs.Keeping.{learns, reads_met}
+use Rattle.spin_seat.proofs.SeatInvariants.{learns, reads_met}
 use Rattle.spin_seat.proofs.seat.Seat.learn.Goals as goal
 
 pub returns-clause-seat : goal.returns-clause-seat
@@ -21,7 +21,8 @@ returns-clause-seat g c =
     let version : arc_value c.in_ok-version.version ≡ other.state = c.in_ok-version.ensures in
     subst (λ k. IsSeatOf (data_of c.args.hub.now.setup) (record { pen = c.meet.new.a; state = arc_value c.in_ok-version.version; kept = k })) (sym none)
     (subst (λ (s : State). IsSeatOf (data_of c.args.hub.now.setup) (record { pen = c.meet.new.a; state = s; kept = None })) (sym version)
-    (learns (data_of c.args.hub.now.setup) seat other c.meet.new.a (subst (IsSeatOf (data_of c.args.hub.now.setup)) (sym is) c.requires.seat) (subst (IsSeatOf (data_of c.args.hub.now.setup)) (sym is') c.requires.other) none' c.meet.ensures.one short c.meet.ensures.a c.front-before.ensures.pen.own c.front-after.ensures.pen.own))
+    (learns (data_of c.args.hub.now.setup) seat other c.meet.new.a (subst (IsSeatOf (data_of c.args.hub.now.setup)) (sym is) c.requires.seat)
+    (subst (IsSeatOf (data_of c.args.hub.now.setup)) (sym is') c.requires.other) none' c.meet.ensures.one short c.meet.ensures.a c.front-before.ensures.pen.own c.front-after.ensures.pen.own))
 
 pub returns-clause-reads : goal.returns-clause-reads
 returns-clause-reads g c =

@@ -1,8 +1,8 @@
 use Rattle.std.proofs.Common.{[], ◌∷◌, sym, ap, subst, length, arith, length-append}
 use Rattle.spin_log.specs.Pens.{PenValue}
-use Rattle.spin_log.proofs.Lists.{rows_of_other}
+use Rattle.spin_log.proofs.RowLists.{rows_of_other}
 use Rattle.spin_seat.specs.Calls.{ReadsOn}
-use Rattle.spin_seat.proofs.Giving.{reads_further}
+use Rattle.spin_seat.proofs.SeatCalls.{reads_further}
 use Rattle.spin_seat.proofs.seat.Seat.pin.Goals as goal
 
 pub loop-self-preserved : goal.loop-self-preserved

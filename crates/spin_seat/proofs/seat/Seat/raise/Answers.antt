@@ -4,7 +4,7 @@ use Rattle.spin_table.specs.SetupOf.{data_of}
 use Rattle.spin_table.specs.States.{State}
 use Rattle.spin_proto.specs.Replies.{IsDeedReply}
 use Rattle.spin_seat.specs.Seats.{SeatValue}
-use Rattle.spin_seat.proofs.Giving.{gives_reply}
+use Rattle.spin_seat.proofs.SeatCalls.{gives_reply}
 use Rattle.spin_seat.proofs.seat.Seat.raise.Goals as goal
 
 pub returns-clause-answer : goal.returns-clause-answer

@@ -1,14 +1,14 @@
 use Rattle.std.proofs.Common.{◌≡◌, ap, subst, length, arith}
 use Rattle.std.specs.Prelude.{All}
 use Rattle.std.specs.Arc.{arc_value}
-use Rattle.spin_word.proofs.Fields.{absurd_command}
+use Rattle.spin_word.proofs.RowFields.{absurd_command}
 use Rattle.spin_log.specs.Pens.{PenValue}
 use Rattle.spin_log.specs.Rows.{IsCommandBelow}
 use Rattle.spin_table.specs.declared.refusal.Verdicted.TheVariants as verdicted
 use Rattle.spin_table.specs.SetupOf.{data_of}
 use Rattle.spin_table.specs.Steps.{IsStep}
 use Rattle.spin_seat.specs.Seats.{SeatValue}
-use Rattle.spin_seat.proofs.Keeping.{place_fits_kept, kept_is_command, is_refused}
+use Rattle.spin_seat.proofs.SeatInvariants.{place_fits_kept, kept_is_command, is_refused}
 use Rattle.spin_seat.proofs.seat.Seat.step.Goals as goal
 
 pub unreachable-requires : goal.unreachable-requires
@@ -32,4 +32,5 @@ accepted-requires-clause-step g c =
 pub refused-requires-clause-step : goal.refused-requires-clause-step
 refused-requires-clause-step g c =
     let is : ◌≡◌ {A = SeatValue} (record { pen = c.self.inside.pen; state = arc_value c.self.inside.version; kept = c.self.inside.kept }) c.args.self.now = c.self.view_is in
-    is_refused (data_of c.args.hub.now.setup) (arc_value c.self.inside.version) c.args.self.now.state c.in-Some.command c.in-Err-Refused.field-0 c.in-Err-Refused.refusal c.in-Err-Refused.field-0-is (ap (λ (s : SeatValue). s.state) is) c.in-Err-Refused.ensures.answer
+    is_refused (data_of c.args.hub.now.setup) (arc_value c.self.inside.version) c.args.self.now.state c.in-Some.command c.in-Err-Refused.field-0 c.in-Err-Refused.refusal c.in-Err-Refused.field-0-is
+    (ap (λ (s : SeatValue). s.state) is) c.in-Err-Refused.ensures.answer

@@ -7,7 +7,7 @@ use Rattle.spin_place.specs.Precedence.{IsTheOrder}
 use Rattle.spin_plan.specs.Planned.{IsOver}
 use Rattle.spin_objects.specs.Units.{GuardUnit, guards_of, tests_of}
 use Rattle.spin_table.specs.Orders.{arranged}
-use Rattle.spin_table.proofs.Arranged.{All-arranged, length-order, same_order}
+use Rattle.spin_table.proofs.ArrangedBindings.{All-arranged, length-order, same_order}
 use Rattle.spin_table.proofs.lists.EventLists.make.Goals as goal
 
 pub compile-requires-clause-few : goal.compile-requires-clause-few

@@ -2,7 +2,7 @@ use Rattle.std.proofs.Common.{◌+◌, ◌∙◌, sym, subst, ap}
 use Rattle.spin_place.specs.Precedence.{HasLawfulOrder}
 use Rattle.spin_objects.specs.Units.{policies_of}
 use Rattle.spin_table.specs.States.{EventState}
-use Rattle.spin_table.proofs.Stepping.{after_default, after_no_default}
+use Rattle.spin_table.proofs.CommandSteps.{after_default, after_no_default}
 use Rattle.spin_table.proofs.version.EventSlot.after.Goals as goal
 
 pub returns-in_ok-with_default-in-Default-clause-change : goal.returns-in_ok-with_default-in-Default-clause-change

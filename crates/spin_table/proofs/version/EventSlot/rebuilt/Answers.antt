@@ -5,13 +5,13 @@ use Rattle.spin_place.specs.Precedence.{numbers_of, HasLawfulOrder}
 use Rattle.spin_table.specs.Setups.{tests_in}
 use Rattle.spin_table.specs.States.{EventState}
 use Rattle.spin_table.specs.Orders.{Listed, IsOrderFault}
-use Rattle.spin_table.proofs.Stepping.{change_fault}
+use Rattle.spin_table.proofs.CommandSteps.{change_fault}
 use Rattle.spin_objects.specs.Units.{guards_of, policies_of}
 use Rattle.spin_table.specs.SetupOf.{data_of}
 use Rattle.spin_table.specs.Steps.{event_after, default_after}
-use Rattle.spin_table.proofs.ImposedFit.{authority_of_setup}
-use Rattle.spin_table.proofs.Keeping.{distinct-from_rising}
-use Rattle.spin_table.proofs.Sound.{AreSound-step, guards_there}
+use Rattle.spin_table.proofs.ImposedGuards.{authority_of_setup}
+use Rattle.spin_table.proofs.BindingSoundness.{distinct-from_rising}
+use Rattle.spin_table.proofs.StepSoundness.{AreSound-step, guards_there}
 use Rattle.spin_table.proofs.version.EventSlot.rebuilt.Goals as goal
 
 pub bindings_after-requires-clause-there : goal.bindings_after-requires-clause-there

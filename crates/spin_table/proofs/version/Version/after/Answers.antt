@@ -10,9 +10,9 @@ use Rattle.spin_table.specs.Steps.{event_after, bindings_at, bindings_if, IsStep
 use Rattle.spin_table.specs.Orders.{Listed, IsChangeFault}
 use Rattle.spin_table.specs.Soundness.{IsSound, IsSoundEvent}
 use Rattle.spin_table.specs.declared.refusal.Verdicted.TheVariants as verdicted
-use Rattle.spin_table.proofs.ImposedFit.{authority_of_setup}
-use Rattle.spin_table.proofs.Sound.{AreSound-step}
-use Rattle.spin_table.proofs.Stepping.{accepted, unrefused, short_of_memory, sound_after, orderly_for, answer_of_fault, slice_get-set_same}
+use Rattle.spin_table.proofs.ImposedGuards.{authority_of_setup}
+use Rattle.spin_table.proofs.StepSoundness.{AreSound-step}
+use Rattle.spin_table.proofs.CommandSteps.{accepted, unrefused, short_of_memory, sound_after, orderly_for, answer_of_fault, slice_get-set_same}
 use Rattle.spin_table.proofs.version.Version.after.Goals as goal
 
 pub refusal-requires : goal.refusal-requires
@@ -48,7 +48,8 @@ returns-in-Err-clause-answer g c =
     let same : c.bindings.result.now ≡ t.bindings = c.bindings.ensures ∙ ap (λ (l : Listed). l.bindings) c.deref.ensures ∙ ap (λ (x : EventState). x.bindings) c.slot.view_is in
     let none : first_of (refusals_at d e t.bindings c.args.c.now) ≡ None = subst (λ bs. first_of (refusals_at d e bs c.args.c.now) ≡ None) same (sym c.in-None.ensures) in
     let place : c.self.inside.place ≡ s.place = ap (λ (s : State). s.place) c.self.view_is in
-    answer_of_fault d s c.args.c.now e t c.event-def.ensures read none c.in-Err.fault (subst (λ n. IsChangeFault (policies_of c.args.setup.now.catalogue.natives) e (n + 1) c.args.c.now t c.in-Err.fault) place c.in-Err.ensures.change)
+    answer_of_fault d s c.args.c.now e t c.event-def.ensures read none c.in-Err.fault
+    (subst (λ n. IsChangeFault (policies_of c.args.setup.now.catalogue.natives) e (n + 1) c.args.c.now t c.in-Err.fault) place c.in-Err.ensures.change)
 
 pub returns-in-Err-clause-no_more : goal.returns-in-Err-clause-no_more
 returns-in-Err-clause-no_more g c =
@@ -105,7 +106,8 @@ returns-in_ok-with_event-in-None-clause-answer g c =
     let same : c.bindings.result.now ≡ t.bindings = c.bindings.ensures ∙ ap (λ (l : Listed). l.bindings) c.deref.ensures ∙ ap (λ (x : EventState). x.bindings) c.slot.view_is in
     let none : first_of (refusals_at d e t.bindings c.args.c.now) ≡ None = subst (λ bs. first_of (refusals_at d e bs c.args.c.now) ≡ None) same (sym c.in-None.ensures) in
     let place : c.self.inside.place ≡ s.place = ap (λ (s : State). s.place) c.self.view_is in
-    let is : c.in-Ok.changed ≡ event_after (policies_of c.args.setup.now.catalogue.natives) e (s.place + 1) c.args.c.now t = c.in-Ok.ensures.change.0 ∙ ap (λ n. event_after (policies_of c.args.setup.now.catalogue.natives) e (n + 1) c.args.c.now t) place in
+    let is : c.in-Ok.changed ≡ event_after (policies_of c.args.setup.now.catalogue.natives) e (s.place + 1) c.args.c.now t =
+    c.in-Ok.ensures.change.0 ∙ ap (λ n. event_after (policies_of c.args.setup.now.catalogue.natives) e (n + 1) c.args.c.now t) place in
     subst (IsStep d s c.args.c.now verdicted.Accepted) (sym c.in_ok-with_event-in-None.ensures)
     (accepted d s c.args.c.now e t c.event-def.ensures read c.in-Ok.changed none is (orderly_for c.args.c.now.op c.in-Ok.changed.bindings c.in-Ok.ensures.change.1))
 
@@ -120,7 +122,8 @@ returns-in_ok-with_event-in-None-clause-sound g c =
     let same : c.bindings.result.now ≡ t.bindings = c.bindings.ensures ∙ ap (λ (l : Listed). l.bindings) c.deref.ensures ∙ ap (λ (x : EventState). x.bindings) c.slot.view_is in
     let none : first_of (refusals_at d e t.bindings c.args.c.now) ≡ None = subst (λ bs. first_of (refusals_at d e bs c.args.c.now) ≡ None) same (sym c.in-None.ensures) in
     let place : c.self.inside.place ≡ s.place = ap (λ (s : State). s.place) c.self.view_is in
-    let is : c.in-Ok.changed ≡ event_after (policies_of c.args.setup.now.catalogue.natives) e (s.place + 1) c.args.c.now t = c.in-Ok.ensures.change.0 ∙ ap (λ n. event_after (policies_of c.args.setup.now.catalogue.natives) e (n + 1) c.args.c.now t) place in
+    let is : c.in-Ok.changed ≡ event_after (policies_of c.args.setup.now.catalogue.natives) e (s.place + 1) c.args.c.now t =
+    c.in-Ok.ensures.change.0 ∙ ap (λ n. event_after (policies_of c.args.setup.now.catalogue.natives) e (n + 1) c.args.c.now t) place in
     subst (IsSound d) (sym c.in_ok-with_event-in-None.ensures)
     (sound_after d s c.args.c.now e t c.in-Ok.changed c.args.setup.now.sound c.requires.sound c.event-def.ensures read none is c.in-Ok.ensures.change.1)
 
@@ -137,7 +140,8 @@ returns-in_ok-with_event-in-None-clause-ok g c =
     let place : c.self.inside.place ≡ s.place = ap (λ (s : State). s.place) c.self.view_is in
     let there : bindings_at c.in_ok-with_event-in-None.field-0 event ≡ c.in-Ok.changed.bindings =
     ap (λ (v : State). bindings_at v event) c.in_ok-with_event-in-None.ensures ∙ ap bindings_if (slice_get-set_same s.events event c.in-Ok.changed (slice_get_within s.events event t read)) in
-    let changed : c.in-Ok.changed.bindings ≡ (event_after (policies_of c.args.setup.now.catalogue.natives) e (c.self.inside.place + 1) c.args.c.now t).bindings = ap (λ (x : EventState). x.bindings) c.in-Ok.ensures.change.0 in
+    let changed : c.in-Ok.changed.bindings ≡ (event_after (policies_of c.args.setup.now.catalogue.natives) e (c.self.inside.place + 1) c.args.c.now t).bindings =
+    ap (λ (x : EventState). x.bindings) c.in-Ok.ensures.change.0 in
     omega (arith, c.after.ensures.ticks, ap length there, ap length changed)
 
 pub returns-in_ok-with_event-in-None-clause-no_more : goal.returns-in_ok-with_event-in-None-clause-no_more

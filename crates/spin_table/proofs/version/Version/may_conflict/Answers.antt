@@ -7,7 +7,7 @@ use Rattle.spin_table.specs.States.{State, EventState}
 use Rattle.spin_table.specs.Refusals.{refusals_at}
 use Rattle.spin_table.specs.Steps.{event_after}
 use Rattle.spin_table.specs.Orders.{Listed}
-use Rattle.spin_table.proofs.ImposedFit.{authority_of_setup}
+use Rattle.spin_table.proofs.ImposedGuards.{authority_of_setup}
 use Rattle.spin_table.proofs.Conflicts.{may_conflict, refused_before, no_ring}
 use Rattle.spin_table.proofs.version.Version.may_conflict.Goals as goal
 
@@ -74,6 +74,7 @@ returns g c =
     let same : c.bindings.result.now ≡ t.bindings = c.bindings.ensures ∙ ap (λ (l : Listed). l.bindings) c.deref.ensures ∙ ap (λ (x : EventState). x.bindings) c.slot.view_is in
     let none : first_of (refusals_at d e t.bindings command) ≡ None = subst (λ bs. first_of (refusals_at d e bs command) ≡ None) same (sym c.in_default.ensures) in
     let place : c.self.inside.place ≡ s.place = ap (λ (x : State). x.place) c.self.view_is in
-    let made : c.as_slice.result.now ≡ (event_after d.policies e (s.place + 1) command t).bindings = c.as_slice.ensures ∙ c.in_ok-bindings.ensures ∙ ap (λ n. (event_after d.policies e (n + 1) command t).bindings) place in
+    let made : c.as_slice.result.now ≡ (event_after d.policies e (s.place + 1) command t).bindings =
+    c.as_slice.ensures ∙ c.in_ok-bindings.ensures ∙ ap (λ n. (event_after d.policies e (n + 1) command t).bindings) place in
     let other : true ≡ is_install command.op = sym c.if-not-is_install.false ∙ c.is_install.ensures in
     may_conflict d s command c.args.cycle.now e t true c.is_cycle.result c.as_slice.result.now c.event-def.ensures read none made other c.is_cycle.ensures

@@ -5,7 +5,7 @@ use Rattle.spin_table.specs.Setups.{tests_in}
 use Rattle.spin_table.specs.SetupOf.{data_of}
 use Rattle.spin_table.specs.States.{EventState, first_state}
 use Rattle.spin_table.specs.Soundness.{IsSound}
-use Rattle.spin_table.proofs.Starting.{start_sound}
+use Rattle.spin_table.proofs.StartSoundness.{start_sound}
 use Rattle.spin_table.proofs.version.Version.start.Goals as goal
 
 pub returns-clause-start : goal.returns-clause-start

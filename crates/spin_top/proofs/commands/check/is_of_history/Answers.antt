@@ -8,4 +8,5 @@ use Rattle.spin_top.proofs.commands.check.is_of_history.Goals as goal
 pub returns : goal.returns
 returns g c =
     let all = map (view_of (λ e. (goal.Endpoint-dyn g (e.object.vtable, e.object.value)).seen e.object.value)) c.args.ends.now.ends.items in
-    subst (λ capture. IfOk c.check_report.result (λ whether. Decides whether (IsRunText (script_seen c.args.script.now) (option_map capture_of capture) all c.args.report.now))) c.as_ref.ensures.value (c.check_report.ensures all c.in_ok-names.ensures)
+    subst (λ capture. IfOk c.check_report.result (λ whether. Decides whether (IsRunText (script_seen c.args.script.now) (option_map capture_of capture) all c.args.report.now))) c.as_ref.ensures.value
+    (c.check_report.ensures all c.in_ok-names.ensures)

@@ -4,7 +4,7 @@ use Rattle.std.proofs.lemmas.List.{take_all}
 use Rattle.spin_endpoint.specs.Named.{stands}
 use Rattle.spin_endpoint.specs.Inner.View.{view_of}
 use Rattle.spin_check.specs.RunTexts.{StandAs}
-use Rattle.spin_top.proofs.Standing.{stand_as}
+use Rattle.spin_top.proofs.StandingNames.{stand_as}
 use Rattle.spin_top.proofs.commands.check.standing.Goals as goal
 
 pub returns : goal.returns

@@ -4,7 +4,7 @@ use Rattle.spin_script.specs.Language.{IsScript}
 use Rattle.spin_script.specs.Scripts.{script_seen}
 use Rattle.spin_script.specs.States.{natives_seen}
 use Rattle.spin_top.specs.declared.end.End.TheVariants.{NoMemory}
-use Rattle.spin_top.specs.Ends.{number}
+use Rattle.spin_top.specs.Ends.{exit_status}
 use Rattle.spin_top.specs.Run.{end_of}
 use Rattle.spin_top.proofs.GenCauses.{not_behind, was_made}
 use Rattle.spin_top.proofs.commands.generate.gen_command.Goals as goal
@@ -23,11 +23,19 @@ returns-in-Err-made_script g c =
 pub returns-in-Err-behind_header : goal.returns-in-Err-behind_header
 returns-in-Err-behind_header g c =
     let refused = rw c.in-Ok.ensures.capture at c.in-Err-behind_header.ensures.refused in
-    λ shelf. (c.in-Err-behind_header.end, c.stop-in-Err-behind_header.ensures.status, not_behind _ _ _ _ c.in-Err-behind_header.end (refl {a = shelf}) (c.captures_are_read.ensures c.args.number) refused (record { ends = refl; tells = c.stop-in-Err-behind_header.ensures.line }))
+    λ shelf. (
+      c.in-Err-behind_header.end,
+      c.stop-in-Err-behind_header.ensures.status,
+      not_behind _ _ _ _ c.in-Err-behind_header.end (refl {a = shelf}) (c.captures_are_read.ensures c.args.number) refused (record { ends = refl; tells = c.stop-in-Err-behind_header.ensures.line }),
+    )
 
 pub returns : goal.returns
 returns g c =
     let line = rw c.end_of.ensures at c.stop-2.ensures.line in
     let read = subst (λ t. IsScript (natives_seen c.args.natives) t (Ok (script_seen c.in-Ok-made_script.script))) (c.as_slice.ensures ∙ c.in-Ok.ensures.script) c.in-Ok-made_script.ensures.script in
     let behind = rw c.in-Ok.ensures.capture at c.in-Ok-behind_header.ensures.behind in
-    λ shelf. (end_of c.run_over-ended.result, c.stop-2.ensures.status ∙ ap number c.end_of.ensures, was_made _ _ _ _ _ (script_seen c.in-Ok-made_script.script) _ _ c.run_over-ended.result (refl {a = shelf}) read (c.captures_are_read.ensures c.args.number) behind c.run_over-ended.ensures line)
+    λ shelf. (
+      end_of c.run_over-ended.result,
+      c.stop-2.ensures.status ∙ ap exit_status c.end_of.ensures,
+      was_made _ _ _ _ _ (script_seen c.in-Ok-made_script.script) _ _ c.run_over-ended.result (refl {a = shelf}) read (c.captures_are_read.ensures c.args.number) behind c.run_over-ended.ensures line,
+    )

@@ -3,7 +3,8 @@ use Rattle.std.proofs.lemmas.List.{length-take, length-drop, take-append-drop, d
 use Rattle.spin_top.proofs.held.HeldSourceSource.read.Goals as goal
 
 -- what is left, with a piece moved
-moved : (bytes piece buf : List ℕ) (from count : ℕ) → length piece ≡ count → piece ≡ take count (take (length bytes - from) (drop from bytes)) → drop from bytes ≡ take count (piece ++ drop count buf) ++ drop (from + count) bytes
+moved : (bytes piece buf : List ℕ) (from count : ℕ) → length piece ≡ count → piece ≡ take count (take (length bytes - from) (drop from bytes))
+    → drop from bytes ≡ take count (piece ++ drop count buf) ++ drop (from + count) bytes
 moved bytes piece buf from count len is =
     let front : take count (piece ++ drop count buf) ≡ take count (drop from bytes) = take_at piece (drop count buf) count len ∙ is ∙ ap (λ ys. take count ys) (take_rest bytes from) in
     sym (take-append-drop count (drop from bytes)) ∙ ap (λ ys. take count (drop from bytes) ++ ys) (drop-drop count from bytes) ∙ ap (λ ys. ys ++ drop (from + count) bytes) (sym front)
@@ -22,5 +23,6 @@ returns-clause-taken c =
           ∙ ap (λ ys. drop c.self.inside.position ys) (sym same)
           ∙ moved c.as_slice.result.now c.copy_from_slice.new.self c.args.buf.now c.self.inside.position c.min-count.result len c.copy_from_slice.ensures.after
           ∙ ap (λ ys. take c.min-count.result (c.copy_from_slice.new.self ++ drop c.min-count.result c.args.buf.now) ++ drop (c.self.inside.position + c.min-count.result) ys) same,
-      λ none _. ap (λ ys. drop (c.self.inside.position + c.min-count.result) ys) (sym same) ∙ ended c.as_slice.result.now c.self.inside.position c.min-count.result (length c.args.buf.now) c.requires c.min-count.ensures none,
+      λ none _. ap (λ ys. drop (c.self.inside.position + c.min-count.result) ys) (sym same)
+          ∙ ended c.as_slice.result.now c.self.inside.position c.min-count.result (length c.args.buf.now) c.requires c.min-count.ensures none,
     )

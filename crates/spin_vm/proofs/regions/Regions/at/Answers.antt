@@ -1,5 +1,5 @@
 use Rattle.std.proofs.Common.{◌≡◌, ◌+◌, ◌∙◌, ◌&&◌, nat_lt, true, false, sym, ap, refl, arith}
-use Rattle.spin_vm.proofs.Apart.{any_is, writes_is, reaches, lets_write}
+use Rattle.spin_vm.proofs.RegionOrder.{any_is, writes_is, reaches, lets_write}
 use Rattle.spin_vm.proofs.regions.Regions.at.Goals as goal
 
 pub returns-in-None-clause-there : goal.returns-in-None-clause-there

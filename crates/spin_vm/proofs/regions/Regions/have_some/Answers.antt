@@ -1,5 +1,5 @@
 use Rattle.std.proofs.Common.{◌∙◌, sym, ap}
-use Rattle.spin_vm.proofs.Apart.{any_is, reaches}
+use Rattle.spin_vm.proofs.RegionOrder.{any_is, reaches}
 use Rattle.spin_vm.proofs.regions.Regions.have_some.Goals as goal
 
 pub returns-in-None : goal.returns-in-None

@@ -3,7 +3,7 @@ use Rattle.std.specs.List.{insert}
 use Rattle.spin_vm.specs.Regions.{with_region}
 use Rattle.spin_vm.specs.declared.line.Region.{Region}
 use Rattle.spin_vm.specs.Inner.Apart.{AreApart, count_before}
-use Rattle.spin_vm.proofs.Apart.{insert_is, with_apart}
+use Rattle.spin_vm.proofs.RegionOrder.{insert_is, with_apart}
 use Rattle.spin_vm.proofs.regions.Regions.insert.Goals as goal
 
 inserted : (xs ys zs : List Region) (i : _) (r : Region) → xs ≡ ys → i ≡ count_before r.start ys → zs ≡ insert xs i r → zs ≡ with_region r ys

@@ -1,6 +1,6 @@
 use Rattle.std.proofs.Common.{ap, ◌≡◌, ◌∙◌, ◌-◌, ◌<◌, length, arith, slice_get, Some}
 use Rattle.std.specs.Prelude.{slice_index_or}
-use Rattle.spin_vm.proofs.Apart.{last_none, last_some, end_at, read_at}
+use Rattle.spin_vm.proofs.RegionOrder.{last_none, last_some, end_at, read_at}
 use Rattle.spin_vm.proofs.regions.Regions.last_before.Goals as goal
 
 pub returns-then-count-eq0-clause-last : goal.returns-then-count-eq0-clause-last

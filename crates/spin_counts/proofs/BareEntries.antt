@@ -1,0 +1,228 @@
+-- Legal entries are legal for the setup without where its boxes lie, too.
+use Rattle.std.proofs.Common.{◌≡◌, ◌∙◌, ◌+◌, ◌-◌, ℕ, Bool, true, false, not, ◌&&◌, ◌||◌, List, [], ◌∷◌, map, refl, sym, ap, subst}
+use Rattle.std.specs.Prelude.{◌==◌, if◌then◌else◌, nat_lt, nat_le, slice_get, Option, Some, None, MatchOption}
+use Rattle.std.specs.Option.{option_map, option_map_or}
+use Rattle.std.proofs.lemmas.Option.{slice_get-map}
+use Rattle.std.proofs.lemmas.List.{length-map, map-set}
+use Rattle.spin_values.specs.First.{first_of, numbered}
+use Rattle.spin_objects.proofs.NumberedItems.{numbered-map}
+use Rattle.spin_values.specs.declared.types.EventType.{EventType}
+use Rattle.spin_code.specs.declared.act.Act.{Act}
+use Rattle.spin_code.specs.declared.act.ActStep.{ActStep}
+use Rattle.spin_code.specs.declared.act.ActStep.TheVariants as step
+use Rattle.spin_code.specs.declared.test.Test.{Test}
+use Rattle.spin_word.specs.Commands.{guard_is_used, handler_is_used}
+use Rattle.spin_word.specs.declared.command.Mode.{Mode}
+use Rattle.spin_word.specs.declared.command.Command.{Command}
+use Rattle.spin_word.specs.declared.work.Deed.{Deed}
+use Rattle.spin_word.specs.declared.work.Deed.TheVariants as deed
+use Rattle.spin_policy.specs.Verdicts.{is_install}
+use Rattle.spin_policy.specs.Imposed.{forces_apart}
+use Rattle.spin_place.specs.declared.binding.Binding.{Binding}
+use Rattle.spin_objects.specs.Units.{HandlerUnit, GuardUnit}
+use Rattle.spin_table.specs.declared.event.EventDef.{EventDef}
+use Rattle.spin_table.specs.declared.refusal.Refusal.{Refusal}
+use Rattle.spin_table.specs.declared.refusal.Refusal.TheVariants as refusal
+use Rattle.spin_table.specs.declared.refusal.Verdicted.{Verdicted}
+use Rattle.spin_table.specs.declared.refusal.Verdicted.TheVariants as verdicted
+use Rattle.spin_table.specs.Setups.{SetupData, rules_of, tests_in}
+use Rattle.spin_table.specs.States.{State, EventState, first_state, start_of}
+use Rattle.spin_table.specs.Verdicts.{answer_to, named_rule}
+use Rattle.spin_table.specs.Units.{same_signature, same_parameter_kinds, step_raises_down, raises_down, is_set, sets_argument, is_filter, has_wrong_mode}
+use Rattle.spin_table.specs.Refusals.{refusal_of, refusal_on, refusals_at, lacks_binding, is_denied_by, is_full, of_handler, of_guard, mode_of}
+use Rattle.spin_table.specs.Steps.{state_after, event_after, events_after, bindings_if, bindings_at, IsOrderly, IsConflict, ChangesTo, IsStep}
+use Rattle.spin_raise.specs.declared.bound.Runner.TheVariants as runner
+use Rattle.spin_raise.specs.Firing.{Units, Bound}
+use Rattle.spin_proto.specs.Whole.{Raised, raised, reply_of}
+use Rattle.spin_proto.specs.Replies.{reply_if_fit, deed_reply, types_in, units_in, AreBounds, IsDeedReply}
+use Rattle.spin_proto.specs.declared.reply.Reply.{Reply}
+use Rattle.spin_proto.specs.declared.reply.TheConstants.{MAX_RUNS}
+use Rattle.spin_grammar.specs.Bare.{bare_test, bare_step}
+use Rattle.spin_grammar.proofs.BareValues.{any_alike}
+use Rattle.spin_script.specs.Laws.{bare_event, bare_handler, bare_guard, bare_setup}
+use Rattle.spin_script.proofs.BareScripts.{some_same}
+use Rattle.spin_report.specs.declared.entry.What.{What}
+use Rattle.spin_report.specs.declared.entry.What.TheVariants as what
+use Rattle.spin_report.specs.declared.entry.Entry.{Entry}
+use Rattle.spin_report.specs.Legal.{Answers, IsLegal}
+use Rattle.spin_counts.proofs.BareRaises.{bare_units, bare_bound, raised_same}
+
+-- ---- states
+
+abbrev bare_event_state : EventState → EventState
+bare_event_state t = record t { tests = map bare_test t.tests }
+
+abbrev pub bare_state : State → State
+bare_state s = record s { events = map bare_event_state s.events }
+
+mapped : {A B C : Type 0} (f : A → B) (g : A → A) (h : A → C) (k : C → B) → ((x : A) → f (g x) ≡ k (h x)) → (xs : List A) → map f (map g xs) ≡ map k (map h xs)
+mapped f g h k same [] = refl
+mapped f g h k same (x ∷ xs) = λ i. same x i ∷ mapped f g h k same xs i
+
+mapped_same : {A B : Type 0} (f : A → B) (g : A → A) → ((x : A) → f (g x) ≡ f x) → (xs : List A) → map f (map g xs) ≡ map f xs
+mapped_same f g same [] = refl
+mapped_same f g same (x ∷ xs) = λ i. same x i ∷ mapped_same f g same xs i
+
+tests_same : (d : SetupData) → tests_in (bare_setup d) ≡ map bare_test (tests_in d)
+tests_same d = mapped (λ (g : GuardUnit). g.test) bare_guard (λ (g : GuardUnit). g.test) bare_test (λ g. refl) d.guards
+
+started : (tests : List Test) (es : List EventDef) → map bare_event_state (map (first_state tests) es) ≡ map (first_state (map bare_test tests)) (map bare_event es)
+started tests [] = refl
+started tests (e ∷ es) = ap (λ (ts : List EventState). first_state (map bare_test tests) e ∷ ts) (started tests es)
+
+-- the start of a setup, without where its boxes lie
+pub bare_start : (d : SetupData) → bare_state (start_of d) ≡ start_of (bare_setup d)
+bare_start d =
+    ap (λ (ts : List EventState). record { place = 0; events = ts }) (started (tests_in d) d.events)
+    ∙ ap (λ (ts : List Test). record { place = 0; events = map (first_state ts) (map bare_event d.events) }) (sym (tests_same d))
+
+-- ---- replies
+
+units_same : (d : SetupData) → units_in (bare_setup d) ≡ bare_units (units_in d)
+units_same d =
+    let acts = mapped (λ (h : HandlerUnit). h.act) bare_handler (λ (h : HandlerUnit). h.act) (λ (a : Act). record { steps = map bare_step a.steps }) (λ h. refl) d.handlers in
+    let tests = tests_same d in
+    λ i. record { acts = acts i; tests = tests i }
+
+types_same : (d : SetupData) → types_in (bare_setup d) ≡ types_in d
+types_same d = mapped_same (λ (e : EventDef). e.sig) bare_event (λ e. refl) d.events
+
+reply_same : (u : Units) (bounds : List Bound) (types : List EventType) (asked : Deed) → deed_reply (bare_units u) (map bare_bound bounds) types asked ≡ deed_reply u bounds types asked
+reply_same u bounds types (deed.Raise event args) =
+    ap (λ (r : Raised). reply_if_fit types event args (reply_of MAX_RUNS r)) (raised_same runner.Raiser u bounds 0 event args)
+reply_same u bounds types (deed.Later event args) = refl
+
+bounds_same : (es : List EventDef) (ts : List EventState) (bs : List Bound) → AreBounds es ts bs → AreBounds (map bare_event es) (map bare_event_state ts) (map bare_bound bs)
+bounds_same [] [] [] h = h
+bounds_same [] [] (b ∷ bs) h = absurd h
+bounds_same [] (t ∷ ts) bs h = absurd h
+bounds_same (e ∷ es) [] bs h = absurd h
+bounds_same (e ∷ es) (t ∷ ts) [] h = absurd h
+bounds_same (e ∷ es) (t ∷ ts) (b ∷ bs) h = ((h.0.0, h.0.1, ap bare_bound h.0.2), bounds_same es ts bs h.1)
+
+bare_reply : (d : SetupData) (s : State) (asked : Deed) (r : Reply) → IsDeedReply d s asked r → IsDeedReply (bare_setup d) (bare_state s) asked r
+bare_reply d s asked r (bounds, are, is) = (
+  map bare_bound bounds,
+  bounds_same d.events s.events bounds are,
+  is
+      ∙ sym (reply_same (units_in d) bounds (types_in d) asked)
+      ∙ (λ i. deed_reply (sym (units_same d) i) (map bare_bound bounds) (sym (types_same d) i) asked),
+)
+
+-- ---- refusals
+
+handler_test_same : (handlers : List HandlerUnit) (c : Command) (p q : HandlerUnit → Bool)
+    → ((h : HandlerUnit) → p (bare_handler h) ≡ q h) → of_handler (map bare_handler handlers) c p ≡ of_handler handlers c q
+handler_test_same handlers c p q same = go (handler_is_used c.op)
+  where
+    go : (b : Bool) → option_map_or p (if b then numbered (map bare_handler handlers) c.handler else None) false ≡ option_map_or q (if b then numbered handlers c.handler else None) false
+    go true = ap (λ (o : Option HandlerUnit). option_map_or p o false) (numbered-map bare_handler handlers c.handler) ∙ some_same bare_handler p q same (numbered handlers c.handler) false
+    go false = refl
+
+guard_test_same : (guards : List GuardUnit) (c : Command) (p q : GuardUnit → Bool) → ((g : GuardUnit) → p (bare_guard g) ≡ q g) → of_guard (map bare_guard guards) c p ≡ of_guard guards c q
+guard_test_same guards c p q same =
+    let test = ap (λ (o : Option GuardUnit). option_map_or p o false) (numbered-map bare_guard guards c.guard) ∙ some_same bare_guard p q same (numbered guards c.guard) false in
+    λ i. guard_is_used c.op && test i
+
+down_step : (event : ℕ) (s : ActStep) → step_raises_down event (bare_step s) ≡ step_raises_down event s
+down_step event (step.Set arg e) = refl
+down_step event (step.Send endpoint arg from) = refl
+down_step event (step.Result e) = refl
+down_step event (step.Up raised parts) = refl
+down_step event (step.Layer kind raised) = refl
+
+set_step : (s : ActStep) → is_set (bare_step s) ≡ is_set s
+set_step (step.Set arg e) = refl
+set_step (step.Send endpoint arg from) = refl
+set_step (step.Result e) = refl
+set_step (step.Up raised parts) = refl
+set_step (step.Layer kind raised) = refl
+
+sets_same : (h : HandlerUnit) → sets_argument (bare_handler h).act ≡ sets_argument h.act
+sets_same h = any_alike is_set bare_step set_step h.act.steps
+
+wrong_same : (m : Mode) (h : HandlerUnit) → has_wrong_mode m (bare_handler h).act ≡ has_wrong_mode m h.act
+wrong_same m h = ap (λ (b : Bool). b && not (is_filter m)) (sets_same h)
+
+first_same : (d : SetupData) (c : Command) (e : EventDef) (bs : List Binding) → first_of (refusals_at (bare_setup d) (bare_event e) bs c) ≡ first_of (refusals_at d e bs c)
+first_same d c e bs =
+    let handlers = ap (λ (n : ℕ). handler_is_used c.op && ((c.handler == 0) || nat_lt n c.handler)) (length-map d.handlers bare_handler) in
+    let guards = ap (λ (n : ℕ). guard_is_used c.op && nat_lt n c.guard) (length-map d.guards bare_guard) in
+    let signature = handler_test_same d.handlers c (λ h. not (same_signature h.sig e.sig)) (λ h. not (same_signature h.sig e.sig)) (λ h. refl) in
+    let kinds = guard_test_same d.guards c (λ g. not (same_parameter_kinds g.sig e.sig)) (λ g. not (same_parameter_kinds g.sig e.sig)) (λ g. refl) in
+    let down = handler_test_same d.handlers c (λ h. raises_down c.event h.act) (λ h. raises_down c.event h.act) (λ h. any_alike (step_raises_down c.event) bare_step (down_step c.event) h.act.steps) in
+    let mode = handler_test_same d.handlers c (λ h. has_wrong_mode (mode_of bs c c.op) h.act) (λ h. has_wrong_mode (mode_of bs c c.op) h.act) (wrong_same (mode_of bs c c.op)) in
+    let sets = handler_test_same d.handlers c (λ h. sets_argument h.act) (λ h. sets_argument h.act) sets_same in
+    λ i. first_of (
+    (nat_le d.modules c.requester, refusal.UnknownModule)
+    ∷ (handlers i, refusal.UnknownHandler)
+    ∷ (guards i, refusal.UnknownGuard)
+    ∷ (lacks_binding bs c, refusal.UnknownBinding)
+    ∷ (signature i || kinds i, refusal.WrongType)
+    ∷ (down i, refusal.Downward)
+    ∷ (mode i, refusal.WrongMode)
+    ∷ (is_denied_by d.policies e bs c, refusal.Denied (named_rule (answer_to d.policies e bs c)))
+    ∷ (is_install c.op && forces_apart (rules_of d.policies e.authority) (answer_to d.policies e bs c) && sets i, refusal.ForcedMode (named_rule (answer_to d.policies e bs c)))
+    ∷ (is_full d.live bs c, refusal.TooMany)
+    ∷ [])
+
+on_same : (d : SetupData) (c : Command) (e : Option EventDef) (t : Option EventState) → refusal_on (bare_setup d) c (option_map bare_event e) (option_map bare_event_state t) ≡ refusal_on d c e t
+on_same d c None t = refl
+on_same d c (Some e) None = refl
+on_same d c (Some e) (Some t) = first_same d c e t.bindings
+
+refusal_same : (d : SetupData) (s : State) (c : Command) → refusal_of (bare_setup d) (bare_state s) c ≡ refusal_of d s c
+refusal_same d s c =
+    (λ i. refusal_on (bare_setup d) c (slice_get-map bare_event d.events c.event i) (slice_get-map bare_event_state s.events c.event i))
+    ∙ on_same d c (slice_get d.events c.event) (slice_get s.events c.event)
+
+-- ---- steps
+
+events_same : (d : SetupData) (place : ℕ) (c : Command) (e : Option EventDef) (t : Option EventState) (ts : List EventState)
+    → map bare_event_state (events_after d.policies place c e t ts) ≡ events_after d.policies place c (option_map bare_event e) (option_map bare_event_state t) (map bare_event_state ts)
+events_same d place c None t ts = refl
+events_same d place c (Some e) None ts = refl
+events_same d place c (Some e) (Some t) ts = map-set bare_event_state ts c.event (event_after d.policies e place c t)
+
+after_same : (d : SetupData) (c : Command) (s : State) → bare_state (state_after d c s) ≡ state_after (bare_setup d) c (bare_state s)
+after_same d c s =
+    let events = events_same d (s.place + 1) c (slice_get d.events c.event) (slice_get s.events c.event) s.events
+    ∙ (λ i. events_after d.policies (s.place + 1) c (sym (slice_get-map bare_event d.events c.event) i) (sym (slice_get-map bare_event_state s.events c.event) i) (map bare_event_state s.events)) in
+    ap (λ (ts : List EventState). record { place = s.place + 1; events = ts }) events
+
+bindings_same : (s : State) (event : ℕ) → bindings_at (bare_state s) event ≡ bindings_at s event
+bindings_same s event = ap bindings_if (slice_get-map bare_event_state s.events event) ∙ go (slice_get s.events event)
+  where
+    go : (o : Option EventState) → bindings_if (option_map bare_event_state o) ≡ bindings_if o
+    go None = refl
+    go (Some t) = refl
+
+behind_same : (d : SetupData) (c : Command) (s : State) → bindings_at (state_after d c s) c.event ≡ bindings_at (state_after (bare_setup d) c (bare_state s)) c.event
+behind_same d c s = sym (bindings_same (state_after d c s) c.event) ∙ ap (λ (x : State). bindings_at x c.event) (after_same d c s)
+
+bare_changes : (d : SetupData) (s : State) (c : Command) (v : Verdicted) (next : State) → ChangesTo d s c v next → ChangesTo (bare_setup d) (bare_state s) c v (bare_state next)
+bare_changes d s c verdicted.Accepted next h =
+    (ap bare_state h.0 ∙ after_same d c s, subst (λ (bs : List Binding). IsOrderly c.op bs) (behind_same d c s) h.1)
+bare_changes d s c (verdicted.Refused r) next h =
+    (ap bare_state h.0, subst (λ (bs : List Binding). IsConflict c.op bs r) (behind_same d c s) h.1)
+
+bare_step_of : (d : SetupData) (s : State) (c : Command) (v : Verdicted) (next : State) → IsStep d s c v next → IsStep (bare_setup d) (bare_state s) c v (bare_state next)
+bare_step_of d s c v next h =
+    let P = ChangesTo (bare_setup d) (bare_state s) c v (bare_state next) in
+    let Q = λ (r : Refusal). (v ≡ verdicted.Refused r) × (bare_state next ≡ bare_state s) in
+    subst (λ (o : Option Refusal). MatchOption o P Q) (sym (refusal_same d s c)) (go (refusal_of d s c) h)
+  where
+    go : (o : Option Refusal) → MatchOption o (ChangesTo d s c v next) (λ r. (v ≡ verdicted.Refused r) × (next ≡ s))
+        → MatchOption o (ChangesTo (bare_setup d) (bare_state s) c v (bare_state next)) (λ r. (v ≡ verdicted.Refused r) × (bare_state next ≡ bare_state s))
+    go None got = bare_changes d s c v next got
+    go (Some r) got = (got.0, ap bare_state got.1)
+
+bare_answers : (d : SetupData) (s : State) (w : What) (next : State) → Answers d s w next → Answers (bare_setup d) (bare_state s) w (bare_state next)
+bare_answers d s (what.Command c v) next h = bare_step_of d s c v next h
+bare_answers d s (what.Deed asked reply) next h = (bare_reply d s asked reply h.0, ap bare_state h.1)
+
+-- entries that are legal for a setup are so without where its boxes lie
+pub bare_legal : (d : SetupData) (entries : List Entry) (s last : State) → IsLegal d s entries last → IsLegal (bare_setup d) (bare_state s) entries (bare_state last)
+bare_legal d [] s last h = ap bare_state h
+bare_legal d (entry ∷ entries) s last (next, (answers, place), rest) =
+    (bare_state next, (bare_answers d s entry.what next answers, place), bare_legal d entries next last rest)

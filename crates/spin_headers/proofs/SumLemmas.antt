@@ -1,0 +1,90 @@
+-- The sum as it is made, word by word, and the one sum of all words.
+use Rattle.std.proofs.Common.{◌≡◌, ℕ, zero, suc, ◌+◌, ◌-◌, ◌*◌, ◌%◌, ◌<◌, ◌≤◌, List, [], ◌∷◌, ◌++◌, length, get_or, drop, refl, sym, ap, ◌∙◌, arith}
+use Rattle.std.proofs.lemmas.Bool.Decides.{nat_tests}
+use Rattle.std.proofs.lemmas.List.Sums.{sum_by-cons}
+use Rattle.spin_headers.specs.Sums.{sum_words, word_total, folded, word_sum}
+use Rattle.byteorder.specs.Endian.{big_number}
+
+pub folded_positive : (n : ℕ) → 0 < n → folded n ≡ (n - 1) % 65535 + 1
+folded_positive n h = grind (arith, nat_tests)
+
+-- what folding keeps
+pub folded_keeps : (n m : ℕ) → folded n ≡ m → (m ≤ 65535) × (m % 65535 ≡ n % 65535) × (m ≤ n) × (0 < n → 0 < m)
+folded_keeps zero m e = (omega arith, omega arith, omega arith, λ h. omega arith)
+folded_keeps (suc n) m e = let f = folded_positive (suc n) (omega arith) in (omega arith, omega arith, omega arith, λ h. omega arith)
+
+-- and that nothing else does
+pub folded_only : (n m : ℕ) → m ≤ 65535 → m % 65535 ≡ n % 65535 → m ≤ n → (0 < n → 0 < m) → folded n ≡ m
+folded_only zero m small same below positive = omega arith
+folded_only (suc n) m small same below positive =
+    let f = folded_positive (suc n) (omega arith) in
+    let p : 0 < m = positive (omega arith) in
+    omega arith
+
+pub folded_small : (n : ℕ) → n ≤ 65535 → folded n ≡ n
+folded_small n h = folded_only n n h refl (omega arith) (λ p. p)
+
+-- a sum may be folded as it goes
+pub folded_again : (n m : ℕ) → folded (folded n + m) ≡ folded (n + m)
+folded_again n m =
+    let k = folded_keeps n (folded n) refl in
+    let r = folded_keeps (n + m) (folded (n + m)) refl in
+    let p = r.3 in
+    let q = k.3 in
+    folded_only (folded n + m) (folded (n + m)) (omega arith) (omega arith) (grind arith) (grind arith)
+
+two_bytes : (a b : ℕ) → a * 256 + (b * 1 + 0) ≡ 256 * a + b
+two_bytes a b = omega arith
+
+-- the words from the front
+pub first_word : (bytes : List ℕ) → 2 ≤ length bytes → word_total bytes ≡ big_number 2 bytes + word_total (drop 2 bytes)
+first_word [] h = absurd (omega arith)
+first_word (a ∷ []) h = absurd (omega arith)
+first_word (a ∷ (b ∷ rest)) h =
+    let number : big_number 2 (a ∷ (b ∷ rest)) ≡ 256 * a + b = two_bytes a b in
+    sum_by-cons (λ x. x) (256 * a + b) (sum_words rest) ∙ ap (λ n. n + word_total rest) (sym number)
+
+pub last_word : (bytes : List ℕ) → length bytes ≡ 1 → word_total bytes ≡ 256 * get_or bytes 0 0
+last_word [] h = absurd (omega arith)
+last_word (a ∷ []) h = omega arith
+last_word (a ∷ (b ∷ rest)) h = absurd (omega arith)
+
+pub no_word : (bytes : List ℕ) → length bytes ≡ 0 → word_total bytes ≡ 0
+no_word [] h = refl
+no_word (a ∷ rest) h = absurd (omega arith)
+
+-- one word more
+pub step : (total next all : ℕ) (bytes after : List ℕ) → 2 ≤ length bytes → next ≡ folded (total + big_number 2 bytes)
+    → folded (total + word_total bytes) ≡ all → after ≡ drop 2 bytes → folded (next + word_total after) ≡ all
+step total next all bytes after h e known is =
+    ap (λ bs. folded (next + word_total bs)) is
+    ∙ ap (λ n. folded (n + word_total (drop 2 bytes))) e
+    ∙ folded_again (total + big_number 2 bytes) (word_total (drop 2 bytes))
+    ∙ ap folded (let w = first_word bytes h in omega arith)
+    ∙ known
+
+pub ends_even : (total all : ℕ) (bytes : List ℕ) → length bytes ≡ 0 → total ≤ 65535 → folded (total + word_total bytes) ≡ all → total ≡ all
+ends_even total all bytes h small known =
+    sym (folded_small total small) ∙ ap folded (let w = no_word bytes h in omega arith) ∙ known
+
+pub ends_odd : (total last next all : ℕ) (bytes : List ℕ) → length bytes ≡ 1 → last ≡ get_or bytes 0 0 * 256 → next ≡ folded (total + last) → folded (total + word_total bytes) ≡ all → next ≡ all
+ends_odd total last next all bytes h l e known =
+    e ∙ ap folded (let w = last_word bytes h in omega arith) ∙ known
+
+-- the words of bytes that follow whole words
+pub total-append : (xs ys : List ℕ) → length xs % 2 ≡ 0 → word_total (xs ++ ys) ≡ word_total xs + word_total ys
+total-append [] ys h = omega arith
+total-append (a ∷ []) ys h = absurd (omega arith)
+total-append (a ∷ (b ∷ xs)) ys h =
+    let both = sum_by-cons (λ x. x) (256 * a + b) (sum_words (xs ++ ys)) in
+    let one = sum_by-cons (λ x. x) (256 * a + b) (sum_words xs) in
+    let rest = total-append xs ys (omega arith) in
+    omega arith
+
+-- a sum over two lists in turn is that of both
+pub sum_joined : (xs ys : List ℕ) (first both : ℕ) → length xs % 2 ≡ 0 → first ≡ folded (0 + word_total xs) → both ≡ folded (first + word_total ys) → both ≡ word_sum (xs ++ ys)
+sum_joined xs ys first both h f b =
+    b
+    ∙ ap (λ n. folded (n + word_total ys)) f
+    ∙ folded_again (0 + word_total xs) (word_total ys)
+    ∙ ap folded (let t = total-append xs ys h in omega arith)

@@ -1,0 +1,116 @@
+-- What lines ask of one lane.
+use Rattle.std.proofs.Common.{◌≡◌, ◌≢◌, ◌==◌, ℕ, suc, ◌+◌, ◌<◌, ◌≤◌, Bool, true, false, cond, List, [], ◌∷◌, ◌++◌, map}
+use Rattle.std.proofs.Common.{length, take, drop, get_or, sum_by, refl, sym, ap, ◌∙◌, arith, length-append, eq-eqb, ne_eqb}
+use Rattle.std.specs.List.{enumerate_from}
+use Rattle.std.proofs.lemmas.List.{length-map, length-take, take_more}
+use Rattle.std.proofs.lemmas.List.Elements.{filter-append}
+use Rattle.std.proofs.lemmas.List.FromFn.{length-enumerate_from}
+use Rattle.std.proofs.lemmas.List.Sums.{sum_by-cons}
+use Rattle.std.proofs.Math.Seq.{drop-cons}
+use Rattle.spin_word.specs.declared.work.Work.{Work}
+use Rattle.spin_word.specs.declared.work.Work.TheVariants as work
+use Rattle.spin_script.specs.declared.script.Line.{Line}
+use Rattle.spin_script.specs.States.{deed_count}
+use Rattle.spin_report.specs.Asked.{Numbered}
+use Rattle.spin_report.specs.Segments.{records_wanted, raise_with, parts_of, asked_at, asked_in, asked_of_lane}
+use Rattle.spin_run.specs.Inner.Answering.{asked_alone, asked_packets}
+
+-- ---- whose it is
+
+own_all : {A : Type 0} (f : A → Numbered) (k lane : ℕ) (xs : List A) → ((a : A) → (f a).lane ≡ lane) → lane ≡ k → asked_of_lane k (map f xs) ≡ map f xs
+own_all f k lane [] each e = refl
+own_all f k lane (x ∷ xs) each e =
+    ap (λ b. cond b (f x ∷ asked_of_lane k (map f xs)) (asked_of_lane k (map f xs))) (eq-eqb (f x).lane k (each x ∙ e))
+    ∙ ap (λ l. f x ∷ l) (own_all f k lane xs each e)
+
+own_none : {A : Type 0} (f : A → Numbered) (k lane : ℕ) (xs : List A) → ((a : A) → (f a).lane ≡ lane) → lane ≢ k → asked_of_lane k (map f xs) ≡ []
+own_none f k lane [] each other = refl
+own_none f k lane (x ∷ xs) each other =
+    ap (λ b. cond b (f x ∷ asked_of_lane k (map f xs)) (asked_of_lane k (map f xs))) (ne_eqb (f x).lane k (λ same. other (sym (each x) ∙ same)))
+    ∙ own_none f k lane xs each other
+
+-- a line of the lane asks it for all that it asks, and another line for nothing
+pub own_line : (k : ℕ) (line : Line) (records : List (List ℕ)) → line.lane ≡ k → asked_of_lane k (asked_at line records) ≡ asked_at line records
+own_line k line records is =
+    own_all (λ (part : ℕ × Work). record { lane = line.lane; line = line.number; part = part.0; asked = part.1 }) k line.lane (parts_of line.work records) (λ a. refl) is
+
+pub other_line : (k : ℕ) (line : Line) (records : List (List ℕ)) → line.lane ≢ k → asked_of_lane k (asked_at line records) ≡ []
+other_line k line records other =
+    own_none (λ (part : ℕ × Work). record { lane = line.lane; line = line.number; part = part.0; asked = part.1 }) k line.lane (parts_of line.work records) (λ a. refl) other
+
+-- what is asked from a line on is what it asks, and what is asked from the next line on with the records that it leaves
+pub asked_next : (k i : ℕ) (lines : List Line) (line : Line) (left : List (List ℕ)) → i < length lines → line ≡ get_or lines i line
+    → asked_of_lane k (asked_in (drop i lines) left) ≡ asked_of_lane k (asked_at line (take (records_wanted line.work) left))
+    ++ asked_of_lane k (asked_in (drop (i + 1) lines) (drop (records_wanted line.work) left))
+asked_next k i lines line left lt is =
+    let next : suc i ≡ i + 1 = omega arith in
+    let parts : drop i lines ≡ line ∷ drop (i + 1) lines = drop-cons lines i line lt ∙ (λ j. sym is j ∷ drop (next j) lines) in
+    ap (λ ls. asked_of_lane k (asked_in ls left)) parts
+    ∙ filter-append (λ (n : Numbered). n.lane == k) (asked_at line (take (records_wanted line.work) left)) (asked_in (drop (i + 1) lines) (drop (records_wanted line.work) left))
+
+-- ---- how many
+
+parts_few : (asked : Work) (records : List (List ℕ)) → length (parts_of asked (take (records_wanted asked) records)) ≤ deed_count asked
+parts_few (work.Command command) records = omega arith
+parts_few (work.Deed deed) records = omega arith
+parts_few (work.Packet event count) records =
+    let taken = take count records in
+    let raise : ℕ × List ℕ → ℕ × Work = λ part. (part.0, raise_with event part.1) in
+    omega (arith, length-map (enumerate_from 1 taken) raise, length-enumerate_from 1 taken, length-take count records)
+
+asked_few : (lines : List Line) (records : List (List ℕ)) → length (asked_in lines records) ≤ sum_by (λ line. deed_count line.work) lines
+asked_few [] records = omega arith
+asked_few (line ∷ lines) records =
+    let taken = take (records_wanted line.work) records in
+    let rest = drop (records_wanted line.work) records in
+    let one = parts_few line.work records in
+    let more = asked_few lines rest in
+    let number : ℕ × Work → Numbered = λ part. record { lane = line.lane; line = line.number; part = part.0; asked = part.1 } in
+    let same = length-map (parts_of line.work taken) number in
+    omega (arith, one, more, same, length-append (asked_at line taken) (asked_in lines rest), sum_by-cons (λ (l : Line). deed_count l.work) line lines)
+
+own_fewer : (k : ℕ) (asked : List Numbered) → length (asked_of_lane k asked) ≤ length asked
+own_fewer k [] = omega arith
+own_fewer k (n ∷ asked) = go (n.lane == k) (own_fewer k asked)
+  where
+    go : (b : Bool) → length (asked_of_lane k asked) ≤ length asked → length (cond b (n ∷ asked_of_lane k asked) (asked_of_lane k asked)) ≤ length (n ∷ asked)
+    go true le = omega arith
+    go false le = omega arith
+
+-- a lane is asked no more than the deeds of all lines
+pub own_few : (k : ℕ) (lines : List Line) (records : List (List ℕ)) → length (asked_of_lane k (asked_in lines records)) ≤ sum_by (λ line. deed_count line.work) lines
+own_few k lines records =
+    let all = asked_few lines records in
+    let own = own_fewer k (asked_in lines records) in
+    omega arith
+
+-- ---- the records of a packet line
+
+enumerate-push : (from : ℕ) (xs : List (List ℕ)) (x : List ℕ) → enumerate_from from (xs ++ x ∷ []) ≡ enumerate_from from xs ++ (from + length xs, x) ∷ []
+enumerate-push from [] x = ap (λ n. (n, x) ∷ []) (omega arith)
+enumerate-push from (y ∷ xs) x = ap (λ l. (from, y) ∷ l) (enumerate-push (from + 1) xs x ∙ ap (λ n. enumerate_from (from + 1) xs ++ (n, x) ∷ []) (omega arith))
+
+packets-push : (lane line event from : ℕ) (xs : List (List ℕ)) (x : List ℕ)
+    → asked_packets lane line event from (xs ++ x ∷ []) ≡ asked_packets lane line event from xs ++ asked_alone lane line (from + length xs) (raise_with event x)
+packets-push lane line event from [] x = ap (λ n. asked_alone lane line n (raise_with event x)) (omega arith)
+packets-push lane line event from (y ∷ xs) x =
+    ap (λ l. asked_alone lane line from (raise_with event y) ++ l)
+    (packets-push lane line event (from + 1) xs x ∙ ap (λ n. asked_packets lane line event (from + 1) xs ++ asked_alone lane line n (raise_with event x)) (omega arith))
+
+-- the next record
+pub packets_more : (lane line event i part : ℕ) (records : List (List ℕ)) (record' : List ℕ) → i < length records → record' ≡ get_or records i record' → part ≡ i + 1
+    → asked_packets lane line event 1 (take (i + 1) records) ≡ asked_packets lane line event 1 (take i records) ++ asked_alone lane line part (raise_with event record')
+packets_more lane line event i part records record' lt is number =
+    let long : 1 + length (take i records) ≡ part = omega (arith, length-take i records, number) in
+    ap (asked_packets lane line event 1) (take_more records i record' lt)
+    ∙ packets-push lane line event 1 (take i records) (get_or records i record')
+    ∙ (λ j. asked_packets lane line event 1 (take i records) ++ asked_alone lane line (long j) (raise_with event (sym is j)))
+
+pub packets_count : (lane line event from : ℕ) (records : List (List ℕ)) → length (asked_packets lane line event from records) ≡ length records
+packets_count lane line event from [] = refl
+packets_count lane line event from (r ∷ records) = ap suc (packets_count lane line event (from + 1) records)
+
+pub packet_count : (line : Line) (records : List (List ℕ)) (event count : ℕ) → line.work ≡ work.Packet event count → length (asked_at line records) ≡ length records
+packet_count line records event count is =
+    let number : ℕ × Work → Numbered = λ part. record { lane = line.lane; line = line.number; part = part.0; asked = part.1 } in
+    ap (λ w. length (map number (parts_of w records))) is ∙ packets_count line.lane line.number event 1 records

@@ -1,0 +1,57 @@
+-- The trails and jobs of the first lanes were taken out.
+use Rattle.std.proofs.Common.{◌≡◌, ℕ, ◌+◌, ◌<◌, ◌≤◌, List, [], ◌∷◌, ◌++◌, map, length, take, drop, set, get_or, sym, ap, ◌∙◌, subst, arith}
+use Rattle.std.specs.Prelude.{All}
+use Rattle.std.specs.List.{flat_map}
+use Rattle.std.proofs.lemmas.List.{drop-set-lt, take_more, take_more_set, drop-drop, length-set, take_all, append-nil, get_or-map, length-map, get_or-drop, map-set, set-get_or}
+use Rattle.std.proofs.lemmas.List.Elements.{All-push}
+use Rattle.std.proofs.lemmas.List.Concat.{flat_map-append}
+use Rattle.spin_proto.specs.declared.deed.Job.{Job}
+use Rattle.spin_report.specs.declared.entry.Entry.{Entry}
+use Rattle.spin_run.specs.declared.lane.Lane.{Lane}
+use Rattle.spin_run.specs.Inner.Weaves.{IsEmptied, trails_of, jobs_by_lane}
+
+pub record Gathered (before now : List Lane) (i : ℕ) (entries : List Entry) (jobs : List Job) : Type 0 where
+  pub count : length now ≡ length before
+  pub taken : entries ≡ flat_map (λ trail. trail) (take i (trails_of before))
+  pub jobs_taken : jobs ≡ flat_map (λ jobs. jobs) (take i (jobs_by_lane before))
+  pub left : drop i now ≡ drop i before
+  pub emptied : All IsEmptied (take i now)
+  pub seats : map (λ (lane : Lane). lane.seat) now ≡ map (λ (lane : Lane). lane.seat) before
+  pub stops : map (λ (lane : Lane). lane.stop) now ≡ map (λ (lane : Lane). lane.stop) before
+
+kept_map : {Y : Type 0} (f : Lane → Y) (xs : List Lane) (i : ℕ) (d y : Lane) → i < length xs → f y ≡ f (get_or xs i d) → map f (set xs i y) ≡ map f xs
+kept_map f xs i d y lt same =
+    map-set f xs i y ∙ ap (set (map f xs) i) (same ∙ sym (get_or-map f xs i d (f d) lt)) ∙ set-get_or (map f xs) i (f d)
+
+-- one list more
+one_more : {X : Type 0} (f : Lane → List X) (before : List Lane) (i : ℕ) (lane : Lane) (all : List X)
+    → i < length before → all ≡ flat_map (λ xs. xs) (take i (map f before)) ++ f (get_or before i lane)
+    → all ≡ flat_map (λ xs. xs) (take (i + 1) (map f before))
+one_more {X} f before i lane all here is =
+    let inside : i < length (map f before) = omega (arith, here, length-map before f) in
+    is ∙ ap (λ l. flat_map (λ (xs : List X). xs) (take i (map f before)) ++ l) (sym (get_or-map f before i lane [] here) ∙ sym (append-nil (get_or (map f before) i [])))
+    ∙ sym (flat_map-append (λ (xs : List X). xs) (take i (map f before)) (get_or (map f before) i [] ∷ []))
+    ∙ sym (ap (flat_map (λ xs. xs)) (take_more (map f before) i [] inside))
+
+pub gathers : (before now : List Lane) (i : ℕ) (entries es : List Entry) (jobs js : List Job) (lane rest : Lane) → i < length before → Gathered before now i entries jobs → IsEmptied rest
+    → es ≡ entries ++ (get_or now i lane).trail → js ≡ jobs ++ (get_or now i lane).jobs → rest.seat ≡ (get_or now i lane).seat
+    → rest.stop ≡ (get_or now i lane).stop → Gathered before (set now i rest) (i + 1) es js
+gathers before now i entries es jobs js lane rest here g none added jobs_added seat stop =
+    let lt : i < length now = omega (arith, g.count) in
+    let same : get_or now i lane ≡ get_or before i lane =
+    ap (λ n. get_or now n lane) (plus i) ∙ sym (get_or-drop i now 0 lane) ∙ ap (λ l. get_or l 0 lane) g.left ∙ get_or-drop i before 0 lane ∙ sym (ap (λ n. get_or before n lane) (plus i)) in
+    record {
+      count = length-set now i rest ∙ g.count;
+      taken = one_more (λ (l : Lane). l.trail) before i lane es here (added ∙ (λ h. g.taken h ++ (same h).trail));
+      jobs_taken = one_more (λ (l : Lane). l.jobs) before i lane js here (jobs_added ∙ (λ h. g.jobs_taken h ++ (same h).jobs));
+      left = drop-set-lt (i + 1) now i rest (omega arith) ∙ sym (drop-drop 1 i now) ∙ ap (drop 1) g.left ∙ drop-drop 1 i before;
+      emptied = subst (All IsEmptied) (sym (take_more_set now i rest lt)) (All-push IsEmptied (take i now) rest g.emptied none);
+      seats = kept_map (λ (l : Lane). l.seat) now i lane rest lt seat ∙ g.seats;
+      stops = kept_map (λ (l : Lane). l.stop) now i lane rest lt stop ∙ g.stops;
+    }
+  where
+    plus : (i : ℕ) → i ≡ i + 0
+    plus i = omega arith
+
+pub all_emptied : (before now : List Lane) (i : ℕ) (entries : List Entry) (jobs : List Job) → length before ≤ i → Gathered before now i entries jobs → All IsEmptied now
+all_emptied before now i entries jobs le g = subst (All IsEmptied) (take_all i now (omega (arith, le, g.count))) g.emptied

@@ -1,0 +1,155 @@
+-- A lane's answers, call by call.
+use Rattle.std.proofs.Common.{◌≡◌, ◌+◌, ◌≤◌, List, [], ◌∷◌, ◌++◌, map, length, take, refl, sym, ap, ◌∙◌, subst, arith, length-append, append_assoc, take_all}
+use Rattle.std.specs.Prelude.{None, Result, Ok, Err, IsErrAnd}
+use Rattle.spin_seat.specs.declared.answer.SeatFault.{SeatFault}
+use Rattle.spin_seat.specs.declared.answer.SeatFault.TheVariants as fault
+use Rattle.std.specs.Arc.{arc_value}
+use Rattle.std.proofs.lemmas.List.{append-nil, map-append, length-map}
+use Rattle.std.proofs.lemmas.List.Elements.{All-nil}
+use Rattle.spin_word.specs.declared.command.TheConstants.{MAX_PLACE}
+use Rattle.spin_word.specs.declared.row.Row.{Row}
+use Rattle.spin_log.specs.Rows.{IsPrefix}
+use Rattle.spin_log.specs.Pens.{PenValue}
+use Rattle.spin_table.specs.Setups.{SetupData}
+use Rattle.spin_table.specs.States.{State}
+use Rattle.spin_table.specs.Soundness.{IsSound}
+use Rattle.spin_proto.specs.declared.deed.Job.{Job}
+use Rattle.spin_proto.specs.Replies.{BelongsTo}
+use Rattle.spin_seat.specs.Replay.{IsReplay}
+use Rattle.spin_seat.specs.Seats.{IsSeatOf}
+use Rattle.spin_seat.specs.Calls.{ReadsOn, Gives, IsFaultAt}
+use Rattle.spin_seat.specs.Runs.{Ran, GainsPins}
+use Rattle.spin_seat.proofs.SeatInvariants.{all_applied}
+use Rattle.spin_seat.proofs.SeatAnswers.{nothing_ran, answered, ran_more, ran_reads, pins_more}
+use Rattle.spin_report.specs.declared.entry.Entry.{Entry}
+use Rattle.spin_report.specs.Jobs.{answer_calls}
+use Rattle.spin_report.specs.Asked.{Numbered, asked_of}
+use Rattle.spin_run.specs.declared.lane.Lane.{Lane}
+use Rattle.spin_run.specs.Lanes.{seat_answer, jobs_from, AreJobsOf, BeginsWithCommand}
+use Rattle.spin_run.specs.Inner.Answering.{HasAnswered, Answers, EndsFull, Comes, AddsJobs, IsLeftBy}
+use Rattle.spin_run.proofs.EntryJobs.{jobs_stay, jobs_more}
+
+-- ---- one call
+
+-- one more entry
+entry_more : (d : SetupData) (old new : Lane) (entry : Entry) → new.trail ≡ old.trail ++ entry ∷ [] → Gives d old.seat.pen (seat_answer entry) new.seat.pen
+    → (AreJobsOf d old.trail new.seat.pen.front old.jobs → AreJobsOf d (old.trail ++ entry ∷ []) new.seat.pen.front new.jobs) → Answers d (asked_of entry ∷ []) old new
+entry_more d old new entry trail gives jobs =
+    let answers : map seat_answer new.trail ≡ map seat_answer old.trail ++ seat_answer entry ∷ [] = ap (map seat_answer) trail ∙ map-append seat_answer old.trail (entry ∷ []) in
+    record {
+      asked_are = ap (map asked_of) trail ∙ map-append asked_of old.trail (entry ∷ []);
+      goes_on = λ before h. record {
+        ran = subst (λ l. Ran d before l new.seat.pen) (sym answers) (ran_more d before old.seat.pen new.seat.pen (map seat_answer old.trail) (seat_answer entry) h.ran gives);
+        pins = subst (λ l. GainsPins before l new.seat.pen) (sym answers) (pins_more d before old.seat.pen new.seat.pen (map seat_answer old.trail) (seat_answer entry) h.pins gives);
+        jobs_are =
+            let front = (answered d old.seat.pen (seat_answer entry) new.seat.pen gives).front in
+            subst (λ l. AreJobsOf d l new.seat.pen.front new.jobs) (sym trail) (jobs (jobs_stay d before old.seat.pen new.seat.pen old.trail old.jobs h.ran front h.jobs_are));
+      };
+    }
+
+-- a deed's reply, with the jobs that it leaves on the version of the seat
+pub reply_more : (d : SetupData) (old new : Lane) (entry : Entry) (version : State) → new.trail ≡ old.trail ++ entry ∷ []
+    → Gives d old.seat.pen (seat_answer entry) new.seat.pen → IsSeatOf d new.seat → new.seat.kept ≡ None → version ≡ new.seat.state
+    → AddsJobs entry version (answer_calls entry.what) old.jobs new.jobs → Answers d (asked_of entry ∷ []) old new
+reply_more d old new entry version trail gives seat whole is adds =
+    let place : length new.seat.pen.front ≤ entry.place = omega (arith, gives.place) in
+    let replay : IsReplay d (take entry.place new.seat.pen.front) version =
+    subst (λ (x : List Row × State). IsReplay d x.0 x.1) (λ i. (sym (take_all entry.place new.seat.pen.front place) i, sym is i)) (all_applied d new.seat seat whole) in
+    entry_more d old new entry trail gives (λ j. jobs_more d new.seat.pen old.trail entry version old.jobs new.jobs j adds replay (subst (IsSound d) (sym is) seat.sound))
+
+-- a command's verdict, which leaves no job
+pub verdict_more : (d : SetupData) (old new : Lane) (entry : Entry) → answer_calls entry.what ≡ [] → new.trail ≡ old.trail ++ entry ∷ []
+    → new.jobs ≡ old.jobs → Gives d old.seat.pen (seat_answer entry) new.seat.pen → IsSeatOf d new.seat → new.seat.kept ≡ None
+    → Answers d (asked_of entry ∷ []) old new
+verdict_more d old new entry none trail jobs gives seat whole =
+    reply_more d old new entry new.seat.state trail gives seat whole refl (record {
+      added = [];
+      jobs_are = jobs ∙ sym (append-nil old.jobs);
+      asked = sym (ap (jobs_from entry 0) none);
+      each = All-nil (IsLeftBy entry new.seat.state);
+    })
+
+-- a call that only reads rows of other lanes
+pub reads_more : (d : SetupData) (old new : Lane) → new.trail ≡ old.trail → new.jobs ≡ old.jobs → ReadsOn old.seat.pen new.seat.pen → Answers d [] old new
+reads_more d old new trail jobs reads =
+    let pins : new.seat.pen.pins ≡ old.seat.pen.pins = ap (λ (p : PenValue). p.pins) reads.1 in
+    let front : IsPrefix old.seat.pen.front new.seat.pen.front = (reads.0, ap (λ (p : PenValue). p.front) reads.1) in
+    record {
+      asked_are = ap (map asked_of) trail ∙ sym (append-nil (map asked_of old.trail));
+      goes_on = λ before h. record {
+        ran = subst (λ l. Ran d before (map seat_answer l) new.seat.pen) (sym trail) (ran_reads d before old.seat.pen new.seat.pen (map seat_answer old.trail) h.ran reads);
+        pins = pins ∙ subst (λ l. GainsPins before (map seat_answer l) old.seat.pen) (sym trail) h.pins;
+        jobs_are = subst (λ (x : List Entry × List Job). AreJobsOf d x.0 new.seat.pen.front x.1) (λ i. (sym trail i, sym jobs i))
+            (jobs_stay d before old.seat.pen new.seat.pen old.trail old.jobs h.ran front h.jobs_are);
+      };
+    }
+
+-- a command that finds the log full
+pub ends_full : (d : SetupData) (old new : Lane) (asked : List Numbered) → new.trail ≡ old.trail → new.jobs ≡ old.jobs
+    → ReadsOn old.seat.pen new.seat.pen → length new.seat.pen.front ≡ MAX_PLACE → BeginsWithCommand asked → EndsFull d asked old new
+ends_full d old new asked trail jobs reads full next = record {
+  first = [];
+  left = asked;
+  parts = refl;
+  answers = reads_more d old new trail jobs reads;
+  full = full;
+  next = next;
+}
+
+-- ---- calls one after another
+
+pub answers_nothing : (d : SetupData) (lane : Lane) → Answers d [] lane lane
+answers_nothing d lane = record { asked_are = sym (append-nil (map asked_of lane.trail)); goes_on = λ before h. h }
+
+pub answers_then : (d : SetupData) (first second : List Numbered) (old middle new : Lane) → Answers d first old middle → Answers d second middle new → Answers d (first ++ second) old new
+answers_then d first second old middle new a b = record {
+  asked_are = b.asked_are ∙ ap (λ l. l ++ second) a.asked_are ∙ append_assoc (map asked_of old.trail) first second;
+  goes_on = λ before h. b.goes_on before (a.goes_on before h);
+}
+
+begins_more : (left more : List Numbered) → BeginsWithCommand left → BeginsWithCommand (left ++ more)
+begins_more [] more h = absurd h
+begins_more (n ∷ left) more h = h
+
+-- it ends in the middle of what is asked
+pub ends_then : (d : SetupData) (first second more : List Numbered) (old middle new : Lane) → Answers d first old middle → EndsFull d second middle new → EndsFull d (first ++ (second ++ more)) old new
+ends_then d first second more old middle new a e = record {
+  first = first ++ e.first;
+  left = e.left ++ more;
+  parts = ap (λ l. first ++ (l ++ more)) e.parts ∙ ap (λ l. first ++ l) (append_assoc e.first e.left more) ∙ sym (append_assoc first e.first (e.left ++ more));
+  answers = answers_then d first e.first old middle new a e.answers;
+  full = e.full;
+  next = begins_more e.left more e.next;
+}
+
+-- how many entries there are
+pub answers_count : (d : SetupData) (asked : List Numbered) (old new : Lane) → Answers d asked old new → length new.trail ≡ length old.trail + length asked
+answers_count d asked old new a =
+    omega (arith, ap length a.asked_are, length-append (map asked_of old.trail) asked, length-map new.trail asked_of, length-map old.trail asked_of)
+
+-- a lane that has answered nothing
+pub nothing_answered : (d : SetupData) (lane : Lane) → lane.trail ≡ [] → lane.jobs ≡ [] → HasAnswered d lane.seat.pen lane
+nothing_answered d lane trail jobs = record {
+  ran = subst (λ l. Ran d lane.seat.pen (map seat_answer l) lane.seat.pen) (sym trail) (nothing_ran d lane.seat.pen);
+  pins = subst (λ l. GainsPins lane.seat.pen (map seat_answer l) lane.seat.pen) (sym trail) (sym (append-nil lane.seat.pen.pins));
+  jobs_are = subst (λ (x : List Entry × List Job). AreJobsOf d x.0 lane.seat.pen.front x.1) (λ i. (sym trail i, sym jobs i)) none;
+}
+  where
+    none : AreJobsOf d [] lane.seat.pen.front []
+    none = record {
+      asked = refl;
+      versions = All-nil (λ (j : Job). IsReplay d (take j.place lane.seat.pen.front) (arc_value j.version));
+      sound = All-nil (λ (j : Job). IsSound d (arc_value j.version));
+      calls = All-nil (λ (j : Job). BelongsTo (arc_value j.version) j.call);
+    }
+
+-- why a command has no verdict
+pub command_ends : (d : SetupData) (old new : Lane) (asked : List Numbered) (f : SeatFault) → new.trail ≡ old.trail → new.jobs ≡ old.jobs
+    → ReadsOn old.seat.pen new.seat.pen → IsFaultAt (length new.seat.pen.front) f → BeginsWithCommand asked → Comes d asked old (Err f) new
+command_ends d old new asked fault.Full trail jobs reads full next = ends_full d old new asked trail jobs reads full next
+command_ends d old new asked fault.NoMemory trail jobs reads full next = tt
+
+-- a fault that was passed on
+pub err_is : (r : Result (Unit {0}) SeatFault) (f : SeatFault) → IsErrAnd r (λ e. e ≡ f) → r ≡ Err f
+err_is (Ok done) f h = absurd h
+err_is (Err e) f h = ap Err h

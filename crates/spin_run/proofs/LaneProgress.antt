@@ -1,0 +1,146 @@
+-- A lane that goes from line to line.
+use Rattle.std.proofs.Common.{◌≡◌, ◌≢◌, ℕ, ◌+◌, ◌<◌, ◌≤◌, List, [], ◌++◌, map, length, take, drop, get_or, sum_by, refl, sym, ap, ◌∙◌, subst, arith, length-append, append_assoc}
+use Rattle.std.specs.Prelude.{Result, Ok, Err}
+use Rattle.std.specs.Result.{result_err}
+use Rattle.std.proofs.lemmas.List.{append-nil}
+use Rattle.std.proofs.lemmas.Option.{none-some}
+use Rattle.spin_log.specs.Pens.{IsSamePen}
+use Rattle.spin_table.specs.Setups.{SetupData}
+use Rattle.spin_seat.specs.Seats.{IsSeatOf}
+use Rattle.spin_seat.specs.declared.answer.SeatFault.{SeatFault}
+use Rattle.spin_seat.specs.declared.answer.SeatFault.TheVariants as fault
+use Rattle.spin_script.specs.declared.script.Line.{Line}
+use Rattle.spin_script.specs.States.{deed_count}
+use Rattle.spin_report.specs.Asked.{Numbered, asked_of}
+use Rattle.spin_report.specs.Segments.{records_wanted, asked_at, asked_in, asked_of_lane}
+use Rattle.spin_run.specs.declared.lane.Lane.{Lane}
+use Rattle.spin_run.specs.Lanes.{RanLane, HadMemory, HasRunLane}
+use Rattle.spin_run.specs.Inner.Answering.{HasAnswered, Answers, EndsFull, Comes, Stays}
+use Rattle.spin_run.proofs.AskedOfLane.{own_line, other_line, asked_next, own_few}
+use Rattle.spin_run.proofs.LaneAnswers.{answers_nothing, answers_then, ends_then, answers_count, nothing_answered}
+
+pub stays_then : (d : SetupData) (old middle new : Lane) → IsSamePen old.seat.pen middle.seat.pen → Stays d middle new → Stays d old new
+stays_then d old middle new a b = (b.0, (b.1.0 ∙ a.0, b.1.1 ∙ a.1, b.1.2 ∙ a.2))
+
+-- Of what it is asked the lane has answered the first part, and this is left.
+pub record Progress (d : SetupData) (own rest : List Numbered) (old now : Lane) : Type 0 where
+  pub first : List Numbered
+  pub parts : own ≡ first ++ rest
+  pub answers : Answers d first old now
+  pub stays : Stays d old now
+
+-- what the lane is asked from line i on, where these records are left
+abbrev pub rest_at : ℕ → ℕ → List Line → List (List ℕ) → List Numbered
+rest_at k i lines left = asked_of_lane k (asked_in (drop i lines) left)
+
+-- before the first line
+pub begins : (d : SetupData) (k : ℕ) (lines : List Line) (frames left : List (List ℕ)) (old : Lane) → left ≡ frames
+    → IsSeatOf d old.seat → Progress d (asked_of_lane k (asked_in lines frames)) (rest_at k 0 lines left) old old
+begins d k lines frames left old is seat = record {
+  first = [];
+  parts = ap (λ l. asked_of_lane k (asked_in lines l)) (sym is);
+  answers = answers_nothing d old;
+  stays = (seat, (refl, refl, refl));
+}
+
+-- a line of another lane
+pub skips : (d : SetupData) (k i : ℕ) (lines : List Line) (line : Line) (left : List (List ℕ)) (own : List Numbered) (old now : Lane) → i < length lines → line ≡ get_or lines i line → line.lane ≢ k
+    → Progress d own (rest_at k i lines left) old now → Progress d own (rest_at k (i + 1) lines (drop (records_wanted line.work) left)) old now
+skips d k i lines line left own old now lt is other p = record {
+  first = p.first;
+  parts =
+      p.parts ∙ ap (λ l. p.first ++ l)
+      (asked_next k i lines line left lt is ∙ ap (λ l. l ++ rest_at k (i + 1) lines (drop (records_wanted line.work) left)) (other_line k line (take (records_wanted line.work) left) other));
+  answers = p.answers;
+  stays = p.stays;
+}
+
+own_parts : (k i : ℕ) (lines : List Line) (line : Line) (left : List (List ℕ)) → i < length lines → line ≡ get_or lines i line → line.lane ≡ k
+    → rest_at k i lines left ≡ asked_at line (take (records_wanted line.work) left) ++ rest_at k (i + 1) lines (drop (records_wanted line.work) left)
+own_parts k i lines line left lt is own =
+    asked_next k i lines line left lt is ∙ ap (λ l. l ++ rest_at k (i + 1) lines (drop (records_wanted line.work) left)) (own_line k line (take (records_wanted line.work) left) own)
+
+-- a line of this lane
+pub goes_on : (d : SetupData) (k i : ℕ) (lines : List Line) (line : Line) (left : List (List ℕ)) (own : List Numbered) (old now new : Lane)
+    → i < length lines → line ≡ get_or lines i line → line.lane ≡ k
+    → Progress d own (rest_at k i lines left) old now → Answers d (asked_at line (take (records_wanted line.work) left)) now new → Stays d now new
+    → Progress d own (rest_at k (i + 1) lines (drop (records_wanted line.work) left)) old new
+goes_on d k i lines line left own old now new lt is same p a s =
+    let here = asked_at line (take (records_wanted line.work) left) in
+    let rest = rest_at k (i + 1) lines (drop (records_wanted line.work) left) in
+    record {
+      first = p.first ++ here;
+      parts = p.parts ∙ ap (λ l. p.first ++ l) (own_parts k i lines line left lt is same) ∙ sym (append_assoc p.first here rest);
+      answers = answers_then d p.first here old now new p.answers a;
+      stays = stays_then d old now new p.stays.1 s;
+    }
+
+-- it ends at a line of this lane
+pub ends : (d : SetupData) (k i : ℕ) (lines : List Line) (line : Line) (left : List (List ℕ)) (own : List Numbered) (old now new : Lane) (f : SeatFault)
+    → i < length lines → line ≡ get_or lines i line → line.lane ≡ k
+    → Progress d own (rest_at k i lines left) old now → Comes d (asked_at line (take (records_wanted line.work) left)) now (Err f) new → Comes d own old (Err f) new
+ends d k i lines line left own old now new fault.NoMemory lt is same p e = tt
+ends d k i lines line left own old now new fault.Full lt is same p e =
+    let here = asked_at line (take (records_wanted line.work) left) in
+    let rest = rest_at k (i + 1) lines (drop (records_wanted line.work) left) in
+    let parts : own ≡ p.first ++ (here ++ rest) = p.parts ∙ ap (λ l. p.first ++ l) (own_parts k i lines line left lt is same) in
+    subst (λ l. EndsFull d l old new) (sym parts) (ends_then d p.first here rest old now new p.answers e)
+
+-- at the end nothing is left
+pub all_done : (d : SetupData) (own : List Numbered) (old now : Lane) (rest : List Numbered) → rest ≡ [] → Progress d own rest old now → Answers d own old now
+all_done d own old now rest none p = subst (λ l. Answers d l old now) (sym (p.parts ∙ ap (λ l. p.first ++ l) none ∙ append-nil p.first)) p.answers
+
+-- the entries of a line are within the number of deeds that a segment may have
+pub line_few : (d : SetupData) (k i : ℕ) (lines : List Line) (line : Line) (frames left : List (List ℕ)) (old now : Lane)
+    → i < length lines → line ≡ get_or lines i line → line.lane ≡ k → old.trail ≡ []
+    → Progress d (asked_of_lane k (asked_in lines frames)) (rest_at k i lines left) old now
+    → length now.trail + length (asked_at line (take (records_wanted line.work) left)) ≤ sum_by (λ l. deed_count l.work) lines
+line_few d k i lines line frames left old now lt is same none p =
+    let here = asked_at line (take (records_wanted line.work) left) in
+    let rest = rest_at k (i + 1) lines (drop (records_wanted line.work) left) in
+    let all = own_few k lines frames in
+    let parts = ap length (p.parts ∙ ap (λ l. p.first ++ l) (own_parts k i lines line left lt is same)) in
+    let count = answers_count d p.first old now p.answers in
+    let empty : length old.trail ≡ 0 = ap length none in
+    omega (arith, all, parts, count, empty, length-append p.first (here ++ rest), length-append here rest)
+
+-- what a lane's run says, by what its lines came to
+pub has_run : (d : SetupData) (asked : List Numbered) (old now new : Lane) (r : Result (Unit {0}) SeatFault) → old.trail ≡ [] → old.jobs ≡ []
+    → Stays d old now → Comes d (asked_of_lane old.seat.pen.lane asked) old r now
+    → new.seat ≡ now.seat → new.trail ≡ now.trail → new.jobs ≡ now.jobs → new.stop ≡ result_err r → HasRunLane d asked old new
+has_run d asked old now new r trail jobs stays comes seat trail' jobs' stop =
+    subst (λ (l : Lane). HasRunLane d asked old l) same (record { seat = stays.0; same = stays.1; ran = ran r comes })
+  where
+    own : List Numbered
+    own = asked_of_lane old.seat.pen.lane asked
+
+    same : ◌≡◌ {A = Lane} (record { seat = now.seat; trail = now.trail; jobs = now.jobs; stop = result_err r }) new
+    same = λ i. record { seat = sym seat i; trail = sym trail' i; jobs = sym jobs' i; stop = sym stop i }
+
+    before : HasAnswered d old.seat.pen old
+    before = nothing_answered d old trail jobs
+
+    ran : (o : Result (Unit {0}) SeatFault) → Comes d own old o now → HadMemory (result_err o) → RanLane d own old.seat.pen now.seat.pen now.trail now.jobs (result_err o)
+    ran (Ok done) a memory =
+        let h = a.goes_on old.seat.pen before in
+        record {
+          ran = h.ran;
+          pins = h.pins;
+          left = [];
+          deeds_are = sym (append-nil (map asked_of now.trail) ∙ a.asked_are ∙ ap (λ l. map asked_of l ++ own) trail);
+          whole = λ none. refl;
+          full = λ e. absurd (none-some fault.Full e);
+          jobs_are = h.jobs_are;
+        }
+    ran (Err fault.Full) e memory =
+        let h = e.answers.goes_on old.seat.pen before in
+        record {
+          ran = h.ran;
+          pins = h.pins;
+          left = e.left;
+          deeds_are = e.parts ∙ ap (λ l. l ++ e.left) (sym (e.answers.asked_are ∙ ap (λ l. map asked_of l ++ e.first) trail));
+          whole = λ none. absurd (none-some fault.Full (sym none));
+          full = λ full. (e.full, e.next);
+          jobs_are = h.jobs_are;
+        }
+    ran (Err fault.NoMemory) e memory = absurd (memory refl)
