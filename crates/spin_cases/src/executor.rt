@@ -11,7 +11,7 @@ ghost use Rattle.spin_later.specs.Parties.{IsPartyOf, IsSameParty};
 
 use spin_code::Sincere;
 use spin_later::{
-    Batch, BatchReplies, Batches, Call, Parties, Party, Queue, Tasks, run_background,
+    AnyTask, Batch, BatchReplies, Batches, Call, Parties, Party, Queue, Tasks, run_background,
 };
 use spin_objects::{Catalogue, Natives};
 use spin_proto::{JobCall, Reply};
@@ -82,7 +82,7 @@ fn version_of(alloc: Global) -> Result<Arc<Version>, Fail> {
 // Puts a task, and gives its sender and number.
 fn put<R: Wait + Abort + Sync>(
     rt: &R,
-    queue: &Queue,
+    queue: &Queue<AnyTask>,
     party: &mut Party,
     version: Arc<Version>,
     args: Args,
@@ -98,7 +98,7 @@ fn put<R: Wait + Abort + Sync>(
 }
 
 // Takes a task, and gives its sender and number.
-fn take<R: Wait + Sync>(rt: &R, queue: &Queue, party: &mut Party) -> Option<(u8, u32)>
+fn take<R: Wait + Sync>(rt: &R, queue: &Queue<AnyTask>, party: &mut Party) -> Option<(u8, u32)>
     requires { IsPartyOf queue.now party.old }
     ensures { IsSameParty party.old party.new }
 {
@@ -110,7 +110,7 @@ fn take<R: Wait + Sync>(rt: &R, queue: &Queue, party: &mut Party) -> Option<(u8,
 fn make<R: Wait + Abort + Sync>(
     rt: &R,
     alloc: Global,
-    queue: &Queue,
+    queue: &Queue<AnyTask>,
     party: &mut Party,
     version: &Arc<Version>,
     puts: bool,
@@ -130,7 +130,7 @@ fn make<R: Wait + Abort + Sync>(
 fn close<R: Wait + Sync>(
     rt: &R,
     alloc: Global,
-    queue: Queue,
+    queue: Queue<AnyTask>,
     first: Party,
     second: Party,
 ) -> Result<Tasks, NoMemory>
@@ -154,7 +154,7 @@ fn wanted_in(round: u32, wanted: Option<(u8, u32)>) -> Option<(u8, u32)> {
 fn make_all<R: Wait + Abort + Sync>(
     rt: &R,
     alloc: Global,
-    queue: &Queue,
+    queue: &Queue<AnyTask>,
     first: &mut Party,
     second: &mut Party,
     version: &Arc<Version>,
@@ -181,7 +181,7 @@ fn make_all<R: Wait + Abort + Sync>(
 fn make_rounds<R: Wait + Abort + Sync>(
     rt: &R,
     alloc: Global,
-    queue: &Queue,
+    queue: &Queue<AnyTask>,
     first: &mut Party,
     second: &mut Party,
     moves: &[Move],
@@ -209,7 +209,7 @@ fn left_after<R: Wait + Abort + Sync>(
 ) -> Result<Tasks, Fail>
     requires { (1 ≤ capacity) × (capacity ≤ MAX_CAPACITY) }
 {
-    let (queue, mut parties) = Queue::new(alloc, 2, capacity)?;
+    let (queue, mut parties) = Queue::<AnyTask>::new(alloc, 2, capacity)?;
     let Some(mut first) = parties.take_first() else {
         unreachable!()
     };

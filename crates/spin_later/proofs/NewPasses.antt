@@ -21,22 +21,22 @@ length_new : (k n : ℕ) → length (new_hands k n) ≡ n
 length_new k zero = refl
 length_new k (suc n) = ap suc (length_new (suc k) n)
 
-pub grows_at : (pass n : ℕ) (v : Known) → v ≡ known n (new_hands 0 n) [] → 1 ≤ n → Forks Kept pass v (with_one_more v) spent
-grows_at pass n v is low =
+pub grows_at : (Agreed : Task → Type 0) (pass n : ℕ) (v : Known) → v ≡ known n (new_hands 0 n) [] → 1 ≤ n → Forks (Kept Agreed) pass v (with_one_more v) spent
+grows_at Agreed pass n v is low =
     let all : HasAll (known n (new_hands 0 n) []) = λ m lt. new_hands-all 0 n m (omega arith) (omega arith) in
     let long = ap (λ (u : Known). length u.hands) is ∙ length_new 0 n in
-    grows pass v (subst HasAll (sym is) all) (omega arith)
+    grows Agreed pass v (subst HasAll (sym is) all) (omega arith)
 
 pub grown : (n : ℕ) (v : Known) → v ≡ known n (new_hands 0 n) [] → with_one_more v ≡ known (n + 1) (new_hands 0 (n + 1)) []
 grown n v is = ap with_one_more is ∙ ap (λ (l : List Hand). known (n + 1) l []) (new_hands-next n)
 
 -- a pass for each party
 
-pub parts_at : (pass P k m : ℕ) (v : Known) → v ≡ known P (new_hands k m) [] → 0 < m → Forks Kept pass v (without_first v) (first_alone v)
-parts_at pass P k zero v is low = absurd (omega arith)
-parts_at pass P k (suc m) v is low =
-    let F : Known → Type 0 = λ u. Forks Kept pass u (without_first u) (first_alone u) in
-    subst F (sym is) (parts pass P (hand k [] []) (new_hands (suc k) m) [] (λ j d lt e. let less = later_numbers (suc k) m k (omega arith) j d lt in absurd (omega arith)))
+pub parts_at : (Agreed : Task → Type 0) (pass P k m : ℕ) (v : Known) → v ≡ known P (new_hands k m) [] → 0 < m → Forks (Kept Agreed) pass v (without_first v) (first_alone v)
+parts_at Agreed pass P k zero v is low = absurd (omega arith)
+parts_at Agreed pass P k (suc m) v is low =
+    let F : Known → Type 0 = λ u. Forks (Kept Agreed) pass u (without_first u) (first_alone u) in
+    subst F (sym is) (parts Agreed pass P (hand k [] []) (new_hands (suc k) m) [] (λ j d lt e. let less = later_numbers (suc k) m k (omega arith) j d lt in absurd (omega arith)))
 
 pub parted : (P k m n : ℕ) (v w : Known) → v ≡ known P (new_hands k m) [] → 0 < m → n ≡ m - 1 → w ≡ without_first v → w ≡ known P (new_hands (k + 1) n) []
 parted P k zero n v w is low e after = absurd (omega arith)
@@ -65,10 +65,11 @@ one_more id id' P k v before after same is so e =
 
 -- gathered again
 
-pub gathers_at : (pass : ℕ) (v : Known) (other : ℕ) (w : Known) (P : ℕ) → v ≡ known P v.hands [] → IsAlone w → w.parties ≡ P → Merges Kept pass v other w (together v w) spent
-gathers_at pass v other w P is alone same =
+pub gathers_at : (Agreed : Task → Type 0) (pass : ℕ) (v : Known) (other : ℕ) (w : Known) (P : ℕ)
+    → v ≡ known P v.hands [] → IsAlone w → w.parties ≡ P → Merges (Kept Agreed) pass v other w (together v w) spent
+gathers_at Agreed pass v other w P is alone same =
     let w_is : w ≡ known P (only_hand w.hands ∷ []) [] = alone ∙ ap (λ m. known m (only_hand w.hands ∷ []) []) same in
-    subst (λ (x : Known × Known). Merges Kept pass x.0 other x.1 (together x.0 x.1) spent) (λ i. (sym is i, sym w_is i)) (gathers pass P v.hands other (only_hand w.hands))
+    subst (λ (x : Known × Known). Merges (Kept Agreed) pass x.0 other x.1 (together x.0 x.1) spent) (λ i. (sym is i, sym w_is i)) (gathers Agreed pass P v.hands other (only_hand w.hands))
 
 pub gathered : (id : TableId) (P : ℕ) (v w u : Known) (p : PartyValue) (before after : List PartyValue) (hands : List Hand)
     → v ≡ known P v.hands [] → IsAlone w → party_of id w ≡ p → before ≡ after ++ p ∷ []

@@ -1,6 +1,6 @@
 -- The steps of passes that stand for one party.
 use Rattle.std.proofs.Common.{◌≡◌, ◌≢◌, ◌≤◌, ℕ, suc, zero, ◌+◌, ◌<◌, List, [], ◌∷◌, ◌++◌, length, sym, ap, subst, ◌∙◌, arith, refl}
-use Rattle.std.specs.Prelude.{All, Any, Option, Some, None, MatchOption}
+use Rattle.std.specs.Prelude.{All, Any, Option, Some, None, MatchOption, IfSome}
 use mathlib.Core.Logic.{dite}
 use native.Mathlib.Decide.{ℕ_discrete}
 use Rattle.atomic_table.specs.Seated.{TableId}
@@ -21,14 +21,15 @@ IsAlone v = v ≡ known v.parties (only_hand v.hands ∷ []) []
 pub some_hand : (v : Known) → IsAlone v → 0 < length v.hands
 some_hand v is = let e = ap (λ (u : Known). length u.hands) is in omega arith
 
-pub puts_alone : (n pass : ℕ) (v : Known) (x : Task) → IsAlone v → x.sender ≡ (only_hand v.hands).number → x.number ≡ length (only_hand v.hands).sent → Pushes Kept n pass v x (λ w. w ≡ put_by v x)
-puts_alone n pass v x is from next = subst (λ u. Pushes Kept n pass u x (λ w. w ≡ put_by u x)) (sym is) (puts n pass v.parties (only_hand v.hands) x from next)
+pub puts_alone : (Agreed : Task → Type 0) (n pass : ℕ) (v : Known) (x : Task) → IsAlone v → x.sender ≡ (only_hand v.hands).number → x.number ≡ length (only_hand v.hands).sent → Agreed x
+    → Pushes (Kept Agreed) n pass v x (λ w. w ≡ put_by v x)
+puts_alone Agreed n pass v x is from next good = subst (λ u. Pushes (Kept Agreed) n pass u x (λ w. w ≡ put_by u x)) (sym is) (puts Agreed n pass v.parties (only_hand v.hands) x from next good)
 
-pub takes_alone : (pass : ℕ) (v : Known) → IsAlone v → Pops Kept pass v (λ x w. (w ≡ taken_into v x) × Comes v x)
-takes_alone pass v is = subst (λ u. Pops Kept pass u (λ x w. (w ≡ taken_into u x) × Comes u x)) (sym is) (takes pass v.parties (only_hand v.hands))
+pub takes_alone : (Agreed : Task → Type 0) (pass : ℕ) (v : Known) → IsAlone v → Pops (Kept Agreed) pass v (λ x w. (w ≡ taken_into v x) × Comes v x × Agreed x)
+takes_alone Agreed pass v is = subst (λ u. Pops (Kept Agreed) pass u (λ x w. (w ≡ taken_into u x) × Comes u x × Agreed x)) (sym is) (takes Agreed pass v.parties (only_hand v.hands))
 
-pub learns_alone : (pass : ℕ) (v : Known) → IsAlone v → Learns Kept pass v (Learned v)
-learns_alone pass v is = learns pass v (some_hand v is)
+pub learns_alone : (Agreed : Task → Type 0) (pass : ℕ) (v : Known) → IsAlone v → Learns (Kept Agreed) pass v (Learned v)
+learns_alone Agreed pass v is = learns Agreed pass v (some_hand v is)
 
 -- the party of a pass
 abbrev pub party_of : TableId → Known → PartyValue
@@ -48,15 +49,19 @@ abbrev Took : TableId → Known → Task → Known → Type 0
 Took id v x w = (party_of id w ≡ took (party_of id v) x) × (x.sender < v.parties) × IsNext (only_hand v.hands).taken x
 
 -- what a take answers
-pub takes_or_none : (r : Option Task) (id id' : TableId) (v w : Known) (p : PartyValue) → id' ≡ id → party_of id v ≡ p
-    → IsAlone v → MatchOption r ((w ≡ v) × Held 0 (Learned v)) (λ x. (w ≡ taken_into v x) × Comes v x)
+pub takes_or_none : (Agreed : Task → Type 0) (r : Option Task) (id id' : TableId) (v w : Known) (p : PartyValue) → id' ≡ id → party_of id v ≡ p → IsAlone v
+    → MatchOption r ((w ≡ v) × Held 0 (Learned v)) (λ x. (w ≡ taken_into v x) × Comes v x × Agreed x)
     → MatchOption r ((party_of id' w ≡ p) × WasAt p 0) (λ x. (party_of id' w ≡ took p x) × (x.sender < p.parties) × IsNext p.taken x)
-takes_or_none None id id' v w p same view is h = ((λ i. party_of (same i) (h.0 i)) ∙ view, subst (λ q. WasAt q 0) view (was_at id v 0 is h.1))
-takes_or_none (Some x) id id' v w p same view is h =
+takes_or_none Agreed None id id' v w p same view is h = ((λ i. party_of (same i) (h.0 i)) ∙ view, subst (λ q. WasAt q 0) view (was_at id v 0 is h.1))
+takes_or_none Agreed (Some x) id id' v w p same view is h =
     let go : (w ≡ taken_into v x) × Comes v x → Took id v x w =
     subst (λ (u : Known). (w ≡ taken_into u x) × Comes u x → Took id u x w) (sym is) (λ k. took_alone id v.parties (only_hand v.hands) x w k.0 k.1) in
-    let t = go h in
+    let t = go (h.0, h.1) in
     subst (λ (q : PartyValue). (party_of id' w ≡ took q x) × (x.sender < q.parties) × IsNext q.taken x) view ((λ i. party_of (same i) w) ∙ t.0, t.1, t.2)
+
+pub takes_agreed : (Agreed : Task → Type 0) (r : Option Task) (v w : Known) → MatchOption r ((w ≡ v) × Held 0 (Learned v)) (λ x. (w ≡ taken_into v x) × Comes v x × Agreed x) → IfSome r Agreed
+takes_agreed Agreed None v w h = tt
+takes_agreed Agreed (Some x) v w h = h.2
 
 -- each party of a list of new ones
 pub later_numbers : (k n m : ℕ) → m < k → All (λ (g : Hand). m < g.number) (new_hands k n)

@@ -14,7 +14,7 @@ use Rattle.spin_later.specs.declared.known.Hand.{Hand}
 use Rattle.spin_later.specs.declared.known.Known.{Known}
 use Rattle.spin_later.specs.History.{Take, sent_by, tasks_of, taken_by, AreNumbered, IsHistory, StandsIn}
 use Rattle.spin_later.specs.Rule.{hand, known, first, spent, Fits, Kept, put_by, taken_into, left_over, Comes, with_one_more, Learned, HasAll}
-use Rattle.spin_later.proofs.TaskFilters.{at_end, got_end, sent_own, sent_other, taken_own, taken_other, sent_none, taken_none, all_taken, before_last, is_same, is_other}
+use Rattle.spin_later.proofs.TaskFilters.{at_end, got_end, sent_own, sent_other, taken_own, taken_other, sent_none, taken_none, all_taken, before_last, all_middle, is_same, is_other}
 
 all_one : {X : Type 0} (P : X → Type 0) (x : X) → P x → All P (x ∷ [])
 all_one P x p = All-cons P x [] p (All-nil P)
@@ -57,14 +57,15 @@ history_take parties puts takes items t h low =
 
 -- the kinds of step
 
-pub opens : Kept [] (first ∷ [])
-opens = record {
+pub opens : (Agreed : Task → Type 0) → Kept Agreed [] (first ∷ [])
+opens Agreed = record {
   parties = 1;
   puts = [];
   takes = [];
   left = [];
   owner = λ n. 0;
   history = record { order = refl; numbered = λ n k t e. absurd (grind arith); senders = All-nil (λ t. t.sender < 1); takers = All-nil (λ t. t.party < 1) };
+  agreed = All-nil Agreed;
   fits = λ pass v e. ⊎_elim (λ none. absurd (some-ne-none v (sym none)))
       (λ (is : (pass ≡ 0) × (first ≡ v)). subst (λ (y : ℕ × Known). Fits 1 [] [] [] (λ n. 0) y.0 y.1) (λ i. (sym is.0 i, is.1 i)) (record {
         stands = all_one (StandsIn [] []) (hand 0 [] []) (record { sent = refl; taken = refl });
@@ -75,8 +76,9 @@ opens = record {
       })) (at_end [] first v pass e);
 }
 
-pub puts : (n pass P : ℕ) (h : Hand) (x : Task) → x.sender ≡ h.number → x.number ≡ length h.sent → Pushes Kept n pass (known P (h ∷ []) []) x (λ w. w ≡ put_by (known P (h ∷ []) []) x)
-puts n pass P h x from next items views room K at =
+pub puts : (Agreed : Task → Type 0) (n pass P : ℕ) (h : Hand) (x : Task) → x.sender ≡ h.number → x.number ≡ length h.sent → Agreed x
+    → Pushes (Kept Agreed) n pass (known P (h ∷ []) []) x (λ w. w ≡ put_by (known P (h ∷ []) []) x)
+puts Agreed n pass P h x from next good items views room K at =
     let w = put_by (known P (h ∷ []) []) x in
     let mine = K.fits pass (known P (h ∷ []) []) at in
     let stands = All-head (StandsIn K.puts K.takes) h [] mine.stands in
@@ -92,6 +94,7 @@ puts n pass P h x from next items views room K at =
         left = K.left;
         owner = K.owner;
         history = history_put K.parties K.puts K.takes K.left items x K.history (subst (λ m. m < K.parties) here below) (next ∙ ap length (stands.sent ∙ ap (λ m. sent_by m K.puts) here));
+        agreed = All-push Agreed K.puts x K.agreed good;
         fits = each_set (Fits K.parties (K.puts ++ x ∷ []) K.takes K.left K.owner) views pass w
             (record {
               stands = all_one (StandsIn (K.puts ++ x ∷ []) K.takes) h' (record { sent = ap (λ l. l ++ x ∷ []) stands.sent ∙ sym (sent_own h.number K.puts x from); taken = stands.taken });
@@ -117,8 +120,9 @@ puts n pass P h x from next items views room K at =
       refl,
     )
 
-pub takes : (pass P : ℕ) (h : Hand) → Pops Kept pass (known P (h ∷ []) []) (λ x w. (w ≡ taken_into (known P (h ∷ []) []) x) × Comes (known P (h ∷ []) []) x)
-takes pass P h x items views K at =
+pub takes : (Agreed : Task → Type 0) (pass P : ℕ) (h : Hand)
+    → Pops (Kept Agreed) pass (known P (h ∷ []) []) (λ x w. (w ≡ taken_into (known P (h ∷ []) []) x) × Comes (known P (h ∷ []) []) x × Agreed x)
+takes Agreed pass P h x items views K at =
     let v = known P (h ∷ []) [] in
     let w = taken_into v x in
     let mine = K.fits pass v at in
@@ -138,6 +142,7 @@ takes pass P h x items views K at =
         left = K.left;
         owner = K.owner;
         history = subst (λ l. IsHistory K.parties K.puts (K.takes ++ t ∷ []) (l ++ items)) (mine.left_is has) (history_take K.parties K.puts K.takes items t old below);
+        agreed = K.agreed;
         fits = each_set (Fits K.parties K.puts (K.takes ++ t ∷ []) K.left K.owner) views pass w
             (record {
               stands = all_one (StandsIn K.puts (K.takes ++ t ∷ [])) h' (record { sent = stands.sent; taken = ap (λ l. l ++ x ∷ []) stands.taken ∙ sym (taken_own K.takes t) });
@@ -169,6 +174,7 @@ takes pass P h x items views K at =
               (subst (All (λ (u : Task). u.sender ≡ x.sender → u.number < x.number)) (sym stands.taken)
               (all_taken (λ (u : Task). u.sender ≡ x.sender → u.number < x.number) h.number K.takes rising.1));
         },
+        rising.0 Agreed (subst (All Agreed) old.order K.agreed),
       ),
     )
 
@@ -183,8 +189,8 @@ no_other parties ps ts left owner pass j v u mine all has apart f has' =
     let is : owner (slice_index_or v.hands found.0 found.1).number ≡ pass = mine.owned found.0 found.1 found.2 in
     absurd (apart (sym (f.owned 0 (hand 0 [] []) has') ∙ ap owner (sym found.4) ∙ ap (λ (g : Hand). owner g.number) (sym found.3) ∙ is))
 
-pub clears : (pass : ℕ) (v : Known) → HasAll v → 0 < length v.hands → Pops Kept pass v (λ x w. w ≡ left_over v x)
-clears pass v all has x items views K at =
+pub clears : (Agreed : Task → Type 0) (pass : ℕ) (v : Known) → HasAll v → 0 < length v.hands → Pops (Kept Agreed) pass v (λ x w. (w ≡ left_over v x) × Agreed x)
+clears Agreed pass v all has x items views K at =
     let w = left_over v x in
     let mine = K.fits pass v at in (
       w,
@@ -195,6 +201,7 @@ clears pass v all has x items views K at =
         left = K.left ++ x ∷ [];
         owner = K.owner;
         history = subst (IsHistory K.parties K.puts K.takes) (sym (append_assoc K.left (x ∷ []) items)) K.history;
+        agreed = K.agreed;
         fits = each_set (Fits K.parties K.puts K.takes (K.left ++ x ∷ []) K.owner) views pass w
             (record { stands = mine.stands; below = mine.below; owned = mine.owned; parties_is = mine.parties_is; left_is = λ _. ap (λ l. l ++ x ∷ []) (mine.left_is has) })
             (λ j u apart e.
@@ -207,7 +214,7 @@ clears pass v all has x items views K at =
               left_is = λ has'. no_other K.parties K.puts K.takes K.left K.owner pass j v u mine all has apart f has';
             });
       },
-      refl,
+      (refl, all_middle Agreed (tasks_of K.takes ++ K.left) x items (subst (All Agreed) (K.history.order ∙ sym (append_assoc (tasks_of K.takes) K.left (x ∷ items))) K.agreed)),
     )
 
 fits_spent : (parties : ℕ) (ps : List Task) (ts : List Take) (left : List Task) (owner : ℕ → ℕ) (pass : ℕ) → Fits parties ps ts left owner pass spent
@@ -229,8 +236,8 @@ changed_here owner n to m e = ap (λ (b : Bool). cond b to (owner m)) (is_same m
 changed_else : (owner : ℕ → ℕ) (n to m : ℕ) → m ≢ n → changed owner n to m ≡ owner m
 changed_else owner n to m ne = ap (λ (b : Bool). cond b to (owner m)) (is_other m n ne)
 
-pub grows : (pass : ℕ) (v : Known) → HasAll v → 0 < length v.hands → Forks Kept pass v (with_one_more v) spent
-grows pass v all has items views K at =
+pub grows : (Agreed : Task → Type 0) (pass : ℕ) (v : Known) → HasAll v → 0 < length v.hands → Forks (Kept Agreed) pass v (with_one_more v) spent
+grows Agreed pass v all has items views K at =
     let mine = K.fits pass v at in
     let P = K.parties in
     let owner = changed K.owner P pass in
@@ -271,11 +278,13 @@ grows pass v all has items views K at =
         senders = λ k d lt. let low = K.history.senders k d lt in omega arith;
         takers = λ k d lt. let low = K.history.takers k d lt in omega arith;
       };
+      agreed = K.agreed;
       fits = λ j u e. ⊎_elim (λ l. fits j u l) (λ (r : (j ≡ length vs) × (spent ≡ u)). subst (λ (x : Known). F j x) r.1 (fits_spent (P + 1) K.puts K.takes K.left owner j)) (at_end vs spent u j e);
     }
 
-pub parts : (pass P : ℕ) (h : Hand) (hs : List Hand) (left : List Task) → All (λ g. g.number ≢ h.number) hs → Forks Kept pass (known P (h ∷ hs) left) (known P hs left) (known P (h ∷ []) left)
-parts pass P h hs left others items views K at =
+pub parts : (Agreed : Task → Type 0) (pass P : ℕ) (h : Hand) (hs : List Hand) (left : List Task) → All (λ g. g.number ≢ h.number) hs
+    → Forks (Kept Agreed) pass (known P (h ∷ hs) left) (known P hs left) (known P (h ∷ []) left)
+parts Agreed pass P h hs left others items views K at =
     let v = known P (h ∷ hs) left in
     let mine = K.fits pass v at in
     let rest = known P hs left in
@@ -310,6 +319,7 @@ parts pass P h hs left others items views K at =
       left = K.left;
       owner = owner;
       history = K.history;
+      agreed = K.agreed;
       fits = λ j u e. ⊎_elim (λ l. fits j u l) (λ (r : (j ≡ length vs) × (alone ≡ u)). subst (λ (x : Known). F j x) r.1 (record {
         stands = all_one (StandsIn K.puts K.takes) h (All-head (StandsIn K.puts K.takes) h hs mine.stands);
         below = all_one (λ (g : Hand). g.number < K.parties) h (All-head (λ (g : Hand). g.number < K.parties) h hs mine.below);
@@ -319,8 +329,8 @@ parts pass P h hs left others items views K at =
       })) (at_end vs alone u j e);
     }
 
-pub gathers : (pass P : ℕ) (hs : List Hand) (other : ℕ) (h : Hand) → Merges Kept pass (known P hs []) other (known P (h ∷ []) []) (known P (h ∷ hs) []) spent
-gathers pass P hs other h items views K at apart there =
+pub gathers : (Agreed : Task → Type 0) (pass P : ℕ) (hs : List Hand) (other : ℕ) (h : Hand) → Merges (Kept Agreed) pass (known P hs []) other (known P (h ∷ []) []) (known P (h ∷ hs) []) spent
+gathers Agreed pass P hs other h items views K at apart there =
     let v = known P hs [] in
     let w = known P (h ∷ []) [] in
     let both = known P (h ∷ hs) [] in
@@ -358,11 +368,12 @@ gathers pass P hs other h items views K at apart there =
       left = K.left;
       owner = owner;
       history = K.history;
+      agreed = K.agreed;
       fits = each_set F (set views pass both) other spent (fits_spent K.parties K.puts K.takes K.left owner other) (λ j u far e. now j u e far);
     }
 
-pub learns : (pass : ℕ) (v : Known) → 0 < length v.hands → Learns Kept pass v (Learned v)
-learns pass v has items views K at =
+pub learns : (Agreed : Task → Type 0) (pass : ℕ) (v : Known) → 0 < length v.hands → Learns (Kept Agreed) pass v (Learned v)
+learns Agreed pass v has items views K at =
     let mine = K.fits pass v at in
     let history = subst (λ l. IsHistory K.parties K.puts K.takes (l ++ items)) (sym (mine.left_is has)) K.history in
     (K.puts, K.takes, subst (λ m. IsHistory m K.puts K.takes (v.left ++ items)) (sym (mine.parties_is has)) history, mine.stands)

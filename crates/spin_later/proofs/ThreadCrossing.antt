@@ -15,6 +15,7 @@ use Rattle.spin_values.specs.contracts.list.Sequence as Sequence
 use Rattle.spin_values.proofs.list.Sequence.TheSendSync as list
 use Rattle.spin_table.specs.contracts.setup.Setup as Setup
 use Rattle.spin_jobs.proofs.ThreadCrossing.{Shared, setup_crosses, version_send, version_sync}
+use Rattle.spin_later.specs.declared.agreement.Agreement.{Ghosts}
 use Rattle.spin_later.specs.contracts.batch.Call as Call
 use Rattle.atomic_table.proofs.shared.Seat.TheSendSync as seat
 use Rattle.spin_later.specs.contracts.queue.Queue as Queue
@@ -47,13 +48,14 @@ maybe_task_send : IsSend (Option.the_row Task.the_row)
 maybe_task_send = search (task_send, sendable) depth 30 fits 20000
 
 -- the queue's fields, of which contracts see less
-inside_sync : IsSync queue.the_row
-inside_sync =
-    recorded_sync (queue.the_field).row _ _ (queue.the_type).to_one
-    (struct_sync (shape queue.the_type) (search (ring.the_field_sync, maybe_task_send, crosses, sendable) depth 30 fits 20000, (search sendable, tt)))
+inside_sync : (A : RattleType) (a : Ghosts A.Denot) → IsSync (queue.the_row A a)
+inside_sync A a =
+    recorded_sync (queue.the_field A a).row _ _ (queue.the_type A a).to_one
+    (struct_sync (shape (queue.the_type A a)) (search (ring.the_field_sync, maybe_task_send, crosses, sendable) depth 30 fits 20000, (search sendable, tt)))
 
-pub queue_sync : IsSync Queue.the_row
-queue_sync = search (inside_sync, view_sync)
+-- whatever its parties agree on
+pub queue_sync : (A : RattleType) (a : Ghosts A.Denot) → IsSync (Queue.the_row A a)
+queue_sync A a = search (inside_sync A a, view_sync)
 
 -- a party's fields
 party_inside_send : IsSend party.the_row
@@ -73,8 +75,8 @@ batches_sync : IsSync (Sequence.the_row (Sequence.the_row Call.the_row))
 batches_sync = list.the_sync (Sequence.the_row Call.the_row) (list.the_sync Call.the_row call_sync)
 
 -- what the function borrows that runs one party: what it waits by, the allocator, the queue, the setup and the batches
-pub borrows_cross : {G H K : Type 0 → Type 1} (s t u : Dict → Slots) (x : Shared G) (y : Shared H) (z : Shared K) (W : RattleType) (k l m n o : Lft) → IsSync W
-    → IsSync (TupleAt [] (ShrRef (named 0) k W ∷ ShrRef (named 0) l Global.the_row ∷ ShrRef (named 0) m Queue.the_row
+pub borrows_cross : {G H K : Type 0 → Type 1} (s t u : Dict → Slots) (x : Shared G) (y : Shared H) (z : Shared K) (W A : RattleType) (a : Ghosts A.Denot) (k l m n o : Lft) → IsSync W
+    → IsSync (TupleAt [] (ShrRef (named 0) k W ∷ ShrRef (named 0) l Global.the_row ∷ ShrRef (named 0) m (Queue.the_row A a)
     ∷ ShrRef (named 0) n (Setup.the_row (Vt s x.0) (Vt t y.0) (Vt u z.0) (ghosts_of s x.0 x.1) (ghosts_of t y.0 y.1) (ghosts_of u z.0 z.1))
     ∷ ShrRef (named 0) o (Sequence.the_row (Sequence.the_row Call.the_row)) ∷ []))
-borrows_cross s t u x y z W k l m n o w = borrows W Global.the_row Queue.the_row _ _ k l m n o w global_sync queue_sync (setup_crosses s t u x y z) batches_sync
+borrows_cross s t u x y z W A a k l m n o w = borrows W Global.the_row (Queue.the_row A a) _ _ k l m n o w global_sync (queue_sync A a) (setup_crosses s t u x y z) batches_sync

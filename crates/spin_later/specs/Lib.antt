@@ -1,3 +1,4 @@
+pub mod Agreements
 pub mod Batches
 pub mod History
 pub mod Inner

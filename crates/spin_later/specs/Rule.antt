@@ -37,15 +37,16 @@ pub record Fits (parties : ℕ) (puts : List Task) (takes : List Take) (left : L
   pub parties_is : 0 < length v.hands → v.parties ≡ parties
   pub left_is : 0 < length v.hands → v.left ≡ left
 
--- there is a history of what the queue holds and of what each pass knows. What was left when the
--- parties had ended counts as held
-pub record Kept (items : List Task) (views : List Known) : Type 0 where
+-- there is a history of what the queue holds and of what each pass knows, and each task put is as
+-- agreed. What was left when the parties had ended counts as held
+pub record Kept (Agreed : Task → Type 0) (items : List Task) (views : List Known) : Type 0 where
   pub parties : ℕ
   pub puts : List Task
   pub takes : List Take
   pub left : List Task
   pub owner : ℕ → ℕ
   pub history : IsHistory parties puts takes (left ++ items)
+  pub agreed : All Agreed puts
   pub fits : (pass : ℕ) (v : Known) → get_elem? views pass ≡ some v →
       Fits parties puts takes left owner pass v
 

@@ -9,6 +9,7 @@ ghost use Rattle.spin_later.specs.Batches.{CanDo, IsReplyTo};
 ghost use Rattle.spin_later.specs.Inner.Work.{IsRight, IsIdle, IsFresh, HasEnded};
 ghost use Rattle.spin_later.specs.Inner.Work.{parties_of, numbers_of, done_by};
 
+use crate::agreement::AnyTask;
 use crate::batch::{BatchReplies, Batches};
 use crate::doing::{Done, do_task};
 use crate::party::Parties;
@@ -53,7 +54,7 @@ pub fn run_background<R: Threads + Sync, W: Wait + Sync>(
     requires can { All (All (CanDo (data_of setup.now))) batches.now }
     ensures { IfOk result (AllZip (AllZip (IsReplyTo (data_of setup.now))) batches.now) }
 {
-    let (queue, parties) = Queue::new(alloc, batches.len() as u8, capacity)?;
+    let (queue, parties) = Queue::<AnyTask>::new(alloc, batches.len() as u8, capacity)?;
     let mut team = team_of(alloc, parties)?;
     run_team(rt, wait, alloc, &queue, setup, batches, &mut team);
     let (parties, mut done) = gather(alloc, team)?;
@@ -83,7 +84,7 @@ fn run_team<R: Threads + Sync, W: Wait + Sync>(
     rt: &R,
     wait: &W,
     alloc: Global,
-    queue: &Queue,
+    queue: &Queue<AnyTask>,
     setup: &Setup,
     batches: &Batches,
     team: &mut Vec<Worker>,

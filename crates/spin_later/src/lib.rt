@@ -26,6 +26,7 @@
 //! the middle of a step. That they return isn't promised.
 #![tactic(auto)]
 
+mod agreement;
 mod background;
 mod batch;
 mod doing;
@@ -39,6 +40,7 @@ mod rule;
 mod task;
 mod worker;
 
+pub use agreement::{Agreement, AnyTask};
 pub use background::run_background;
 pub use batch::{Batch, BatchReplies, Batches, Call};
 pub use party::{Parties, Party};

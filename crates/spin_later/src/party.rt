@@ -1,5 +1,6 @@
 //! Parties, which put tasks into a queue and take tasks out of it.
 
+use crate::agreement::Agreement;
 use crate::known::Known;
 use crate::queue::Queue;
 use crate::rule::{Puts, Takes};
@@ -42,7 +43,7 @@ impl Model for Party {
 
 impl Party {
     ghost use Rattle.spin_later.specs.declared.task.Task.{Task as TaskValue};
-    ghost use Rattle.std.specs.Prelude.{◌≡◌, ◌-◌, ◌<◌, ◌^◌, length, MatchResult, MatchOption};
+    ghost use Rattle.std.specs.Prelude.{◌≡◌, ◌-◌, ◌<◌, ◌^◌, length, MatchResult, MatchOption, IfSome};
     ghost use Rattle.spin_later.specs.Parties.{sent as sent_after, took, IsNext, WasAt};
 
     /// The party's number.
@@ -60,8 +61,8 @@ impl Party {
     }
 
     /// Puts a task with this version and call at the queue's end, and answers its number, which counts this party's
-    /// tasks from 0. At [`Full`] the task comes back and nothing is sent. The party has sent fewer than 4,294,967,295
-    /// tasks.
+    /// tasks from 0. At [`Full`] the task comes back and nothing is sent. The task is as agreed, and the party has sent
+    /// fewer than 4,294,967,295 tasks.
     ///
     /// Of [`Full`] it is proved that some history has what this party did and holds as many tasks as the queue may. In
     /// a queue of one party that is the queue's own history, so `Full` comes only where the queue is full. In a queue
@@ -69,15 +70,21 @@ impl Party {
     /// number: there the clause excludes no `Full`, and that it comes only from a full queue is tested.
     ///
     /// It may wait for another thread that is in the middle of a put or a take.
-    pub fn put<W: Wait + Sync>(
+    pub fn put<A: Agreement, W: Wait + Sync>(
         &mut self,
         wait: &W,
-        queue: &Queue,
+        queue: &Queue<A>,
         version: Arc<Version>,
         call: JobCall,
     ) -> Result<u32, Full>
         requires queue { self.old.queue ≡ queue.now.id }
         requires room { length self.old.sent < 2 ^ 32 - 1 }
+        requires agreed { let task : TaskValue = record {
+          sender = self.old.number;
+          number = length self.old.sent;
+          version = version;
+          call = call;
+        } in A.allows task }
         ensures { let task : TaskValue = record {
           sender = self.old.number;
           number = length self.old.sent;
@@ -104,19 +111,20 @@ impl Party {
         }
     }
 
-    /// Takes the task at the queue's front. Of each sender the tasks come in the order sent.
+    /// Takes the task at the queue's front, which is as agreed. Of each sender the tasks come in the order sent.
     ///
     /// Of `None` it is proved that some history has what this party did and holds nothing. In a queue of one party it
     /// comes only where the queue is empty; in a queue of two or more the clause excludes no `None`, as at
     /// [`put`](Party::put), and that it comes only from an empty queue is tested.
     ///
     /// It may wait for another thread that is in the middle of a put or a take.
-    pub fn take<W: Wait + Sync>(&mut self, wait: &W, queue: &Queue) -> Option<Task>
+    pub fn take<A: Agreement, W: Wait + Sync>(&mut self, wait: &W, queue: &Queue<A>) -> Option<Task>
         requires queue { self.old.queue ≡ queue.now.id }
-        ensures { MatchOption result
+        ensures taken { MatchOption result
             ((self.new ≡ self.old) × WasAt self.old 0)
             (λ task. (self.new ≡ took self.old task) × (task.sender < self.old.parties) × IsNext self.old.taken task) }
+        ensures agreed { IfSome result A.allows }
     {
-        queue.ring.pop_as::<Takes, W>(wait, &mut self.pass)
+        queue.ring.pop_as::<Takes<A>, W>(wait, &mut self.pass)
     }
 }

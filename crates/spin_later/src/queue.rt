@@ -7,6 +7,7 @@ ghost use Rattle.spin_later.specs.History.{Happened};
 ghost use Rattle.spin_later.specs.Rule.{known, new_hands, first, HasAll};
 ghost use Rattle.spin_later.specs.Parties.{new_parties, hand_of, IsPartyOf, AreAll};
 
+use crate::agreement::Agreement;
 use crate::known::Known;
 use crate::party::{Parties, Party};
 use crate::rule::{Clears, Gathers, Grows, HistoryRule, Parts};
@@ -24,17 +25,17 @@ pub const MAX_PARTIES: u8 = 8;
 pub const MAX_CAPACITY: u32 = 65_536;
 
 // A queue of tasks under its rule.
-pub(crate) type Ring = RuledArrayQueue<Task, Known, HistoryRule>;
+pub(crate) type Ring<A> = RuledArrayQueue<Task, Known, HistoryRule<A>>;
 
 /// A bounded queue of tasks that parties share by reference. Contracts see which queue it is, its number of parties
-/// and its capacity.
+/// and its capacity. What each of its tasks is to be is said by its [`Agreement`].
 #[derive(Drop)]
-pub struct Queue {
-    pub(crate) ring: Ring,
+pub struct Queue<A: Agreement> {
+    pub(crate) ring: Ring<A>,
     pub(crate) parties: u8,
 }
 
-impl Model for Queue {
+impl<A: Agreement> Model for Queue<A> {
     ghost use Rattle.crossbeam_queue.specs.Passes.{ruled_capacity};
     ghost use Rattle.spin_later.specs.Parties.{QueueValue};
 
@@ -51,10 +52,10 @@ impl Model for Queue {
     ghost invariant = { λ q. 1 ≤ q.parties };
 }
 
-impl Queue {
+impl<A: Agreement> Queue<A> {
     /// An empty queue of this capacity, from 1 to [`MAX_CAPACITY`], and as many parties as asked, from 1 to
     /// [`MAX_PARTIES`]: the k-th, from 0, has number k and has sent and taken nothing.
-    pub fn new(alloc: Global, parties: u8, capacity: u32) -> Result<(Queue, Parties), NoMemory>
+    pub fn new(alloc: Global, parties: u8, capacity: u32) -> Result<(Queue<A>, Parties), NoMemory>
         requires some { 1 ≤ parties }
         requires most { parties ≤ MAX_PARTIES }
         requires room { 1 ≤ capacity }
@@ -63,7 +64,7 @@ impl Queue {
         ensures capacity { IfOk result (λ made. made.0.capacity ≡ capacity) }
         ensures members { IfOk result (λ made. made.1 ≡ new_parties made.0.id parties) }
     {
-        let (ring, mut maker) = Ring::ruled(alloc, capacity as usize)?;
+        let (ring, mut maker) = Ring::<A>::ruled(alloc, capacity as usize)?;
         let queue = Queue { ring, parties };
         queue.grow(&mut maker);
         let members = queue.members(alloc, maker)?;
@@ -120,8 +121,8 @@ impl Queue {
 
     /// The tasks that are left, from the front, once all parties have ended. There is one history of the queue that
     /// has what each party did and leaves these tasks: so each task that was sent was taken by one party, once, or is
-    /// left once, and each task taken or left is the one that its sender sent under its number. After want of memory
-    /// queue, parties and tasks are gone.
+    /// left once, and each task taken or left is the one that its sender sent under its number. Each is as agreed.
+    /// After want of memory queue, parties and tasks are gone.
     pub fn close<W: Wait + Sync>(
         self,
         wait: &W,
@@ -130,7 +131,8 @@ impl Queue {
     ) -> Result<Tasks, NoMemory>
         requires queue { All (IsPartyOf self) parties }
         requires all { AreAll self.parties parties }
-        ensures { IfOk result (λ left. Happened self.parties (map hand_of parties) left) }
+        ensures history { IfOk result (λ left. Happened self.parties (map hand_of parties) left) }
+        ensures agreed { IfOk result (All A.allows) }
     {
         let mut taker = self.gather(parties);
         self.clear(wait, alloc, &mut taker)
@@ -147,11 +149,12 @@ impl Queue {
         requires some { 0 < length (view taker.old).hands }
         requires all { HasAll (view taker.old) }
         requires left { (view taker.old).left ≡ [] }
-        ensures { IfOk result (λ left. Happened (view taker.old).parties (view taker.old).hands left) }
+        ensures history { IfOk result (λ left. Happened (view taker.old).parties (view taker.old).hands left) }
+        ensures agreed { IfOk result (All A.allows) }
     {
         let mut left = Tasks::new(alloc);
         for _ in wait.forever() {
-            match self.ring.pop_as::<Clears, W>(wait, taker) {
+            match self.ring.pop_as::<Clears<A>, W>(wait, taker) {
                 Some(task) => left.push(task)?,
                 None => return Ok(left),
             }

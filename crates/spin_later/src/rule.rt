@@ -3,17 +3,21 @@
 //! Each step is made by one pass and changes its view alone. What the rule says stands in `specs/Rule.antt`, over the
 //! history of `specs/History.antt`.
 
+use crate::agreement::Agreement;
 use crate::known::Known;
 use crate::task::Task;
 use crossbeam_queue::protocol::{Join, Lesson, Outcome, Protocol, Split};
+use std::marker::PhantomData;
 
-/// There is one history of the queue, of which each party knows its own part.
-pub struct HistoryRule;
+/// There is one history of the queue, of which each party knows its own part, and each task in it is as agreed.
+pub struct HistoryRule<A> {
+    agreement: PhantomData<A>,
+}
 
-impl Protocol<Task, Known> for HistoryRule {
+impl<A: Agreement> Protocol<Task, Known> for HistoryRule<A> {
     ghost use Rattle.spin_later.specs.Rule.{Kept, first};
 
-    ghost holds = { Kept };
+    ghost holds = { Kept A.allows };
 
     ghost first = { first };
 }
@@ -35,32 +39,36 @@ impl Lesson<Task, Known> for Puts {
 }
 
 // A take. Where the queue was empty, some history has what the party did.
-pub(crate) struct Takes;
+pub(crate) struct Takes<A> {
+    agreement: PhantomData<A>,
+}
 
-impl Outcome<Task, Known> for Takes {
+impl<A: Agreement> Outcome<Task, Known> for Takes<A> {
     ghost use Rattle.std.specs.Prelude.{◌≡◌};
     ghost use Rattle.spin_later.specs.Rule.{taken_into, Comes};
 
-    ghost then = { λ v x w. (w ≡ taken_into v x) × Comes v x };
+    ghost then = { λ v x w. (w ≡ taken_into v x) × Comes v x × A.allows x };
 }
 
-impl Lesson<Task, Known> for Takes {
+impl<A: Agreement> Lesson<Task, Known> for Takes<A> {
     ghost use Rattle.spin_later.specs.Rule.{Learned};
 
     ghost fact = { Learned };
 }
 
 // A take when all parties have ended.
-pub(crate) struct Clears;
+pub(crate) struct Clears<A> {
+    agreement: PhantomData<A>,
+}
 
-impl Outcome<Task, Known> for Clears {
+impl<A: Agreement> Outcome<Task, Known> for Clears<A> {
     ghost use Rattle.std.specs.Prelude.{◌≡◌};
     ghost use Rattle.spin_later.specs.Rule.{left_over};
 
-    ghost then = { λ v x w. w ≡ left_over v x };
+    ghost then = { λ v x w. (w ≡ left_over v x) × A.allows x };
 }
 
-impl Lesson<Task, Known> for Clears {
+impl<A: Agreement> Lesson<Task, Known> for Clears<A> {
     ghost use Rattle.spin_later.specs.Rule.{Learned};
 
     ghost fact = { Learned };

@@ -6,6 +6,7 @@ ghost use Rattle.spin_later.specs.Parties.{IsSameParty};
 ghost use Rattle.spin_later.specs.Batches.{CanDo};
 ghost use Rattle.spin_later.specs.Inner.Work.{IsRight, IsFresh};
 
+use crate::agreement::AnyTask;
 use crate::batch::{Batches, Call};
 use crate::doing::{Done, do_task};
 use crate::party::Party;
@@ -32,7 +33,7 @@ impl Worker {
         &mut self,
         wait: &W,
         alloc: Global,
-        queue: &Queue,
+        queue: &Queue<AnyTask>,
         setup: &Setup,
         batches: &Batches,
     )
@@ -51,7 +52,7 @@ impl Worker {
         &mut self,
         wait: &W,
         alloc: Global,
-        queue: &Queue,
+        queue: &Queue<AnyTask>,
         setup: &Setup,
         batches: &Batches,
     ) -> Result<(), NoMemory>
@@ -79,7 +80,7 @@ impl Worker {
         &mut self,
         wait: &W,
         alloc: Global,
-        queue: &Queue,
+        queue: &Queue<AnyTask>,
         setup: &Setup,
         batches: &Batches,
         call: &Call,
@@ -111,7 +112,7 @@ impl Worker {
         &mut self,
         wait: &W,
         alloc: Global,
-        queue: &Queue,
+        queue: &Queue<AnyTask>,
         setup: &Setup,
         batches: &Batches,
     ) -> Result<bool, NoMemory>

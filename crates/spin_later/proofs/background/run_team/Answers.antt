@@ -3,6 +3,8 @@ use Rattle.spin_later.specs.contracts.background.run_team.dyn-1 as one
 use Rattle.spin_later.specs.contracts.background.run_team.dyn-2 as two
 use Rattle.spin_later.specs.contracts.background.run_team.dyn-3 as three
 use Rattle.std.proofs.Common.{rules}
+use Rattle.std.specs.Prelude.{⊤}
+use Rattle.spin_later.specs.contracts.agreement.AnyTask as AnyTask
 use Rattle.spin_later.proofs.ThreadCrossing.{borrows_cross, worker_send}
 use Rattle.spin_later.proofs.WorkerLemmas.{same_numbers}
 use Rattle.spin_later.proofs.background.run_team.Goals as goal
@@ -10,8 +12,8 @@ use Rattle.spin_later.proofs.background.run_team.Goals as goal
 pub for_each_mut-requires-sync-F : goal.for_each_mut-requires-sync-F
 for_each_mut-requires-sync-F g c κs within =
     let R = g.row.R in let W = g.row.W in
-    let lent = borrows_cross (one.slots R W) (two.slots R W)
-    (three.slots R W) g.dyn-1 g.dyn-2 g.dyn-3 _ κs.1.1.1.1.1.1.0 κs.1.1.1.1.1.1.1.0 κs.1.1.1.1.1.1.1.1.0 κs.1.1.1.1.1.1.1.1.1.0 κs.1.1.1.1.1.1.1.1.1.1.0 c.type_bounds.sync-W in
+    let lent = borrows_cross (one.slots R W) (two.slots R W) (three.slots R W) g.dyn-1 g.dyn-2 g.dyn-3 _ AnyTask.the_row
+    (record { allows = λ task. ⊤ }) κs.1.1.1.1.1.1.0 κs.1.1.1.1.1.1.1.0 κs.1.1.1.1.1.1.1.1.0 κs.1.1.1.1.1.1.1.1.1.0 κs.1.1.1.1.1.1.1.1.1.1.0 c.type_bounds.sync-W in
     record { shared = lent.shared }
 
 pub returns-clause-numbers : goal.returns-clause-numbers

@@ -6,15 +6,15 @@ use Rattle.spin_later.proofs.NewPasses.{gathers_at, gathered}
 use Rattle.spin_later.proofs.queue.Queue.gather.Goals as goal
 
 pub absorb-requires-clause-rule : goal.absorb-requires-clause-rule
-absorb-requires-clause-rule c =
+absorb-requires-clause-rule g c =
     let P = IsPartyOf c.args.self.now in
     let all = subst (All P) c.in-Some-pop.ensures.items c.loop-party.invariant.4 in
     let own = all_end P c.pop-in-loop-party.new.self.items c.in-Some-pop.party all in
-    gathers_at _ (view c.loop-party.taker) _ (view c.party.inside.pass) c.args.self.now.parties c.loop-party.invariant.2 c.party.invariant.alone
+    gathers_at g.A.Agreement.allows _ (view c.loop-party.taker) _ (view c.party.inside.pass) c.args.self.now.parties c.loop-party.invariant.2 c.party.invariant.alone
     (ap (λ (p : PartyValue). p.parties) c.party.view_is ∙ own.1)
 
 pub loop-party-preserved : goal.loop-party-preserved
-loop-party-preserved c =
+loop-party-preserved g c =
     let P = IsPartyOf c.args.self.now in
     let all = subst (All P) c.in-Some-pop.ensures.items c.loop-party.invariant.4 in
     let kept = c.absorb.ensures.queue in

@@ -5,13 +5,13 @@ use Rattle.spin_later.proofs.NewPasses.{parts_at, parted, first_of, one_more}
 use Rattle.spin_later.proofs.queue.Queue.members.Goals as goal
 
 pub another-pass-requires-clause-rule : goal.another-pass-requires-clause-rule
-another-pass-requires-clause-rule c =
+another-pass-requires-clause-rule g c =
     let parties = ap (λ (q : QueueValue). q.parties) c.self.view_is in
     let more = c.loop-number-test.true in
-    parts_at _ c.args.self.now.parties c.loop-number.number _ (view c.loop-number.maker) c.loop-number.invariant.2 (omega arith)
+    parts_at g.A.Agreement.allows _ c.args.self.now.parties c.loop-number.number _ (view c.loop-number.maker) c.loop-number.invariant.2 (omega arith)
 
 pub loop-number-preserved : goal.loop-number-preserved
-loop-number-preserved c =
+loop-number-preserved g c =
     let parties = ap (λ (q : QueueValue). q.parties) c.self.view_is in
     let more = c.loop-number-test.true in
     let P = c.args.self.now.parties in
