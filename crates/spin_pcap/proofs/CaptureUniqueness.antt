@@ -122,7 +122,7 @@ answered way given bytes (Err fault.NoMemory) e = absurd e
 one-rest : (way : Order) (given : ℕ) (bytes : List ℕ) (ending ending' : Result Next PcapFault) → IsRest way given bytes ending → IsRest way given bytes ending' → ending ≡ ending'
 one-rest way given bytes ending ending' e e' = sym (answered way given bytes ending e) ∙ answered way given bytes ending' e'
 
-one-body : (way : Order) (given : ℕ) (bytes : List ℕ) (frames frames' : List (List ℕ)) (ending ending' : Result Next PcapFault)
+pub one-body : (way : Order) (given : ℕ) (bytes : List ℕ) (frames frames' : List (List ℕ)) (ending ending' : Result Next PcapFault)
     → IsBody way given bytes frames ending → IsBody way given bytes frames' ending' → (frames ≡ frames') × (ending ≡ ending')
 one-body way given bytes [] [] ending ending' b b' = (refl, one-rest way given bytes ending ending' b b')
 one-body way given bytes [] (frame ∷ frames) ending ending' b b' = absurd (not-both way given bytes frame b'.0 ending b'.1 b)

@@ -3,3 +3,4 @@ pub mod SourceBytes
 pub mod CaptureUniqueness
 pub mod FileHeaders
 pub mod CaptureTotality
+pub mod Making

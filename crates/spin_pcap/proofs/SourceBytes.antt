@@ -1,5 +1,5 @@
 -- Bytes on their way from a source.
-use Rattle.std.proofs.Common.{◌≡◌, ◌≤◌, ◌<◌, ◌+◌, ℕ, List, [], ◌++◌, length, take, drop, Option, Some, None, refl, sym, ap, subst, ◌∙◌, arith, append_assoc, IfSome, Bool, true, false, Ok}
+use Rattle.std.proofs.Common.{◌≡◌, ◌≤◌, ◌<◌, ◌+◌, ℕ, List, [], ◌++◌, length, take, drop, Option, Some, None, refl, sym, ap, subst, ◌∙◌, arith, append_assoc, IfSome, Bool, true, false, Ok, Err}
 use Rattle.std.proofs.KnownBytes.{Consumes-nil, Consumes-trans}
 use Rattle.std.proofs.lemmas.List.{append-nil, length-append, length-take, length-drop, take-append-drop}
 use Rattle.std.specs.Io.KnownBytes.{Consumes, IsAtEnd}
@@ -7,7 +7,7 @@ use Rattle.spin_pcap.specs.declared.fault.PcapFault.{PcapFault}
 use Rattle.spin_pcap.specs.declared.fault.PcapFault.TheVariants as fault
 use Rattle.spin_outside.specs.Counts.{raised_by}
 use Rattle.spin_outside.specs.Sources.{SourceSeen, taken_more}
-use Rattle.spin_pcap.specs.Passing.{Passes, left_for, UnlessFailed}
+use Rattle.spin_pcap.specs.Passing.{Passes, left_for, UnlessFailed, IsRefusal}
 use Rattle.spin_pcap.specs.Inner.Filling.{Copies}
 
 raised_twice : (x n m : ℕ) → raised_by (raised_by x n) m ≡ raised_by x (n + m)
@@ -133,6 +133,18 @@ failed fault.TooLong P h = absurd h
 failed fault.TooManyRecords P h = absurd h
 failed (fault.Spoilt first) P h = absurd h
 failed fault.NoMemory P h = tt
+
+-- which refuses nothing
+pub no_refusal : (given : ℕ) (wrong : PcapFault) → UnlessFailed wrong ⊥ → IsRefusal given (Err wrong)
+no_refusal given fault.ReadFault h = tt
+no_refusal given fault.BadMagic h = absurd h
+no_refusal given fault.BadVersion h = absurd h
+no_refusal given fault.BadLink h = absurd h
+no_refusal given fault.Short h = absurd h
+no_refusal given fault.TooLong h = absurd h
+no_refusal given fault.TooManyRecords h = absurd h
+no_refusal given (fault.Spoilt first) h = absurd h
+no_refusal given fault.NoMemory h = tt
 
 pub whatever : {A : Type 0} (P : A → Type 0) (o : Option A) → ((x : A) → P x) → IfSome o P
 whatever P None h = tt

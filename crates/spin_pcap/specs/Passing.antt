@@ -137,6 +137,19 @@ IsCutShort given (Ok (next.Cut count)) =
     (given < MAX_RECORDS) × (0 < count) × (count < 16 + MAX_CAPTURED)
 IsCutShort given (Err wrong) = ⊤
 
+-- A refusal behind so many records: of one record more for its length, or of a byte behind as many as are allowed.
+abbrev pub IsRefusal : ℕ → Result Next PcapFault → Type 0
+IsRefusal given (Ok next) = ⊤
+IsRefusal given (Err fault.ReadFault) = ⊤
+IsRefusal given (Err fault.BadMagic) = ⊥
+IsRefusal given (Err fault.BadVersion) = ⊥
+IsRefusal given (Err fault.BadLink) = ⊥
+IsRefusal given (Err fault.Short) = ⊥
+IsRefusal given (Err fault.TooLong) = given < MAX_RECORDS
+IsRefusal given (Err fault.TooManyRecords) = MAX_RECORDS ≤ given
+IsRefusal given (Err (fault.Spoilt first)) = ⊥
+IsRefusal given (Err fault.NoMemory) = ⊤
+
 -- The frame has no bytes, unless a record was given.
 abbrev pub EmptyUnlessPacket : Result Next PcapFault → List ℕ → Type 0
 EmptyUnlessPacket (Ok next.Packet) frame = ⊤

@@ -6,7 +6,7 @@ ghost use Rattle.spin_pcap.specs.Inner.Filling.{Copies};
 ghost use Rattle.spin_pcap.specs.Passing.{Passes, UnlessFailed, ReadsByCount, IsStart};
 ghost use Rattle.spin_pcap.specs.Passing.{TakesHeader, IsFresh, IsAnswer, IsGone};
 ghost use Rattle.spin_pcap.specs.Passing.{EmptyUnlessPacket, IfReading, Repeats, given_after};
-ghost use Rattle.spin_pcap.specs.Passing.{state_after, left_for, IsCutShort};
+ghost use Rattle.spin_pcap.specs.Passing.{state_after, left_for, IsCutShort, IsRefusal};
 
 use crate::fault::PcapFault;
 use crate::header::{HEADER, read_header};
@@ -103,6 +103,7 @@ fn read_record<S: Source>(
         (left_for window.new (S.seen source.new).left)) }
     ensures few { result ≡ Ok Next.Packet → given < MAX_RECORDS }
     ensures cut { IsCutShort given result }
+    ensures refused { IsRefusal given result }
     ensures passed { (gone : List ℕ)
         × Passes gone window.old (S.seen source.old) window.new (S.seen source.new)
         × IsGone order result gone frame.new }
@@ -204,6 +205,7 @@ impl Reader {
         ensures bound { (length self.old.held ≤ MAX_HELD) × (length self.new.held ≤ MAX_HELD) }
         ensures few { result ≡ Ok Next.Packet → self.old.given < MAX_RECORDS }
         ensures cut { IfReading self.old.state (IsCutShort self.old.given result) ⊤ }
+        ensures refused { IfReading self.old.state (IsRefusal self.old.given result) ⊤ }
         ensures cause { ReadsByCount (S.seen source.old).faults (S.seen source.new).faults result }
     {
         empty(frame);

@@ -26,8 +26,10 @@ pub mod GatheredSends
 pub mod JoinedTexts
 pub mod TextLines
 pub mod OneSegment
+pub mod Left
 pub mod ReaderCalls
 pub mod SentNames
 pub mod SegmentRuns
 pub mod CaptureBytes
+pub mod Told
 pub mod FaultCounts

@@ -30,17 +30,19 @@ use Rattle.spin_report.specs.Runs.{Standing, sends_of_reply, sends_of, retiremen
 use Rattle.spin_run.specs.declared.end.RunEnd.{RunEnd}
 use Rattle.spin_run.specs.declared.end.RunEnd.TheVariants as end
 use Rattle.spin_run.specs.Segments.{jobs_seen}
-use Rattle.spin_run.specs.Records.{AreRecords}
+use Rattle.spin_run.specs.Records.{room_of, IsTakenPast}
 use Rattle.spin_run.specs.Ends.{segment_text, Writes}
-use Rattle.spin_run.specs.Inner.Reading.{given_by, GivesFrames}
+use Rattle.spin_run.specs.Inner.Reading.{given_by, GivesFrames, Reads, TakesFrames}
 use Rattle.spin_run.specs.Inner.Lining.{counts_to}
 use Rattle.spin_run.specs.Inner.Sending.{sends_made, SendsAll}
 use Rattle.spin_run.specs.Inner.Steps.{Moment, standing, Setting, RunsFrom, retired_for, HasRunOne, StopsOne, HasTold, OneBy}
 use Rattle.spin_run.specs.Summaries.{Counts, counts_in}
 use Rattle.spin_run.specs.Inner.Tallies.{TalliesOn, Tells}
 use Rattle.spin_run.specs.Inner.Writing.{joined}
-use Rattle.spin_run.proofs.JoinedTexts.{joined_ended}
-use Rattle.spin_run.proofs.JoinedTexts.{Appends-none}
+use Rattle.spin_run.proofs.JoinedTexts.{joined_ended, Appends-none}
+use Rattle.spin_run.proofs.Left.{some_left}
+use Rattle.spin_run.proofs.ReaderCalls.{ReadsFrames}
+use Rattle.spin_run.proofs.CaptureBytes.{past_none, takes_before, takes_reading, takes_told}
 
 -- ---- the records that a segment asks with
 
@@ -183,15 +185,14 @@ stops_retiring s number segment before after left rest same (inl none) = (inl no
 stops_retiring s number segment before after left rest same (inr all) = (inr (inl all), nothing before after same)
 
 pub stops_reading_in : (s : Setting) (number : ℕ) (segment : Segment) (before after : Moment) (left : List (List ℕ)) (rest : Option (Result Next PcapFault))
-    (wanted : ℕ) (capture : Option ReaderState) (source : SourceSeen) (stop : RunEnd) → SameSink before after → after.outside.ends ≡ retired_for s segment before
-    → wanted ≡ wanted_by segment.lines → GivesFrames wanted before.capture capture source (Err stop) left rest → StopsOne s number segment before after left rest stop
-stops_reading_in s number segment before after left rest wanted capture source (end.Capture n reason) same ends sum h =
-    (h.1, subst (λ (k : ℕ). length left < k) sum h.0, ends, nothing before after same)
-stops_reading_in s number segment before after left rest wanted capture source end.ReadFault same ends sum h = (h.0, subst (λ (k : ℕ). 0 < k) sum h.1, ends, nothing before after same)
-stops_reading_in s number segment before after left rest wanted capture source end.NoMemory same ends sum h = (inr (inl ends), nothing before after same)
-stops_reading_in s number segment before after left rest wanted capture source end.Whole same ends sum h = absurd h
-stops_reading_in s number segment before after left rest wanted capture source end.WriteFault same ends sum h = absurd h
-stops_reading_in s number segment before after left rest wanted capture source (end.Endpoint p) same ends sum h = absurd h
+    (wanted : ℕ) (capture : Option ReaderState) (stop : RunEnd) → SameSink before after → after.outside.ends ≡ retired_for s segment before
+    → wanted ≡ wanted_by segment.lines → GivesFrames wanted before.capture capture (Err stop) left [] rest → StopsOne s number segment before after left rest stop
+stops_reading_in s number segment before after left rest wanted capture (end.Capture n reason) same ends sum h = (h.1, subst (λ (k : ℕ). length left < k) sum h.0, ends, nothing before after same)
+stops_reading_in s number segment before after left rest wanted capture end.ReadFault same ends sum h = (h.0, subst (λ (k : ℕ). 0 < k) sum h.1, ends, nothing before after same)
+stops_reading_in s number segment before after left rest wanted capture end.NoMemory same ends sum h = (inr (inl ends), nothing before after same)
+stops_reading_in s number segment before after left rest wanted capture end.Whole same ends sum h = absurd h
+stops_reading_in s number segment before after left rest wanted capture end.WriteFault same ends sum h = absurd h
+stops_reading_in s number segment before after left rest wanted capture (end.Endpoint p) same ends sum h = absurd h
 
 -- what a segment has come to before its sends are made: the records that it took, and what its lanes answered
 pub record HasAnswered (s : Setting) (segment : Segment) (before : Moment) (left : List (List ℕ)) (state : State)
@@ -268,31 +269,34 @@ stops_writing s number segment before after left frames rest entries jobs replie
       (n, subst (λ (x : List ℕ). n < length x) text short, subst (λ (x : List ℕ). Appends before.outside.sink.told after.outside.sink.told (take n x)) text now),
     )
 
-has_run_one : (s : Setting) (number : ℕ) (segment : Segment) (before after : Moment) (left frames : List (List ℕ)) (rest : Option (Result Next PcapFault))
+-- what is left behind the records that it wants
+is_left : (later left : List (List ℕ)) (wanted wanted' : ℕ) → later ≡ drop wanted left → wanted ≡ wanted' → later ≡ drop wanted' left
+is_left later left wanted wanted' is sum = is ∙ ap (λ n. drop n left) sum
+
+has_run_one : (s : Setting) (number : ℕ) (segment : Segment) (before after : Moment) (left later frames : List (List ℕ)) (rest : Option (Result Next PcapFault))
     (entries : List Entry) (jobs : List Job) (replies : List Reply) (lost : List ℕ) (retired lines : List (List ℕ)) (wanted : ℕ)
     → HasAnswered s segment before left after.state entries jobs replies frames → HasSent s segment before after entries replies lost
     → HasLines s number segment before entries jobs replies lost retired lines → Appends before.outside.sink.told after.outside.sink.told (joined lines)
-    → wanted ≡ wanted_by segment.lines → GivesFrames wanted before.capture after.capture after.outside.source (Ok frames) left rest → HasRunOne s number segment before after left rest
-has_run_one s number segment before after left frames rest entries jobs replies lost retired lines wanted h k m now sum given = record {
+    → wanted ≡ wanted_by segment.lines → GivesFrames wanted before.capture after.capture (Ok frames) left later rest → HasRunOne s number segment before after left later
+has_run_one s number segment before after left later frames rest entries jobs replies lost retired lines wanted h k m now sum given = record {
   part = part_of s segment before entries (jobs_seen jobs replies);
-  next = drop (wanted_by segment.lines) left;
-  run = sent_run s segment before after left frames entries jobs replies lost h k;
+  run = subst (λ (x : List (List ℕ)). RunsFrom s segment before left (part_of s segment before entries (jobs_seen jobs replies)) (standing after x))
+      (sym (is_left later left wanted (wanted_by segment.lines) given.1 sum)) (sent_run s segment before after left frames entries jobs replies lost h k);
   text = subst (λ (x : List ℕ). Writes before.outside after.outside x) (made_text s number segment before after entries jobs replies lost retired lines h.replies_are k m) now;
-  records = subst (λ (n : ℕ). AreRecords after.capture after.outside.source (drop n left) rest) sum given.1;
-  total = total_is (given_by before.capture) (given_by after.capture) frames left (wanted_by segment.lines) h.read given.2;
+  total = ap (λ (x : List (List ℕ)). given_by after.capture + length x) (is_left later left wanted (wanted_by segment.lines) given.1 sum)
+      ∙ total_is (given_by before.capture) (given_by after.capture) frames left (wanted_by segment.lines) h.read given.2;
   going = λ g. let one = given.3 g in (one.0, given.2 ∙ ap (λ n. given_by before.capture + n) (one.1 ∙ sum));
 }
 
 -- it was told, and its entries counted
-has_told : (s : Setting) (number : ℕ) (segment : Segment) (before after : Moment) (left frames : List (List ℕ)) (rest : Option (Result Next PcapFault))
-    (entries : List Entry) (jobs : List Job) (replies : List Reply) (lost : List ℕ) (retired lines : List (List ℕ)) (wanted : ℕ)
-    → HasAnswered s segment before left after.state entries jobs replies frames → HasSent s segment before after entries replies lost
-    → HasLines s number segment before entries jobs replies lost retired lines → Appends before.outside.sink.told after.outside.sink.told (joined lines)
-    → wanted ≡ wanted_by segment.lines → GivesFrames wanted before.capture after.capture after.outside.source (Ok frames) left rest
-    → (tally tally' : Option Counts) → TalliesOn tally tally' (counts_in entries) → HasTold s number segment before after tally tally' left rest
+has_told : (s : Setting) (number : ℕ) (segment : Segment) (before after : Moment) (left later frames : List (List ℕ)) (rest : Option (Result Next PcapFault)) (entries : List Entry)
+    (jobs : List Job) (replies : List Reply) (lost : List ℕ) (retired lines : List (List ℕ)) (wanted : ℕ) → HasAnswered s segment before left after.state entries jobs replies frames
+    → HasSent s segment before after entries replies lost → HasLines s number segment before entries jobs replies lost retired lines
+    → Appends before.outside.sink.told after.outside.sink.told (joined lines) → wanted ≡ wanted_by segment.lines → GivesFrames wanted before.capture after.capture (Ok frames) left later rest
+    → (tally tally' : Option Counts) → TalliesOn tally tally' (counts_in entries) → HasTold s number segment before after tally tally' left later
 unfolding has_run_one
-has_told s number segment before after left frames rest entries jobs replies lost retired lines wanted h k m now sum given tally tally' counted = record {
-  one = has_run_one s number segment before after left frames rest entries jobs replies lost retired lines wanted h k m now sum given;
+has_told s number segment before after left later frames rest entries jobs replies lost retired lines wanted h k m now sum given tally tally' counted = record {
+  one = has_run_one s number segment before after left later frames rest entries jobs replies lost retired lines wanted h k m now sum given;
   counted = counted;
 }
 
@@ -310,16 +314,77 @@ stops_telling s number segment before after left frames rest entries jobs replie
 stops_telling s number segment before after left frames rest entries jobs replies lost retired lines (end.Endpoint p) h k m t = absurd t
 stops_telling s number segment before after left frames rest entries jobs replies lost retired lines (end.Capture n reason) h k m t = absurd t
 
+-- what a segment comes to, and what it takes
+abbrev pub OneRead : Setting → ℕ → Segment → Moment → Moment → Option Counts → Option Counts → Result (Unit {0}) RunEnd → Type 0
+OneRead s number segment before after tally tally' result =
+    Reads before.capture before.outside.source after.capture after.outside.source result (λ left next rest. OneBy s number segment before after tally tally' result left next rest
+    × TakesFrames (wanted_by segment.lines) before.capture after.capture before.outside.source after.outside.source result left)
+
+-- its records were read, and then it stopped
+pub stops_behind : (s : Setting) (number : ℕ) (segment : Segment) (before after : Moment) (tally tally' : Option Counts) (frames : List (List ℕ)) (wanted : ℕ) (stop : RunEnd)
+    → wanted ≡ wanted_by segment.lines → ReadsFrames wanted before.capture before.outside.source after.capture after.outside.source (Ok frames)
+    → ((left : List (List ℕ)) (rest : Option (Result Next PcapFault)) → frames ≡ take (wanted_by segment.lines) left → StopsOne s number segment before after left rest stop)
+    → OneRead s number segment before after tally tally' (Err stop)
+stops_behind s number segment before after tally tally' frames wanted stop sum read f =
+    let some = some_left after.capture after.outside.source in
+    let given = read some.0 some.1 some.2 in (
+      given.0,
+      some.1,
+      given.1,
+      (
+        f given.0 some.1 (given.2.0.0 ∙ ap (λ n. take n given.0) sum),
+        takes_before before.capture after.capture before.outside.source after.outside.source given.0 wanted (wanted_by segment.lines) sum given.2.1,
+      ),
+    )
+
+-- it stopped before its records were read
+pub stops_before : (s : Setting) (number : ℕ) (segment : Segment) (before after : Moment) (tally tally' : Option Counts) (stop : RunEnd) → after.outside.source ≡ before.outside.source
+    → ((left : List (List ℕ)) (rest : Option (Result Next PcapFault)) → StopsOne s number segment before after left rest stop) → OneRead s number segment before after tally tally' (Err stop)
+stops_before s number segment before after tally tally' stop same f =
+    let some = some_left before.capture before.outside.source in (
+      some.0,
+      some.1,
+      some.2,
+      (
+        f some.0 some.1,
+        λ le. subst (λ (x : SourceSeen). IsTakenPast (room_of before.capture) before.outside.source x (take (wanted_by segment.lines) some.0))
+            (sym same) (past_none (room_of before.capture) before.outside.source (take (wanted_by segment.lines) some.0)),
+      ),
+    )
+
+-- it stopped while they were read
+pub stops_within : (s : Setting) (number : ℕ) (segment : Segment) (before after : Moment) (tally tally' : Option Counts) (wanted : ℕ) (stop : RunEnd)
+    → SameSink before after → after.outside.ends ≡ retired_for s segment before → wanted ≡ wanted_by segment.lines
+    → ReadsFrames wanted before.capture before.outside.source after.capture after.outside.source (Err stop) → OneRead s number segment before after tally tally' (Err stop)
+stops_within s number segment before after tally tally' wanted stop same ends sum h = (
+  h.0,
+  h.1,
+  h.2,
+  (
+    stops_reading_in s number segment before after h.0 h.1 wanted after.capture stop same ends sum h.3.0,
+    takes_reading before.capture before.outside.source after.outside.source h.0 wanted (wanted_by segment.lines) sum h.3.1,
+  ),
+)
+
 -- it was told, or telling it stopped
-pub one_told : (s : Setting) (number : ℕ) (segment : Segment) (before after : Moment) (left frames : List (List ℕ)) (rest : Option (Result Next PcapFault)) (entries : List Entry)
-    (jobs : List Job) (replies : List Reply) (lost : List ℕ) (retired lines : List (List ℕ)) (wanted : ℕ) → HasAnswered s segment before left after.state entries jobs replies frames
+pub one_told : (s : Setting) (number : ℕ) (segment : Segment) (before after : Moment) (frames : List (List ℕ)) (entries : List Entry) (jobs : List Job) (replies : List Reply) (lost : List ℕ)
+    (retired lines : List (List ℕ)) (wanted : ℕ) → ((left : List (List ℕ)) → frames ≡ take (wanted_by segment.lines) left → HasAnswered s segment before left after.state entries jobs replies frames)
     → HasSent s segment before after entries replies lost → HasLines s number segment before entries jobs replies lost retired lines → wanted ≡ wanted_by segment.lines
-    → GivesFrames wanted before.capture after.capture after.outside.source (Ok frames) left rest → (tally tally' : Option Counts) (result : Result (Unit {0}) RunEnd)
-    → Tells before.outside.sink after.outside.sink (joined lines) result → OnOk result (TalliesOn tally tally' (counts_in entries)) → OneBy s number segment before after tally tally' result left rest
-one_told s number segment before after left frames rest entries jobs replies lost retired lines wanted h k m sum given tally tally' (Ok done) t counted =
-    has_told s number segment before after left frames rest entries jobs replies lost retired lines wanted h k m t sum given tally tally' counted
-one_told s number segment before after left frames rest entries jobs replies lost retired lines wanted h k m sum given tally tally' (Err stop) t counted =
-    stops_telling s number segment before after left frames rest entries jobs replies lost retired lines stop h k m t
+    → ReadsFrames wanted before.capture before.outside.source after.capture after.outside.source (Ok frames) → (tally tally' : Option Counts) (result : Result (Unit {0}) RunEnd)
+    → Tells before.outside.sink after.outside.sink (joined lines) result → OnOk result (TalliesOn tally tally' (counts_in entries)) → OneRead s number segment before after tally tally' result
+one_told s number segment before after frames entries jobs replies lost retired lines wanted answered k m sum read tally tally' (Ok done) t counted = λ later rest r.
+    let given = read later rest r in
+    let h = answered given.0 (given.2.0.0 ∙ ap (λ n. take n given.0) sum) in (
+      given.0,
+      given.1,
+      (
+        has_told s number segment before after given.0 later frames rest entries jobs replies lost retired lines wanted h k m t sum given.2.0 tally tally' counted,
+        takes_told before.capture after.capture before.outside.source after.outside.source given.0 wanted (wanted_by segment.lines) (Ok done) sum given.2.1,
+      ),
+    )
+one_told s number segment before after frames entries jobs replies lost retired lines wanted answered k m sum read tally tally' (Err stop) t counted =
+    stops_behind s number segment before after tally tally' frames wanted stop sum read
+    (λ left rest front. stops_telling s number segment before after left frames rest entries jobs replies lost retired lines stop (answered left front) k m t)
 
 -- the same sends, as slices have them
 pub sends_as : (names : List (List ℕ)) (es es' : List Entry) (rs rs' : List Reply) (ends ends' after : List NamedEnd) (result : Result (List ℕ) RunEnd)

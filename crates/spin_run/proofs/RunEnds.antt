@@ -21,15 +21,16 @@ use Rattle.spin_report.specs.Histories.{SegmentSeen, HistorySeen, end_line, fron
 use Rattle.spin_report.specs.Runs.{Captured, AreRun, start_with, frames_of, counts_of}
 use Rattle.spin_run.specs.declared.end.RunEnd.{RunEnd}
 use Rattle.spin_run.specs.declared.end.RunEnd.TheVariants as end
-use Rattle.spin_run.specs.Records.{AreRecords, room_of}
+use Rattle.spin_run.specs.Records.{AreRecords, HasRecords, room_of}
 use Rattle.spin_run.specs.Ends.{RunSeen, HasRun, retired_before, IsReadWhole, IsWhole, end_text, Writes, WritesInto, EndsBy}
-use Rattle.spin_run.specs.Inner.Reading.{given_by, IsCutRest}
-use Rattle.spin_run.specs.Inner.Ending.{AreCounts, Finishes}
+use Rattle.spin_run.specs.Inner.Reading.{given_by, IsCutRest, GivesRest}
+use Rattle.spin_run.specs.Inner.Ending.{AreCounts, GivesCounts, Finishes}
 use Rattle.spin_run.specs.Inner.Steps.{Moment, standing, Stands, HasToldAll, WalksBy}
 use Rattle.spin_run.specs.Summaries.{Counts, counts_in}
 use Rattle.spin_run.specs.Inner.Tallies.{Tells}
 use Rattle.spin_run.proofs.PartCounts.{tallies_same}
 use Rattle.spin_run.proofs.JoinedTexts.{Appends-none}
+use Rattle.spin_run.proofs.Left.{some_left}
 use Rattle.spin_run.proofs.SegmentRuns.{text_append, writes_more, writes_nothing, writes_into, reading}
 
 -- ---- the counts
@@ -52,10 +53,21 @@ none_rest : (capture : Option ReaderState) (s : SourceSeen) (left : List (List �
 none_rest None s left rest there r = r.1
 none_rest (Some reader) s left rest there r = absurd (cc (there))
 
+-- what is told of a capture that was read to its end
+pub counts_rest : (before after : Option ReaderState) (s : SourceSeen) (records used cut : ℕ) → is_none before ≡ false → HasRecords before s (GivesRest before after (Ok cut))
+    → used ≡ given_by before → records ≡ given_by after → HasRecords before s (GivesCounts before (Ok (Some (record { records = records; used = used; cut = cut }))))
+counts_rest before after s records used cut there h used_is records_is =
+    (h.0, h.1, h.2, counts_told before s h.0 h.1 records used cut there h.2 h.3.0 (records_is ∙ h.3.1) used_is)
+
 pub no_counts : (capture : Option ReaderState) (s : SourceSeen) (left : List (List ℕ)) (rest : Option (Result Next PcapFault))
     → is_none capture ≡ true → AreRecords capture s left rest → AreCounts (given_by capture) (length left) rest None
 no_counts capture s left rest there r =
     subst (λ (x : Option (Result Next PcapFault)). AreCounts (given_by capture) (length left) x None) (sym (none_rest capture s left rest there r)) refl
+
+pub counts_none : (capture : Option ReaderState) (s : SourceSeen) → is_none capture ≡ true → HasRecords capture s (GivesCounts capture (Ok None))
+counts_none capture s there =
+    let some = some_left capture s in
+    (some.0, some.1, some.2, no_counts capture s some.0 some.1 there some.2)
 
 -- ---- the whole history
 
@@ -96,26 +108,26 @@ frames_are capture s frames (Some (Ok (next.Cut n))) used left told r h = refl
 frames_are capture s frames (Some (Ok next.Packet)) used left told r h = absurd h
 frames_are capture s frames (Some (Err wrong)) used left told r h = absurd h
 
-abbrev history_of : (script : ScriptData) (capture : Option ReaderState) (frames : List (List ℕ)) (rest : Option (Result Next PcapFault)) (before : RunSeen) (now : Moment)
-    → Stands script capture frames rest before (length script.segments) now → Option CaptureCounts → HistorySeen
-history_of script capture frames rest before now s told = record { segments = s.parts; end = now.state.place; capture = told }
+abbrev history_of : (script : ScriptData) (capture : Option ReaderState) (frames left : List (List ℕ)) (rest : Option (Result Next PcapFault)) (before : RunSeen) (now : Moment)
+    → Stands script capture frames left before (length script.segments) now → Option CaptureCounts → HistorySeen
+history_of script capture frames left rest before now s told = record { segments = s.parts; end = now.state.place; capture = told }
 
-is_whole : (script : ScriptData) (capture : Option ReaderState) (frames : List (List ℕ)) (rest : Option (Result Next PcapFault)) (before : RunSeen) (now : Moment) (told : Option CaptureCounts)
-    → AreRecords capture before.source frames rest → (s : Stands script capture frames rest before (length script.segments) now)
-    → AreCounts (given_by now.capture) (length s.left) rest told → IsWhole script frames rest before.ends now.outside.ends (history_of script capture frames rest before now s told)
-is_whole script capture frames rest before now told r s h =
-    let run : HasRun script frames before.ends (length script.segments) s.parts (standing now s.left) = s.run in
+is_whole : (script : ScriptData) (capture : Option ReaderState) (frames left : List (List ℕ)) (rest : Option (Result Next PcapFault)) (before : RunSeen) (now : Moment) (told : Option CaptureCounts)
+    → AreRecords capture before.source frames rest → (s : Stands script capture frames left before (length script.segments) now)
+    → AreCounts (given_by now.capture) (length left) rest told → IsWhole script frames rest before.ends now.outside.ends (history_of script capture frames left rest before now s told)
+is_whole script capture frames left rest before now told r s h =
+    let run : HasRun script frames before.ends (length script.segments) s.parts (standing now left) = s.run in
     record {
       captured = captured_of frames rest;
-      capture_is = read_whole frames rest (given_by now.capture) (length s.left) told h;
-      last = standing now s.left;
+      capture_is = read_whole frames rest (given_by now.capture) (length left) told h;
+      last = standing now left;
       run = record {
-        segments = subst (λ (x : List (List ℕ)). AreRun script script.segments (start_with script x before.ends) s.parts (standing now s.left))
-            (sym (frames_are capture before.source frames rest (given_by now.capture) (length s.left) told r h))
-            (subst (λ (x : List Segment). AreRun script x (start_with script frames before.ends) s.parts (standing now s.left))
+        segments = subst (λ (x : List (List ℕ)). AreRun script script.segments (start_with script x before.ends) s.parts (standing now left))
+            (sym (frames_are capture before.source frames rest (given_by now.capture) (length left) told r h))
+            (subst (λ (x : List Segment). AreRun script x (start_with script frames before.ends) s.parts (standing now left))
             (take_all (length script.segments) script.segments (omega arith)) run.run);
         end = refl;
-        capture_is = told_is frames s.left rest (given_by now.capture) told s.total h;
+        capture_is = told_is frames left rest (given_by now.capture) told s.total h;
       };
       ends_are = refl;
     }
@@ -133,31 +145,31 @@ behind_all (x ∷ xs) = behind_all xs
 none_retired : (script : ScriptData) (ends : List NamedEnd) → retired_before script (length script.segments) ends ≡ ends
 none_retired script ends = ap (λ (o : Option Segment). option_map_or (λ (t : Segment). all_retired script.endpoints t.retires ends) o ends) (behind_all script.segments)
 
-pub ends_whole : (script : ScriptData) (capture : Option ReaderState) (frames : List (List ℕ)) (rest : Option (Result Next PcapFault))
+pub ends_whole : (script : ScriptData) (capture : Option ReaderState) (frames left : List (List ℕ)) (rest : Option (Result Next PcapFault))
     (before : RunSeen) (now : Moment) (log_length : ℕ) (after : RunSeen) → after.ends ≡ now.outside.ends → log_length ≡ now.state.place
-    → AreRecords capture before.source frames rest → (s : Stands script capture frames rest before (length script.segments) now)
-    → Finishes log_length now.capture now.outside.sink after.sink (Ok tt) s.left rest → EndsBy script (room_of capture) frames rest before after end.Whole
-ends_whole script capture frames rest before now log_length after ends place r s h =
-    let history = history_of script capture frames rest before now s h.0 in
+    → AreRecords capture before.source frames rest → (s : Stands script capture frames left before (length script.segments) now)
+    → Finishes log_length now.capture now.outside.sink after.sink (Ok tt) left rest → EndsBy script (room_of capture) frames rest before after end.Whole
+ends_whole script capture frames left rest before now log_length after ends place r s h =
+    let history = history_of script capture frames left rest before now s h.0 in
     let line : Writes now.outside after (end_text history) = subst (λ (n : ℕ). Appends now.outside.sink.told after.sink.told (ended (end_line n h.0))) place h.2 in
     let text : Writes before after (report_text history) =
     subst (λ (x : List ℕ). Writes before after x) (sym (report_more history)) (writes_more before now.outside after (front_text s.parts) (end_text history) s.text line) in
-    (history, subst (λ (x : List NamedEnd). IsWhole script frames rest before.ends x history) (sym ends) (is_whole script capture frames rest before now h.0 r s h.1), text)
+    (history, subst (λ (x : List NamedEnd). IsWhole script frames rest before.ends x history) (sym ends) (is_whole script capture frames left rest before now h.0 r s h.1), text)
 
-pub ends_stopped : (script : ScriptData) (capture : Option ReaderState) (frames : List (List ℕ)) (rest : Option (Result Next PcapFault))
-    (before : RunSeen) (now : Moment) (log_length : ℕ) (after : RunSeen) (stop : RunEnd) → after.ends ≡ now.outside.ends → log_length ≡ now.state.place
-    → AreRecords capture before.source frames rest → (s : Stands script capture frames rest before (length script.segments) now)
-    → Finishes log_length now.capture now.outside.sink after.sink (Err stop) s.left rest → EndsBy script (room_of capture) frames rest before after stop
-ends_stopped script capture frames rest before now log_length after end.WriteFault ends place r s h =
-    let history = history_of script capture frames rest before now s h.0 in
+pub ends_stopped : (script : ScriptData) (capture : Option ReaderState) (frames left : List (List ℕ)) (rest : Option (Result Next PcapFault)) (before : RunSeen) (now : Moment)
+    (log_length : ℕ) (after : RunSeen) (stop : RunEnd) → after.ends ≡ now.outside.ends → log_length ≡ now.state.place → AreRecords capture before.source frames rest
+    → AreRecords now.capture now.outside.source left rest → (s : Stands script capture frames left before (length script.segments) now)
+    → Finishes log_length now.capture now.outside.sink after.sink (Err stop) left rest → EndsBy script (room_of capture) frames rest before after stop
+ends_stopped script capture frames left rest before now log_length after end.WriteFault ends place r r' s h =
+    let history = history_of script capture frames left rest before now s h.0 in
     let line : WritesInto now.outside after [] (end_text history) =
     subst (λ (n : ℕ). (k : ℕ) × (k < length (ended (end_line n h.0))) × Appends now.outside.sink.told after.sink.told (take k (ended (end_line n h.0)))) place (h.2, h.3, h.4) in
     inr (inr (
       history,
-      subst (λ (x : List NamedEnd). IsWhole script frames rest before.ends x history) (sym ends) (is_whole script capture frames rest before now h.0 r s h.1),
+      subst (λ (x : List NamedEnd). IsWhole script frames rest before.ends x history) (sym ends) (is_whole script capture frames left rest before now h.0 r s h.1),
       writes_into before now.outside after (front_text s.parts) (end_text history) s.text line,
     ))
-ends_stopped script capture frames rest before now log_length after (end.Capture n reason) ends place r s h =
+ends_stopped script capture frames left rest before now log_length after (end.Capture n reason) ends place r r' s h =
     let refused = h.0 in
     let number_is : n ≡ length frames + 1 = omega (arith, refused.3, s.total) in
     let given = s.going refused.4 in (
@@ -167,59 +179,59 @@ ends_stopped script capture frames rest before now log_length after (end.Capture
       number_is,
       length script.segments,
       s.parts,
-      standing now s.left,
+      standing now left,
       s.run,
       record { behind = omega (arith, number_is, given, s.total); before = inr refl },
       writes_nothing before now.outside after (front_text s.parts) s.text h.1,
       ends ∙ sym (none_retired script now.outside.ends),
     )
-ends_stopped script capture frames rest before now log_length after end.ReadFault ends place r s h = (
+ends_stopped script capture frames left rest before now log_length after end.ReadFault ends place r r' s h = (
   length script.segments,
   s.parts,
-  standing now s.left,
+  standing now left,
   s.run,
-  reading script capture frames rest before (length script.segments) now s h.0 (inr refl),
+  reading script capture frames left rest before (length script.segments) now s r' h.0 (inr refl),
   writes_nothing before now.outside after (front_text s.parts) s.text h.1,
   ends ∙ sym (none_retired script now.outside.ends),
   λ there. absurd (omega (arith, there)),
 )
-ends_stopped script capture frames rest before now log_length after end.NoMemory ends place r s h = (
+ends_stopped script capture frames left rest before now log_length after end.NoMemory ends place r r' s h = (
   length script.segments,
   s.parts,
-  standing now s.left,
+  standing now left,
   s.run,
   writes_nothing before now.outside after (front_text s.parts) s.text h.1,
   inl ends,
   λ there. absurd (omega (arith, there)),
 )
-ends_stopped script capture frames rest before now log_length after end.Whole ends place r s h = absurd h.0
-ends_stopped script capture frames rest before now log_length after (end.Endpoint p) ends place r s h = absurd h.0
+ends_stopped script capture frames left rest before now log_length after end.Whole ends place r r' s h = absurd h.0
+ends_stopped script capture frames left rest before now log_length after (end.Endpoint p) ends place r r' s h = absurd h.0
 
 -- ---- how the walk ends
 
-pub walks_whole : (script : ScriptData) (capture : Option ReaderState) (frames : List (List ℕ)) (rest : Option (Result Next PcapFault)) (before : RunSeen)
+pub walks_whole : (script : ScriptData) (capture : Option ReaderState) (frames left : List (List ℕ)) (rest : Option (Result Next PcapFault)) (before : RunSeen)
     (now : Moment) (log_length : ℕ) (after : RunSeen) (tally tally' tally'' : Option Counts) → after.ends ≡ now.outside.ends → log_length ≡ now.state.place
-    → AreRecords capture before.source frames rest → (s : HasToldAll script capture frames rest before (length script.segments) now tally tally')
-    → Finishes log_length now.capture now.outside.sink after.sink (Ok tt) s.stands.left rest → tally'' ≡ tally' → WalksBy script (room_of capture) frames rest before tally after tally'' end.Whole
+    → AreRecords capture before.source frames rest → (s : HasToldAll script capture frames left before (length script.segments) now tally tally')
+    → Finishes log_length now.capture now.outside.sink after.sink (Ok tt) left rest → tally'' ≡ tally' → WalksBy script (room_of capture) frames rest before tally after tally'' end.Whole
 unfolding ends_whole
-walks_whole script capture frames rest before now log_length after tally tally' tally'' ends place r s h same =
-    let e = ends_whole script capture frames rest before now log_length after ends place r s.stands h in
+walks_whole script capture frames left rest before now log_length after tally tally' tally'' ends place r s h same =
+    let e = ends_whole script capture frames left rest before now log_length after ends place r s.stands h in
     (e.0, e.1, e.2, tallies_same tally tally' tally'' (counts_in (flat_map (λ (p : SegmentSeen). p.entries) s.stands.parts)) s.counted same)
 
-pub walks_stopped : (script : ScriptData) (capture : Option ReaderState) (frames : List (List ℕ)) (rest : Option (Result Next PcapFault))
-    (before : RunSeen) (now : Moment) (log_length : ℕ) (after : RunSeen) (tally tally' : Option Counts) (stop : RunEnd) → after.ends ≡ now.outside.ends
-    → log_length ≡ now.state.place → AreRecords capture before.source frames rest → (s : Stands script capture frames rest before (length script.segments) now)
-    → Finishes log_length now.capture now.outside.sink after.sink (Err stop) s.left rest → WalksBy script (room_of capture) frames rest before tally after tally' stop
-walks_stopped script capture frames rest before now log_length after tally tally' end.Whole ends place r s h = absurd h.0
-walks_stopped script capture frames rest before now log_length after tally tally' end.ReadFault ends place r s h =
-    ends_stopped script capture frames rest before now log_length after end.ReadFault ends place r s h
-walks_stopped script capture frames rest before now log_length after tally tally' end.WriteFault ends place r s h =
-    ends_stopped script capture frames rest before now log_length after end.WriteFault ends place r s h
-walks_stopped script capture frames rest before now log_length after tally tally' end.NoMemory ends place r s h =
-    ends_stopped script capture frames rest before now log_length after end.NoMemory ends place r s h
-walks_stopped script capture frames rest before now log_length after tally tally' (end.Endpoint p) ends place r s h = absurd h.0
-walks_stopped script capture frames rest before now log_length after tally tally' (end.Capture n reason) ends place r s h =
-    ends_stopped script capture frames rest before now log_length after (end.Capture n reason) ends place r s h
+pub walks_stopped : (script : ScriptData) (capture : Option ReaderState) (frames left : List (List ℕ)) (rest : Option (Result Next PcapFault)) (before : RunSeen)
+    (now : Moment) (log_length : ℕ) (after : RunSeen) (tally tally' : Option Counts) (stop : RunEnd) → after.ends ≡ now.outside.ends → log_length ≡ now.state.place
+    → AreRecords capture before.source frames rest → AreRecords now.capture now.outside.source left rest → (s : Stands script capture frames left before (length script.segments) now)
+    → Finishes log_length now.capture now.outside.sink after.sink (Err stop) left rest → WalksBy script (room_of capture) frames rest before tally after tally' stop
+walks_stopped script capture frames left rest before now log_length after tally tally' end.Whole ends place r r' s h = absurd h.0
+walks_stopped script capture frames left rest before now log_length after tally tally' end.ReadFault ends place r r' s h =
+    ends_stopped script capture frames left rest before now log_length after end.ReadFault ends place r r' s h
+walks_stopped script capture frames left rest before now log_length after tally tally' end.WriteFault ends place r r' s h =
+    ends_stopped script capture frames left rest before now log_length after end.WriteFault ends place r r' s h
+walks_stopped script capture frames left rest before now log_length after tally tally' end.NoMemory ends place r r' s h =
+    ends_stopped script capture frames left rest before now log_length after end.NoMemory ends place r r' s h
+walks_stopped script capture frames left rest before now log_length after tally tally' (end.Endpoint p) ends place r r' s h = absurd h.0
+walks_stopped script capture frames left rest before now log_length after tally tally' (end.Capture n reason) ends place r r' s h =
+    ends_stopped script capture frames left rest before now log_length after (end.Capture n reason) ends place r r' s h
 
 -- telling the end
 pub finishes : (log_length : ℕ) (before : Option ReaderState) (sink sink' : SinkSeen) (told : Option CaptureCounts) (left : List (List ℕ))
@@ -233,3 +245,17 @@ finishes log_length before sink sink' told left rest (Err end.Whole) counts t = 
 finishes log_length before sink sink' told left rest (Err end.ReadFault) counts t = absurd t
 finishes log_length before sink sink' told left rest (Err (end.Endpoint p)) counts t = absurd t
 finishes log_length before sink sink' told left rest (Err (end.Capture n reason)) counts t = absurd t
+
+stops_in : (log_length : ℕ) (before : Option ReaderState) (sink : SinkSeen) (left : List (List ℕ)) (rest : Option (Result Next PcapFault)) (stop : RunEnd)
+    → GivesCounts before (Err stop) left rest → Finishes log_length before sink sink (Err stop) left rest
+stops_in log_length before sink left rest end.WriteFault h = absurd h
+stops_in log_length before sink left rest end.NoMemory h = (h, Appends-none sink.told)
+stops_in log_length before sink left rest end.Whole h = absurd h
+stops_in log_length before sink left rest end.ReadFault h = (h, Appends-none sink.told)
+stops_in log_length before sink left rest (end.Endpoint p) h = absurd h
+stops_in log_length before sink left rest (end.Capture n reason) h = (h, Appends-none sink.told)
+
+-- reading to the end stopped
+pub stops_finishing : (log_length : ℕ) (before : Option ReaderState) (s : SourceSeen) (sink : SinkSeen) (stop : RunEnd)
+    → HasRecords before s (GivesCounts before (Err stop)) → HasRecords before s (Finishes log_length before sink sink (Err stop))
+stops_finishing log_length before s sink stop h = (h.0, h.1, h.2, stops_in log_length before sink h.0 h.1 stop h.3)

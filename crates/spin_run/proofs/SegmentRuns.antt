@@ -26,7 +26,7 @@ use Rattle.spin_run.specs.declared.end.RunEnd.{RunEnd}
 use Rattle.spin_run.specs.declared.end.RunEnd.TheVariants as end
 use Rattle.spin_run.specs.Records.{AreRecords, room_of, IsTakenPast}
 use Rattle.spin_run.specs.Ends.{RunSeen, HasRun, IsReading, retired_before, segment_text, wanted_to, Writes, WritesInto, EndsWithin, TakesFor, EndsBy, CountsBy, seen}
-use Rattle.spin_run.specs.Inner.Reading.{given_by, IsGoing, HasTaken, TakesFrames}
+use Rattle.spin_run.specs.Inner.Reading.{given_by, IsGoing, HasTaken, Reads, TakesFrames}
 use Rattle.spin_run.specs.Inner.Steps.{Moment, standing, setting_of, RunsFrom, retired_for, HasRunOne, HasTold, StopsOne, Stands, HasToldAll, WalksBy, AllBy, RunsAll, Setting}
 use Rattle.spin_run.specs.Summaries.{Counts, counts_in}
 use Rattle.spin_run.specs.Inner.Tallies.{TalliesOn}
@@ -95,86 +95,95 @@ wanted_next script count segment there =
     ∙ sum_by_push (λ (t : Segment). wanted_by t.lines) (take count script.segments) segment
 
 -- how many records are left, where all wanted so far were there
-left_long : (script : ScriptData) (reader : Option ReaderState) (frames : List (List ℕ)) (rest : Option (Result Next PcapFault)) (before : RunSeen)
-    (count : ℕ) (now : Moment) (s : Stands script reader frames rest before count now) → length s.left ≡ length frames - wanted_to script count
-left_long script reader frames rest before count now s = ap length s.left_is ∙ length-drop (wanted_to script count) frames
+left_long : (script : ScriptData) (reader : Option ReaderState) (frames left : List (List ℕ)) (before : RunSeen) (count : ℕ) (now : Moment)
+    → Stands script reader frames left before count now → length left ≡ length frames - wanted_to script count
+left_long script reader frames left before count now s = ap length s.left_is ∙ length-drop (wanted_to script count) frames
 
-pub stands_start : (script : ScriptData) (reader : Option ReaderState) (frames : List (List ℕ)) (rest : Option (Result Next PcapFault)) (before : RunSeen) (now : Moment)
-    → now.capture ≡ reader → now.outside.source ≡ before.source → now.state ≡ (start_with script frames before.ends).state → now.outside.ends ≡ before.ends
-    → given_by now.capture ≡ 0 → AreRecords now.capture now.outside.source frames rest → Writes before now.outside (ended first_line) → Stands script reader frames rest before 0 now
-stands_start script reader frames rest before now same source state ends given records text = record {
+pub stands_start : (script : ScriptData) (reader : Option ReaderState) (frames : List (List ℕ)) (before : RunSeen) (now : Moment) → now.capture ≡ reader
+    → now.outside.source ≡ before.source → now.state ≡ (start_with script frames before.ends).state → now.outside.ends ≡ before.ends
+    → given_by now.capture ≡ 0 → Writes before now.outside (ended first_line) → Stands script reader frames frames before 0 now
+stands_start script reader frames before now same source state ends given text = record {
   parts = [];
-  left = frames;
   run = record { there = omega arith; run = (refl, λ i. record { state = state i; left = frames; ends = ends i }) };
   text = subst (λ (x : List ℕ). Writes before now.outside x) (sym (append-nil (ended first_line))) text;
-  records = records;
   left_is = refl;
   taken = λ le. subst (λ (x : Option ReaderState × SourceSeen). HasTaken reader x.0 before.source x.1 []) (λ i. (sym same i, sym source i)) (took_none reader before.source);
   total = omega (arith, given);
   going = λ g. given;
 }
 
-pub stands_next : (script : ScriptData) (reader : Option ReaderState) (frames : List (List ℕ)) (rest : Option (Result Next PcapFault)) (before : RunSeen) (count : ℕ) (segment : Segment)
-    (now next : Moment) → slice_get script.segments count ≡ Some segment → (s : Stands script reader frames rest before count now) → HasRunOne (setting_of script) count segment now next s.left rest
-    → TakesFrames {T = Unit {0}} (wanted_by segment.lines) now.capture next.capture now.outside.source next.outside.source (Ok tt) s.left → Stands script reader frames rest before (count + 1) next
-stands_next script reader frames rest before count segment now next there s one took =
-    let h : HasRun script frames before.ends count s.parts (standing now s.left) = s.run in
+pub stands_next : (script : ScriptData) (reader : Option ReaderState) (frames left later : List (List ℕ)) (before : RunSeen) (count : ℕ) (segment : Segment) (now next : Moment)
+    → slice_get script.segments count ≡ Some segment → (s : Stands script reader frames left before count now) → HasRunOne (setting_of script) count segment now next left later
+    → TakesFrames {T = Unit {0}} (wanted_by segment.lines) now.capture next.capture now.outside.source next.outside.source (Ok tt) left → Stands script reader frames later before (count + 1) next
+stands_next script reader frames left later before count segment now next there s one took =
+    let h : HasRun script frames before.ends count s.parts (standing now left) = s.run in
     let at = slice_at script.segments count segment there in
     let more : take (count + 1) script.segments ≡ take count script.segments ++ segment ∷ [] = take_next script.segments count segment there in
     let sum = wanted_next script count segment there in
     let long : length s.parts ≡ count = length_run script (take count script.segments) _ s.parts _ h.run ∙ length-take-le count script.segments h.there in
     record {
       parts = s.parts ++ one.part ∷ [];
-      left = one.next;
       run = record {
         there = omega (arith, at.0);
-        run = subst (λ (x : List Segment). AreRun script x (start_with script frames before.ends) (s.parts ++ one.part ∷ []) (standing next one.next)) (sym more)
-            (are_run_more script (take count script.segments) segment (start_with script frames before.ends) s.parts (standing now s.left) one.part (standing next one.next) h.run one.run);
+        run = subst (λ (x : List Segment). AreRun script x (start_with script frames before.ends) (s.parts ++ one.part ∷ []) (standing next later)) (sym more)
+            (are_run_more script (take count script.segments) segment (start_with script frames before.ends) s.parts (standing now left) one.part (standing next later) h.run one.run);
       };
       text = subst (λ (x : List ℕ). Writes before next.outside x) (sym (front_more s.parts one.part count long))
           (writes_more before now.outside next.outside (front_text s.parts) (segment_text count one.part) s.text one.text);
-      records = one.records;
       left_is = one.run.left ∙ ap (drop (wanted_by segment.lines)) s.left_is ∙ drop-drop (wanted_by segment.lines) (wanted_to script count) frames ∙ ap (λ n. drop n frames) (sym sum);
       taken = λ le.
           let few : wanted_to script count + wanted_by segment.lines ≤ length frames = omega (arith, le, sum) in
           subst (λ n. HasTaken reader next.capture before.source next.outside.source (take n frames)) (sym sum)
-          (took_segments reader now.capture next.capture before.source now.outside.source next.outside.source frames s.left (wanted_to script count) (wanted_by segment.lines) s.left_is few
-          (s.taken (omega (arith, few))) (took (omega (arith, few, left_long script reader frames rest before count now s))));
+          (took_segments reader now.capture next.capture before.source now.outside.source next.outside.source frames left (wanted_to script count) (wanted_by segment.lines) s.left_is few
+          (s.taken (omega (arith, few))) (took (omega (arith, few, left_long script reader frames left before count now s))));
       total = one.total ∙ s.total;
       going = λ g. let one_going = one.going g in
           one_going.1 ∙ ap (λ n. n + wanted_by segment.lines) (s.going one_going.0) ∙ sym sum;
     }
 
 -- nothing was run, and nothing counted
-pub told_start : (script : ScriptData) (reader : Option ReaderState) (frames : List (List ℕ)) (rest : Option (Result Next PcapFault)) (before : RunSeen) (now : Moment) (tally tally' : Option Counts)
-    → now.capture ≡ reader → now.outside.source ≡ before.source → now.state ≡ (start_with script frames before.ends).state → now.outside.ends ≡ before.ends → given_by now.capture ≡ 0
-    → AreRecords now.capture now.outside.source frames rest → Writes before now.outside (ended first_line) → tally' ≡ tally → HasToldAll script reader frames rest before 0 now tally tally'
+pub told_start : (script : ScriptData) (reader : Option ReaderState) (frames : List (List ℕ)) (before : RunSeen) (now : Moment) (tally tally' : Option Counts)
+    → now.capture ≡ reader → now.outside.source ≡ before.source → now.state ≡ (start_with script frames before.ends).state → now.outside.ends ≡ before.ends
+    → given_by now.capture ≡ 0 → Writes before now.outside (ended first_line) → tally' ≡ tally → HasToldAll script reader frames frames before 0 now tally tally'
 unfolding stands_start
-told_start script reader frames rest before now tally tally' same source state ends given records text counted = record {
-  stands = stands_start script reader frames rest before now same source state ends given records text;
+told_start script reader frames before now tally tally' same source state ends given text counted = record {
+  stands = stands_start script reader frames before now same source state ends given text;
   counted = tallies_none tally tally' counted;
 }
 
 -- one segment more was run, and its entries counted
-pub told_next : (script : ScriptData) (reader : Option ReaderState) (frames : List (List ℕ)) (rest : Option (Result Next PcapFault)) (before : RunSeen)
-    (count : ℕ) (segment : Segment) (now next : Moment) (tally tally' tally'' : Option Counts) → slice_get script.segments count ≡ Some segment
-    → (s : HasToldAll script reader frames rest before count now tally tally') → HasTold (setting_of script) count segment now next tally' tally'' s.stands.left rest
-    → TakesFrames {T = Unit {0}} (wanted_by segment.lines) now.capture next.capture now.outside.source next.outside.source (Ok tt) s.stands.left
-    → HasToldAll script reader frames rest before (count + 1) next tally tally''
+pub told_next : (script : ScriptData) (reader : Option ReaderState) (frames left later : List (List ℕ)) (before : RunSeen) (count : ℕ)
+    (segment : Segment) (now next : Moment) (tally tally' tally'' : Option Counts) → slice_get script.segments count ≡ Some segment
+    → HasToldAll script reader frames left before count now tally tally' → HasTold (setting_of script) count segment now next tally' tally'' left later
+    → TakesFrames {T = Unit {0}} (wanted_by segment.lines) now.capture next.capture now.outside.source next.outside.source (Ok tt) left
+    → HasToldAll script reader frames later before (count + 1) next tally tally''
 unfolding stands_next
-told_next script reader frames rest before count segment now next tally tally' tally'' there s told took = record {
-  stands = stands_next script reader frames rest before count segment now next there s.stands told.one took;
+told_next script reader frames left later before count segment now next tally tally' tally'' there s told took = record {
+  stands = stands_next script reader frames left later before count segment now next there s.stands told.one took;
   counted = subst (λ (es : List Entry). TalliesOn tally tally'' (counts_in es)) (entries_more s.stands.parts told.one.part)
       (tallies_more tally tally' tally'' (flat_map (λ (p : SegmentSeen). p.entries) s.stands.parts) told.one.part.entries s.counted told.counted);
 }
 
+-- whatever records are left afterwards, P holds of them, and of some that were left before
+abbrev pub KeepsRecords : Option ReaderState → SourceSeen → Option ReaderState → SourceSeen → (List (List ℕ) → List (List ℕ) → Option (Result Next PcapFault) → Type 0) → Type 0
+KeepsRecords before s after s' P = Reads {T = Unit {0}} before s after s' (Ok tt) P
+
+-- the same records, of which something else holds
+pub reads_so : {T : Type 0} (P Q : List (List ℕ) → List (List ℕ) → Option (Result Next PcapFault) → Type 0)
+    (before : Option ReaderState) (s : SourceSeen) (after : Option ReaderState) (s' : SourceSeen) (result : Result T RunEnd)
+    → ((frames left : List (List ℕ)) (rest : Option (Result Next PcapFault)) → P frames left rest → Q frames left rest) → Reads before s after s' result P → Reads before s after s' result Q
+reads_so P Q before s after s' (Ok done) f h = λ left rest r. let one = h left rest r in (one.0, one.1, f one.0 left rest one.2)
+reads_so P Q before s after s' (Err stop) f h = (h.0, h.1, h.2, f h.0 [] h.1 h.3)
+
 -- what was run in a setting is a run of the script whose setting it is
-pub runs_script : (script : ScriptData) (s : Setting) (reader : Option ReaderState) (frames : List (List ℕ)) (rest : Option (Result Next PcapFault)) (start : RunSeen)
-    (now : Moment) (tally counted : Option Counts) (capture : Option ReaderState) (after : RunSeen) (tally' : Option Counts) (result : Result ℕ RunEnd)
-    → s ≡ setting_of script → RunsAll s script.segments now counted capture after tally' result
-    → HasToldAll script reader frames rest start 0 now tally counted → AllBy script reader start tally capture after tally' result frames rest
-runs_script script s reader frames rest start now tally counted capture after tally' result same h told =
-    subst (λ (x : Setting). RunsAll x script.segments now counted capture after tally' result) same h script.version reader start tally frames rest told
+pub runs_script : (script : ScriptData) (s : Setting) (reader : Option ReaderState) (start : RunSeen) (now : Moment) (tally counted : Option Counts)
+    (capture : Option ReaderState) (after : RunSeen) (tally' : Option Counts) (result : Result ℕ RunEnd) → s ≡ setting_of script
+    → RunsAll s script.segments now counted capture after tally' result → ((frames : List (List ℕ)) → HasToldAll script reader frames frames start 0 now tally counted)
+    → Reads now.capture now.outside.source capture after.source result (AllBy script reader start tally capture after tally' result)
+runs_script script s reader start now tally counted capture after tally' result same h told =
+    let all = subst (λ (x : Setting). RunsAll x script.segments now counted capture after tally' result) same h in
+    reads_so _ (AllBy script reader start tally capture after tally' result) now.capture now.outside.source capture after.source result
+    (λ frames left rest f. f script.version reader start tally (told frames)) all
 
 retired_is : (script : ScriptData) (count : ℕ) (segment : Segment) (ends : List NamedEnd) → slice_get script.segments count ≡ Some segment
     → all_retired script.endpoints segment.retires ends ≡ retired_before script count ends
@@ -189,16 +198,16 @@ within script count segment now left ends there (inr (inl retired)) = inr (inl (
 within script count segment now left ends there (inr (inr all)) = inr (inr (all.0, all.1, record { segment = segment; there = there; run = all.2 }, all.3))
 
 -- what was taken by a run that stopped in a segment
-takes_for : (script : ScriptData) (reader : Option ReaderState) (frames : List (List ℕ)) (rest : Option (Result Next PcapFault)) (before : RunSeen) (count : ℕ)
-    (segment : Segment) (now next : Moment) (stop : RunEnd) → slice_get script.segments count ≡ Some segment → (s : Stands script reader frames rest before count now)
-    → TakesFrames {T = Unit {0}} (wanted_by segment.lines) now.capture next.capture now.outside.source next.outside.source (Err stop) s.left
+takes_for : (script : ScriptData) (reader : Option ReaderState) (frames left : List (List ℕ)) (before : RunSeen) (count : ℕ) (segment : Segment) (now next : Moment) (stop : RunEnd)
+    → slice_get script.segments count ≡ Some segment → Stands script reader frames left before count now
+    → TakesFrames {T = Unit {0}} (wanted_by segment.lines) now.capture next.capture now.outside.source next.outside.source (Err stop) left
     → TakesFor script (room_of reader) frames count before next.outside
-takes_for script reader frames rest before count segment now next stop there s took = λ _ le.
+takes_for script reader frames left before count segment now next stop there s took = λ _ le.
     let sum = wanted_next script count segment there in
     let few : wanted_to script count + wanted_by segment.lines ≤ length frames = omega (arith, le, sum) in
     subst (λ n. IsTakenPast (room_of reader) before.source next.outside.source (take n frames)) (sym sum)
-    (past_segments reader now.capture before.source now.outside.source next.outside.source frames s.left (wanted_to script count) (wanted_by segment.lines) s.left_is few
-    (s.taken (omega (arith, few))) (took (omega (arith, few, left_long script reader frames rest before count now s))))
+    (past_segments reader now.capture before.source now.outside.source next.outside.source frames left (wanted_to script count) (wanted_by segment.lines) s.left_is few
+    (s.taken (omega (arith, few))) (took (omega (arith, few, left_long script reader frames left before count now s))))
 
 -- a reader that goes on is one of a capture
 has_rest : (capture : Option ReaderState) (source : SourceSeen) (left : List (List ℕ)) (rest : Option (Result Next PcapFault)) → IsGoing capture → AreRecords capture source left rest → rest ≢ None
@@ -206,84 +215,84 @@ has_rest None source left rest going r = absurd going
 has_rest (Some reader) source left rest going r = λ none. absurd (let e : Some r.0 ≡ None = sym r.1 ∙ none in cc (e))
 
 -- where the next record is read
-pub reading : (script : ScriptData) (reader : Option ReaderState) (frames : List (List ℕ)) (rest : Option (Result Next PcapFault))
-    (before : RunSeen) (count : ℕ) (now : Moment) (s : Stands script reader frames rest before count now) → IsGoing now.capture
+pub reading : (script : ScriptData) (reader : Option ReaderState) (frames left : List (List ℕ)) (rest : Option (Result Next PcapFault)) (before : RunSeen) (count : ℕ) (now : Moment)
+    → Stands script reader frames left before count now → AreRecords now.capture now.outside.source left rest → IsGoing now.capture
     → ((wanted_to script count + 1 ≤ wanted_to script (count + 1)) ⊎ (count ≡ length script.segments)) → IsReading script frames rest count
-reading script reader frames rest before count now s going at = record {
-  capture = has_rest now.capture now.outside.source s.left rest going s.records;
+reading script reader frames left rest before count now s r going at = record {
+  capture = has_rest now.capture now.outside.source left rest going r;
   number = wanted_to script count + 1;
   there = omega (arith, s.going going, s.total);
   read_at = record { behind = omega arith; before = at };
 }
 
 -- the end of a run that stopped in a segment
-pub one_ends : (script : ScriptData) (reader : Option ReaderState) (frames : List (List ℕ)) (rest : Option (Result Next PcapFault))
-    (before : RunSeen) (count : ℕ) (segment : Segment) (now next : Moment) (stop : RunEnd) → slice_get script.segments count ≡ Some segment
-    → (s : Stands script reader frames rest before count now) → StopsOne (setting_of script) count segment now next s.left rest stop
-    → TakesFrames {T = Unit {0}} (wanted_by segment.lines) now.capture next.capture now.outside.source next.outside.source (Err stop) s.left
+pub one_ends : (script : ScriptData) (reader : Option ReaderState) (frames left : List (List ℕ)) (rest : Option (Result Next PcapFault)) (before : RunSeen) (count : ℕ)
+    (segment : Segment) (now next : Moment) (stop : RunEnd) → slice_get script.segments count ≡ Some segment → Stands script reader frames left before count now
+    → AreRecords now.capture now.outside.source left rest → StopsOne (setting_of script) count segment now next left rest stop
+    → TakesFrames {T = Unit {0}} (wanted_by segment.lines) now.capture next.capture now.outside.source next.outside.source (Err stop) left
     → EndsBy script (room_of reader) frames rest before next.outside stop
-one_ends script reader frames rest before count segment now next (end.Capture n reason) there s h took =
+one_ends script reader frames left rest before count segment now next (end.Capture n reason) there s r h took =
     let sum = wanted_next script count segment there in
-    let r = h.0 in
-    let number_is : n ≡ length frames + 1 = omega (arith, r.3, s.total) in
-    let given = s.going r.4 in (
-      r.0,
-      r.1,
-      r.2,
+    let refused = h.0 in
+    let number_is : n ≡ length frames + 1 = omega (arith, refused.3, s.total) in
+    let given = s.going refused.4 in (
+      refused.0,
+      refused.1,
+      refused.2,
       number_is,
       count,
       s.parts,
-      standing now s.left,
+      standing now left,
       s.run,
-      record { behind = omega (arith, number_is, given, s.total); before = inl (omega (arith, r.3, sum, given, h.1)) },
+      record { behind = omega (arith, number_is, given, s.total); before = inl (omega (arith, refused.3, sum, given, h.1)) },
       writes_nothing before now.outside next.outside (front_text s.parts) s.text h.3,
       h.2 ∙ retired_is script count segment now.outside.ends there,
     )
-one_ends script reader frames rest before count segment now next end.ReadFault there s h took =
+one_ends script reader frames left rest before count segment now next end.ReadFault there s r h took =
     let sum = wanted_next script count segment there in (
       count,
       s.parts,
-      standing now s.left,
+      standing now left,
       s.run,
-      reading script reader frames rest before count now s h.0 (inl (omega (arith, sum, h.1))),
+      reading script reader frames left rest before count now s r h.0 (inl (omega (arith, sum, h.1))),
       writes_nothing before now.outside next.outside (front_text s.parts) s.text h.3,
       h.2 ∙ retired_is script count segment now.outside.ends there,
-      takes_for script reader frames rest before count segment now next end.ReadFault there s took,
+      takes_for script reader frames left before count segment now next end.ReadFault there s took,
     )
-one_ends script reader frames rest before count segment now next end.WriteFault there s h took = inr (inl (
+one_ends script reader frames left rest before count segment now next end.WriteFault there s r h took = inr (inl (
   count,
   s.parts,
-  standing now s.left,
+  standing now left,
   s.run,
   h.0,
   h.1,
   record { segment = segment; there = there; run = h.2 },
   writes_into before now.outside next.outside (front_text s.parts) (segment_text count h.0) s.text h.4,
   h.3,
-  takes_for script reader frames rest before count segment now next end.WriteFault there s took,
+  takes_for script reader frames left before count segment now next end.WriteFault there s took,
 ))
-one_ends script reader frames rest before count segment now next end.NoMemory there s h took = (
+one_ends script reader frames left rest before count segment now next end.NoMemory there s r h took = (
   count,
   s.parts,
-  standing now s.left,
+  standing now left,
   s.run,
   writes_nothing before now.outside next.outside (front_text s.parts) s.text h.1,
-  within script count segment now s.left next.outside.ends there h.0,
-  takes_for script reader frames rest before count segment now next end.NoMemory there s took,
+  within script count segment now left next.outside.ends there h.0,
+  takes_for script reader frames left before count segment now next end.NoMemory there s took,
 )
-one_ends script reader frames rest before count segment now next (end.Endpoint p) there s h took = (
+one_ends script reader frames left rest before count segment now next (end.Endpoint p) there s r h took = (
   count,
   s.parts,
-  standing now s.left,
+  standing now left,
   s.run,
   h.0,
   h.1,
   record { segment = segment; there = there; run = h.2 },
   subst (λ (x : List NamedEnd). StopsAt script.endpoints (sends_in h.0) p x next.outside.ends) (retired_is script count segment now.outside.ends there) h.3,
   writes_nothing before now.outside next.outside (front_text s.parts) s.text h.4,
-  takes_for script reader frames rest before count segment now next (end.Endpoint p) there s took,
+  takes_for script reader frames left before count segment now next (end.Endpoint p) there s took,
 )
-one_ends script reader frames rest before count segment now next end.Whole there s h took = absurd h
+one_ends script reader frames left rest before count segment now next end.Whole there s r h took = absurd h
 
 -- ---- the first line
 

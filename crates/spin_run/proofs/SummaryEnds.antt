@@ -17,7 +17,7 @@ use Rattle.spin_report.specs.Histories.{HistorySeen, entries_of}
 use Rattle.spin_report.specs.Runs.{Captured, AreRun, start_with, frames_of}
 use Rattle.spin_run.specs.declared.end.RunEnd.{RunEnd}
 use Rattle.spin_run.specs.declared.end.RunEnd.TheVariants as end
-use Rattle.spin_run.specs.Records.{AreRecords}
+use Rattle.spin_run.specs.Records.{AreRecords, HasRecords}
 use Rattle.spin_run.specs.Ends.{RunSeen, IsReadWhole, IsWhole, Writes, WritesInto, EndsBy, CountsBy}
 use Rattle.spin_run.specs.Summaries.{Counts, counts_in, summary_lines, untold, SumsUpBy}
 use Rattle.spin_run.specs.Inner.Tallies.{plus, TalliesOn, Tells, TellsByCount}
@@ -35,7 +35,7 @@ no_rise : Rose 0 0 → ⊥
 no_rise rose = omega arith
 
 -- the walk stopped
-pub stops_untold : (script : ScriptData) (past number : ℕ) (frames : List (List ℕ)) (rest : Option (Result Next PcapFault)) (names : List (List ℕ)) (before after : RunSeen)
+stops_untold : (script : ScriptData) (past number : ℕ) (frames : List (List ℕ)) (rest : Option (Result Next PcapFault)) (names : List (List ℕ)) (before after : RunSeen)
     (tally tally' : Option Counts) (stop : RunEnd) → (stop ≡ end.Whole → ⊥) → CountsBy names (untold before) (untold after) stop → after.sink ≡ before.sink
     → WalksBy script past frames rest (untold before) tally (untold after) tally' stop → SumsUpBy script past number frames rest before after stop
 stops_untold script past number frames rest names before after tally tally' end.Whole differs c same h = absurd (differs refl)
@@ -44,6 +44,13 @@ stops_untold script past number frames rest names before after tally tally' end.
 stops_untold script past number frames rest names before after tally tally' end.NoMemory differs c same h = (h, same)
 stops_untold script past number frames rest names before after tally tally' (end.Endpoint p) differs c same h = (h, same)
 stops_untold script past number frames rest names before after tally tally' (end.Capture n reason) differs c same h = (h, same)
+
+pub stops_summing : (script : ScriptData) (past number : ℕ) (capture : Option ReaderState) (source : SourceSeen) (names : List (List ℕ))
+    (before after : RunSeen) (tally tally' : Option Counts) (stop : RunEnd) → (stop ≡ end.Whole → ⊥) → CountsBy names (untold before) (untold after) stop
+    → after.sink ≡ before.sink → HasRecords capture source (λ frames rest. WalksBy script past frames rest (untold before) tally (untold after) tally' stop)
+    → HasRecords capture source (λ frames rest. SumsUpBy script past number frames rest before after stop)
+stops_summing script past number capture source names before after tally tally' stop differs c same h =
+    (h.0, h.1, h.2, stops_untold script past number h.0 h.1 names before after tally tally' stop differs c same h.3)
 
 pub counts_untold : (names : List (List ℕ)) (before after : RunSeen) (stop : RunEnd) → CountsBy names (untold before) (untold after) stop → after.sink ≡ before.sink → CountsBy names before after stop
 counts_untold names before after end.Whole c same = (c.0, ap (λ (s : SinkSeen). s.faults) same, c.2)

@@ -1,8 +1,13 @@
--- Laws of lanes between two segments.
-use Rattle.std.specs.Prelude.{◌≡◌, ℕ, List, length}
+-- Laws of lanes between two segments, and of the records of a capture.
+use Rattle.std.specs.Prelude.{◌≡◌, ℕ, List, length, Option, Some, Result}
 use Rattle.atomic_table.specs.Seated.{TableId}
+use Rattle.spin_outside.specs.Sources.{SourceSeen}
+use Rattle.spin_pcap.specs.declared.fault.PcapFault.{PcapFault}
+use Rattle.spin_pcap.specs.declared.next.Next.{Next}
+use Rattle.spin_pcap.specs.Passing.{ReaderState}
 use Rattle.spin_table.specs.Setups.{SetupData}
 use Rattle.spin_run.specs.declared.lane.Lane.{Lane}
+use Rattle.spin_run.specs.Records.{AreRecords}
 use Rattle.spin_run.specs.Segments.{AreReady, front_of, state_of}
 
 -- The place of the state that lanes are ready in is the number of rows that they know.
@@ -10,3 +15,11 @@ abbrev pub PlaceIsFront : Type 0
 PlaceIsFront =
     (d : SetupData) (log : TableId) (count : ℕ) (lanes : List Lane)
     → AreReady d log count lanes → (state_of d lanes).place ≡ length (front_of lanes)
+
+-- Of a source that tells what it has left, just one list of records is left, and its rest is answered in one way.
+abbrev pub RecordsAreOne : Type 0
+RecordsAreOne =
+    (capture : Option ReaderState) (source : SourceSeen) (bytes : List ℕ) (frames frames' : List (List ℕ))
+    (rest rest' : Option (Result Next PcapFault))
+    → source.left ≡ Some bytes → AreRecords capture source frames rest → AreRecords capture source frames' rest'
+    → (frames ≡ frames') × (rest ≡ rest')

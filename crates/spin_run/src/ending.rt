@@ -6,7 +6,7 @@ ghost use Rattle.spin_run.specs.Inner.Reading.{given_by, ReadsByCount};
 ghost use Rattle.spin_run.specs.Inner.Ending.{GivesCounts, Finishes};
 ghost use Rattle.spin_run.specs.Inner.Steps.{ResultCounts};
 ghost use Rattle.spin_run.specs.Ends.{seen};
-ghost use Rattle.spin_run.specs.Records.{ForRecords};
+ghost use Rattle.spin_run.specs.Records.{HasRecords};
 
 use crate::end::RunEnd;
 use crate::records::read_rest;
@@ -32,7 +32,7 @@ fn rest_counts<S: Source>(
     capture: &mut Option<Reader>,
     source: &mut S,
 ) -> Result<Option<CaptureCounts>, RunEnd>
-    ensures answer { ForRecords capture.old (S.seen source.old) (GivesCounts capture.old result) }
+    ensures answer { HasRecords capture.old (S.seen source.old) (GivesCounts capture.old result) }
     ensures keep { (S.seen source.new).keep ≡ (S.seen source.old).keep }
     ensures cause { ReadsByCount (S.seen source.old).faults (S.seen source.new).faults result }
 {
@@ -53,7 +53,7 @@ pub(crate) fn finish<S: Source, T: Telling>(
     source: &mut S,
     out: &mut T,
 ) -> Result<(), RunEnd>
-    ensures answer { ForRecords capture.old (S.seen source.old)
+    ensures answer { HasRecords capture.old (S.seen source.old)
         (Finishes length capture.old (T.seen out.old) (T.seen out.new) result) }
     ensures tally { OnOk result (T.counts out.new ≡ T.counts out.old) }
     ensures keep { (S.seen source.new).keep ≡ (S.seen source.old).keep }

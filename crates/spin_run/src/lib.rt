@@ -9,7 +9,8 @@
 //! - `lines` makes a segment's lines, `writing` writes them, `one` runs a segment with all this, `ending` ends a run;
 //! - `telling` has what becomes of a segment: it is written, or counted by `tally`;
 //! - `script` runs a whole script, `summary` with a summary in place of the report, `end` has how a run ends;
-//! - `law` says that the place of ready lanes is the number of rows that they know, `place` tells that number;
+//! - `law` says that the place of ready lanes is the number of rows that they know, `place` tells that number, and
+//!   `law` that the records of a capture that is told are determined;
 //! - `limits` states the limits.
 #![tactic(auto)]
 
@@ -38,7 +39,7 @@ mod writing;
 pub use end::RunEnd;
 pub use lane::Lane;
 pub use lanes::{Lanes, run_lanes};
-pub use law::place_is_front;
+pub use law::{place_is_front, records_are_one};
 pub use limits::limits_are_stated;
 pub use script::run_script;
 pub use segment::{WORKERS, Woven, run_segment};

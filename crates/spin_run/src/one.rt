@@ -14,10 +14,9 @@ ghost use Rattle.spin_script.specs.States.{ScriptData, deed_count};
 ghost use Rattle.spin_script.specs.Checks.{most_deeds};
 ghost use Rattle.spin_script.specs.Soundness.{commands_in};
 ghost use Rattle.spin_run.specs.Inner.Lining.{counts_to};
-ghost use Rattle.spin_run.specs.Inner.Reading.{TakesFrames};
+ghost use Rattle.spin_run.specs.Inner.Reading.{Reads, TakesFrames};
 ghost use Rattle.spin_run.specs.Ends.{seen};
 ghost use Rattle.spin_run.specs.Inner.Steps.{moment, setting, OneBy, ResultCounts};
-ghost use Rattle.spin_run.specs.Records.{ForRecords};
 
 use crate::end::RunEnd;
 use crate::lanes::Lanes;
@@ -80,16 +79,15 @@ pub(crate) fn run_one<R: Threads + Sync, S: Source, T: Telling, G: Gate>(
         (⟦<Ends as EndsSeen>⟧.all ends.old) in
         let after = moment (state_of d lanes.new) capture.new (S.seen source.new) (T.seen out.new)
         (⟦<Ends as EndsSeen>⟧.all ends.new) in
-        ForRecords capture.old (S.seen source.old)
-        (OneBy (setting d (length lanes.old) names.now) number segment.now before after
-        (T.counts out.old) (T.counts out.new) result) }
+        Reads capture.old (S.seen source.old) capture.new (S.seen source.new) result
+        (λ left next rest. OneBy (setting d (length lanes.old) names.now) number segment.now before after
+        (T.counts out.old) (T.counts out.new) result left next rest
+        × TakesFrames (specs.wanted_by segment.now.lines)
+        capture.old capture.new (S.seen source.old) (S.seen source.new) result left) }
     ensures ready { let d = data_of hub.now.setup in
         OnOk result (AreReady d hub.now.log.id hub.now.log.lanes lanes.new) }
     ensures taken { let most = length (front_of lanes.old) + commands_in segment.now.lines in
         OnOk result (length (front_of lanes.new) ≤ most) }
-    ensures took { ForRecords capture.old (S.seen source.old) (λ left rest.
-        TakesFrames (specs.wanted_by segment.now.lines)
-        capture.old capture.new (S.seen source.old) (S.seen source.new) result left) }
     ensures keep { (S.seen source.new).keep ≡ (S.seen source.old).keep }
     ensures same { T.reference out.new ≡ T.reference out.old }
     ensures counts { let before = seen (S.seen source.old) (T.seen out.old)

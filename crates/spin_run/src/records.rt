@@ -1,9 +1,9 @@
 //! The records of a capture: those that the packet lines of a segment take, and the rest.
 
-ghost use Rattle.std.specs.Prelude.{◌≡◌, List, ℕ, Option, Result, Ok};
+ghost use Rattle.std.specs.Prelude.{◌≡◌, ◌∷◌, List, [], ℕ, Option, Result, Ok};
 ghost use Rattle.spin_run.specs.Inner.Reading.{stop_of, CountsOn, GivesNext, GivesFrames, GivesRest, ReadsByCount};
-ghost use Rattle.spin_run.specs.Inner.Reading.{TakesNext, TakesFrames};
-ghost use Rattle.spin_run.specs.Records.{ForRecords};
+ghost use Rattle.spin_run.specs.Inner.Reading.{HasTaken, Reads, TakesFrames};
+ghost use Rattle.spin_run.specs.Records.{HasRecords};
 
 use crate::end::RunEnd;
 use spin_outside::Source;
@@ -32,10 +32,11 @@ fn next_record<S: Source>(
     source: &mut S,
     frame: &mut Octets,
 ) -> Result<Next, RunEnd>
-    ensures answer { ForRecords capture.old (S.seen source.old)
-        (GivesNext capture.old capture.new (S.seen source.new) frame.new result) }
+    ensures answer { Reads capture.old (S.seen source.old) capture.new (S.seen source.new) result
+        (GivesNext capture.old (S.seen source.old) capture.new (S.seen source.new) frame.new result) }
     ensures counted { result ≡ Ok Next.Packet → CountsOn capture.old capture.new }
-    ensures took { TakesNext capture.old capture.new (S.seen source.old) (S.seen source.new) frame.new result }
+    ensures took { result ≡ Ok Next.Packet
+        → HasTaken capture.old capture.new (S.seen source.old) (S.seen source.new) (frame.new ∷ []) }
     ensures keep { (S.seen source.new).keep ≡ (S.seen source.old).keep }
     ensures cause { ReadsByCount (S.seen source.old).faults (S.seen source.new).faults result }
 {
@@ -55,10 +56,9 @@ pub(crate) fn read_records<S: Source>(
     source: &mut S,
     wanted: u32,
 ) -> Result<Frames, RunEnd>
-    ensures answer { ForRecords capture.old (S.seen source.old)
-        (GivesFrames wanted capture.old capture.new (S.seen source.new) result) }
-    ensures took { ForRecords capture.old (S.seen source.old) (λ frames rest.
-        TakesFrames wanted capture.old capture.new (S.seen source.old) (S.seen source.new) result frames) }
+    ensures answer { Reads capture.old (S.seen source.old) capture.new (S.seen source.new) result
+        (λ frames left rest. GivesFrames wanted capture.old capture.new result frames left rest
+        × TakesFrames wanted capture.old capture.new (S.seen source.old) (S.seen source.new) result frames) }
     ensures keep { (S.seen source.new).keep ≡ (S.seen source.old).keep }
     ensures cause { ReadsByCount (S.seen source.old).faults (S.seen source.new).faults result }
 {
@@ -82,7 +82,7 @@ pub(crate) fn read_rest<S: Source>(
     capture: &mut Option<Reader>,
     source: &mut S,
 ) -> Result<u32, RunEnd>
-    ensures answer { ForRecords capture.old (S.seen source.old)
+    ensures answer { HasRecords capture.old (S.seen source.old)
         (GivesRest capture.old capture.new result) }
     ensures keep { (S.seen source.new).keep ≡ (S.seen source.old).keep }
     ensures cause { ReadsByCount (S.seen source.old).faults (S.seen source.new).faults result }

@@ -8,7 +8,8 @@ ghost use Rattle.spin_script.specs.Scripts.{script_seen};
 ghost use Rattle.spin_script.specs.Segments.{IsOrderly};
 ghost use Rattle.spin_script.specs.Soundness.{AreValid, command_lines};
 ghost use Rattle.spin_run.specs.Ends.{seen, EndsBy, CountsBy};
-ghost use Rattle.spin_run.specs.Records.{room_of, ForRecords};
+ghost use Rattle.spin_run.specs.Records.{room_of, HasRecords};
+ghost use Rattle.spin_run.specs.Inner.Reading.{Reads};
 ghost use Rattle.spin_run.specs.Segments.{AreReady, front_of, state_of};
 ghost use Rattle.spin_run.specs.Inner.Steps.{moment, setting, script_in, AllBy, RunsAll, WalksBy, ResultCounts};
 
@@ -102,7 +103,7 @@ fn run_over<R: Threads + Sync, S: Source, T: Telling, G: Gate>(
         (⟦<Ends as EndsSeen>⟧.all ends.old) in
         let after = seen (S.seen source.new) (T.seen out.new)
         (⟦<Ends as EndsSeen>⟧.all ends.new) in
-        (version : ℕ) → ForRecords capture.old (S.seen source.old)
+        (version : ℕ) → Reads capture.old (S.seen source.old) capture.new (S.seen source.new) result
         (AllBy (script_in s segments.now version) capture.old before (T.counts out.old)
         capture.new after (T.counts out.new) result) }
     ensures keep { (S.seen source.new).keep ≡ (S.seen source.old).keep }
@@ -143,7 +144,7 @@ fn run_segments<R: Threads + Sync, S: Source, T: Telling, G: Gate>(
         (⟦<Ends as EndsSeen>⟧.all ends.old) in
         let after = seen (S.seen source.new) (T.seen out.new)
         (⟦<Ends as EndsSeen>⟧.all ends.new) in
-        ForRecords capture.old (S.seen source.old)
+        Reads capture.old (S.seen source.old) capture.new (S.seen source.new) result
         (AllBy (script_seen script) capture.old before (T.counts out.old)
         capture.new after (T.counts out.new) result) }
     ensures keep { (S.seen source.new).keep ≡ (S.seen source.old).keep }
@@ -196,7 +197,7 @@ pub(crate) fn walk<R: Threads + Sync, S: Source, T: Telling, G: Gate>(
         (⟦<Ends as EndsSeen>⟧.all ends.old) in
         let after = seen (S.seen source.new) (T.seen out.new)
         (⟦<Ends as EndsSeen>⟧.all ends.new) in
-        ForRecords capture (S.seen source.old)
+        HasRecords capture (S.seen source.old)
         (λ frames rest. WalksBy (script_seen script) (room_of capture) frames rest
         before (T.counts out.old) after (T.counts out.new) result) }
     ensures keep { (S.seen source.new).keep ≡ (S.seen source.old).keep }
@@ -231,6 +232,9 @@ pub(crate) fn walk<R: Threads + Sync, S: Source, T: Telling, G: Gate>(
 /// segments up to this one want, no more than 65,536 bytes past these were taken, those among them that the reader held
 /// from the start.
 ///
+/// The records are those that the source tells; of a source that tells nothing the clause says that there are records
+/// of which all this holds, and so it speaks of the sink and the endpoints whatever the source tells.
+///
 /// The script is one that [`read_script`](spin_script::read_script) gives, the capture is as
 /// [`Reader::start`](spin_pcap::Reader::start) left it, and the catalogue's objects do what they were handed in with.
 pub fn run_script<R: Threads + Sync, S: Source, K: Sink, G: Gate>(
@@ -252,7 +256,7 @@ pub fn run_script<R: Threads + Sync, S: Source, K: Sink, G: Gate>(
         (⟦<Ends as EndsSeen>⟧.all ends.old) in
         let after = seen (S.seen source.new) (K.seen out.new)
         (⟦<Ends as EndsSeen>⟧.all ends.new) in
-        ForRecords capture (S.seen source.old)
+        HasRecords capture (S.seen source.old)
         (λ frames rest.
         EndsBy (script_seen script) (room_of capture) frames rest before after result) }
     ensures keep { (S.seen source.new).keep ≡ (S.seen source.old).keep }

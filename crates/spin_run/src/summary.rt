@@ -8,7 +8,7 @@ ghost use Rattle.spin_script.specs.Scripts.{script_seen};
 ghost use Rattle.spin_script.specs.Segments.{IsOrderly};
 ghost use Rattle.spin_script.specs.Soundness.{AreValid, command_lines};
 ghost use Rattle.spin_run.specs.Ends.{seen, CountsBy};
-ghost use Rattle.spin_run.specs.Records.{room_of, ForRecords};
+ghost use Rattle.spin_run.specs.Records.{room_of, HasRecords};
 ghost use Rattle.spin_run.specs.Summaries.{SumsUpBy, summary_lines};
 ghost use Rattle.spin_run.specs.Inner.Tallies.{Tells, TellsByCount};
 
@@ -72,7 +72,7 @@ pub fn run_summary<R: Threads + Sync, S: Source, K: Sink, G: Gate>(
         (⟦<Ends as EndsSeen>⟧.all ends.old) in
         let after = seen (S.seen source.new) (K.seen out.new)
         (⟦<Ends as EndsSeen>⟧.all ends.new) in
-        ForRecords capture (S.seen source.old)
+        HasRecords capture (S.seen source.old)
         (λ frames rest.
         SumsUpBy (script_seen script) (room_of capture) number frames rest before after result) }
     ensures keep { (S.seen source.new).keep ≡ (S.seen source.old).keep }

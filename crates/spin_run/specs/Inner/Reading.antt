@@ -8,21 +8,41 @@ use Rattle.spin_pcap.specs.declared.fault.PcapFault.TheVariants as fault
 use Rattle.spin_pcap.specs.declared.limits.TheConstants.{MAX_RECORDS}
 use Rattle.spin_pcap.specs.declared.next.Next.{Next}
 use Rattle.spin_pcap.specs.declared.next.Next.TheVariants as next
+use Rattle.spin_pcap.specs.declared.state.State.{State}
 use Rattle.spin_pcap.specs.declared.state.State.TheVariants as state
 use Rattle.spin_pcap.specs.Passing.{ReaderState, fault_number}
 use Rattle.spin_run.specs.declared.end.RunEnd.{RunEnd}
 use Rattle.spin_run.specs.declared.end.RunEnd.TheVariants as end
-use Rattle.spin_run.specs.Records.{AreRecords, bytes_in, room_of, IsTakenPast}
+use Rattle.spin_run.specs.Records.{AreRecords, HasRecords, bytes_in, room_of, IsTakenPast}
 
 -- how many records the reader gave
 abbrev pub given_by : Option ReaderState → ℕ
 given_by None = 0
 given_by (Some reader) = reader.given
 
--- The reader came neither to an end nor to a refusal.
+-- What P says of records that are left before, of those left afterwards, and of how the rest is answered: of a call
+-- that stopped it holds of some that were left, and none afterwards. Of one that is done, and of whatever is left then,
+-- it holds of some that were left before.
+abbrev pub Reads : {T : Type 0} → Option ReaderState → SourceSeen → Option ReaderState → SourceSeen
+    → Result T RunEnd → (List (List ℕ) → List (List ℕ) → Option (Result Next PcapFault) → Type 0)
+    → Type 0
+Reads before source after source' (Ok done) P =
+    (left : List (List ℕ)) (rest : Option (Result Next PcapFault))
+    → AreRecords after source' left rest
+    → (frames : List (List ℕ)) × AreRecords before source frames rest × P frames left rest
+Reads before source after source' (Err stop) P =
+    HasRecords before source (λ frames rest. P frames [] rest)
+
+-- A reader that stands so came to no end.
+abbrev pub GoesOn : State → Type 0
+GoesOn state.Reading = ⊤
+GoesOn state.End = ⊥
+GoesOn (state.Cut count) = ⊥
+GoesOn (state.Spoilt first) = ⊤
+
 abbrev pub IsGoing : Option ReaderState → Type 0
 IsGoing None = ⊥
-IsGoing (Some reader) = reader.state ≡ state.Reading
+IsGoing (Some reader) = GoesOn reader.state
 
 -- the rest of a capture that ends behind a whole record; without a capture there is none
 abbrev pub whole_rest : Option ReaderState → Option (Result Next PcapFault)
@@ -55,37 +75,43 @@ StopsBy refused failed end.ReadFault = failed
 StopsBy refused failed end.NoMemory = ⊤
 StopsBy refused failed other = ⊥
 
--- No record is left, and the rest is this one. It is answered again, and nothing more is given.
-pub record IsOver (before after : Option ReaderState) (source : SourceSeen) (frames : List (List ℕ))
+-- No record was left and none is, and the rest is this one. Nothing more is given.
+pub record IsOver (before after : Option ReaderState) (frames left : List (List ℕ))
     (rest known : Option (Result Next PcapFault)) : Type 0 where
   pub none : frames ≡ []
+  pub behind : left ≡ []
   pub rest_is : rest ≡ known
-  pub records : AreRecords after source [] rest
   pub given : given_by after ≡ given_by before
   pub over : IsGoing after → ⊥
 
--- one record
-abbrev pub GivesNext : Option ReaderState → Option ReaderState → SourceSeen → List ℕ
-    → Result Next RunEnd → List (List ℕ) → Option (Result Next PcapFault) → Type 0
-GivesNext before after source frame (Ok next.Packet) frames rest =
-    (others : List (List ℕ)) × (frames ≡ frame ∷ others)
-    × AreRecords after source others rest × (given_by after ≡ given_by before + 1)
-GivesNext before after source frame (Ok next.End) frames rest =
-    IsOver before after source frames rest (whole_rest before)
-GivesNext before after source frame (Ok (next.Cut count)) frames rest =
-    IsOver before after source frames rest (Some (Ok (next.Cut count)))
-GivesNext before after source frame (Err stop) frames rest =
+-- Where a record was left, no more was taken than it has, and so many bytes past it.
+abbrev pub TakesFirst : ℕ → SourceSeen → SourceSeen → List (List ℕ) → Type 0
+TakesFirst past source source' [] = ⊤
+TakesFirst past source source' (first ∷ others) = IsTakenPast past source source' (first ∷ [])
+
+-- one record; where it isn't given although it is there, no more is taken than it has, and what the reader has room for
+abbrev pub GivesNext : Option ReaderState → SourceSeen → Option ReaderState → SourceSeen → List ℕ
+    → Result Next RunEnd → List (List ℕ) → List (List ℕ) → Option (Result Next PcapFault) → Type 0
+GivesNext before source after source' frame (Ok next.Packet) frames left rest =
+    (frames ≡ frame ∷ left) × (given_by after ≡ given_by before + 1)
+GivesNext before source after source' frame (Ok next.End) frames left rest =
+    IsOver before after frames left rest (whole_rest before)
+GivesNext before source after source' frame (Ok (next.Cut count)) frames left rest =
+    IsOver before after frames left rest (Some (Ok (next.Cut count)))
+GivesNext before source after source' frame (Err stop) frames left rest =
     StopsBy (λ record_number reason. (frames ≡ [])
     × IsCaptureRefused before frames rest record_number reason) (IsGoing before) stop
+    × TakesFirst (room_of before) source source' frames
 
--- so many records wanted: these frames are the first of those left, and the others are left
-abbrev pub GivesFrames : ℕ → Option ReaderState → Option ReaderState → SourceSeen
-    → Result (List (List ℕ)) RunEnd → List (List ℕ) → Option (Result Next PcapFault) → Type 0
-GivesFrames wanted before after source (Ok taken) frames rest =
-    (taken ≡ take wanted frames) × AreRecords after source (drop wanted frames) rest
+-- so many records wanted: these are the first of those left, and the others are left
+abbrev pub GivesFrames : ℕ → Option ReaderState → Option ReaderState
+    → Result (List (List ℕ)) RunEnd → List (List ℕ) → List (List ℕ)
+    → Option (Result Next PcapFault) → Type 0
+GivesFrames wanted before after (Ok taken) frames left rest =
+    (taken ≡ take wanted frames) × (left ≡ drop wanted frames)
     × (given_by after ≡ given_by before + length taken)
     × (IsGoing after → IsGoing before × (length taken ≡ wanted))
-GivesFrames wanted before after source (Err stop) frames rest =
+GivesFrames wanted before after (Err stop) frames left rest =
     StopsBy (λ record_number reason. (length frames < wanted)
     × IsCaptureRefused before frames rest record_number reason) (IsGoing before × (0 < wanted)) stop
 
@@ -113,18 +139,6 @@ pub record HasTaken (before after : Option ReaderState) (source source' : Source
   pub count : ℕ
   pub taken : source'.taken ≡ taken_more source.taken count
   pub balance : count + room_of after ≡ bytes_in frames + room_of before
-
--- for one record; where it isn't given although it is there, no more than it has, and what the reader has room for
-abbrev pub TakesNext : Option ReaderState → Option ReaderState → SourceSeen → SourceSeen → List ℕ
-    → Result Next RunEnd → Type 0
-TakesNext before after source source' frame (Ok next.Packet) =
-    HasTaken before after source source' (frame ∷ [])
-TakesNext before after source source' frame (Ok next.End) = ⊤
-TakesNext before after source source' frame (Ok (next.Cut count)) = ⊤
-TakesNext before after source source' frame (Err stop) =
-    (first : List ℕ) (others : List (List ℕ)) (rest : Option (Result Next PcapFault))
-    → AreRecords before source (first ∷ others) rest
-    → IsTakenPast (room_of before) source source' (first ∷ [])
 
 -- for so many records, where so many are there
 abbrev pub TakesFrames : {T : Type 0} → ℕ → Option ReaderState → Option ReaderState → SourceSeen

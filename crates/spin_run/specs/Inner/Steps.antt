@@ -17,11 +17,11 @@ use Rattle.spin_report.specs.Segments.{wanted_by}
 use Rattle.spin_report.specs.Runs.{Standing, IsSegmentRun, sends_in}
 use Rattle.spin_run.specs.declared.end.RunEnd.{RunEnd}
 use Rattle.spin_run.specs.declared.end.RunEnd.TheVariants as end
-use Rattle.spin_run.specs.Records.{AreRecords, room_of}
+use Rattle.spin_run.specs.Records.{room_of}
 use Rattle.spin_run.specs.Ends.{RunSeen, HasRun, segment_text, wanted_to, Writes, WritesInto, IsWhole, EndsBy, CountsBy}
 use Rattle.spin_run.specs.Summaries.{Counts, counts_in}
 use Rattle.spin_run.specs.Inner.Tallies.{TalliesOn}
-use Rattle.spin_run.specs.Inner.Reading.{given_by, IsGoing, IsCaptureRefused, HasTaken}
+use Rattle.spin_run.specs.Inner.Reading.{given_by, IsGoing, IsCaptureRefused, HasTaken, Reads}
 
 -- ---- moments between segments
 
@@ -61,14 +61,12 @@ abbrev pub RunsFrom : Setting → Segment → Moment → List (List ℕ) → Seg
 RunsFrom s segment before left part next =
     IsSegmentRun s.setup s.lanes s.endpoints segment (standing before left) part next
 
--- It was run, and its text was appended; the rest of the capture is as before.
+-- It was run, and its text was appended; of the records that were left these are left then.
 pub record HasRunOne (s : Setting) (number : ℕ) (segment : Segment) (before after : Moment)
-    (left : List (List ℕ)) (rest : Option (Result Next PcapFault)) : Type 0 where
+    (left next : List (List ℕ)) : Type 0 where
   pub part : SegmentSeen
-  pub next : List (List ℕ)
   pub run : RunsFrom s segment before left part (standing after next)
   pub text : Writes before.outside after.outside (segment_text number part)
-  pub records : AreRecords after.capture after.outside.source next rest
   pub total : given_by after.capture + length next ≡ given_by before.capture + length left
   pub going : IsGoing after.capture
       → IsGoing before.capture
@@ -108,16 +106,17 @@ StopsOne s number segment before after left rest end.Whole = ⊥
 
 -- It was run and told, and its entries were counted, where they are.
 pub record HasTold (s : Setting) (number : ℕ) (segment : Segment) (before after : Moment)
-    (tally tally' : Option Counts) (left : List (List ℕ)) (rest : Option (Result Next PcapFault))
-    : Type 0 where
-  pub one : HasRunOne s number segment before after left rest
+    (tally tally' : Option Counts) (left next : List (List ℕ)) : Type 0 where
+  pub one : HasRunOne s number segment before after left next
   pub counted : TalliesOn tally tally' (counts_in one.part.entries)
 
+-- of these records, and of their rest, where the others are left then
 abbrev pub OneBy : Setting → ℕ → Segment → Moment → Moment → Option Counts → Option Counts
-    → Result (Unit {0}) RunEnd → List (List ℕ) → Option (Result Next PcapFault) → Type 0
-OneBy s number segment before after tally tally' (Ok done) left rest =
-    HasTold s number segment before after tally tally' left rest
-OneBy s number segment before after tally tally' (Err stop) left rest =
+    → Result (Unit {0}) RunEnd → List (List ℕ) → List (List ℕ) → Option (Result Next PcapFault)
+    → Type 0
+OneBy s number segment before after tally tally' (Ok done) left next rest =
+    HasTold s number segment before after tally tally' left next
+OneBy s number segment before after tally tally' (Err stop) left next rest =
     StopsOne s number segment before after left rest stop
 
 -- which counts rose
@@ -127,14 +126,13 @@ ResultCounts names before after (Err stop) = CountsBy names before after stop
 
 -- ---- the segments so far
 
--- So many segments were run, from the start on, where the capture had this reader, to this moment.
-pub record Stands (script : ScriptData) (reader : Option ReaderState) (frames : List (List ℕ))
-    (rest : Option (Result Next PcapFault)) (start : RunSeen) (count : ℕ) (now : Moment) : Type 0 where
+-- So many segments were run, from the start on, where the capture had this reader and these records, to this moment,
+-- where the others are left.
+pub record Stands (script : ScriptData) (reader : Option ReaderState) (frames left : List (List ℕ))
+    (start : RunSeen) (count : ℕ) (now : Moment) : Type 0 where
   pub parts : List SegmentSeen
-  pub left : List (List ℕ)
   pub run : HasRun script frames start.ends count parts (standing now left)
   pub text : Writes start now.outside (front_text parts)
-  pub records : AreRecords now.capture now.outside.source left rest
   pub left_is : left ≡ drop (wanted_to script count) frames
   pub taken : wanted_to script count ≤ length frames
       → HasTaken reader now.capture start.source now.outside.source (take (wanted_to script count) frames)
@@ -142,10 +140,9 @@ pub record Stands (script : ScriptData) (reader : Option ReaderState) (frames : 
   pub going : IsGoing now.capture → given_by now.capture ≡ wanted_to script count
 
 -- So many were run and told, and their entries were counted, where they are.
-pub record HasToldAll (script : ScriptData) (reader : Option ReaderState) (frames : List (List ℕ))
-    (rest : Option (Result Next PcapFault)) (start : RunSeen) (count : ℕ) (now : Moment)
-    (tally tally' : Option Counts) : Type 0 where
-  pub stands : Stands script reader frames rest start count now
+pub record HasToldAll (script : ScriptData) (reader : Option ReaderState) (frames left : List (List ℕ))
+    (start : RunSeen) (count : ℕ) (now : Moment) (tally tally' : Option Counts) : Type 0 where
+  pub stands : Stands script reader frames left start count now
   pub counted : TalliesOn tally tally' (counts_in (flat_map (λ part. part.entries) stands.parts))
 
 -- The whole run ends so; and where it was whole, all entries were counted, where they are.
@@ -160,13 +157,13 @@ WalksBy script past frames rest before tally after tally' stop =
 
 -- All were run, and the log has that length; or it stopped so.
 abbrev pub AllBy : ScriptData → Option ReaderState → RunSeen → Option Counts → Option ReaderState
-    → RunSeen → Option Counts → Result ℕ RunEnd → List (List ℕ) → Option (Result Next PcapFault)
-    → Type 0
-AllBy script reader start tally capture after tally' (Ok end_length) frames rest =
+    → RunSeen → Option Counts → Result ℕ RunEnd → List (List ℕ) → List (List ℕ)
+    → Option (Result Next PcapFault) → Type 0
+AllBy script reader start tally capture after tally' (Ok end_length) frames left rest =
     (state : State) × (end_length ≡ state.place)
-    × HasToldAll script reader frames rest start (length script.segments)
+    × HasToldAll script reader frames left start (length script.segments)
     (record { state = state; capture = capture; outside = after }) tally tally'
-AllBy script reader start tally capture after tally' (Err stop) frames rest =
+AllBy script reader start tally capture after tally' (Err stop) frames left rest =
     WalksBy script (room_of reader) frames rest start tally after tally' stop
 
 -- the script of that version whose segments run in the setting
@@ -184,7 +181,8 @@ script_in s segments version = record {
 abbrev pub RunsAll : Setting → List Segment → Moment → Option Counts → Option ReaderState → RunSeen
     → Option Counts → Result ℕ RunEnd → Type 0
 RunsAll s segments now counted capture after tally' result =
+    Reads now.capture now.outside.source capture after.source result (λ frames left rest.
     (version : ℕ) (reader : Option ReaderState) (start : RunSeen) (tally : Option Counts)
-    (frames : List (List ℕ)) (rest : Option (Result Next PcapFault))
-    → HasToldAll (script_in s segments version) reader frames rest start 0 now tally counted
-    → AllBy (script_in s segments version) reader start tally capture after tally' result frames rest
+    → HasToldAll (script_in s segments version) reader frames frames start 0 now tally counted
+    → AllBy (script_in s segments version) reader start tally capture after tally' result
+    frames left rest)

@@ -6,7 +6,7 @@ use Rattle.spin_pcap.specs.declared.fault.PcapFault.{PcapFault}
 use Rattle.spin_pcap.specs.declared.order.Order.{Order}
 use Rattle.spin_pcap.specs.Captures.{ordered_number, captured}
 use Rattle.spin_pcap.specs.Passing.{Passes}
-use Rattle.spin_pcap.proofs.SourceBytes.{copies-whole, copies-part, failed, whatever}
+use Rattle.spin_pcap.proofs.SourceBytes.{copies-whole, copies-part, failed, no_refusal, whatever}
 use Rattle.spin_pcap.proofs.WholeRecords.{passes-record, within_record, answers-packet}
 use Rattle.spin_pcap.proofs.reader.read_record.Goals as goal
 
@@ -75,3 +75,6 @@ returns-else-whole-clause-cut g c =
     let part : (length c.copy_body.new.frame < c.read_u32-captured.result) × (c.copy_body.new.window ≡ []) × IsAtEnd (g.S.Source.seen c.copy_body.new.source).left =
     copies-part PcapFault _ _ _ _ _ c.if-whole.false c.in-Ok.ensures.copied in
     (omega (arith, c.if-given-ge-MAX_RECORDS.false), omega (arith, part.0), omega (arith, part.0, c.if-captured-gt-MAX_CAPTURED.false))
+
+pub returns-in-Err-clause-refused : goal.returns-in-Err-clause-refused
+returns-in-Err-clause-refused g c = no_refusal c.args.given _ c.in-Err.ensures.failed

@@ -7,9 +7,9 @@ use Rattle.spin_run.proofs.FaultCounts.{results_telling}
 use Rattle.spin_run.proofs.ending.finish.Goals as goal
 
 pub returns-clause-answer : goal.returns-clause-answer
-returns-clause-answer g c left rest r =
-    finishes c.args.length c.args.capture.now (g.T.Telling.seen c.args.out.now)
-    (g.T.Telling.seen c.end.new.self) c.in_ok-counts.counts left rest c.end.result (c.in_ok-counts.ensures.answer left rest r) c.end.ensures.told
+returns-clause-answer g c =
+    let h = c.in_ok-counts.ensures.answer in
+    (h.0, h.1, h.2, finishes c.args.length c.args.capture.now (g.T.Telling.seen c.args.out.now) (g.T.Telling.seen c.end.new.self) c.in_ok-counts.counts h.0 h.1 c.end.result h.3 c.end.ensures.told)
 
 pub returns-clause-counts : goal.returns-clause-counts
 returns-clause-counts g c =

@@ -1,4 +1,4 @@
-use Rattle.std.proofs.Common.{◌≡◌, ◌<◌, List, ◌∷◌, ◌++◌, ℕ, length, map, take, Ok, Err, refl, sym, ap, subst, ◌∙◌, ◌⊎◌, inr}
+use Rattle.std.proofs.Common.{◌≡◌, ◌<◌, List, ◌∷◌, ◌++◌, ℕ, length, map, Ok, Err, refl, sym, ap, subst, ◌∙◌, ◌⊎◌, inr}
 use Rattle.std.specs.Prelude.{All}
 use Rattle.std.proofs.lemmas.Result.{err_from_is_err_and, on_ok_weaker}
 use Rattle.spin_endpoint.specs.Inner.View.{view_of}
@@ -9,7 +9,7 @@ use Rattle.spin_report.specs.Lines.{entry_line, job_line}
 use Rattle.spin_report.specs.Histories.{retire_line, segment_line, lost_lines}
 use Rattle.spin_report.specs.Segments.{wanted_by}
 use Rattle.spin_report.specs.Runs.{retirements}
-use Rattle.spin_run.specs.Records.{room_of}
+use Rattle.spin_run.specs.declared.end.RunEnd.TheVariants as end
 use Rattle.spin_run.specs.Segments.{state_of, jobs_seen}
 use Rattle.spin_run.specs.Inner.Sending.{sends_made}
 use Rattle.spin_run.specs.Inner.Lining.{counts_to}
@@ -17,9 +17,8 @@ use Rattle.spin_run.specs.Inner.Writing.{joined}
 use Rattle.spin_run.specs.Inner.Steps.{moment, setting}
 use Rattle.spin_run.proofs.SentNames.{all_sent}
 use Rattle.spin_run.proofs.FaultCounts.{counts_reading, counts_sending, results_telling}
-use Rattle.spin_run.proofs.CaptureBytes.{past_none, takes_before, takes_reading, takes_told}
 use Rattle.spin_run.proofs.SegmentLemmas.{rest_of_ready, woven_ready}
-use Rattle.spin_run.proofs.OneSegment.{HasAnswered, HasLines, sends_are, sends_as, stops_retiring, stops_reading_in, stops_sending, one_told}
+use Rattle.spin_run.proofs.OneSegment.{HasAnswered, HasLines, sends_are, sends_as, stops_retiring, stops_before, stops_within, stops_behind, stops_sending, one_told}
 use Rattle.spin_run.proofs.one.run_one.Goals as goal
 
 pub run_segment-requires-clause-ready : goal.run_segment-requires-clause-ready
@@ -47,10 +46,10 @@ returns-in_err-retired g c =
     let memory = subst (λ (x : List ℕ). (ends' ≡ ends) ⊎ (ends' ≡ all_retired c.args.names.now x ends)) c.as_slice.ensures c.in_err-retired.ensures.memory in
     let p = err_from_is_err_and c.from_residual.result c.from_residual.ensures.1 in
     rw (p.1, p.2) (record {
-      one = λ left rest r. stops_retiring s c.args.number c.args.segment.now before after left rest refl memory;
+      one = stops_before s c.args.number c.args.segment.now before after (g.T.Telling.counts c.args.out.now)
+          (g.T.Telling.counts c.args.out.now) end.NoMemory refl (λ left rest. stops_retiring s c.args.number c.args.segment.now before after left rest refl memory);
       ready = tt;
       taken = tt;
-      took = λ left rest r le. past_none (room_of c.args.capture.now) (source c.args.source.now) (take (wanted_by c.args.segment.now.lines) left);
       keep = refl;
       same = refl;
       counts = (refl, refl, c.in_err-retired.ensures.faults);
@@ -70,12 +69,10 @@ returns-in_err-frames g c =
     let wanted : c.wanted_by-wanted.result ≡ wanted_by c.args.segment.now.lines = c.wanted_by-wanted.ensures ∙ ap wanted_by c.as_slice-2.ensures in
     let p = err_from_is_err_and c.from_residual-in_err-frames.result c.from_residual-in_err-frames.ensures.1 in
     rw (p.1, p.2) (record {
-      one = λ left rest r. stops_reading_in s c.args.number c.args.segment.now before after left rest c.wanted_by-wanted.result c.read_records.new.capture
-          (source c.read_records.new.source) c.in_err-frames.field-0.0 refl retired wanted (c.in_err-frames.ensures.answer left rest r);
+      one = stops_within s c.args.number c.args.segment.now before after (g.T.Telling.counts c.args.out.now)
+          (g.T.Telling.counts c.args.out.now) c.wanted_by-wanted.result c.in_err-frames.field-0.0 refl retired wanted c.in_err-frames.ensures.answer;
       ready = tt;
       taken = tt;
-      took = λ left rest r. takes_reading c.args.capture.now (source c.args.source.now) (source c.read_records.new.source) left c.wanted_by-wanted.result
-          (wanted_by c.args.segment.now.lines) wanted (c.in_err-frames.ensures.took left rest r);
       keep = c.in_err-frames.ensures.keep;
       same = refl;
       counts = counts_reading c.args.names.now c.in_err-frames.field-0.0 before.outside after.outside c.in_err-frames.ensures.cause refl c.in_ok-retired.ensures.faults;
@@ -95,11 +92,10 @@ returns-in_err-woven g c =
     let wanted : c.wanted_by-wanted.result ≡ wanted_by c.args.segment.now.lines = c.wanted_by-wanted.ensures ∙ ap wanted_by c.as_slice-2.ensures in
     let p = err_from_is_err_and c.from_residual-in_err-woven.result c.from_residual-in_err-woven.ensures.1 in
     rw (p.1, p.2) (record {
-      one = λ left rest r. stops_retiring s c.args.number c.args.segment.now before after left rest refl (inr retired);
+      one = stops_behind s c.args.number c.args.segment.now before after (g.T.Telling.counts c.args.out.now) (g.T.Telling.counts c.args.out.now) c.in_ok-frames.frames
+          c.wanted_by-wanted.result end.NoMemory wanted c.in_ok-frames.ensures.answer (λ left rest _. stops_retiring s c.args.number c.args.segment.now before after left rest refl (inr retired));
       ready = tt;
       taken = tt;
-      took = λ left rest r. takes_before c.args.capture.now c.read_records.new.capture (source c.args.source.now)
-          (source c.read_records.new.source) left c.wanted_by-wanted.result (wanted_by c.args.segment.now.lines) wanted (c.in_ok-frames.ensures.took left rest r);
       keep = c.in_ok-frames.ensures.keep;
       same = refl;
       counts = (c.in_ok-frames.ensures.cause, refl, c.in_ok-retired.ensures.faults);
@@ -123,19 +119,17 @@ returns-in_err-lost g c =
     (Err c.in_err-lost.field-0.0) c.as_slice-entries.ensures c.as_slice-3.ensures retired c.in_err-lost.ensures.sends in
     let p = err_from_is_err_and c.from_residual-in_err-lost.result c.from_residual-in_err-lost.ensures.1 in
     rw (p.1, p.2) (record {
-      one = λ left rest r.
-          let given = c.in_ok-frames.ensures.answer left rest r in
+      one = stops_behind s c.args.number c.args.segment.now before after (g.T.Telling.counts c.args.out.now)
+          (g.T.Telling.counts c.args.out.now) c.in_ok-frames.frames c.wanted_by-wanted.result c.in_err-lost.field-0.0 wanted c.in_ok-frames.ensures.answer (λ left rest front.
           let answered : HasAnswered s c.args.segment.now before left (state_of d c.run_segment.new.lanes) w.entries w.jobs w.replies c.in_ok-frames.frames = record {
-            read = given.0 ∙ ap (λ n. take n left) wanted;
+            read = front;
             woven = woven_ready d c.args.hub.now.log.id c.args.hub.now.log.lanes c.args.lanes.now _ _ _ _ c.requires.ready c.in_ok-woven.ensures.woven;
             replies_are = c.in_ok-woven.ensures.replies;
           } in
           stops_sending s c.args.number c.args.segment.now before after left c.in_ok-frames.frames rest
-          (state_of d c.run_segment.new.lanes) w.entries w.jobs w.replies c.in_err-lost.field-0.0 refl answered sent;
+          (state_of d c.run_segment.new.lanes) w.entries w.jobs w.replies c.in_err-lost.field-0.0 refl answered sent);
       ready = tt;
       taken = tt;
-      took = λ left rest r. takes_before c.args.capture.now c.read_records.new.capture (source c.args.source.now)
-          (source c.read_records.new.source) left c.wanted_by-wanted.result (wanted_by c.args.segment.now.lines) wanted (c.in_ok-frames.ensures.took left rest r);
       keep = c.in_ok-frames.ensures.keep;
       same = refl;
       counts = counts_sending c.args.names.now sends c.in_err-lost.field-0.0 before.outside after.outside
@@ -167,19 +161,15 @@ returns g c =
       lines_are = refl;
     } in
     record {
-      one = λ left rest r.
-          let given = c.in_ok-frames.ensures.answer left rest r in
-          let answered : HasAnswered s c.args.segment.now before left (state_of d c.run_segment.new.lanes) w.entries w.jobs w.replies c.in_ok-frames.frames = record {
-            read = given.0 ∙ ap (λ n. take n left) wanted;
+      one = one_told s c.args.number c.args.segment.now before after c.in_ok-frames.frames w.entries w.jobs w.replies c.in_ok-lost.lost c.in_ok-retired.retired lines_told c.wanted_by-wanted.result
+          (λ left front. record {
+            read = front;
             woven = woven_ready d c.args.hub.now.log.id c.args.hub.now.log.lanes c.args.lanes.now _ _ _ _ c.requires.ready c.in_ok-woven.ensures.woven;
             replies_are = c.in_ok-woven.ensures.replies;
-          } in
-          one_told s c.args.number c.args.segment.now before after left c.in_ok-frames.frames rest w.entries w.jobs w.replies c.in_ok-lost.lost c.in_ok-retired.retired
-          lines_told c.wanted_by-wanted.result answered (record { sent = sent }) made wanted given _ _ c.tell.result c.tell.ensures.told c.tell.ensures.counts;
+          })
+          (record { sent = sent }) made wanted c.in_ok-frames.ensures.answer _ _ c.tell.result c.tell.ensures.told c.tell.ensures.counts;
       ready = on_ok_weaker c.tell.result (λ _. c.in_ok-woven.ensures.ready) c.tell.ensures.counts;
       taken = on_ok_weaker c.tell.result (λ _. c.in_ok-woven.ensures.taken) c.tell.ensures.counts;
-      took = λ left rest r. takes_told c.args.capture.now c.read_records.new.capture (source c.args.source.now)
-          (source c.read_records.new.source) left c.wanted_by-wanted.result (wanted_by c.args.segment.now.lines) c.tell.result wanted (c.in_ok-frames.ensures.took left rest r);
       keep = c.in_ok-frames.ensures.keep;
       same = c.tell.ensures.same;
       counts = results_telling c.args.names.now (joined lines_told) c.tell.result before.outside after.outside c.in_ok-frames.ensures.cause

@@ -1,16 +1,14 @@
 use Rattle.std.proofs.Common.{◌≡◌, ◌-◌, ℕ, List}
 use Rattle.spin_pcap.specs.declared.limits.TheConstants.{MAX_RECORDS}
 use Rattle.spin_run.specs.Inner.Reading.{given_by}
-use Rattle.spin_run.specs.Records.{ForRecords}
-use Rattle.spin_run.proofs.ReaderCalls.{HasRead}
+use Rattle.spin_run.proofs.ReaderCalls.{HasReadTo}
 use Rattle.spin_run.proofs.records.read_rest.Given as goal
 
 abbrev pub invariant-loop-frame : goal.invariant-loop-frame
 invariant-loop-frame g l =
     let seen = g.S.Source.seen in
     record {
-      read : ForRecords l.fn.capture (seen l.fn.source) (λ frames rest.
-          (taken : List (List ℕ)) × HasRead l.fn.capture l.capture (seen l.source) taken frames rest);
+      read : (taken : List (List ℕ)) × HasReadTo l.fn.capture (seen l.fn.source) l.capture (seen l.source) taken;
       keep : (seen l.source).keep ≡ (seen l.fn.source).keep;
       stood : (seen l.source).faults ≡ (seen l.fn.source).faults;
     }

@@ -13,7 +13,7 @@ use Rattle.spin_run.proofs.script.run_each.Goals as goal
 
 pub loop-number-init : goal.loop-number-init
 loop-number-init g c = record {
-  stands = λ version reader start tally frames rest told. told;
+  stands = λ left rest r. (left, r, λ version reader start tally told. told);
   ready = c.requires.ready;
   room = omega (arith, ap length c.requires.front);
   keep = refl;
@@ -68,11 +68,19 @@ returns-in_err-run_one g c =
     let stop = c.in_err-run_one.field-0.0 in
     let p = err_from_is_err_and c.from_residual.result c.from_residual.ensures.1 in
     rw (p.1, p.2) (record {
-      end = λ version reader start tally frames rest told.
-          let t = (c.loop-number.invariant.stands version reader start tally frames rest told).stands in
-          let one = subst (λ (n : ℕ). StopsOne (setting d n names) number segment now next t.left rest stop) lanes_are (c.in_err-run_one.ensures.one t.left rest t.records) in
-          one_walks (script_in s c.args.segments.now version) (room_of reader) frames rest start next.outside tally (g.T.Telling.counts c.run_one.new.out) s number segment now next t.left stop one
-          (one_ends (script_in s c.args.segments.now version) reader frames rest start number segment now next stop c.get-segment.ensures t one (c.in_err-run_one.ensures.took t.left rest t.records));
+      end =
+          let one = c.in_err-run_one.ensures.one in
+          let before = c.loop-number.invariant.stands one.0 one.1 one.2 in
+          let stops = subst (λ (n : ℕ). StopsOne (setting d n names) number segment now next one.0 one.1 stop) lanes_are one.3.0 in (
+            before.0,
+            one.1,
+            before.1,
+            λ version reader start tally told.
+                let t = (before.2 version reader start tally told).stands in
+                one_walks (script_in s c.args.segments.now version) (room_of reader) before.0 one.1 start next.outside tally
+                (g.T.Telling.counts c.run_one.new.out) s number segment now next one.0 stop stops
+                (one_ends (script_in s c.args.segments.now version) reader before.0 one.0 one.1 start number segment now next stop c.get-segment.ensures t one.2 stops one.3.1),
+          );
       keep = c.in_err-run_one.ensures.keep ∙ c.loop-number.invariant.keep;
       same = c.in_err-run_one.ensures.same ∙ c.loop-number.invariant.same;
       counts = counts_later names stop before now.outside next.outside c.loop-number.invariant.reads c.loop-number.invariant.writes c.loop-number.invariant.faults c.in_err-run_one.ensures.counts;
@@ -95,12 +103,16 @@ loop-number-preserved g c =
     let counted = g.T.Telling.counts c.loop-number.out in
     let counted' = g.T.Telling.counts c.run_one.new.out in
     record {
-      stands = λ version reader start tally frames rest told.
-          let t = c.loop-number.invariant.stands version reader start tally frames rest told in
-          let one =
-          subst (λ (n : ℕ). HasTold (setting d n names) number segment now next counted counted' t.stands.left rest) lanes_are (c.in_ok-run_one.ensures.one t.stands.left rest t.stands.records) in
-          told_next (script_in s c.args.segments.now version) reader frames rest start number segment now next tally counted counted' c.get-segment.ensures t one
-          (c.in_ok-run_one.ensures.took t.stands.left rest t.stands.records);
+      stands = λ left rest r.
+          let one = c.in_ok-run_one.ensures.one left rest r in
+          let before = c.loop-number.invariant.stands one.0 rest one.1 in
+          let told_one = subst (λ (n : ℕ). HasTold (setting d n names) number segment now next counted counted' one.0 left) lanes_are one.2.0 in (
+            before.0,
+            before.1,
+            λ version reader start tally told.
+                told_next (script_in s c.args.segments.now version) reader before.0 one.0 left start number segment now next tally counted counted' c.get-segment.ensures
+                (before.2 version reader start tally told) told_one one.2.1,
+          );
       ready = c.in_ok-run_one.ensures.ready;
       room = omega (arith, c.in_ok-run_one.ensures.taken, c.loop-number.invariant.room, more.0);
       keep = c.in_ok-run_one.ensures.keep ∙ c.loop-number.invariant.keep;
@@ -122,12 +134,17 @@ returns g c =
     let now = moment (state_of d lanes) c.loop-number.capture (g.S.Source.seen c.loop-number.source) (g.T.Telling.seen c.loop-number.out) (all c.loop-number.ends.ends.items) in
     let done : c.loop-number.number ≡ length c.args.segments.now = omega arith in
     record {
-      end = λ version reader start tally frames rest told. (
-        state_of d lanes,
-        c.place.ensures,
-        subst (λ (n : ℕ). HasToldAll (script_in s c.args.segments.now version) reader frames rest start n now tally (g.T.Telling.counts c.loop-number.out)) done
-            (c.loop-number.invariant.stands version reader start tally frames rest told),
-      );
+      end = λ left rest r.
+          let h = c.loop-number.invariant.stands left rest r in (
+            h.0,
+            h.1,
+            λ version reader start tally told. (
+              state_of d lanes,
+              c.place.ensures,
+              subst (λ (n : ℕ). HasToldAll (script_in s c.args.segments.now version) reader h.0 left start n now tally (g.T.Telling.counts c.loop-number.out)) done
+                  (h.2 version reader start tally told),
+            ),
+          );
       keep = c.loop-number.invariant.keep;
       same = c.loop-number.invariant.same;
       counts = (c.loop-number.invariant.reads, c.loop-number.invariant.writes, c.loop-number.invariant.faults);

@@ -1,7 +1,5 @@
-use Rattle.std.proofs.Common.{◌≡◌, ◌≤◌, ℕ, List, Option, Result, length, map, take}
+use Rattle.std.proofs.Common.{◌≡◌, ◌≤◌, ℕ, Option, length, map, take}
 use Rattle.spin_endpoint.specs.Inner.View.{view_of}
-use Rattle.spin_pcap.specs.declared.fault.PcapFault.{PcapFault}
-use Rattle.spin_pcap.specs.declared.next.Next.{Next}
 use Rattle.spin_pcap.specs.Passing.{ReaderState}
 use Rattle.spin_table.specs.SetupOf.{data_of}
 use Rattle.spin_script.specs.Soundness.{command_lines}
@@ -9,6 +7,7 @@ use Rattle.spin_run.specs.Ends.{RunSeen, faults_of}
 use Rattle.spin_run.specs.Summaries.{Counts}
 use Rattle.spin_run.specs.Segments.{AreReady, front_of, state_of}
 use Rattle.spin_run.specs.Inner.Steps.{moment, setting, script_in, HasToldAll}
+use Rattle.spin_run.proofs.SegmentRuns.{KeepsRecords}
 use Rattle.spin_run.proofs.script.run_each.Given as goal
 
 -- the segments so far were run
@@ -20,11 +19,11 @@ invariant-loop-number g l =
     let d = data_of l.hub.setup in
     let s = setting d (length l.fn.lanes) l.names in
     record {
-      stands : (version : ℕ) (reader : Option ReaderState) (start : RunSeen) (tally : Option Counts) (frames : List (List ℕ)) (rest : Option (Result Next PcapFault))
-          → HasToldAll (script_in s l.segments version) reader frames rest start 0
+      stands : KeepsRecords l.fn.capture (source l.fn.source) l.capture (source l.source) (λ frames left rest. (version : ℕ) (reader : Option ReaderState) (start : RunSeen) (tally : Option Counts)
+          → HasToldAll (script_in s l.segments version) reader frames frames start 0
           (moment (state_of d l.fn.lanes) l.fn.capture (source l.fn.source) (sink l.fn.out) (all l.fn.ends.ends.items)) tally (g.T.Telling.counts l.fn.out)
-          → HasToldAll (script_in s l.segments version) reader frames rest start l.number
-          (moment (state_of d l.lanes) l.capture (source l.source) (sink l.out) (all l.ends.ends.items)) tally (g.T.Telling.counts l.out);
+          → HasToldAll (script_in s l.segments version) reader frames left start l.number
+          (moment (state_of d l.lanes) l.capture (source l.source) (sink l.out) (all l.ends.ends.items)) tally (g.T.Telling.counts l.out));
       ready : AreReady d l.hub.log.id l.hub.log.lanes l.lanes;
       room : length (front_of l.lanes) ≤ command_lines (take l.number l.segments);
       keep : (source l.source).keep ≡ (source l.fn.source).keep;

@@ -10,6 +10,7 @@ use Rattle.spin_run.specs.Segments.{state_of}
 use Rattle.spin_run.specs.Inner.Steps.{moment, setting, script_in}
 use Rattle.spin_run.proofs.OrderlySegments.{orderly_in}
 use Rattle.spin_run.proofs.FaultCounts.{results_later}
+use Rattle.spin_run.proofs.Left.{some_left}
 use Rattle.spin_run.proofs.SegmentRuns.{ends_first, ends_empty, told_start, fresh_given, runs_script}
 use Rattle.spin_run.proofs.script.run_over.Goals as goal
 
@@ -23,7 +24,8 @@ returns-in-Err g c =
     let s = setting (data_of c.args.setup) c.args.lane_count c.args.names.now in
     let cut = c.in-Err.ensures.told in
     record {
-      end = λ version frames rest r. ends_first (script_in s c.args.segments.now version) c.args.capture.now frames rest before after cut.0 refl refl cut.1 cut.2;
+      end = λ version. let some = some_left c.args.capture.now source in
+          (some.0, some.1, some.2, ends_first (script_in s c.args.segments.now version) c.args.capture.now some.0 some.1 before after cut.0 refl refl cut.1 cut.2);
       keep = refl;
       same = c.in-Err.ensures.same;
       counts = (refl, c.in-Err.ensures.cause, refl);
@@ -39,7 +41,8 @@ returns-in_err-hub g c =
     let s = setting (data_of c.args.setup) c.args.lane_count c.args.names.now in
     let p = err_from_is_err_and c.from_residual.result c.from_residual.ensures.1 in
     rw (p.1, p.2) (record {
-      end = λ version frames rest r. ends_empty (script_in s c.args.segments.now version) c.args.capture.now frames rest before after refl refl c.in_default.ensures.told;
+      end = λ version. let some = some_left c.args.capture.now source in
+          (some.0, some.1, some.2, ends_empty (script_in s c.args.segments.now version) c.args.capture.now some.0 some.1 before after refl refl c.in_default.ensures.told);
       keep = refl;
       same = c.in_default.ensures.same;
       counts = (refl, c.in_default.ensures.cause, refl);
@@ -55,7 +58,8 @@ returns-in_err-lanes g c =
     let s = setting (data_of c.args.setup) c.args.lane_count c.args.names.now in
     let p = err_from_is_err_and c.from_residual-in_err-lanes.result c.from_residual-in_err-lanes.ensures.1 in
     rw (p.1, p.2) (record {
-      end = λ version frames rest r. ends_empty (script_in s c.args.segments.now version) c.args.capture.now frames rest before after refl refl c.in_default.ensures.told;
+      end = λ version. let some = some_left c.args.capture.now source in
+          (some.0, some.1, some.2, ends_empty (script_in s c.args.segments.now version) c.args.capture.now some.0 some.1 before after refl refl c.in_default.ensures.told);
       keep = refl;
       same = c.in_default.ensures.same;
       counts = (refl, c.in_default.ensures.cause, refl);
@@ -103,12 +107,12 @@ returns g c =
     let same : made ≡ s = λ i. setting (data_of (c.in_ok-hub.ensures.setup i)) (lanes_are i) c.args.names.now in
     let start : state_of (data_of c.in_ok-hub.hub.setup) lanes ≡ start_of (data_of c.args.setup) = c.in_ok-lanes.ensures.start ∙ ap (λ (st : _). start_of (data_of st)) c.in_ok-hub.ensures.setup in
     record {
-      end = λ version frames rest r.
+      end = λ version.
           let script = script_in s c.args.segments.now version in
-          let told = told_start script c.args.capture.now frames rest before now (counts c.args.out.now) (counts c.begin.new.self) refl refl start refl
-          (fresh_given c.args.capture.now c.requires.fresh) r c.in_default.ensures.told c.in_default.ensures.counts in
-          runs_script script made c.args.capture.now frames rest before now (counts c.args.out.now)
-          (counts c.begin.new.self) c.run_each.new.capture after (counts c.run_each.new.out) c.run_each.result same c.run_each.ensures.end told;
+          runs_script script made c.args.capture.now before now (counts c.args.out.now)
+          (counts c.begin.new.self) c.run_each.new.capture after (counts c.run_each.new.out) c.run_each.result same c.run_each.ensures.end
+          (λ frames. told_start script c.args.capture.now frames before now (counts c.args.out.now) (counts c.begin.new.self) refl refl start refl
+          (fresh_given c.args.capture.now c.requires.fresh) c.in_default.ensures.told c.in_default.ensures.counts);
       keep = c.run_each.ensures.keep;
       same = c.run_each.ensures.same ∙ c.in_default.ensures.same;
       counts = results_later c.args.names.now c.run_each.result before now.outside after refl c.in_default.ensures.cause refl c.run_each.ensures.counts;

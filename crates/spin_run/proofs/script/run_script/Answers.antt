@@ -14,10 +14,13 @@ returns-clause-end g c =
     let source = g.S.Source.seen c.walk.new.source in
     let sink = g.K.Sink.seen c.walk.new.out.out.now in
     let ends = all c.walk.new.ends.ends.items in
-    λ frames rest r.
-    ends_seen script (room_of c.args.capture) frames rest before source sink (g.K.Sink.seen c.out-1.given.0) ends c.walk.result
-    (walk_ends script (room_of c.args.capture) frames rest before (seen source sink ends) None None c.walk.result (c.walk.ensures.end frames rest r))
-    (ap g.K.Sink.seen (sym (c.out-1.given.1 (sym c.walk.ensures.same))))
+    let h = c.walk.ensures.end in (
+      h.0,
+      h.1,
+      h.2,
+      ends_seen script (room_of c.args.capture) h.0 h.1 before source sink (g.K.Sink.seen c.out-1.given.0) ends c.walk.result
+          (walk_ends script (room_of c.args.capture) h.0 h.1 before (seen source sink ends) None None c.walk.result h.3) (ap g.K.Sink.seen (sym (c.out-1.given.1 (sym c.walk.ensures.same)))),
+    )
 
 pub returns-clause-counts : goal.returns-clause-counts
 returns-clause-counts g c =

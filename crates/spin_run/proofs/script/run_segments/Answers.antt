@@ -3,6 +3,7 @@ use Rattle.spin_endpoint.specs.Inner.View.{view_of}
 use Rattle.spin_table.specs.SetupOf.{data_of}
 use Rattle.spin_script.specs.Scripts.{script_seen}
 use Rattle.spin_run.specs.Ends.{seen}
+use Rattle.spin_run.specs.Inner.Reading.{Reads}
 use Rattle.spin_run.specs.Inner.Steps.{setting, script_in, AllBy, ResultCounts}
 use Rattle.spin_run.proofs.OrderlySegments.{orderly_in}
 use Rattle.spin_run.proofs.script.run_segments.Goals as goal
@@ -34,10 +35,11 @@ returns g c =
     let before = seen (source c.args.source.now) (sink c.args.out.now) (all c.args.ends.now.ends.items) in
     let after = seen (source c.run_over.new.source) (sink c.run_over.new.out) (all c.run_over.new.ends.ends.items) in
     record {
-      end = λ frames rest r.
-          subst (λ (names : List (List ℕ)). AllBy (script_in (setting script.setup script.lanes names) script.segments script.version) c.args.capture.now before
-          (counts c.args.out.now) c.run_over.new.capture after (counts c.run_over.new.out) c.run_over.result frames rest)
-          c.as_slice.ensures (c.run_over.ensures.end script.version frames rest r);
+      end =
+          subst (λ (names : List (List ℕ)). Reads c.args.capture.now (source c.args.source.now) c.run_over.new.capture (source c.run_over.new.source) c.run_over.result
+          (AllBy (script_in (setting script.setup script.lanes names) script.segments script.version) c.args.capture.now before
+          (counts c.args.out.now) c.run_over.new.capture after (counts c.run_over.new.out) c.run_over.result))
+          c.as_slice.ensures (c.run_over.ensures.end script.version);
       keep = c.run_over.ensures.keep;
       same = c.run_over.ensures.same;
       counts = subst (λ (names : List (List ℕ)). ResultCounts names before after c.run_over.result) c.as_slice.ensures c.run_over.ensures.counts;

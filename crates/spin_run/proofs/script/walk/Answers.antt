@@ -13,11 +13,11 @@ returns-in-Ok-finish-clause-end g c =
     let sink = g.T.Telling.seen in
     let before = seen (source c.args.source.now) (sink c.args.out.now) (all c.args.ends.now.ends.items) in
     let after = seen (source c.finish.new.source) (sink c.finish.new.out) (all c.run_segments.new.ends.ends.items) in
-    λ frames rest r.
-    let a = c.in-Ok.ensures.end frames rest r in
-    let now = moment a.0 c.run_segments.new.capture (source c.run_segments.new.source) (sink c.run_segments.new.out) (all c.run_segments.new.ends.ends.items) in
-    walks_whole (script_seen c.args.script) c.args.capture frames rest before now c.in-Ok.length after _ _ _ refl a.1 r a.2
-    (c.in-Ok-finish.ensures.answer a.2.stands.left rest a.2.stands.records) c.in-Ok-finish.ensures.tally
+    let left = c.in-Ok-finish.ensures.answer in
+    let a = c.in-Ok.ensures.end left.0 left.1 left.2 in
+    let ran = a.2 in
+    let now = moment ran.0 c.run_segments.new.capture (source c.run_segments.new.source) (sink c.run_segments.new.out) (all c.run_segments.new.ends.ends.items) in
+    (a.0, left.1, a.1, walks_whole (script_seen c.args.script) c.args.capture a.0 left.0 left.1 before now c.in-Ok.length after _ _ _ refl ran.1 a.1 ran.2 left.3 c.in-Ok-finish.ensures.tally)
 
 pub returns-in-Ok-clause-end : goal.returns-in-Ok-clause-end
 returns-in-Ok-clause-end g c =
@@ -26,8 +26,8 @@ returns-in-Ok-clause-end g c =
     let sink = g.T.Telling.seen in
     let before = seen (source c.args.source.now) (sink c.args.out.now) (all c.args.ends.now.ends.items) in
     let after = seen (source c.finish.new.source) (sink c.finish.new.out) (all c.run_segments.new.ends.ends.items) in
-    λ frames rest r.
-    let a = c.in-Ok.ensures.end frames rest r in
-    let now = moment a.0 c.run_segments.new.capture (source c.run_segments.new.source) (sink c.run_segments.new.out) (all c.run_segments.new.ends.ends.items) in
-    walks_stopped (script_seen c.args.script) c.args.capture frames rest before now c.in-Ok.length after _ _ c.in-Err-finish.end refl a.1 r a.2.stands
-    (c.in-Err-finish.ensures.answer a.2.stands.left rest a.2.stands.records)
+    let left = c.in-Err-finish.ensures.answer in
+    let a = c.in-Ok.ensures.end left.0 left.1 left.2 in
+    let ran = a.2 in
+    let now = moment ran.0 c.run_segments.new.capture (source c.run_segments.new.source) (sink c.run_segments.new.out) (all c.run_segments.new.ends.ends.items) in
+    (a.0, left.1, a.1, walks_stopped (script_seen c.args.script) c.args.capture a.0 left.0 left.1 before now c.in-Ok.length after _ _ c.in-Err-finish.end refl ran.1 a.1 left.2 ran.2.stands left.3)
