@@ -1,5 +1,5 @@
 -- What is known of a capture in memory whose header was read.
-use Rattle.std.proofs.Common.{◌≡◌, ℕ, Option, Some, List, arith, sym, subst}
+use Rattle.std.proofs.Common.{◌≡◌, ℕ, Option, Some, List, IfSome, arith, refl, sym, subst}
 use Rattle.std.specs.Prelude.{Result, Ok, Err, drop}
 use Rattle.spin_outside.specs.Counts.{Rose}
 use Rattle.spin_pcap.specs.Captures.{IsBody, header_of}
@@ -10,7 +10,7 @@ use Rattle.spin_pcap.specs.declared.order.Order.{Order}
 use Rattle.spin_run.specs.Records.{AreLeftBy, AreRecords}
 use Rattle.spin_top.specs.Held.{held_seen}
 use Rattle.spin_top.specs.Inner.Holding.{IsBehind}
-use Rattle.spin_top.specs.Join.{AreRecordsIn}
+use Rattle.spin_top.specs.Captures.{AreRecordsIn}
 
 pub good_not_bad : (x : Order) (wrong : PcapFault) (r : Result Order PcapFault) → r ≡ Ok x → r ≡ Err wrong → ⊥
 good_not_bad x wrong r good bad = cc
@@ -24,8 +24,12 @@ pub records_left : (bytes left : List ℕ) (reader : ReaderState) (frames : List
 records_left bytes left reader frames rest behind are =
     let order : are.2 ≡ reader.order = one_order are.2 reader.order (header_of bytes) are.3.header behind.header in
     let body : IsBody reader.order reader.given (drop 24 bytes) frames are.0 =
-    subst (λ given. IsBody reader.order given (drop 24 bytes) frames are.0) (sym behind.fresh.0) (subst (λ way. IsBody way 0 (drop 24 bytes) frames are.0) order are.3.body) in
-    (are.0, are.1, subst (λ s. AreLeftBy s reader (Some left) frames are.0) (sym behind.fresh.1) (record { bytes = drop 24 bytes; told = behind.behind; body = body }))
+    subst (λ given. IsBody reader.order given (drop 24 bytes) frames are.0) (sym behind.fresh.0) (subst (λ way. IsBody way 0 (drop 24 bytes) frames are.0) order are.3.body) in (
+      are.0,
+      are.1,
+      subst (λ s. AreLeftBy s reader (Some left) frames are.0) (sym behind.fresh.1)
+          (record { bytes = drop 24 bytes; told = subst (λ o. IfSome o (λ t. t ≡ drop 24 bytes)) (sym behind.behind) refl; body = body }),
+    )
 
 -- a source that never fails has no read that failed
 pub never : Rose 0 0 → ⊥

@@ -1,9 +1,9 @@
 -- Of a shelf that tells its files: the script and the capture are read in one way.
-use Rattle.std.proofs.Common.{◌≡◌, ◌⊎◌, ℕ, Option, Some, None, List, [], refl, sym, ap, subst, ◌∙◌, inl, inr}
+use Rattle.std.proofs.Common.{◌≡◌, ◌⊎◌, ℕ, Option, Some, None, List, [], IfSome, refl, sym, ap, subst, ◌∙◌, inl, inr}
 use Rattle.std.specs.Prelude.{Result, Ok, Err}
 use Rattle.spin_outside.specs.Files.{File, content, IsLacking}
 use Rattle.spin_outside.specs.Seen.{ShelfSeen}
-use Rattle.spin_pcap.specs.Captures.{header_of}
+use Rattle.spin_pcap.specs.Captures.{header_of, IsCapture}
 use Rattle.spin_pcap.specs.declared.fault.PcapFault.{PcapFault}
 use Rattle.spin_pcap.specs.declared.next.Next.{Next}
 use Rattle.spin_pcap.specs.declared.order.Order.{Order}
@@ -12,7 +12,7 @@ use Rattle.spin_script.specs.Language.{IsScript}
 use Rattle.spin_script.specs.Scripts.{IsBad}
 use Rattle.spin_script.specs.declared.script.ScriptFault.TheVariants as fault
 use Rattle.spin_script.specs.States.{NativeData, ScriptData}
-use Rattle.spin_top.specs.Captures.{AreRecordsOf, HasBadHeader, HasHeader, IsBadHeader, IsCaptureFile, IsGoodCapture, IsGoodHeader}
+use Rattle.spin_top.specs.Captures.{AreBytesOf, AreRecordsOf, HasBadHeader, IsBadHeader, IsCaptureFile, IsGoodCapture}
 use Rattle.spin_top.specs.Loading.{HoldsText, IsContent, IsLoaded, IsScriptRefused, IsScriptText, LacksText}
 
 -- neither of the two
@@ -69,8 +69,19 @@ loaded_nothing natives shelf held name script lacks loaded =
 
 -- ---- the header of the capture
 
-pub header_at : (files : Option (List File)) (held : List File) (name : List ℕ) → files ≡ Some held → HasHeader files (Some name) → IsGoodHeader held name
-header_at files held name told has = subst (λ f. HasHeader f (Some name)) told has
+-- The file of that name has the header of a capture.
+pub record IsGoodHeader (held : List File) (name : List ℕ) : Type 0 where
+  pub bytes : List ℕ
+  pub found : content held name ≡ Some bytes
+  pub order : Order
+  pub header : header_of bytes ≡ Ok order
+
+-- the bytes of a capture are those of its file, where the shelf tells it
+pub bytes_at : (files : Option (List File)) (held : List File) (name bytes : List ℕ) → files ≡ Some held → AreBytesOf files (Some name) bytes → content held name ≡ Some bytes
+bytes_at files held name bytes told capture = subst (λ f. IfSome f (λ held. content held name ≡ Some bytes)) told capture.found
+
+pub header_at : (files : Option (List File)) (held : List File) (name bytes : List ℕ) → files ≡ Some held → AreBytesOf files (Some name) bytes → IsGoodHeader held name
+header_at files held name bytes told capture = record { bytes = bytes; found = bytes_at files held name bytes told capture; order = capture.order; header = capture.header }
 
 pub bad_header_at : (files : Option (List File)) (held : List File) (name : List ℕ) (fault : ℕ) → files ≡ Some held → HasBadHeader files (Some name) fault → IsBadHeader held name fault
 bad_header_at files held name fault told has = subst (λ f. HasBadHeader f (Some name) fault) told has
@@ -94,15 +105,17 @@ good_header held name frames ending is = record { bytes = is.bytes; found = is.f
 
 -- ---- the records of the capture
 
-pub records_at : (files : Option (List File)) (held : List File) (name : List ℕ) (frames : List (List ℕ)) (ending : Result Next PcapFault)
-    → files ≡ Some held → IsCaptureFile held name frames ending → AreRecordsOf files (Some name) frames (Some ending)
-records_at files held name frames ending told is = subst (λ f. AreRecordsOf f (Some name) frames (Some ending)) (sym told) (ending, refl, is)
+pub records_at : (files : Option (List File)) (held : List File) (name bytes : List ℕ) (frames : List (List ℕ)) (ending : Result Next PcapFault)
+    → files ≡ Some held → AreBytesOf files (Some name) bytes → IsCaptureFile held name frames ending → AreRecordsOf (Some name) bytes frames (Some ending)
+records_at files held name bytes frames ending told capture is =
+    let same : is.bytes ≡ bytes = some_is _ _ (sym is.found ∙ bytes_at files held name bytes told capture) in
+    (ending, refl, is.order, subst (λ b. IsCapture b is.order frames ending) same is.capture)
 
 -- the records that a good capture or none has, whose rest is no refusal
-pub record HasGoodRecords (files : Option (List File)) (packets : Option (List ℕ)) : Type 0 where
+pub record HasGoodRecords (packets : Option (List ℕ)) (bytes : List ℕ) : Type 0 where
   pub frames : List (List ℕ)
   pub rest : Option (Result Next PcapFault)
-  pub are : AreRecordsOf files packets frames rest
+  pub are : AreRecordsOf packets bytes frames rest
   pub good : (wrong : PcapFault) → rest ≡ Some (Err wrong) → ⊥
 
 pub ok_not_err : (last : Next) (wrong : PcapFault) (r : Option (Result Next PcapFault)) → r ≡ Some (Ok last) → r ≡ Some (Err wrong) → ⊥
@@ -111,10 +124,16 @@ ok_not_err last wrong r a b = cc
 none_not_err : (wrong : PcapFault) (r : Option (Result Next PcapFault)) → r ≡ None → r ≡ Some (Err wrong) → ⊥
 none_not_err wrong r a b = cc
 
-pub good_records : (files : Option (List File)) (held : List File) (packets : Option (List ℕ)) → files ≡ Some held → IsGoodCapture held packets → HasGoodRecords files packets
-good_records files held None told good = record { frames = []; rest = None; are = (refl, refl); good = λ wrong is. none_not_err wrong None refl is }
-good_records files held (Some name) told good =
-    record { frames = good.0; rest = Some (Ok good.1); are = records_at files held name good.0 (Ok good.1) told good.2; good = λ wrong is. ok_not_err good.1 wrong (Some (Ok good.1)) refl is }
+pub good_records : (files : Option (List File)) (held : List File) (packets : Option (List ℕ)) (bytes : List ℕ)
+    → files ≡ Some held → AreBytesOf files packets bytes → IsGoodCapture held packets → HasGoodRecords packets bytes
+good_records files held None bytes told capture good = record { frames = []; rest = None; are = (refl, refl); good = λ wrong is. none_not_err wrong None refl is }
+good_records files held (Some name) bytes told capture good =
+    record {
+      frames = good.0;
+      rest = Some (Ok good.1);
+      are = records_at files held name bytes good.0 (Ok good.1) told capture good.2;
+      good = λ wrong is. ok_not_err good.1 wrong (Some (Ok good.1)) refl is;
+    }
 
 pub not_bad_header : (files : Option (List File)) (held : List File) (packets : Option (List ℕ)) (fault : ℕ) → files ≡ Some held → IsGoodCapture held packets → HasBadHeader files packets fault → ⊥
 not_bad_header files held None fault told good bad = bad

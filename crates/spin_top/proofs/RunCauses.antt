@@ -7,7 +7,7 @@ use Rattle.spin_outside.specs.Seen.{ShelfSeen, SinkSeen}
 use Rattle.spin_outside.specs.Sources.{SourceSeen, file_seen, taken_more, told_reads}
 use Rattle.spin_endpoint.specs.Named.{NamedEnd}
 use Rattle.spin_pcap.specs.Captures.{IsBody, header_of}
-use Rattle.spin_pcap.specs.Passing.{IsFresh, ReaderState}
+use Rattle.spin_pcap.specs.Passing.{IsFresh, ReaderState, left_for}
 use Rattle.spin_pcap.specs.declared.fault.PcapFault.{PcapFault}
 use Rattle.spin_pcap.specs.declared.limits.TheConstants.{MAX_HELD}
 use Rattle.spin_pcap.specs.declared.next.Next.{Next}
@@ -16,18 +16,20 @@ use Rattle.spin_script.specs.States.{NativeData, ScriptData}
 use Rattle.spin_run.specs.declared.end.RunEnd.{RunEnd}
 use Rattle.spin_run.specs.declared.end.RunEnd.TheVariants as run
 use Rattle.spin_run.specs.Ends.{RunSeen, seen, EndsBy, CountsBy}
-use Rattle.spin_run.specs.Records.{AreLeftBy, AreRecords, IsTakenPast, room_of}
+use Rattle.spin_run.specs.Records.{AreBytesLeft, AreLeftBy, AreRecords, HasRecords, IsTakenPast, room_of}
 use Rattle.spin_top.specs.declared.end.End.{End}
 use Rattle.spin_top.specs.declared.end.End.TheVariants.{Refused, Capture, Unread, Absent, NoMemory}
 use Rattle.spin_top.specs.declared.end.Input.TheVariants.{Script, Packets}
-use Rattle.spin_top.specs.Captures.{AreOpened, AreRecordsOf, HasBadHeader, HasHeader, IsGoodHeader, IsBehindHeader, IsCaptureFile, IsLackingCapture, IsOpened, IsTakenUnder, NoCaptureBy}
+use Rattle.spin_top.specs.Captures.{AreBytesOf, AreOpened, AreRecordsOf, HasBadHeader, IsBehindHeader, IsLackingCapture, IsOpened, IsTakenUnder, NoCaptureBy}
 use Rattle.spin_top.specs.Ends.{Tells, stop_line}
 use Rattle.spin_top.specs.Inner.Running.{RunsOver}
 use Rattle.spin_top.specs.Loading.{IsLoaded, NoScriptBy}
 use Rattle.spin_top.specs.Shelves.{ReadsOnly, ShelfStood}
 use Rattle.spin_top.specs.Outside.{OnlyStops, Outside, outside}
 use Rattle.spin_top.specs.Run.{Ran, RunHasCause, end_of}
+use Rattle.spin_pcap.proofs.Making.{some_file}
 use Rattle.spin_pcap.proofs.SourceBytes.{more_none, more_twice}
+use Rattle.spin_pcap.proofs.CaptureUniqueness.{one_reading}
 use Rattle.spin_top.proofs.ScriptBytes.{script_no_capture}
 use Rattle.spin_top.proofs.OpenedCaptures.{still_named}
 use Rattle.spin_top.proofs.ShelfLemmas.{stood_failed, stood_lacked, stood_stood}
@@ -55,45 +57,45 @@ not_opened natives before after mid name packets script other stood loaded by on
 
 -- ---- the run
 
-header_known : (before after : ShelfSeen) (name : List ℕ) (file : ℕ) (reader : ReaderState) (files : Option (List File))
-    → before.files ≡ files → IsOpened before after name file reader → HasHeader files (Some name)
-header_known before after name file reader None told opened = tt
-header_known before after name file reader (Some held) told opened =
-    let behind : IsBehindHeader held before after name file reader = subst (λ f. IfSome f (λ held. IsBehindHeader held before after name file reader)) told opened.behind in
-    record { bytes = behind.bytes; found = behind.found; order = reader.order; header = behind.header }
-
-has_header : (before after : ShelfSeen) (packets : Option (List ℕ)) (file : ℕ) (reader : Option ReaderState) → AreOpened before after packets file reader → HasHeader before.files packets
-has_header before after None file None opened = tt
-has_header before after None file (Some reader) opened = absurd opened
-has_header before after (Some name) file None opened = absurd opened
-has_header before after (Some name) file (Some reader) opened = header_known before after name file reader before.files refl opened
-
 some_is : {X : Type 0} (x y : X) → Some x ≡ Some y → x ≡ y
 some_is x y same = cc
 
-one_order : (x y : Order) (r : Result Order PcapFault) → r ≡ Ok x → r ≡ Ok y → x ≡ y
-one_order x y r a b = cc
+-- the bytes of a file whose header was read are those that the shelf tells, or else some
+abbrev HasRead : Option (List File) → List ℕ → Order → List ℕ → Type 0
+HasRead files name order behind =
+    (bytes : List ℕ) × (drop 24 bytes ≡ behind) × (header_of bytes ≡ Ok order) × IfSome files (λ held. content held name ≡ Some bytes)
 
--- the records behind the header are left for the reader
-left_by : (before after : ShelfSeen) (name : List ℕ) (file : ℕ) (reader : ReaderState) (held : List File) (frames : List (List ℕ)) (ending : Result Next PcapFault)
-    → before.files ≡ Some held → IsOpened before after name file reader → IsCaptureFile held name frames ending → AreLeftBy reader.state reader (after.left file) frames ending
-left_by before after name file reader held frames ending told opened is =
-    let behind : IsBehindHeader held before after name file reader = subst (λ f. IfSome f (λ held. IsBehindHeader held before after name file reader)) told opened.behind in
-    let bytes : behind.bytes ≡ is.bytes = some_is _ _ (sym behind.found ∙ is.found) in
-    let order : is.order ≡ reader.order = one_order is.order reader.order (header_of behind.bytes) (ap header_of bytes ∙ is.capture.header) behind.header in
-    let body : IsBody reader.order reader.given (drop 24 behind.bytes) frames ending = subst (λ given. IsBody reader.order given (drop 24 behind.bytes) frames ending) (sym opened.fresh.0)
-    (subst (λ bs. IsBody reader.order 0 (drop 24 bs) frames ending) (sym bytes) (subst (λ way. IsBody way 0 (drop 24 is.bytes) frames ending) order is.capture.body)) in
-    subst (λ s. AreLeftBy s reader (after.left file) frames ending) (sym opened.fresh.1) (record { bytes = drop 24 behind.bytes; told = behind.left; body = body })
+file_read : (before after : ShelfSeen) (name : List ℕ) (file : ℕ) (reader : ReaderState) (files : Option (List File)) (behind : List ℕ) → before.files ≡ files
+    → IsOpened before after name file reader → IfSome (left_for reader.held (after.left file)) (λ told. told ≡ behind) → HasRead files name reader.order behind
+file_read before after name file reader None behind told opened left =
+    let made = some_file reader.order behind in
+    (made.0, made.2, made.1, tt)
+file_read before after name file reader (Some held) behind told opened left =
+    let is : IsBehindHeader held before after name file reader = subst (λ f. IfSome f (λ held. IsBehindHeader held before after name file reader)) told opened.behind in
+    (is.bytes, subst (λ o. IfSome o (λ told. told ≡ behind)) is.left left, is.header, is.found)
 
-records_left : (before after : ShelfSeen) (packets : Option (List ℕ)) (file : ℕ) (reader : Option ReaderState) (ref : ℕ)
-    (files : Option (List File)) (frames : List (List ℕ)) (rest : Option (Result Next PcapFault)) → before.files ≡ files
-    → AreOpened before after packets file reader → AreRecordsOf files packets frames rest → AreRecords reader (file_seen after file ref) frames rest
-records_left before after None file None ref files frames rest told opened are = are
-records_left before after None file (Some reader) ref files frames rest told opened are = absurd opened
-records_left before after (Some name) file None ref files frames rest told opened are = absurd opened
-records_left before after (Some name) file (Some reader) ref None frames rest told opened are = absurd are
-records_left before after (Some name) file (Some reader) ref (Some held) frames rest told opened are =
-    (are.0, are.1, left_by before after name file reader held frames are.0 told opened are.2)
+-- the bytes of the capture, if one is named, and its records
+abbrev HasBytes : Option (List File) → Option (List ℕ) → List (List ℕ) → Option (Result Next PcapFault) → Type 0
+HasBytes files packets frames rest = (bytes : List ℕ) × AreBytesOf files packets bytes × AreRecordsOf packets bytes frames rest
+
+opened_bytes : (before after : ShelfSeen) (packets : Option (List ℕ)) (file : ℕ) (reader : Option ReaderState) (ref : ℕ) (frames : List (List ℕ)) (rest : Option (Result Next PcapFault))
+    → AreOpened before after packets file reader → AreRecords reader (file_seen after file ref) frames rest → HasBytes before.files packets frames rest
+opened_bytes before after None file None ref frames rest opened are = ([], tt, are)
+opened_bytes before after None file (Some reader) ref frames rest opened are = absurd opened
+opened_bytes before after (Some name) file None ref frames rest opened are = absurd opened
+opened_bytes before after (Some name) file (Some reader) ref frames rest opened are =
+    let left : AreBytesLeft reader (after.left file) frames are.0 = subst (λ s. AreLeftBy s reader (after.left file) frames are.0) opened.fresh.1 are.2 in
+    let read = file_read before after name file reader before.files left.bytes refl opened left.told in
+    let body : IsBody reader.order 0 (drop 24 read.0) frames are.0 = subst (λ (n : ℕ × List ℕ). IsBody reader.order n.0 n.1 frames are.0) (λ i. (opened.fresh.0 i, sym read.1 i)) left.body in
+    (read.0, record { order = reader.order; header = read.2; found = read.3 }, (are.0, are.1, reader.order, record { header = read.2; body = body }))
+
+-- bytes have just these records
+one_records : (packets : Option (List ℕ)) (bytes : List ℕ) (frames frames' : List (List ℕ)) (rest rest' : Option (Result Next PcapFault))
+    → AreRecordsOf packets bytes frames rest → AreRecordsOf packets bytes frames' rest' → (frames ≡ frames') × (rest ≡ rest')
+one_records None bytes frames frames' rest rest' are are' = (are.0 ∙ sym are'.0, are.1 ∙ sym are'.1)
+one_records (Some name) bytes frames frames' rest rest' are are' =
+    let one = one_reading bytes are.2 are'.2 frames frames' are.0 are'.0 are.3 are'.3 in
+    (one.1, are.1 ∙ ap Some one.2 ∙ sym are'.1)
 
 opened_stood : (before after : ShelfSeen) (packets : Option (List ℕ)) (file : ℕ) (reader : Option ReaderState) → AreOpened before after packets file reader → ShelfStood before after
 opened_stood before after None file None opened = opened
@@ -163,13 +165,13 @@ taken_from before loaded source name (Some capture) files other reads = kept_rea
 
 -- where the shelf tells its files, the script and the capture aren't one file
 apart : (natives : NativeData) (files : Option (List File)) (held : List File) (name : List ℕ) (packets : Option (List ℕ)) (script : ScriptData)
-    → files ≡ Some held → IsLoaded natives files name script → HasHeader files packets → packets ≢ Some name
-apart natives files held name None script told loaded header same = cc
-apart natives files held name (Some capture) script told loaded header same =
+    → files ≡ Some held → IsLoaded natives files name script → (bytes : List ℕ) → AreBytesOf files packets bytes → packets ≢ Some name
+apart natives files held name None script told loaded bytes is same = cc
+apart natives files held name (Some capture) script told loaded bytes is same =
     let read : content held name ≡ Some loaded.text = subst (λ f. IfSome f (λ held. content held name ≡ Some loaded.text)) told loaded.read in
-    let good : IsGoodHeader held capture = subst (λ f. IfSome f (λ held. IsGoodHeader held capture)) told header in
-    let text : good.bytes ≡ loaded.text = some_is _ _ (sym good.found ∙ ap (content held) (some_is capture name same) ∙ read) in
-    script_no_capture natives loaded.text script good.order loaded.reads (subst (λ b. header_of b ≡ Ok good.order) text good.header)
+    let found : content held capture ≡ Some bytes = subst (λ f. IfSome f (λ held. content held capture ≡ Some bytes)) told is.found in
+    let text : bytes ≡ loaded.text = some_is _ _ (sym found ∙ ap (content held) (some_is capture name same) ∙ read) in
+    script_no_capture natives loaded.text script is.order loaded.reads (subst (λ b. header_of b ≡ Ok is.order) text is.header)
 
 pub none_taken : (past : ℕ) (a b : Option ℕ) (from to : SourceSeen) (frames : List (List ℕ)) → from.taken ≡ a → to.taken ≡ b → b ≡ taken_more a 0 → IsTakenPast past from to frames
 none_taken past a b from to frames is is' same = record {
@@ -259,14 +261,17 @@ pub was_run : (natives : NativeData) (before after : Outside) (loaded_shelf open
     → ReadsOnly before.shelf loaded_shelf name → RunsOver script file reader (outside opened_shelf before.sink before.ends) (outside after.shelf sink after.ends) ended
     → Tells sink after.sink (stop_line (end_of ended)) → RunHasCause natives before after name packets (end_of ended)
 was_run natives before after loaded_shelf opened_shelf sink name packets script file reader ended stood loaded opened reads over line =
-    let header : HasHeader before.shelf.files packets = subst (λ files. HasHeader files packets) stood.files (has_header loaded_shelf opened_shelf packets file reader opened) in
+    let some = over.ended_so in
+    let has : HasBytes before.shelf.files packets some.0 some.1 =
+    subst (λ files. HasBytes files packets some.0 some.1) stood.files (opened_bytes loaded_shelf opened_shelf packets file reader over.reference some.0 some.1 opened some.2) in
     let ran : Ran natives before after name packets ended = record {
-      header = header;
+      bytes = has.0;
+      capture = has.1;
       from = from_of loaded_shelf (file_seen opened_shelf file over.reference) packets;
       to = from_of after.shelf (file_seen after.shelf over.file' over.reference') packets;
       taken = (
         taken_from before.shelf loaded_shelf (file_seen opened_shelf file over.reference) name packets stood.files
-            (λ held told. apart natives before.shelf.files held name packets script told loaded header) reads,
+            (λ held told. apart natives before.shelf.files held name packets script told loaded has.0 has.1) reads,
         taken_to after.shelf (file_seen after.shelf over.file' over.reference') packets,
       );
       over = record {
@@ -274,11 +279,13 @@ was_run natives before after loaded_shelf opened_shelf sink name packets script 
         loaded = loaded;
         sink = sink;
         ended_so = λ frames rest are.
-            let by = over.ended_so frames rest (records_left loaded_shelf opened_shelf packets file reader over.reference before.shelf.files frames rest stood.files opened are) in
-            ends_moved script (room_of reader) (24 + MAX_HELD) frames rest (seen (file_seen opened_shelf file over.reference) before.sink before.ends)
+            let one = one_records packets has.0 some.0 frames some.1 rest has.2 are in
+            subst (λ (x : List (List ℕ) × Option (Result Next PcapFault)). EndsBy script (24 + MAX_HELD) x.0 x.1 (seen (from_of loaded_shelf (file_seen opened_shelf file over.reference) packets)
+            before.sink before.ends) (seen (from_of after.shelf (file_seen after.shelf over.file' over.reference') packets) sink after.ends) ended) (λ i. (one.0 i, one.1 i))
+            (ends_moved script (room_of reader) (24 + MAX_HELD) some.0 some.1 (seen (file_seen opened_shelf file over.reference) before.sink before.ends)
             (seen (file_seen after.shelf over.file' over.reference') sink after.ends) (from_of loaded_shelf (file_seen opened_shelf file over.reference) packets)
             (from_of after.shelf (file_seen after.shelf over.file' over.reference') packets) ended
-            (past_header loaded_shelf opened_shelf after.shelf packets file over.file' over.reference over.reference' reader opened over.keep) by;
+            (past_header loaded_shelf opened_shelf after.shelf packets file over.file' over.reference over.reference' reader opened over.keep) some.3);
         counts = counts_moved script.endpoints (seen (file_seen opened_shelf file over.reference) before.sink before.ends) (seen (file_seen after.shelf over.file' over.reference') sink after.ends)
             (from_of loaded_shelf (file_seen opened_shelf file over.reference) packets) (from_of after.shelf (file_seen after.shelf over.file' over.reference') packets) ended refl refl over.counts;
         line = line;
@@ -289,8 +296,8 @@ was_run natives before after loaded_shelf opened_shelf sink name packets script 
 
 pub over_known : (script : ScriptData) (file file' ref ref' : ℕ) (reader : Option ReaderState) (shelf shelf' : ShelfSeen) (sink sink' : SinkSeen) (ends ends' : List NamedEnd) (ended : RunEnd)
     → (file_seen shelf' file' ref').keep ≡ (file_seen shelf file ref).keep
-    → ((frames : List (List ℕ)) (rest : Option (Result Next PcapFault)) → AreRecords reader (file_seen shelf file ref) frames rest
-    → EndsBy script (room_of reader) frames rest (seen (file_seen shelf file ref) sink ends) (seen (file_seen shelf' file' ref') sink' ends') ended)
+    → HasRecords reader (file_seen shelf file ref)
+    (λ frames rest. EndsBy script (room_of reader) frames rest (seen (file_seen shelf file ref) sink ends) (seen (file_seen shelf' file' ref') sink' ends') ended)
     → CountsBy script.endpoints (seen (file_seen shelf file ref) sink ends) (seen (file_seen shelf' file' ref') sink' ends') ended
     → RunsOver script file reader (outside shelf sink ends) (outside shelf' sink' ends') ended
 over_known script file file' ref ref' reader shelf shelf' sink sink' ends ends' ended keep by counts =

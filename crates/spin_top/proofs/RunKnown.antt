@@ -11,7 +11,7 @@ use Rattle.spin_outside.specs.Sources.{SourceSeen}
 use Rattle.spin_top.specs.declared.end.End.{End}
 use Rattle.spin_top.specs.declared.end.End.TheVariants.{Whole, Refused, Capture, Unread, WriteFault, Absent, NoMemory, Endpoint}
 use Rattle.spin_top.specs.declared.end.Input.TheVariants.{Script, Packets}
-use Rattle.spin_top.specs.Captures.{HasBadHeader, HasHeader, IsBadCapture}
+use Rattle.spin_top.specs.Captures.{AreBytesOf, HasBadHeader, IsBadCapture}
 use Rattle.spin_top.specs.Ends.{exit_status}
 use Rattle.spin_top.specs.Loading.{HoldsText, KnowsNoScript, KnowsRefused}
 use Rattle.spin_top.specs.Outside.{NoneRose, Outside}
@@ -77,7 +77,7 @@ absent_at natives before after name packets status other is cause held lacks cal
 named_header : (natives : NativeData) (before after : Outside) (held : List File) (name capture text : List ℕ) (packets : Option (List ℕ)) (ended : RunEnd)
     → HoldsText before.shelf held name text → packets ≡ Some capture → content held capture ≡ None → Ran natives before after name packets ended → ⊥
 named_header natives before after held name capture text packets ended holds named lacking ran =
-    header_lacks held capture (header_at before.shelf.files held capture holds.told (subst (λ p. HasHeader before.shelf.files p) named ran.header)) lacking
+    header_lacks held capture (header_at before.shelf.files held capture ran.bytes holds.told (subst (λ p. AreBytesOf before.shelf.files p ran.bytes) named ran.capture)) lacking
 
 lost_at : (natives : NativeData) (before after : Outside) (name : List ℕ) (packets : Option (List ℕ)) (status : ℕ) (end : End)
     → status ≡ exit_status end → RunHasCause natives before after name packets end → KnowsNoCapture natives before after name packets status
@@ -104,9 +104,9 @@ lost_at natives before after name packets status other is cause held text captur
 bad_whole : (natives : NativeData) (before after : Outside) (held : List File) (name capture text : List ℕ)
     → HoldsText before.shelf held name text → IsBadCapture held capture → Ran natives before after name (Some capture) run.Whole → ⊥
 bad_whole natives before after held name capture text holds (inl header) ran =
-    headers_differ held capture header.0 (header_at before.shelf.files held capture holds.told ran.header) header.1
+    headers_differ held capture header.0 (header_at before.shelf.files held capture ran.bytes holds.told ran.capture) header.1
 bad_whole natives before after held name capture text holds (inr bad) ran =
-    (ran.over.ended_so bad.0 (Some (Err bad.1)) (records_at before.shelf.files held capture bad.0 (Err bad.1) holds.told bad.2)).1.capture_is
+    (ran.over.ended_so bad.0 (Some (Err bad.1)) (records_at before.shelf.files held capture ran.bytes bad.0 (Err bad.1) holds.told ran.capture bad.2)).1.capture_is
 
 capture_at : (natives : NativeData) (before after : Outside) (name : List ℕ) (packets : Option (List ℕ)) (status : ℕ) (end : End)
     → status ≡ exit_status end → RunHasCause natives before after name packets end → KnowsCapture natives before after name packets status
@@ -133,10 +133,10 @@ complete_at natives before after name packets status Whole is cause held text ho
 complete_at natives before after name packets status (Refused line number) is cause held text holds script good calm =
     absurd (script_good natives before.shelf held name text line number holds script cause.1)
 complete_at natives before after name packets status (Capture number fault) is cause held text holds script good calm =
-    let records = good_records before.shelf.files held packets holds.told good in
     absurd (neither cause.1
     (λ by. not_bad_header before.shelf.files held packets fault holds.told good by.3)
     (λ ran.
+    let records = good_records before.shelf.files held packets ran.bytes holds.told ran.capture good in
     let by = ran.over.ended_so records.frames records.rest records.are in
     records.good by.0 by.1))
 complete_at natives before after name packets status (Unread Script) is cause held text holds script good calm = absurd (calm.faults cause.0.faults)

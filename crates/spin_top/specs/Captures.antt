@@ -25,18 +25,6 @@ pub record IsBadHeader (held : List File) (name : List ℕ) (fault : ℕ) : Type
   pub refused : header_of bytes ≡ Err wrong
   pub fault_is : fault ≡ fault_number wrong
 
--- The file of that name has the header of a capture.
-pub record IsGoodHeader (held : List File) (name : List ℕ) : Type 0 where
-  pub bytes : List ℕ
-  pub found : content held name ≡ Some bytes
-  pub order : Order
-  pub header : header_of bytes ≡ Ok order
-
--- Where a capture is named, on a shelf that tells its files, it has its header.
-abbrev pub HasHeader : Option (List File) → Option (List ℕ) → Type 0
-HasHeader files None = ⊤
-HasHeader files (Some name) = IfSome files (λ held. IsGoodHeader held name)
-
 -- A capture is named; and where the shelf tells its files, the capture's header has the fault of that number.
 abbrev pub HasBadHeader : Option (List File) → Option (List ℕ) → ℕ → Type 0
 HasBadHeader files None fault = ⊥
@@ -72,15 +60,28 @@ IsGoodCapture held None = ⊤
 IsGoodCapture held (Some name) =
     (frames : List (List ℕ)) × (last : Next) × IsCaptureFile held name frames (Ok last)
 
--- These are the records of the capture, where one is named, on a shelf that tells its files; without one there are
--- none, and no rest.
-abbrev pub AreRecordsOf : Option (List File) → Option (List ℕ) → List (List ℕ)
-    → Option (Result Next PcapFault) → Type 0
-AreRecordsOf files None frames rest = (frames ≡ []) × (rest ≡ None)
-AreRecordsOf None (Some name) frames rest = ⊥
-AreRecordsOf (Some held) (Some name) frames rest =
+-- The bytes have the header of a capture; and where the shelf tells its files, the file of that name has these bytes.
+pub record IsBegun (files : Option (List File)) (name bytes : List ℕ) : Type 0 where
+  pub order : Order
+  pub header : header_of bytes ≡ Ok order
+  pub found : IfSome files (λ held. content held name ≡ Some bytes)
+
+-- A capture that is named has these bytes, which begin with its header.
+abbrev pub AreBytesOf : Option (List File) → Option (List ℕ) → List ℕ → Type 0
+AreBytesOf files None bytes = ⊤
+AreBytesOf files (Some name) bytes = IsBegun files name bytes
+
+-- The bytes are a capture with these records, and its rest is answered so.
+abbrev pub AreRecordsIn : List ℕ → List (List ℕ) → Option (Result Next PcapFault) → Type 0
+AreRecordsIn bytes frames rest =
     (ending : Result Next PcapFault) × (rest ≡ Some ending)
-    × IsCaptureFile held name frames ending
+    × (order : Order) × IsCapture bytes order frames ending
+
+-- Where a capture is named and has these bytes, these are its records; without one there are none, and no rest.
+abbrev pub AreRecordsOf : Option (List ℕ) → List ℕ → List (List ℕ)
+    → Option (Result Next PcapFault) → Type 0
+AreRecordsOf None bytes frames rest = (frames ≡ []) × (rest ≡ None)
+AreRecordsOf (Some name) bytes frames rest = AreRecordsIn bytes frames rest
 
 -- Where the shelf tells its files, the reader read the header of the file of that name, and the bytes behind it are
 -- left for it.

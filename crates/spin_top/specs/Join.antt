@@ -1,13 +1,10 @@
 -- The command `join`: why it ends so, and what its status tells.
-use Rattle.std.specs.Prelude.{◌≡◌, ◌⊎◌, ℕ, Option, Some, List, Result, Ok, IfSome}
+use Rattle.std.specs.Prelude.{◌≡◌, ◌⊎◌, ℕ, Some, List, Ok, IfSome}
 use Rattle.spin_outside.specs.Counts.{Rose}
 use Rattle.spin_outside.specs.Files.{File, IsLacking}
 use Rattle.spin_outside.specs.Seen.{ShelfSeen}
 use Rattle.spin_outside.specs.Sources.{SourceSeen}
-use Rattle.spin_pcap.specs.declared.fault.PcapFault.{PcapFault}
 use Rattle.spin_pcap.specs.declared.next.Next.{Next}
-use Rattle.spin_pcap.specs.declared.order.Order.{Order}
-use Rattle.spin_pcap.specs.Captures.{IsCapture}
 use Rattle.spin_reass.specs.JoinedCaptures.{joined_capture, IsJoinedCapture}
 use Rattle.spin_script.specs.States.{NativeData, ScriptData}
 use Rattle.spin_run.specs.declared.end.RunEnd.{RunEnd}
@@ -16,7 +13,7 @@ use Rattle.spin_top.specs.declared.end.End.{End}
 use Rattle.spin_top.specs.declared.end.End.TheVariants.{Whole, Refused, Capture, Unread}
 use Rattle.spin_top.specs.declared.end.End.TheVariants.{WriteFault, Absent, NoMemory, Endpoint}
 use Rattle.spin_top.specs.declared.end.Input.TheVariants.{Script, Packets}
-use Rattle.spin_top.specs.Captures.{IsBadAt, IsBadCapture, IsCaptureFile}
+use Rattle.spin_top.specs.Captures.{AreRecordsIn, IsBadAt, IsBadCapture, IsCaptureFile}
 use Rattle.spin_top.specs.Ends.{exit_status}
 use Rattle.spin_top.specs.Loading.{IsLoaded, IsScriptRefused, HoldsText, IsScriptText, KnowsRefused, KnowsNoScript}
 use Rattle.spin_top.specs.Outside.{Outside, OnlyStops, NoReadFailed}
@@ -31,12 +28,6 @@ pub record IsJoinedFile (held : List File) (name bytes : List ℕ) : Type 0 wher
   pub last : Next
   pub file : IsCaptureFile held name frames (Ok last)
   pub bytes_are : bytes ≡ joined_capture frames last
-
--- The bytes are a capture with these records, and its rest is answered so.
-abbrev pub AreRecordsIn : List ℕ → List (List ℕ) → Option (Result Next PcapFault) → Type 0
-AreRecordsIn bytes frames rest =
-    (ending : Result Next PcapFault) × (rest ≡ Some ending)
-    × (order : Order) × IsCapture bytes order frames ending
 
 -- The whole file of that name was read, and where the shelf tells its files these bytes are its joined capture.
 abbrev pub IsJoinedBy : ShelfSeen → ShelfSeen → List ℕ → List ℕ → Type 0

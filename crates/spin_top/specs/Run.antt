@@ -15,8 +15,8 @@ use Rattle.spin_top.specs.declared.end.End.{End}
 use Rattle.spin_top.specs.declared.end.End.TheVariants.{Whole, Refused, Capture, Unread}
 use Rattle.spin_top.specs.declared.end.End.TheVariants.{WriteFault, Absent, NoMemory, Endpoint}
 use Rattle.spin_top.specs.declared.end.Input.TheVariants.{Script, Packets}
-use Rattle.spin_top.specs.Captures.{IsNamed, HasHeader, HasBadHeader, IsLackingCapture}
-use Rattle.spin_top.specs.Captures.{IsBadCapture, IsGoodCapture, AreRecordsOf, IsTakenUnder}
+use Rattle.spin_top.specs.Captures.{IsNamed, HasBadHeader, IsLackingCapture, IsBadCapture}
+use Rattle.spin_top.specs.Captures.{IsGoodCapture, AreBytesOf, AreRecordsOf, IsTakenUnder}
 use Rattle.spin_top.specs.Ends.{exit_status, stop_line, Tells}
 use Rattle.spin_top.specs.Loading.{IsLoaded, IsScriptRefused, HoldsText, IsScriptText, KnowsRefused, KnowsNoScript}
 use Rattle.spin_top.specs.Outside.{Outside, OnlyStops, NoReadFailed, NoneRose}
@@ -51,15 +51,18 @@ pub record RanOver (natives : NativeData) (before after : Outside) (name : List 
 
 -- The script was read, and the header of the capture, if one is named; the run over the script and the capture's
 -- records ended so; and then the line of that end was written. Of the capture no more was read than its header, the
--- records that are wanted up to a stop in a segment, and 65,536 bytes past these.
+-- records that are wanted up to a stop in a segment, and 65,536 bytes past these. On a shelf that tells no files the
+-- capture has some bytes, of which all this holds.
 pub record Ran (natives : NativeData) (before after : Outside) (name : List ℕ)
     (packets : Option (List ℕ)) (ended : RunEnd) : Type 0 where
-  pub header : HasHeader before.shelf.files packets
+  -- the bytes of the capture, if one is named
+  pub bytes : List ℕ
+  pub capture : AreBytesOf before.shelf.files packets bytes
   -- the capture's file when it was found, and when the run ended
   pub from : SourceSeen
   pub to : SourceSeen
   pub taken : IsTakenUnder packets before.shelf from × IsTakenUnder packets after.shelf to
-  pub over : RanOver natives before after name (AreRecordsOf before.shelf.files packets) from to ended
+  pub over : RanOver natives before after name (AreRecordsOf packets bytes) from to ended
 
 -- Why a run of these files ended so, what was written, and what the endpoints received.
 abbrev pub RunHasCause : NativeData → Outside → Outside → List ℕ → Option (List ℕ) → End → Type 0
