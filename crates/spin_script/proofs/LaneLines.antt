@@ -1,6 +1,7 @@
 -- What holds of the lane lines and the endpoints of each script, line by line.
-use Rattle.std.proofs.Common.{◌≡◌, ◌<◌, ◌≤◌, ◌+◌, inl, inr, ℕ, Bool, true, false, not, ◌||◌, eqb, List, [], ◌∷◌, ◌++◌}
-use Rattle.std.proofs.Common.{length, get_or, Option, Some, None, Result, Ok, Err, refl, sym, ap, subst, ◌∙◌, arith}
+use Rattle.std.proofs.Common.{◌≡◌, ◌<◌, ◌≤◌, ◌+◌, inl, inr, ℕ, suc, Bool, true, false, not, ◌||◌, eqb, List, [], ◌∷◌}
+use Rattle.std.proofs.Common.{◌++◌, length, get_or, Option, Some, None, Result, Ok, Err, refl, sym, ap, subst, ◌∙◌, arith}
+use Rattle.std.specs.Bool.{MatchBool}
 use Rattle.std.specs.Prelude.{◌≢◌, slice_get, nat_lt, nat_le, max, sum_by, All, AllPairs, bytes_eq, if◌then◌else◌}
 use Rattle.std.specs.List.{flat_map, list_any}
 use Rattle.std.specs.Str.Lines.{lines}
@@ -26,6 +27,7 @@ use Rattle.spin_grammar.specs.Grammar as grammar
 use Rattle.spin_grammar.specs.Grammar.{Numeral, Called, reads}
 use Rattle.spin_grammar.specs.Lines as line
 use Rattle.spin_grammar.specs.Lines.{form, wanted, Spells}
+use Rattle.spin_grammar.proofs.LineEnds.{lines_count}
 use Rattle.spin_script.specs.declared.script.Line.{Line}
 use Rattle.spin_script.specs.declared.script.Segment.{Segment}
 use Rattle.spin_word.specs.declared.work.Work.{Work}
@@ -35,11 +37,11 @@ use Rattle.spin_script.specs.States.{NativeData, ScriptState, ScriptData, empty_
 use Rattle.spin_script.specs.States.{with_guard, with_authority, with_work, native_at, command_count, deed_count, script_in}
 use Rattle.spin_values.specs.First.{first_of}
 use Rattle.spin_script.specs.Checks.{checks, checked, step_checks, native_checks, step_names_unknown, is_work_full, most_commands, most_deeds}
-use Rattle.spin_script.specs.Language.{Head, Skipped, Begins, Says, head, Passes, Outcome, outcome_at_end, ComesTo}
+use Rattle.spin_script.specs.Language.{Head, Skipped, Begins, Says, head, Passes, Outcome, outcome_at_end, ComesTo, most_bytes, IsScript}
 use Rattle.spin_script.specs.Soundness.{lines_in}
 use Rattle.spin_script.specs.Segments.{IsOfLane, IsOnLane, retired_in, IsSentBelow, SendsBelow, HasEndpoints, IsOrderly}
 use Rattle.spin_script.proofs.WrittenDeeds.{number_first}
-use Rattle.spin_script.proofs.WritableScripts.{makes}
+use Rattle.spin_script.proofs.WritableScripts.{makes, small_enough}
 
 -- ---- lists
 
@@ -341,10 +343,11 @@ lined_on n number s t (Ok (Begins version)) p x = subst (IsSoFar (number + 1)) (
 lined_on n number s t (Ok (Says k ws)) p x =
     subst (IsSoFar (number + 1)) (sym p.3) (lined_after n number s p.0 p.2 (λ endpoint name is. endpoint_number s.version k ws endpoint name (subst (Spells s.version k ws) is p.1)) x)
 
--- what the script comes to is that of a script so far of which all this holds
-record Ended (n : NativeData) (d : ScriptData) : Type 0 where
+-- what so many lines from that number on come to is what a script so far comes to, of which all this holds
+record Ended (n : NativeData) (from count : ℕ) (d : ScriptData) : Type 0 where
   last : ScriptState
   number : ℕ
+  behind : number ≡ from + count
   orderly : IsSoFar number last
   is : d ≡ script_in n last
 
@@ -352,13 +355,16 @@ same_data : (d e : ScriptData) → ◌≡◌ {A = Outcome} (Ok d) (Ok e) → d �
 same_data d e h = cc
 
 end_of : (n : NativeData) (number : ℕ) (s : ScriptState) (d : ScriptData) (b : Bool)
-    → ◌≡◌ {A = Outcome} (Ok d) (if b then Err (1, cause.Version) else Ok (script_in n s)) → IsSoFar number s → Ended n d
+    → ◌≡◌ {A = Outcome} (Ok d) (if b then Err (1, cause.Version) else Ok (script_in n s)) → IsSoFar number s → Ended n number 0 d
 end_of n number s d true e x = absurd cc
-end_of n number s d false e x = record { last = s; number = number; orderly = x; is = same_data d (script_in n s) e }
+end_of n number s d false e x = record { last = s; number = number; behind = omega arith; orderly = x; is = same_data d (script_in n s) e }
 
-comes_orderly : (n : NativeData) (number : ℕ) (s : ScriptState) (texts : List (List ℕ)) (d : ScriptData) → ComesTo n s number texts (Ok d) → IsSoFar number s → Ended n d
+one_more : (n : NativeData) (from count : ℕ) (d : ScriptData) → Ended n (from + 1) count d → Ended n from (suc count) d
+one_more n from count d e = record { last = e.last; number = e.number; behind = let b = e.behind in omega arith; orderly = e.orderly; is = e.is }
+
+comes_orderly : (n : NativeData) (number : ℕ) (s : ScriptState) (texts : List (List ℕ)) (d : ScriptData) → ComesTo n s number texts (Ok d) → IsSoFar number s → Ended n number (length texts) d
 comes_orderly n number s [] d h x = end_of n number s d (eqb s.version 0) h x
-comes_orderly n number s (text ∷ more) d (inl h) x = comes_orderly n (number + 1) h.0 more d h.2 (lined_on n number s h.0 (head s text) h.1 x)
+comes_orderly n number s (text ∷ more) d (inl h) x = one_more n number (length more) d (comes_orderly n (number + 1) h.0 more d h.2 (lined_on n number s h.0 (head s text) h.1 x))
 comes_orderly n number s (text ∷ more) d (inr h) x = absurd (let bad : Ok d ≡ Err (number, h.0) = h.2 in cc)
 
 start_orderly : IsSoFar 1 start
@@ -380,10 +386,37 @@ not_zero v true e some = absurd (some (grind (arith, nat_tests, e)))
 not_zero v false e some = e
 
 -- the script that lines come to is orderly
+lines_orderly : (n : NativeData) (texts : List (List ℕ)) (d : ScriptData) → ComesTo n start 1 texts (Ok d) → IsOrderly d
+lines_orderly n texts d comes =
+    let e = comes_orderly n 1 start texts d comes start_orderly in
+    subst IsOrderly (sym e.is) (orderly_end n e.number e.last e.orderly)
+
 pub orderly_read : (n m : NativeData) (s : ScriptState) (texts : List (List ℕ)) (d : ScriptData) → m ≡ n → (s.version ≡ 0 → ⊥)
     → ((o : Outcome) → o ≡ outcome_at_end n s → ComesTo n start 1 texts o) → d ≡ script_in m s → IsOrderly d
 orderly_read n m s texts d natives some gives is =
     let comes : ComesTo n start 1 texts (Ok (script_in n s)) = gives (Ok (script_in n s)) (makes n s (not_zero s.version (eqb s.version 0) refl some)) in
-    let e = comes_orderly n 1 start texts (script_in n s) comes start_orderly in
-    let same : d ≡ script_in n e.last = is ∙ ap (λ (k : NativeData). script_in k s) natives ∙ e.is in
-    subst IsOrderly (sym same) (orderly_end n e.number e.last e.orderly)
+    let same : d ≡ script_in n s = is ∙ ap (λ (k : NativeData). script_in k s) natives in
+    subst IsOrderly (sym same) (lines_orderly n texts (script_in n s) comes)
+
+-- ---- a text that is a script
+
+comes_to : (n : NativeData) (text : List ℕ) (d : ScriptData) → IsScript n text (Ok d) → ComesTo n start 1 (lines text) (Ok d)
+comes_to n text d is = small_enough n text d (nat_lt most_bytes (length text)) is
+
+pub script_orderly : (n : NativeData) (text : List ℕ) (d : ScriptData) → IsScript n text (Ok d) → IsOrderly d
+script_orderly n text d is = lines_orderly n (lines text) d (comes_to n text d is)
+
+not_large : (n : NativeData) (text : List ℕ) (d : ScriptData) (b : Bool) → nat_lt 1048576 (length text) ≡ b
+    → MatchBool b (◌≡◌ {A = Outcome} (Ok d) (Err (0, cause.TooLarge))) (ComesTo n start 1 (lines text) (Ok d)) → length text ≤ 1048576
+not_large n text d true large h = absurd cc
+not_large n text d false large h = grind (arith, nat_tests, large)
+
+-- its lane lines are numbered by lines of the text, of which there are no more than it may have bytes, and one
+pub script_numbers : (n : NativeData) (text : List ℕ) (d : ScriptData) → IsScript n text (Ok d) → All (λ line. line.number ≤ 1048577) (lines_in d.segments)
+script_numbers n text d is =
+    let e = comes_orderly n 1 start (lines text) d (comes_to n text d is) start_orderly in
+    let count = lines_count text in
+    let small = not_large n text d (nat_lt 1048576 (length text)) refl is in
+    let behind = e.behind in
+    subst (λ (x : ScriptData). All (λ line. line.number ≤ 1048577) (lines_in x.segments)) (sym e.is)
+    (all_on (λ (line : Line). line.number < e.number) (λ (line : Line). line.number ≤ 1048577) (lines_in (parts e.last)) (λ line below. omega arith) e.orderly.lined.before)

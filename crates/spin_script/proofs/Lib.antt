@@ -27,7 +27,7 @@ pub mod CanonicalPlaces
 pub mod CanonicalRoundTrip
 pub mod CatalogueBodies
 pub mod DeclaredUnits
-mod LaneLines
+pub mod LaneLines
 pub mod SayableWords
 mod SayableLines
 mod OutcomeExistence
