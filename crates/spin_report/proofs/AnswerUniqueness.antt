@@ -1,5 +1,5 @@
 -- What was asked at a state has one answer and one next state, but for the cycle that a conflict names.
-use Rattle.std.proofs.Common.{◌≡◌, sym, ap, ◌∙◌}
+use Rattle.std.proofs.Common.{◌≡◌, List, [], ◌∷◌, sym, ap, subst, ◌∙◌}
 use Rattle.std.specs.Prelude.{Option, Some, None, MatchOption}
 use Rattle.spin_word.specs.declared.command.Command.{Command}
 use Rattle.spin_table.specs.declared.refusal.Refusal.{Refusal}
@@ -14,6 +14,10 @@ use Rattle.spin_proto.specs.declared.deed.JobCall.{JobCall}
 use Rattle.spin_proto.specs.declared.reply.Reply.{Reply}
 use Rattle.spin_proto.proofs.BoundEvents.{bounds_unique}
 use Rattle.spin_proto.specs.Replies.{deed_reply, job_reply, units_in, types_in, IsDeedReply, IsJobReply}
+use Rattle.spin_report.specs.declared.entry.What.{What}
+use Rattle.spin_report.specs.declared.entry.What.TheVariants as what
+use Rattle.spin_report.specs.declared.entry.Entry.{Entry}
+use Rattle.spin_report.specs.Legal.{Answers, IsNextEntry, IsLegal}
 
 -- a deed has one reply at a state
 pub one_reply : (d : SetupData) (s : State) (asked : Deed) (a b : Reply) → IsDeedReply d s asked a → IsDeedReply d s asked b → a ≡ b
@@ -35,3 +39,18 @@ one_next d s c v a b h k = by_refusal (refusal_of d s c) v h k where
   by_refusal (Some r) v h k = h.1 ∙ sym k.1
   by_refusal None verdicted.Accepted h k = h.0 ∙ sym k.0
   by_refusal None (verdicted.Refused r) h k = h.0 ∙ sym k.0
+
+-- one answer leads to one state
+pub one_answer : (d : SetupData) (s : State) (w : What) (a b : State) → Answers d s w a → Answers d s w b → a ≡ b
+one_answer d s (what.Command c v) a b h k = one_next d s c v a b h k
+one_answer d s (what.Deed f r) a b h k = h.1 ∙ sym k.1
+
+pub same_next : (d : SetupData) (s : State) (e : Entry) (a b : State) → IsNextEntry d s e a → IsNextEntry d s e b → a ≡ b
+same_next d s e a b h k = one_answer d s e.what a b h.0 k.0
+
+-- and so do legal entries
+pub same_last : (d : SetupData) (s : State) (es : List Entry) (a b : State) → IsLegal d s es a → IsLegal d s es b → a ≡ b
+same_last d s [] a b h k = h ∙ sym k
+same_last d s (e ∷ es) a b h k =
+    let next = same_next d s e h.0 k.0 h.1 k.1 in
+    same_last d k.0 es a b (subst (λ t. IsLegal d t es a) next h.2) k.2

@@ -1,6 +1,6 @@
--- What the words of an entry's line tell: its place, lane, line and part, and a command's verdict.
-use Rattle.std.proofs.Common.{◌≡◌, ◌<◌, ◌^◌, ℕ, zero, suc, true, false, eqb, cond, List, [], ◌∷◌, map, get_or, refl, sym, ap, ◌∙◌, arith}
-use Rattle.std.specs.Prelude.{◌==◌, if◌then◌else◌, All, decimal}
+-- What the words of an entry's line tell: its place, lane, line and part, and the cycle of a command's verdict.
+use Rattle.std.proofs.Common.{◌≡◌, ◌<◌, ◌^◌, ℕ, zero, suc, true, false, eqb, cond, List, [], ◌∷◌, map, refl, sym, ap, ◌∙◌, arith}
+use Rattle.std.specs.Prelude.{All, decimal}
 use Rattle.std.specs.List.{slice_split}
 use Rattle.std.specs.Str.{all_ascii_digits}
 use Rattle.std.specs.Str.Parse.{digits_value}
@@ -13,11 +13,12 @@ use Rattle.spin_table.specs.declared.refusal.Refusal.{Refusal}
 use Rattle.spin_table.specs.declared.refusal.Refusal.TheVariants as refusal
 use Rattle.spin_table.specs.declared.refusal.Verdicted.{Verdicted}
 use Rattle.spin_table.specs.declared.refusal.Verdicted.TheVariants as verdicted
+use Rattle.spin_table.specs.Laws.{cause_of, without_cycle}
 use Rattle.spin_report.specs.declared.entry.Entry.{Entry}
 use Rattle.spin_text.specs.Words.{Word}
-use Rattle.spin_report.specs.Verdicts.{refusal_number, refusal_numbers, verdict_numbers, verdict_words}
+use Rattle.spin_report.specs.Verdicts.{refusal_numbers, verdict_words}
 use Rattle.spin_report.specs.Lines.{what_words, line_word, entry_words, entry_line}
-use Rattle.spin_report.specs.Laws.{HasNumbers}
+use Rattle.spin_report.specs.Laws.{cycle_of, cycle_in, HasNumbers}
 use Rattle.spin_report.proofs.PlainWords.{IsDigit, each_so, decimal_digits, same_words}
 use Rattle.spin_report.proofs.ReportLines.{entry_are_words}
 
@@ -78,59 +79,10 @@ same_head e f h k same =
       words = ap (λ (x : List Word). rest (rest (rest x))) b;
     }
 
--- ---- verdicts, read back from their words
+-- ---- the cycle of a verdict, read back from its words
 
 own : IsNumeralModel (λ ds. all_ascii_digits ds ≡ true) (digits_value 10)
 own = numerals_by_value _ tells_all_ascii_digits
-
-abbrev refusal_from : ℕ → List ℕ → Refusal
-refusal_from n ns =
-    if n == 1 then refusal.UnknownEvent
-    else if n == 2 then refusal.UnknownModule
-    else if n == 3 then refusal.UnknownHandler
-    else if n == 4 then refusal.UnknownGuard
-    else if n == 5 then refusal.UnknownBinding
-    else if n == 6 then refusal.WrongType
-    else if n == 7 then refusal.Downward
-    else if n == 8 then refusal.WrongMode
-    else if n == 9 then refusal.Denied (get_or ns 0 0)
-    else if n == 10 then refusal.TooMany
-    else if n == 11 then refusal.Conflict ns
-    else refusal.ForcedMode (get_or ns 0 0)
-
-abbrev verdict_from : List Word → Verdicted
-verdict_from [] = verdicted.Accepted
-verdict_from (w ∷ []) = verdicted.Accepted
-verdict_from (w ∷ n ∷ []) = verdicted.Accepted
-verdict_from (w ∷ n ∷ name ∷ ns) = verdicted.Refused (refusal_from (digits_value 10 n) (map (digits_value 10) ns))
-
-refusal_back : (r : Refusal) → refusal_from (refusal_number r) (refusal_numbers r) ≡ r
-refusal_back refusal.UnknownEvent = refl
-refusal_back refusal.UnknownModule = refl
-refusal_back refusal.UnknownHandler = refl
-refusal_back refusal.UnknownGuard = refl
-refusal_back refusal.UnknownBinding = refl
-refusal_back refusal.WrongType = refl
-refusal_back refusal.Downward = refl
-refusal_back refusal.WrongMode = refl
-refusal_back (refusal.Denied rule) = refl
-refusal_back refusal.TooMany = refl
-refusal_back (refusal.Conflict cycle) = refl
-refusal_back (refusal.ForcedMode rule) = refl
-
-number_back : (r : Refusal) → digits_value 10 (decimal (refusal_number r)) ≡ refusal_number r
-number_back refusal.UnknownEvent = digits_value-decimal own 1 (omega arith)
-number_back refusal.UnknownModule = digits_value-decimal own 2 (omega arith)
-number_back refusal.UnknownHandler = digits_value-decimal own 3 (omega arith)
-number_back refusal.UnknownGuard = digits_value-decimal own 4 (omega arith)
-number_back refusal.UnknownBinding = digits_value-decimal own 5 (omega arith)
-number_back refusal.WrongType = digits_value-decimal own 6 (omega arith)
-number_back refusal.Downward = digits_value-decimal own 7 (omega arith)
-number_back refusal.WrongMode = digits_value-decimal own 8 (omega arith)
-number_back (refusal.Denied rule) = digits_value-decimal own 9 (omega arith)
-number_back refusal.TooMany = digits_value-decimal own 10 (omega arith)
-number_back (refusal.Conflict cycle) = digits_value-decimal own 11 (omega arith)
-number_back (refusal.ForcedMode rule) = digits_value-decimal own 12 (omega arith)
 
 numbers_back : (ns : List ℕ) → All (λ n. n < 2 ^ 64) ns → map (digits_value 10) (map decimal ns) ≡ ns
 numbers_back [] h = refl
@@ -139,12 +91,32 @@ numbers_back (n ∷ ns) h =
     let more = numbers_back ns (All-tail (λ n. n < 2 ^ 64) n ns h) in
     λ i. one i ∷ more i
 
-verdict_back : (v : Verdicted) → All (λ n. n < 2 ^ 64) (verdict_numbers v) → verdict_from (verdict_words v) ≡ v
-verdict_back verdicted.Accepted h = refl
-verdict_back (verdicted.Refused r) h =
-    let number = number_back r in
-    let numbers = numbers_back (refusal_numbers r) h in
-    (λ i. verdicted.Refused (refusal_from (number i) (numbers i))) ∙ ap verdicted.Refused (refusal_back r)
+-- the refusal of that cause, its cycle read from these words
+abbrev refusal_from : Refusal → List Word → Refusal
+refusal_from (refusal.Conflict cycle) ws = refusal.Conflict (map (digits_value 10) ws)
+refusal_from other ws = other
 
-pub same_verdict : (v w : Verdicted) → All (λ n. n < 2 ^ 64) (verdict_numbers v) → All (λ n. n < 2 ^ 64) (verdict_numbers w) → verdict_words v ≡ verdict_words w → v ≡ w
-same_verdict v w h k same = sym (verdict_back v h) ∙ ap verdict_from same ∙ verdict_back w k
+refusal_back : (r : Refusal) → All (λ n. n < 2 ^ 64) (cycle_of r) → refusal_from (cause_of r) (map decimal (refusal_numbers r)) ≡ r
+refusal_back refusal.UnknownEvent h = refl
+refusal_back refusal.UnknownModule h = refl
+refusal_back refusal.UnknownHandler h = refl
+refusal_back refusal.UnknownGuard h = refl
+refusal_back refusal.UnknownBinding h = refl
+refusal_back refusal.WrongType h = refl
+refusal_back refusal.Downward h = refl
+refusal_back refusal.WrongMode h = refl
+refusal_back (refusal.Denied rule) h = refl
+refusal_back refusal.TooMany h = refl
+refusal_back (refusal.Conflict cycle) h = ap (λ (ns : List ℕ). refusal.Conflict ns) (numbers_back cycle h)
+refusal_back (refusal.ForcedMode rule) h = refl
+
+-- what is known of a verdict but for its cycle, and its words, tell the verdict
+pub same_verdict : (v w : Verdicted) → without_cycle v ≡ without_cycle w → All (λ n. n < 2 ^ 64) (cycle_in v) → All (λ n. n < 2 ^ 64) (cycle_in w) → verdict_words v ≡ verdict_words w → v ≡ w
+same_verdict verdicted.Accepted verdicted.Accepted cause h k words = refl
+same_verdict verdicted.Accepted (verdicted.Refused q) cause h k words = absurd (cc (cause))
+same_verdict (verdicted.Refused r) verdicted.Accepted cause h k words = absurd (cc (cause))
+same_verdict (verdicted.Refused r) (verdicted.Refused q) cause h k words =
+    let why : cause_of r ≡ cause_of q = cc (cause) in
+    let told : map decimal (refusal_numbers r) ≡ map decimal (refusal_numbers q) = ap (λ (x : List Word). rest (rest (rest x))) words in
+    let same : r ≡ q = sym (refusal_back r h) ∙ (λ i. refusal_from (why i) (told i)) ∙ refusal_back q k in
+    ap (λ (x : Refusal). verdicted.Refused x) same

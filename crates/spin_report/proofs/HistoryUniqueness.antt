@@ -6,6 +6,9 @@ use Rattle.std.proofs.lemmas.List.Elements.{All-head, All-tail}
 use Rattle.std.proofs.lemmas.List.Sorted.{Contains-permutation}
 use Rattle.spin_table.specs.Setups.{SetupData}
 use Rattle.spin_table.specs.States.{State}
+use Rattle.spin_table.specs.Steps.{IsStep}
+use Rattle.spin_table.proofs.StepUniqueness.{one_step}
+use Rattle.spin_word.specs.declared.command.Command.{Command}
 use Rattle.spin_word.specs.declared.work.Deed.{Deed}
 use Rattle.spin_proto.specs.declared.deed.JobCall.{JobCall}
 use Rattle.spin_proto.specs.Replies.{IsDeedReply}
@@ -19,12 +22,12 @@ use Rattle.spin_report.specs.Legal.{Answers, IsLegal}
 use Rattle.spin_report.specs.Jobs.{answer_calls, entry_job, AreJobsFrom, AreJobs}
 use Rattle.spin_report.specs.Asked.{Numbered, asked_by, asked_of, AreApart}
 use Rattle.spin_text.specs.Digits.{begins_with_digit}
-use Rattle.spin_report.specs.Laws.{numbers_named, HasNumbers, ReportTells}
+use Rattle.spin_report.specs.Laws.{cycle_told, HasNumbers, ReportTells}
 use Rattle.spin_report.proofs.PlainWords.{same_lines}
 use Rattle.spin_report.proofs.ReportLines.{report_are_lines, digits_tell}
 use Rattle.spin_report.proofs.EntryLines.{SameHead, same_head, same_verdict}
 use Rattle.spin_report.proofs.SegmentLines.{same_segments}
-use Rattle.spin_report.proofs.AnswerUniqueness.{one_reply, one_job_reply, one_next}
+use Rattle.spin_report.proofs.AnswerUniqueness.{one_reply, one_job_reply, one_answer, same_next}
 
 abbrev rest : List Word → List Word
 rest [] = []
@@ -32,10 +35,11 @@ rest (w ∷ ws) = ws
 
 -- what was asked, and the words of the line, tell the answer
 same_what : (d : SetupData) (state one two : State) (p q : ℕ) (w v : What) → asked_by w ≡ asked_by v → what_words p w ≡ what_words q v
-    → All (λ n. n < 2 ^ 64) (numbers_named w) → All (λ n. n < 2 ^ 64) (numbers_named v) → Answers d state w one → Answers d state v two → w ≡ v
+    → All (λ n. n < 2 ^ 64) (cycle_told w) → All (λ n. n < 2 ^ 64) (cycle_told v) → Answers d state w one → Answers d state v two → w ≡ v
 same_what d state one two p q (what.Command c x) (what.Command e y) asked words h k a b =
     let command : c ≡ e = cc (asked) in
-    let verdict : x ≡ y = same_verdict x y h k (ap rest words) in
+    let step = one_step d state e x y one two (subst (λ (z : Command). IsStep d state z x one) command a) b in
+    let verdict : x ≡ y = same_verdict x y step.0 h k (ap rest words) in
     λ i. what.Command (command i) (verdict i)
 same_what d state one two p q (what.Command c x) (what.Deed f r) asked words h k a b = absurd (cc (asked))
 same_what d state one two p q (what.Deed f r) (what.Command c x) asked words h k a b = absurd (cc (asked))
@@ -43,11 +47,6 @@ same_what d state one two p q (what.Deed f r) (what.Deed g t) asked words h k a 
     let deed : f ≡ g = cc (asked) in
     let reply : r ≡ t = one_reply d state g r t (subst (λ (x : Deed). IsDeedReply d state x r) deed a.0) b.0 in
     λ i. what.Deed (deed i) (reply i)
-
--- one answer leads to one state
-same_next : (d : SetupData) (state one two : State) (w : What) → Answers d state w one → Answers d state w two → one ≡ two
-same_next d state one two (what.Command c x) a b = one_next d state c x one two a b
-same_next d state one two (what.Deed f r) a b = a.1 ∙ sym b.1
 
 same_jobs_from : (d : SetupData) (state : State) (entry : Entry) (n : ℕ) (calls : List JobCall) (js ks : List JobSeen)
     → AreJobsFrom d state entry n calls js → AreJobsFrom d state entry n calls ks → js ≡ ks
@@ -60,13 +59,13 @@ same_jobs_from d state entry n (call ∷ calls) js ks h k =
 pub one_list_of_jobs : (d : SetupData) (state : State) (entries : List Entry) (js ks : List JobSeen) → AreJobs d state entries js → AreJobs d state entries ks → js ≡ ks
 one_list_of_jobs d state [] js ks h k = h ∙ sym k
 one_list_of_jobs d state (entry ∷ entries) js ks h k =
-    let next : h.0 ≡ k.0 = same_next d state h.0 k.0 entry.what h.3.0 k.3.0 in
+    let next : h.0 ≡ k.0 = same_next d state entry h.0 k.0 h.3 k.3 in
     let own = same_jobs_from d k.0 entry 0 (answer_calls entry.what) h.1 k.1 (subst (λ s. AreJobsFrom d s entry 0 (answer_calls entry.what) h.1) next h.4) k.4 in
     let others = one_list_of_jobs d k.0 entries h.2 k.2 (subst (λ s. AreJobs d s entries h.2) next h.5) k.5 in
     h.6 ∙ (λ i. own i ++ others i) ∙ sym k.6
 
 -- what each entry answers is among what was asked
-all_asked : (asked : List Numbered) (entries : List Entry) → IsPermutation (map asked_of entries) asked → All (λ (e : Entry). Contains asked (asked_of e)) entries
+pub all_asked : (asked : List Numbered) (entries : List Entry) → IsPermutation (map asked_of entries) asked → All (λ (e : Entry). Contains asked (asked_of e)) entries
 all_asked asked entries once = λ j d lt.
     let e = get_or entries j d in
     let here : j < length (map asked_of entries) = omega (arith, length-map entries asked_of) in
@@ -87,9 +86,9 @@ same_entries d asked apart (x ∷ xs) (y ∷ ys) state one two p q a b h k same 
     let head : SameHead x y = same_head x y of_x of_y line in
     let work : asked_of x ≡ asked_of y =
     apart (asked_of x) (asked_of y) (All-head (λ (e : Entry). Contains asked (asked_of e)) x xs a) (All-head (λ (e : Entry). Contains asked (asked_of e)) y ys b) head.line head.part in
-    let answer : x.what ≡ y.what = same_what d state p.0 q.0 x.part y.part x.what y.what (ap (λ (n : Numbered). n.asked) work) head.words of_x.verdict of_y.verdict p.1.0 q.1.0 in
+    let answer : x.what ≡ y.what = same_what d state p.0 q.0 x.part y.part x.what y.what (ap (λ (n : Numbered). n.asked) work) head.words of_x.cycle of_y.cycle p.1.0 q.1.0 in
     let entry : x ≡ y = λ i. record { place = head.place i; lane = head.lane i; line = head.line i; part = head.part i; what = answer i } in
-    let next : p.0 ≡ q.0 = same_next d state p.0 q.0 y.what (subst (λ w. Answers d state w p.0) answer p.1.0) q.1.0 in
+    let next : p.0 ≡ q.0 = one_answer d state y.what p.0 q.0 (subst (λ w. Answers d state w p.0) answer p.1.0) q.1.0 in
     let others = same_entries d asked apart xs ys q.0 one two (subst (λ s. IsLegal d s xs one) next p.2) q.2
     (All-tail (λ (e : Entry). Contains asked (asked_of e)) x xs a) (All-tail (λ (e : Entry). Contains asked (asked_of e)) y ys b) (All-tail HasNumbers x xs h) (All-tail HasNumbers y ys k) lines in
     λ i. entry i ∷ others i

@@ -5,3 +5,7 @@ pub mod SegmentLines
 pub mod AnswerUniqueness
 pub mod HistoryUniqueness
 pub mod LaneAnswers
+pub mod Asking
+pub mod Cycles
+pub mod Following
+pub mod Whole

@@ -1,37 +1,59 @@
 -- What a report tells.
-use Rattle.std.specs.Prelude.{◌≡◌, ◌<◌, ◌^◌, ℕ, ◌==◌, List, [], map, filter, All, IsPermutation}
+use Rattle.std.specs.Prelude.{◌≡◌, ◌<◌, ◌^◌, ℕ, ◌==◌, List, [], map, filter, Option, Ok, All, IsPermutation}
 use Rattle.spin_text.specs.Digits.{begins_with_digit}
+use Rattle.spin_table.specs.declared.refusal.Refusal.{Refusal}
+use Rattle.spin_table.specs.declared.refusal.Refusal.TheVariants as refusal
+use Rattle.spin_table.specs.declared.refusal.Verdicted.{Verdicted}
+use Rattle.spin_table.specs.declared.refusal.Verdicted.TheVariants as verdicted
 use Rattle.spin_table.specs.Setups.{SetupData}
 use Rattle.spin_table.specs.States.{State}
+use Rattle.spin_endpoint.specs.Named.{NamedEnd}
+use Rattle.spin_script.specs.States.{NativeData, ScriptData}
+use Rattle.spin_script.specs.Language.{IsScript}
 use Rattle.spin_report.specs.declared.entry.What.{What}
 use Rattle.spin_report.specs.declared.entry.What.TheVariants as what
 use Rattle.spin_report.specs.declared.entry.Entry.{Entry}
-use Rattle.spin_report.specs.Verdicts.{verdict_numbers}
 use Rattle.spin_report.specs.Lines.{JobSeen, entry_line}
 use Rattle.spin_report.specs.Histories.{HistorySeen, report_lines, report_text, entries_of}
 use Rattle.spin_report.specs.Jobs.{AreJobs}
 use Rattle.spin_report.specs.Asked.{Numbered, asked_of, AreApart, IsHistory}
+use Rattle.spin_report.specs.Runs.{Captured, Standing, IsRun}
 
 -- The lines that begin with a digit are just those of the entries, in order.
 abbrev pub DigitsTellEntries : Type 0
 DigitsTellEntries =
     (h : HistorySeen) → filter begins_with_digit (report_lines h) ≡ map entry_line (entries_of h)
 
-abbrev pub numbers_named : What → List ℕ
-numbers_named (what.Command command verdict) = verdict_numbers verdict
-numbers_named (what.Deed deed reply) = []
+-- the numbers of the cycle that a refusal tells; a conflict alone tells one
+abbrev pub cycle_of : Refusal → List ℕ
+cycle_of (refusal.Conflict cycle) = cycle
+cycle_of other = []
 
--- The numbers of an entry and of its verdict have at most 64 bits.
+-- the numbers of the cycle that a verdict tells, if it tells one
+abbrev pub cycle_in : Verdicted → List ℕ
+cycle_in verdicted.Accepted = []
+cycle_in (verdicted.Refused why) = cycle_of why
+
+-- the numbers of the cycle that an answer tells, if it tells one
+abbrev pub cycle_told : What → List ℕ
+cycle_told (what.Command command verdict) = cycle_in verdict
+cycle_told (what.Deed deed reply) = []
+
+-- The numbers of an entry, and those of the cycle that it tells, have at most 64 bits.
 pub record HasNumbers (entry : Entry) : Type 0 where
   pub place : entry.place < 2 ^ 64
   pub lane : entry.lane < 2 ^ 64
   pub line : entry.line < 2 ^ 64
   pub part : entry.part < 2 ^ 64
-  pub verdict : All (λ n. n < 2 ^ 64) (numbers_named entry.what)
+  pub cycle : All (λ n. n < 2 ^ 64) (cycle_told entry.what)
 
 -- the entries of each segment
 abbrev pub segment_entries : HistorySeen → List (List Entry)
 segment_entries h = map (λ s. s.entries) h.segments
+
+-- the jobs of each segment
+abbrev pub segment_jobs : HistorySeen → List (List JobSeen)
+segment_jobs h = map (λ s. s.jobs) h.segments
 
 -- No two histories that answer the same, numbered by line and part, have one report: each segment of one has the
 -- entries of the other's.
@@ -56,3 +78,21 @@ LanesAnswer =
     → ((k : ℕ) → k < lanes
     → map asked_of (filter (λ e. e.lane == k) entries) ≡ filter (λ n. n.lane == k) asked)
     → IsPermutation (map asked_of entries) asked
+
+-- A text that is a script was run twice with one capture, over whatever endpoints. Where the two reports are one text,
+-- each segment of the one run has the entries and the jobs of the other's.
+abbrev pub OneHistory : Type 0
+OneHistory =
+    (n : NativeData) (text : List ℕ) (script : ScriptData) (capture : Option Captured)
+    (ends ends' : List NamedEnd) (h k : HistorySeen) (last last' : Standing) → IsScript n text (Ok script)
+    → IsRun script capture ends h last → IsRun script capture ends' k last'
+    → report_text h ≡ report_text k
+    → (segment_entries h ≡ segment_entries k) × (segment_jobs h ≡ segment_jobs k)
+
+-- And over the same endpoints the two runs are one in all, and leave the endpoints alike.
+abbrev pub OneRun : Type 0
+OneRun =
+    (n : NativeData) (text : List ℕ) (script : ScriptData) (capture : Option Captured)
+    (ends : List NamedEnd) (h k : HistorySeen) (last last' : Standing) → IsScript n text (Ok script)
+    → IsRun script capture ends h last → IsRun script capture ends k last'
+    → report_text h ≡ report_text k → (h ≡ k) × (last ≡ last')

@@ -43,11 +43,6 @@ refusal_numbers (refusal.Conflict cycle) = cycle
 refusal_numbers (refusal.ForcedMode rule) = rule ∷ []
 refusal_numbers r = []
 
--- the numbers that a verdict names
-abbrev pub verdict_numbers : Verdicted → List ℕ
-verdict_numbers verdicted.Accepted = []
-verdict_numbers (verdicted.Refused r) = refusal_numbers r
-
 -- a refusal's number and name, and then the numbers that it names
 abbrev pub refusal_words : Refusal → List Word
 refusal_words r = decimal (refusal_number r) ∷ refusal_name r ∷ map decimal (refusal_numbers r)

@@ -1,6 +1,6 @@
 //! What a report tells of a history.
 
-ghost use Rattle.spin_report.specs.Laws.{DigitsTellEntries, JobsFollow, LanesAnswer, ReportTells};
+ghost use Rattle.spin_report.specs.Laws.{DigitsTellEntries, JobsFollow, LanesAnswer, OneHistory, OneRun, ReportTells};
 
 /// The law of the report: the lines that begin with a digit are just those of the entries, in order. Of two legal
 /// histories, each of which answers the same commands and deeds once, numbered by line and part, the entries are equal
@@ -12,4 +12,13 @@ pub fn report_tells()
     ensures histories { ReportTells }
     ensures jobs { JobsFollow }
     ensures lanes { LanesAnswer }
+{}
+
+/// The law of whole runs: a script's text, its capture and the text of the report have one history. Of two runs of a
+/// text that is a script, over one capture, each segment has the same entries and the same jobs where the texts of
+/// their reports are the same, whatever endpoints each had. And over the same endpoints the two runs are one in all,
+/// and leave the endpoints alike. It does nothing.
+pub fn one_history()
+    ensures entries { OneHistory }
+    ensures whole { OneRun }
 {}

@@ -15,7 +15,7 @@ mod text;
 mod verdict;
 
 pub use entry::{Entries, Entry, Moment, What};
-pub use law::report_tells;
+pub use law::{one_history, report_tells};
 pub use records::{records_wanted, split_records};
 pub use reply::reply_text;
 pub use text::{

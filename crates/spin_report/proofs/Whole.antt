@@ -1,0 +1,157 @@
+-- The report of a run of a script tells its history.
+use Rattle.std.proofs.Common.{◌≡◌, ◌<◌, ◌≤◌, ◌^◌, ℕ, List, [], ◌∷◌, ◌++◌, map, length, drop, get_or, refl, sym, subst, arith}
+use Rattle.std.specs.Prelude.{Option, Ok, All, Contains, IsPermutation}
+use Rattle.std.specs.List.{flat_map}
+use Rattle.std.proofs.Math.Seq.{take-append_seam, drop-append_seam}
+use Rattle.std.proofs.lemmas.List.{length-map, map-append}
+use Rattle.std.proofs.lemmas.List.Elements.{All-take, All-drop, All-weaker, All-contains}
+use Rattle.std.proofs.lemmas.List.Sorted.{IsPermutation-refl, IsPermutation-append, length_permutation}
+use Rattle.spin_word.specs.declared.work.Work.{Work}
+use Rattle.spin_table.specs.Setups.{SetupData}
+use Rattle.spin_table.specs.States.{State, start_of}
+use Rattle.spin_endpoint.specs.Named.{NamedEnd}
+use Rattle.spin_script.specs.declared.script.Line.{Line}
+use Rattle.spin_script.specs.declared.script.Segment.{Segment}
+use Rattle.spin_script.specs.States.{NativeData, ScriptData}
+use Rattle.spin_script.specs.Language.{IsScript}
+use Rattle.spin_script.specs.Soundness.{lines_in}
+use Rattle.spin_script.specs.Segments.{IsOnLane, IsOrderly}
+use Rattle.spin_script.proofs.LaneLines.{script_orderly, script_numbers}
+use Rattle.spin_report.specs.declared.entry.Entry.{Entry}
+use Rattle.spin_report.specs.Histories.{SegmentSeen, HistorySeen, report_text, entries_of}
+use Rattle.spin_report.specs.Legal.{IsLegal}
+use Rattle.spin_report.specs.Asked.{Numbered, asked_of, AreApart, IsHistory}
+use Rattle.spin_report.specs.Segments.{asked_in, wanted_by}
+use Rattle.spin_report.specs.Runs.{Standing, Captured, frames_of, start_with, AreRun, IsRun}
+use Rattle.spin_report.specs.Laws.{cycle_told, HasNumbers, segment_entries, OneHistory, OneRun}
+use Rattle.spin_report.proofs.Asking.{asked_all, asked_rises, rising_apart, asked_few, asked_parts, asked_behind}
+use Rattle.spin_report.proofs.LaneAnswers.{answered_by_lanes}
+use Rattle.spin_report.proofs.Cycles.{IsUnder, started_under}
+use Rattle.spin_report.proofs.HistoryUniqueness.{all_asked, law}
+use Rattle.spin_report.proofs.Following.{same_jobs, same_run}
+
+-- ---- all segments are one list of entries
+
+abbrev entries_in : List SegmentSeen → List Entry
+entries_in seen = flat_map (λ s. s.entries) seen
+
+legal_behind : (d : SetupData) (xs ys : List Entry) (s t u : State) → IsLegal d s xs t → IsLegal d t ys u → IsLegal d s (xs ++ ys) u
+legal_behind d [] ys s t u first others = subst (λ (x : State). IsLegal d x ys u) first others
+legal_behind d (x ∷ xs) ys s t u (next, is, rest) others = (next, is, legal_behind d xs ys next t u rest others)
+
+-- the line is of one of so many lanes
+abbrev IsBelow : ℕ → Line → Type 0
+IsBelow lanes line = line.lane < lanes
+
+-- a run of segments is legal, and answers once each what all their lines ask
+abbrev AnswersAll : ScriptData → List Segment → Standing → List SegmentSeen → Standing → Type 0
+AnswersAll script segments before seen after =
+    IsLegal script.setup before.state (entries_in seen) after.state × IsPermutation (map asked_of (entries_in seen)) (asked_in (lines_in segments) before.left)
+
+run_answers : (script : ScriptData) (segments : List Segment) (before after : Standing) (seen : List SegmentSeen) → All (IsBelow script.lanes) (lines_in segments)
+    → AreRun script segments before seen after → AnswersAll script segments before seen after
+run_answers script [] before after seen lanes run =
+    subst (λ (x : List SegmentSeen × Standing). AnswersAll script [] before x.0 x.1) (λ i. (sym run.0 i, sym run.1 i)) (refl, IsPermutation-refl [])
+run_answers script (segment ∷ segments) before after seen lanes (first, others, next, is, run, rest) =
+    let lines = lines_in segments in
+    let first_lanes : All (IsBelow script.lanes) segment.lines =
+    subst (All (IsBelow script.lanes)) (take-append_seam segment.lines lines) (All-take (IsBelow script.lanes) (length segment.lines) (segment.lines ++ lines) lanes) in
+    let other_lanes : All (IsBelow script.lanes) lines =
+    subst (All (IsBelow script.lanes)) (drop-append_seam segment.lines lines) (All-drop (IsBelow script.lanes) (length segment.lines) (segment.lines ++ lines) lanes) in
+    let asked = asked_in segment.lines before.left in
+    let of_lanes : All (λ n. n.lane < script.lanes) asked =
+    asked_all (λ n. n.lane < script.lanes) segment.lines before.left
+    (All-weaker (IsBelow script.lanes) (λ line. (part : ℕ × Work) → line.lane < script.lanes) (λ line below part. below) segment.lines first_lanes) in
+    let here : IsPermutation (map asked_of first.entries) asked = answered_by_lanes script.lanes asked first.entries of_lanes run.woven.lanes_are run.woven.once in
+    let more = run_answers script segments next after others other_lanes rest in
+    let behind : IsPermutation (map asked_of (entries_in others)) (asked_in lines (drop (wanted_by segment.lines) before.left)) =
+    subst (λ (left : List (List ℕ)). IsPermutation (map asked_of (entries_in others)) (asked_in lines left)) run.left more.1 in
+    let both = IsPermutation-append (map asked_of first.entries) asked (map asked_of (entries_in others)) (asked_in lines (drop (wanted_by segment.lines) before.left)) here behind in
+    subst (λ (x : List SegmentSeen). AnswersAll script (segment ∷ segments) before x after) (sym is) (
+      legal_behind script.setup first.entries (entries_in others) before.state next.state after.state run.woven.legal more.0,
+      subst (λ (x : List Numbered × List Numbered). IsPermutation x.0 x.1)
+          (λ i. (sym (map-append asked_of first.entries (entries_in others)) i, sym (asked_behind segment.lines lines before.left) i)) both,
+    )
+
+-- ---- numbers
+
+-- what is asked has numbers that a script can give it
+abbrev IsSmall : Numbered → Type 0
+IsSmall n = (n.lane ≤ 8) × (n.line ≤ 1048577) × (n.part ≤ 65536)
+
+has_numbers : (asked : List Numbered) (entries : List Entry) → length entries ≤ 65536 → All IsSmall asked
+    → All (λ (e : Entry). Contains asked (asked_of e)) entries → All (IsUnder (length entries)) entries → All HasNumbers entries
+has_numbers asked entries few small among under = λ j d lt.
+    let e = get_or entries j d in
+    let numbers = All-contains IsSmall asked (asked_of e) small (among j d lt) in
+    let low = under j d lt in
+    record {
+      place = let p = low.0 in omega arith;
+      lane = let l = numbers.0 in omega arith;
+      line = let l = numbers.1 in omega arith;
+      part = let p = numbers.2 in omega arith;
+      cycle = All-weaker (λ (n : ℕ). n ≤ length entries) (λ (n : ℕ). n < 2 ^ 64) (λ n le. omega arith) (cycle_told e.what) low.1;
+    }
+
+-- ---- whole runs
+
+module _ (n : NativeData) (text : List ℕ) (script : ScriptData) (capture : Option Captured) (is : IsScript n text (Ok script)) where
+  orderly : IsOrderly script
+  orderly = script_orderly n text script is
+
+  abbrev lines : List Line
+  lines = lines_in script.segments
+
+  abbrev asked : List Numbered
+  asked = asked_in lines (frames_of capture)
+
+  apart : AreApart asked
+  apart = rising_apart asked (asked_rises lines (frames_of capture) orderly.numbers)
+
+  lanes : All (IsBelow script.lanes) lines
+  lanes = All-weaker (IsOnLane script.lanes) (IsBelow script.lanes) (λ line on. on.below) lines orderly.lanes.each
+
+  small : All IsSmall asked
+  small = λ j d lt.
+      let lane = asked_all (λ m. m.lane < script.lanes) lines (frames_of capture)
+      (All-weaker (IsBelow script.lanes) (λ line. (part : ℕ × Work) → line.lane < script.lanes) (λ line below part. below) lines lanes) j d lt in
+      let line = asked_all (λ m. m.line ≤ 1048577) lines (frames_of capture)
+      (All-weaker (λ (x : Line). x.number ≤ 1048577) (λ x. (part : ℕ × Work) → x.number ≤ 1048577) (λ x low part. low) lines (script_numbers n text script is)) j d lt in
+      let part = asked_parts 65536 lines (frames_of capture) orderly.deeds j d lt in
+      let most = orderly.lanes.few in
+      (omega arith, line, part)
+
+  module _ (ends : List NamedEnd) (h : HistorySeen) (last : Standing) (run : IsRun script capture ends h last) where
+    history : IsHistory script.setup (start_of script.setup) asked (entries_of h)
+    history =
+        let answers = run_answers script script.segments (start_with script (frames_of capture) ends) last h.segments lanes run.segments in
+        record { last = last.state; legal = answers.0; once = answers.1 }
+
+    count : length (entries_of h) ≤ 65536
+    count =
+        let few = asked_few lines (frames_of capture) in
+        let deeds = orderly.deeds in
+        let same = length_permutation (map asked_of (entries_of h)) asked history.once in
+        omega (arith, length-map (entries_of h) asked_of)
+
+    numbers : All HasNumbers (entries_of h)
+    numbers = has_numbers asked (entries_of h) count small (all_asked asked (entries_of h) history.once) (started_under script.setup (entries_of h) history.last history.legal)
+
+  same_rows : (ends ends' : List NamedEnd) (h k : HistorySeen) (last last' : Standing) → IsRun script capture ends h last
+      → IsRun script capture ends' k last' → report_text h ≡ report_text k → segment_entries h ≡ segment_entries k
+  same_rows ends ends' h k last last' run run' same =
+      law script.setup (start_of script.setup) asked h k apart (history ends h last run) (history ends' k last' run') (numbers ends h last run) (numbers ends' k last' run') same
+
+-- two runs of a script over one capture, whose reports are one text, have the same entries and jobs
+pub one_history : OneHistory
+one_history n text script capture ends ends' h k last last' is run run' same =
+    let rows = same_rows n text script capture is ends ends' h k last last' run run' same in (
+      rows,
+      same_jobs script script.segments (start_with script (frames_of capture) ends)
+          (start_with script (frames_of capture) ends') last last' h.segments k.segments refl rows run.segments run'.segments,
+    )
+
+-- and over the same endpoints they are one
+pub one_run : OneRun
+one_run n text script capture ends h k last last' is run run' same =
+    same_run script capture ends h k last last' run run' (same_rows n text script capture is ends ends h k last last' run run' same)
