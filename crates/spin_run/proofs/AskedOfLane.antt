@@ -1,11 +1,8 @@
 -- What lines ask of one lane.
-use Rattle.std.proofs.Common.{◌≡◌, ◌≢◌, ◌==◌, ℕ, suc, ◌+◌, ◌<◌, ◌≤◌, Bool, true, false, cond, List, [], ◌∷◌, ◌++◌, map}
-use Rattle.std.proofs.Common.{length, take, drop, get_or, sum_by, refl, sym, ap, ◌∙◌, arith, length-append, eq-eqb, ne_eqb}
+use Rattle.std.proofs.Common.{◌≡◌, ◌≢◌, ◌==◌, ℕ, suc, ◌+◌, ◌<◌, ◌≤◌, Bool, true, false, cond, List, [], ◌∷◌, ◌++◌, map, length, take, drop, get_or, sum_by, refl, sym, ap, ◌∙◌, arith, eq-eqb, ne_eqb}
 use Rattle.std.specs.List.{enumerate_from}
-use Rattle.std.proofs.lemmas.List.{length-map, length-take, take_more}
+use Rattle.std.proofs.lemmas.List.{length-take, take_more}
 use Rattle.std.proofs.lemmas.List.Elements.{filter-append}
-use Rattle.std.proofs.lemmas.List.FromFn.{length-enumerate_from}
-use Rattle.std.proofs.lemmas.List.Sums.{sum_by-cons}
 use Rattle.std.proofs.Math.Seq.{drop-cons}
 use Rattle.spin_word.specs.declared.work.Work.{Work}
 use Rattle.spin_word.specs.declared.work.Work.TheVariants as work
@@ -13,6 +10,7 @@ use Rattle.spin_script.specs.declared.script.Line.{Line}
 use Rattle.spin_script.specs.States.{deed_count}
 use Rattle.spin_report.specs.Asked.{Numbered}
 use Rattle.spin_report.specs.Segments.{records_wanted, raise_with, parts_of, asked_at, asked_in, asked_of_lane}
+use Rattle.spin_report.proofs.Asking.{asked_few}
 use Rattle.spin_run.specs.Inner.Answering.{asked_alone, asked_packets}
 
 -- ---- whose it is
@@ -49,25 +47,6 @@ asked_next k i lines line left lt is =
     ∙ filter-append (λ (n : Numbered). n.lane == k) (asked_at line (take (records_wanted line.work) left)) (asked_in (drop (i + 1) lines) (drop (records_wanted line.work) left))
 
 -- ---- how many
-
-parts_few : (asked : Work) (records : List (List ℕ)) → length (parts_of asked (take (records_wanted asked) records)) ≤ deed_count asked
-parts_few (work.Command command) records = omega arith
-parts_few (work.Deed deed) records = omega arith
-parts_few (work.Packet event count) records =
-    let taken = take count records in
-    let raise : ℕ × List ℕ → ℕ × Work = λ part. (part.0, raise_with event part.1) in
-    omega (arith, length-map (enumerate_from 1 taken) raise, length-enumerate_from 1 taken, length-take count records)
-
-asked_few : (lines : List Line) (records : List (List ℕ)) → length (asked_in lines records) ≤ sum_by (λ line. deed_count line.work) lines
-asked_few [] records = omega arith
-asked_few (line ∷ lines) records =
-    let taken = take (records_wanted line.work) records in
-    let rest = drop (records_wanted line.work) records in
-    let one = parts_few line.work records in
-    let more = asked_few lines rest in
-    let number : ℕ × Work → Numbered = λ part. record { lane = line.lane; line = line.number; part = part.0; asked = part.1 } in
-    let same = length-map (parts_of line.work taken) number in
-    omega (arith, one, more, same, length-append (asked_at line taken) (asked_in lines rest), sum_by-cons (λ (l : Line). deed_count l.work) line lines)
 
 own_fewer : (k : ℕ) (asked : List Numbered) → length (asked_of_lane k asked) ≤ length asked
 own_fewer k [] = omega arith

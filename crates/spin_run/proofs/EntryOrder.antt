@@ -1,6 +1,6 @@
 -- The order of entries.
-use Rattle.std.proofs.Common.{◌≡◌, ◌==◌, ◌≢◌, ◌⊎◌, ⊎_elim, ℕ, ◌+◌, ◌*◌, ◌<◌, ◌≤◌, Bool, true, false, cond, eqb, ltb}
-use Rattle.std.proofs.Common.{List, [], ◌∷◌, ◌++◌, map, length, get_or, refl, sym, ap, ◌∙◌, subst, arith, length-append}
+use Rattle.std.proofs.Common.{◌≡◌, ◌==◌, ◌≢◌, ⊎_elim, ℕ, ◌+◌, ◌*◌, ◌<◌, ◌≤◌, Bool, true, false, cond, eqb, ltb, List}
+use Rattle.std.proofs.Common.{[], ◌∷◌, ◌++◌, map, length, get_or, refl, sym, ap, ◌∙◌, subst, arith, length-append}
 use Rattle.std.specs.Prelude.{not, All}
 use Rattle.std.specs.List.{AllAdjacentBelow, AllPairs}
 use Rattle.std.specs.Ordering.{nat_cmp, bool_cmp, ordering_then, is_lt}
@@ -22,6 +22,7 @@ use Rattle.spin_report.specs.declared.entry.What.TheVariants as what
 use Rattle.spin_report.specs.declared.entry.Entry.{Entry}
 use Rattle.spin_report.specs.Asked.{Numbered, asked_of}
 use Rattle.spin_report.specs.Segments.{is_accepted, moment, moment_cmp, IsInOrder}
+use Rattle.spin_report.proofs.Asking.{IsLater}
 use Rattle.spin_run.specs.Lanes.{said_of, seat_answer}
 
 moment_total : IsTotalOrder moment_cmp
@@ -85,10 +86,6 @@ nat_greater p q lt = ap (λ b. cond b Less (cond (p == q) Equal Greater)) (le-lt
 
 pub nat_same : (p q : ℕ) → p ≡ q → nat_cmp p q ≡ Equal
 nat_same p q same = ap (λ b. cond b Less (cond (p == q) Equal Greater)) (le-ltb p q (omega arith)) ∙ ap (λ b. cond b Equal Greater) (eq-eqb p q same)
-
--- the second stands after the first in the text
-abbrev pub IsLater : Numbered → Numbered → Type 0
-IsLater first second = (first.line < second.line) ⊎ ((first.line ≡ second.line) × (first.part < second.part))
 
 -- an entry that follows in place and text is not earlier
 not_earlier : (x y : Entry) → Follows (seat_answer x) (seat_answer y) → x.lane ≡ y.lane → IsLater (asked_of x) (asked_of y) → earlier y x ≡ false

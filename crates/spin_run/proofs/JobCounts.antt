@@ -1,12 +1,8 @@
 -- How many jobs a segment leaves at most.
-use Rattle.std.proofs.Common.{◌≡◌, ℕ, zero, suc, ◌+◌, ◌*◌, ◌^◌, ◌<◌, ◌≤◌, List, [], ◌∷◌, map, length, take, drop, refl, sym, ap, ◌∙◌, arith, length-append}
+use Rattle.std.proofs.Common.{◌≡◌, ℕ, ◌+◌, ◌*◌, ◌^◌, ◌<◌, ◌≤◌, List, [], ◌∷◌, map, length, refl, sym, ap, ◌∙◌, arith, length-append}
 use Rattle.std.specs.Prelude.{All, sum_by}
-use Rattle.std.specs.List.{flat_map, enumerate_from}
+use Rattle.std.specs.List.{flat_map}
 use Rattle.std.proofs.lemmas.List.{length-map}
-use Rattle.std.proofs.lemmas.List.FromFn.{length-enumerate_from}
-use Rattle.std.proofs.lemmas.List.Sums.{sum_by-cons}
-use Rattle.spin_word.specs.declared.work.Work.{Work}
-use Rattle.spin_word.specs.declared.work.Work.TheVariants as work
 use Rattle.spin_table.specs.Setups.{SetupData}
 use Rattle.spin_table.specs.States.{State}
 use Rattle.spin_proto.specs.declared.deed.JobCall.{JobCall}
@@ -21,9 +17,9 @@ use Rattle.spin_report.specs.declared.entry.Entry.{Entry}
 use Rattle.spin_report.specs.Asked.{Numbered, asked_of}
 use Rattle.spin_report.specs.Jobs.{answer_calls}
 use Rattle.spin_report.specs.Legal.{Answers, IsLegal}
-use Rattle.spin_report.specs.Segments.{records_wanted, raise_with, parts_of, asked_in, asked_of_lane, of_lane}
+use Rattle.spin_report.specs.Segments.{asked_in, asked_of_lane, of_lane}
+use Rattle.spin_report.proofs.Asking.{asked_few}
 use Rattle.spin_run.specs.Lanes.{job_asked, jobs_from, jobs_of}
-use Rattle.spin_run.proofs.AskedOfSegment.{numbered}
 use Rattle.spin_run.proofs.LogCounts.{partition_length}
 use Rattle.spin_proto.proofs.JobCounts.{calls_few}
 
@@ -44,32 +40,6 @@ entries_leave d s last (e ∷ es) legal =
     let more = entries_leave d legal.0 last es legal.2 in
     let all = length-append (jobs_of e) (flat_map jobs_of es) in
     omega (arith, here, size, more, all)
-
-length-take_few : {X : Type 0} (n : ℕ) (xs : List X) → length (take n xs) ≤ n
-length-take_few zero xs = omega arith
-length-take_few (suc n) [] = omega arith
-length-take_few (suc n) (x ∷ xs) = let r = length-take_few n xs in omega (arith, r)
-
-parts_few : (w : Work) (records : List (List ℕ)) → length (parts_of w (take (records_wanted w) records)) ≤ deed_count w
-parts_few (work.Packet event count) records =
-    let few = length-take_few count records in
-    let same = length-map {B = ℕ × Work} (enumerate_from 1 (take count records)) (λ (part : ℕ × List ℕ). (part.0, raise_with event part.1)) in
-    let long = length-enumerate_from 1 (take count records) in
-    omega (arith, few, same, long)
-parts_few (work.Command c) records = omega arith
-parts_few (work.Deed d) records = omega arith
-
--- no more is asked than the deeds that are counted
-asked_few : (lines : List Line) (records : List (List ℕ)) → length (asked_in lines records) ≤ sum_by (λ line. deed_count line.work) lines
-asked_few [] records = omega arith
-asked_few (line ∷ lines) records =
-    let parts = parts_of line.work (take (records_wanted line.work) records) in
-    let here = parts_few line.work records in
-    let same = length-map parts (numbered line) in
-    let rest = asked_few lines (drop (records_wanted line.work) records) in
-    let all = length-append (map (numbered line) parts) (asked_in lines (drop (records_wanted line.work) records)) in
-    let sum = sum_by-cons (λ (l : Line). deed_count l.work) line lines in
-    omega (arith, here, same, rest, all, sum)
 
 -- as many entries as are asked
 entries_count : (lanes : ℕ) (asked : List Numbered) (entries : List Entry) → All (λ n. n.lane < lanes) asked → All (λ (e : Entry). e.lane < lanes) entries

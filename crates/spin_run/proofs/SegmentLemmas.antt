@@ -36,6 +36,7 @@ use Rattle.spin_report.specs.Asked.{Numbered, asked_of}
 use Rattle.spin_report.specs.Lines.{JobSeen}
 use Rattle.spin_report.specs.Legal.{IsLegal}
 use Rattle.spin_report.specs.Segments.{asked_in, asked_of_lane, of_lane, IsInOrder, IsWoven}
+use Rattle.spin_report.proofs.Asking.{asked_all}
 use Rattle.spin_run.specs.declared.lane.Lane.{Lane}
 use Rattle.spin_run.specs.Lanes.{seat_answer, rows_in, job_asked, jobs_of, AreJobsOf, RanLane, HadMemory}
 use Rattle.spin_run.specs.Segments.{front_of, state_of, IsAtRest, AreAtRest, IsReady, AreReady, IsFitSegment, HaveRun, jobs_seen}
@@ -43,7 +44,7 @@ use Rattle.spin_run.specs.Meetings.{IsOfHub, HasMet, HaveMet}
 use Rattle.spin_run.specs.Inner.Weaves.{AreOfTheirLanes, IsInterleaving, AreJobsInOrder, IsEmptied, trails_of, jobs_by_lane}
 use Rattle.spin_run.proofs.EntryOrder.{trail_in_order}
 use Rattle.spin_run.proofs.JobOrder.{jobs_in_order, jobs_have, jobs_woven}
-use Rattle.spin_run.proofs.AskedOfSegment.{asked_all, lane_rises, commands_asked}
+use Rattle.spin_run.proofs.AskedOfSegment.{lane_rises, commands_asked}
 use Rattle.spin_run.proofs.LogCounts.{AllRan, grown_few, never_full}
 use Rattle.spin_run.proofs.JobCounts.{jobs_few}
 use Rattle.spin_run.proofs.WovenEntries.{all_right, woven_legal}
