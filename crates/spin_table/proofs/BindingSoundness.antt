@@ -54,7 +54,7 @@ kept_one : (b : Bool) {X : Type 0} (x : X) (ys : List X) (n : ℕ) → length ys
 kept_one true x ys n h = omega arith
 kept_one false x ys n h = omega arith
 
-length-filter-le : {X : Type 0} (p : X → Bool) (xs : List X) → length (filter p xs) ≤ length xs
+pub length-filter-le : {X : Type 0} (p : X → Bool) (xs : List X) → length (filter p xs) ≤ length xs
 length-filter-le p [] = omega arith
 length-filter-le p (x ∷ xs) = kept_one (p x) x (filter p xs) (length xs) (length-filter-le p xs)
 

@@ -37,7 +37,7 @@ pub slice_get-set_same : {X : Type 0} (xs : List X) (at : ℕ) (x : X) → at < 
 slice_get-set_same xs at x inside =
     slice_get_read (slice_set xs at x) (length (slice_set xs at x)) at x refl (omega (arith, length-set xs at x)) (sym (get_or-set_same xs at x x inside))
 
-at_set : {X : Type 0} (xs : List X) (at k : ℕ) (x y : X) → slice_get (slice_set xs at x) k ≡ Some y → (k ≡ at → ⊥) → slice_get xs k ≡ Some y
+pub at_set : {X : Type 0} (xs : List X) (at k : ℕ) (x y : X) → slice_get (slice_set xs at x) k ≡ Some y → (k ≡ at → ⊥) → slice_get xs k ≡ Some y
 at_set xs at k x y read other =
     let inside : k < length xs = omega (arith, slice_get_within (slice_set xs at x) k y read, length-set xs at x) in
     slice_get_read xs (length xs) k y refl inside (sym (sym (get_or-set_other xs at k x y other) ∙ get_or_from_slice_get (slice_set xs at x) k y y read))
@@ -47,7 +47,7 @@ module _ (d : SetupData) (s : State) (c : Command) (e : EventDef) (t : EventStat
   pub known : refusal_of d s c ≡ first_of (refusals_at d e t.bindings c)
   known = ap (λ o. refusal_on d c o (slice_get s.events c.event)) read_e ∙ ap (λ o. refusal_on d c (Some e) o) read_t
 
-  events : events_after d.policies (s.place + 1) c (slice_get d.events c.event) (slice_get s.events c.event) s.events ≡ slice_set s.events c.event (event_after d.policies e (s.place + 1) c t)
+  pub events : events_after d.policies (s.place + 1) c (slice_get d.events c.event) (slice_get s.events c.event) s.events ≡ slice_set s.events c.event (event_after d.policies e (s.place + 1) c t)
   events = ap (λ o. events_after d.policies (s.place + 1) c o (slice_get s.events c.event) s.events) read_e ∙ ap (λ o. events_after d.policies (s.place + 1) c (Some e) o s.events) read_t
 
   pub next_bindings : bindings_at (state_after d c s) c.event ≡ (event_after d.policies e (s.place + 1) c t).bindings
@@ -126,7 +126,7 @@ number_at s event number is = from_option (slice_get s.events event) is
     from_option None h = absurd h
     from_option (Some t) h = (t, refl, h)
 
-is_number_at : (s : State) (event number : ℕ) (t : EventState) → slice_get s.events event ≡ Some t → Contains (numbers_of t.bindings) number → IsNumberAt s event number
+pub is_number_at : (s : State) (event number : ℕ) (t : EventState) → slice_get s.events event ≡ Some t → Contains (numbers_of t.bindings) number → IsNumberAt s event number
 is_number_at s event number t read h = subst (λ o. IsSomeAnd o (λ (t : EventState). Contains (numbers_of t.bindings) number)) (sym read) h
 
 -- an event that the state has is one that the setup has

@@ -13,3 +13,12 @@ pub mod CommandSteps
 pub mod SignatureTests
 pub mod StepUniqueness
 pub mod Conflicts
+pub mod RenamedNumbers
+pub mod RenamedBindings
+pub mod RenamedOrders
+pub mod RenamedSteps
+pub mod RenewedNumbers
+pub mod RenamedSound
+pub mod Given
+pub mod Renewing
+pub mod RenewalRows

@@ -23,7 +23,7 @@ use Rattle.spin_table.specs.Refusals.{refusals_at, lacks_handler, lacks_guard, o
 use Rattle.spin_objects.proofs.NumberedItems.{numbered-at}
 
 -- none of a list of conditions holds
-none_hold : {R : Type 0} (xs : List (Bool × R)) → first_of xs ≡ None → (k : ℕ) (r : R) → (get_or xs k (false, r)).0 ≡ false
+pub none_hold : {R : Type 0} (xs : List (Bool × R)) → first_of xs ≡ None → (k : ℕ) (r : R) → (get_or xs k (false, r)).0 ≡ false
 none_hold [] none k r = refl
 none_hold ((true, refusal) ∷ others) none k r = cc
 none_hold ((false, refusal) ∷ others) none zero r = refl

@@ -10,4 +10,6 @@ pub mod Soundness
 pub mod SetupOf
 pub mod Orders
 pub mod Laws
+pub mod Renamings
+pub mod Renewals
 pub mod Limits

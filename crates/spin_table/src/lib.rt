@@ -27,7 +27,7 @@ mod version;
 pub use build::{are_all_fit, is_fit_rule, raises_fit};
 pub use event::{Authority, EventDef, EventList};
 pub use fault::SetupFault;
-pub use law::steps_are_one;
+pub use law::{renamed_steps_are_alike, renewals_keep_meaning, steps_are_one};
 pub use limits::limits_are_stated;
 pub use refusal::{Refusal, StepFault, Verdicted};
 pub use setup::{MAX_LIVE, MAX_MODULES, Setup};
