@@ -1,0 +1,78 @@
+"""Tests of spin.py over the library that SPIN_LIBRARY names: worked cases of the repository, and what each answer is told
+as. Run by `python3 -m unittest` in this folder."""
+
+import os
+import unittest
+from pathlib import Path
+
+import spin
+
+TOP = Path(__file__).resolve().parent.parent.parent
+CASES = TOP / "cases" / "check_reports"
+SCRIPT = b"spin 1\nevent 0 0 -:w last\nhandler 1 -:w result 7\nlane 0 install 0 0 1 0 free plain\nlane 0 raise 0\n"
+REPORT = b"report 1\nsegment 0 at 0\n1 0 4 install ok\n1 0 5 raise run 0 1 result 7 = value 7\nend 1\n"
+# The endpoints that stand where the program runs.
+STANDING = ("out0", "out1", "out2", "out3", "echo")
+
+
+def judged_cases():
+    """The worked cases of reports that are judged without a capture: the name, the script, the report, the answer."""
+    for words in sorted(CASES.glob("*.args")):
+        case = CASES / words.stem
+        report = CASES / words.read_text().split()[0] if words.read_text().split() else None
+        if len(words.read_text().split()) == 1 and report.is_file():
+            yield case.name, case.read_bytes(), report.read_bytes(), (CASES / f"{case.name}.stdout").read_text()
+
+
+class Judging(unittest.TestCase):
+    """What judge answers."""
+
+    def setUp(self):
+        self.library = spin.Library(os.environ["SPIN_LIBRARY"])
+
+    def told(self, script, report):
+        """The answer in the words of the program."""
+        try:
+            return "yes\n" if self.library.judge(script, report, STANDING) else "no\n"
+        except spin.BadScript as fault:
+            return f"stop 2 line {fault.line} cause {fault.cause}\n"
+
+    def test_version(self):
+        self.assertEqual(self.library.version(), 1)
+
+    def test_worked_cases(self):
+        cases = list(judged_cases())
+        self.assertGreater(len(cases), 50)
+        for name, script, report, answer in cases:
+            with self.subTest(name):
+                self.assertEqual(self.told(script, report), answer)
+
+    def test_examples(self):
+        for report in sorted((TOP / "examples").glob("*.report")):
+            script = report.with_suffix(".spin")
+            if not report.with_suffix(".pcap").exists() and b"native" not in script.read_bytes():
+                with self.subTest(report.stem):
+                    self.assertTrue(self.library.judge(script.read_bytes(), report.read_bytes(), STANDING))
+
+    def test_each_byte_counts(self):
+        for at in range(len(REPORT)):
+            other = REPORT[:at] + bytes([REPORT[at] ^ 1]) + REPORT[at + 1 :]
+            self.assertFalse(self.library.judge(SCRIPT, other))
+
+    def test_a_text_that_is_no_script(self):
+        with self.assertRaises(spin.BadScript) as told:
+            self.library.judge(b"spin 1\nevent\n", REPORT)
+        self.assertEqual((told.exception.line, told.exception.cause), (2, 11))
+        self.assertEqual(str(told.exception), "line 2 is bad: cause 11")
+
+    def test_empty_texts(self):
+        self.assertFalse(self.library.judge(SCRIPT, b""))
+        with self.assertRaises(spin.BadScript):
+            self.library.judge(b"", b"")
+
+    def test_names_with_blanks_are_left_out(self):
+        self.assertTrue(self.library.judge(SCRIPT, REPORT, ["out0 out1", ""]))
+
+
+if __name__ == "__main__":
+    unittest.main()

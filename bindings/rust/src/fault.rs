@@ -1,0 +1,34 @@
+//! Why a call has no answer.
+
+use std::error::Error;
+use std::fmt::{self, Display, Formatter};
+
+/// Why a call has no answer.
+#[derive(Clone, Copy, Debug, PartialEq, Eq)]
+#[non_exhaustive]
+pub enum Fault {
+    /// There was no memory.
+    NoMemory,
+    /// The text is no script.
+    BadScript {
+        /// Its first bad line, counted from 1; 0 where the text is too large.
+        line: u32,
+        /// The number of the cause.
+        cause: u32,
+    },
+    /// The library answered a number that this crate doesn't know.
+    Unknown(u32),
+}
+
+impl Display for Fault {
+    fn fmt(&self, out: &mut Formatter<'_>) -> fmt::Result {
+        match self {
+            Fault::NoMemory => write!(out, "there was no memory"),
+            Fault::BadScript { line: 0, .. } => write!(out, "the script is too large"),
+            Fault::BadScript { line, cause } => write!(out, "line {line} is bad: cause {cause}"),
+            Fault::Unknown(number) => write!(out, "the library answered {number}"),
+        }
+    }
+}
+
+impl Error for Fault {}

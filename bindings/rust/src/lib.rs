@@ -1,0 +1,27 @@
+//! The event dispatcher of SPIN for hosts in Rust: safe calls over the static library of `crates/spin_c`, whose calls
+//! are proved. Of this crate nothing is proved. It hands over slices and tells numbers apart.
+//!
+//! ```
+//! let script = b"spin 1\nevent 0 0 -:w last\nhandler 1 -:w result 7\nlane 0 install 0 0 1 0 free plain\nlane 0 raise 0\n";
+//! let report = b"report 1\nsegment 0 at 0\n1 0 4 install ok\n1 0 5 raise run 0 1 result 7 = value 7\nend 1\n";
+//! assert_eq!(spin::judge(script, report, &[]), Ok(true));
+//! assert_eq!(spin::judge(b"spin 9\n", report, &[]), Err(spin::Fault::BadScript { line: 1, cause: 3 }));
+//! ```
+#![warn(missing_docs)]
+
+mod calls;
+mod fault;
+
+pub use fault::Fault;
+
+/// The version of the proved calls. It grows where one of them is changed.
+pub fn version() -> u32 {
+    calls::version()
+}
+
+/// Whether the report is that of one legal history of the script, which is run without a capture, `standing` being the
+/// names of the endpoints that stood. A name that is empty or has a blank is that of no endpoint.
+pub fn judge(script: &[u8], report: &[u8], standing: &[&str]) -> Result<bool, Fault> {
+    let names: Vec<&str> = standing.iter().copied().filter(|name| !name.contains([' ', '\t'])).collect();
+    calls::check(script, report, names.join(" ").as_bytes())
+}

@@ -1,0 +1,44 @@
+//! What the safe calls make of the proved ones.
+
+use spin::{Fault, judge, version};
+
+const SCRIPT: &[u8] =
+    b"spin 1\nevent 0 0 -:w last\nhandler 1 -:w result 7\nlane 0 install 0 0 1 0 free plain\nlane 0 raise 0\n";
+const REPORT: &[u8] = b"report 1\nsegment 0 at 0\n1 0 4 install ok\n1 0 5 raise run 0 1 result 7 = value 7\nend 1\n";
+
+#[test]
+fn the_version_is_the_first() {
+    assert_eq!(version(), 1);
+}
+
+#[test]
+fn a_report_is_that_of_its_script() {
+    assert_eq!(judge(SCRIPT, REPORT, &[]), Ok(true));
+}
+
+#[test]
+fn each_byte_of_a_report_counts() {
+    for at in 0..REPORT.len() {
+        let mut other = REPORT.to_vec();
+        other[at] ^= 1;
+        assert_eq!(judge(SCRIPT, &other, &[]), Ok(false), "byte {at}");
+    }
+}
+
+#[test]
+fn a_text_that_is_no_script_is_told_with_its_line_and_cause() {
+    let fault = judge(b"spin 1\nevent\n", REPORT, &[]).unwrap_err();
+    assert_eq!(fault, Fault::BadScript { line: 2, cause: 11 });
+    assert_eq!(fault.to_string(), "line 2 is bad: cause 11");
+}
+
+#[test]
+fn empty_texts_are_no_script_and_no_report() {
+    assert_eq!(judge(b"", b"", &[]), Err(Fault::BadScript { line: 1, cause: 3 }));
+    assert_eq!(judge(SCRIPT, b"", &[]), Ok(false));
+}
+
+#[test]
+fn names_with_blanks_are_those_of_no_endpoint() {
+    assert_eq!(judge(SCRIPT, REPORT, &["", "out0 out1", "out2"]), Ok(true));
+}

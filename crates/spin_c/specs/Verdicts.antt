@@ -1,0 +1,43 @@
+-- What a report is judged to be, and by which numbers that is told.
+use Rattle.std.specs.Prelude.{ℕ, Bool, true, false, List, [], None, Ok, Decides, ⊤}
+use Rattle.spin_endpoint.specs.Named.{NamedEnd}
+use Rattle.spin_script.specs.Language.{IsScript}
+use Rattle.spin_script.specs.Scripts.{IsBad}
+use Rattle.spin_script.specs.States.{NativeData, ScriptData}
+use Rattle.spin_script.specs.declared.script.ScriptFault.TheVariants as fault
+use Rattle.spin_check.specs.RunTexts.{IsRunText, StandAs}
+use Rattle.spin_c.specs.declared.told.SpinFault.{SpinFault}
+use Rattle.spin_c.specs.declared.verdict.Verdict.{Verdict}
+use Rattle.spin_c.specs.declared.verdict.Verdict.TheVariants as verdict
+
+-- a host that isn't Rattle hands in no natives
+abbrev pub no_natives : NativeData
+no_natives = record { handlers = []; guards = []; authorisers = [] }
+
+-- The text is that of a script; and of any endpoints, where just those of the script stand that have these names, it is
+-- decided whether the report is that of one legal history of the script, without a capture.
+pub record IsJudged (natives : NativeData) (text : List ℕ) (names : List (List ℕ)) (report : List ℕ) (yes : Bool)
+    : Type 0 where
+  pub script : ScriptData
+  pub read : IsScript natives text (Ok script)
+  pub judged : (ends : List NamedEnd) → StandAs script.endpoints names ends
+      → Decides yes (IsRunText script None ends report)
+
+-- What a verdict says; want of memory comes at any time.
+abbrev pub IsVerdict : NativeData → List ℕ → List (List ℕ) → List ℕ → Verdict → Type 0
+IsVerdict natives text names report verdict.History = IsJudged natives text names report true
+IsVerdict natives text names report verdict.NoHistory = IsJudged natives text names report false
+IsVerdict natives text names report (verdict.Bad line cause) = IsBad natives text (fault.Bad line cause)
+IsVerdict natives text names report verdict.NoMemory = ⊤
+
+-- the number that a verdict is told by
+abbrev pub number_of : Verdict → ℕ
+number_of verdict.History = 0
+number_of verdict.NoMemory = 1
+number_of (verdict.Bad line cause) = 2
+number_of verdict.NoHistory = 3
+
+-- where the script is bad, and why
+abbrev pub fault_of : Verdict → SpinFault
+fault_of (verdict.Bad line cause) = record { line = line; cause = cause }
+fault_of other = record { line = 0; cause = 0 }
