@@ -42,7 +42,7 @@ class Judging(unittest.TestCase):
 
     def test_worked_cases(self):
         cases = list(judged_cases())
-        self.assertGreater(len(cases), 50)
+        self.assertGreater(len(cases), 30)
         for name, script, report, answer in cases:
             with self.subTest(name):
                 self.assertEqual(self.told(script, report), answer)
