@@ -28,7 +28,7 @@ class NoMemory(Fault):
 
 
 class BadScript(Fault):
-    """The text is no script: its first bad line, counted from 1 and 0 where it is too large, and the number of the cause."""
+    """The text is no script: its first bad line, counted from 1 and 0 where it is too large, and the cause's number."""
 
     def __init__(self, line: int, cause: int) -> None:
         super().__init__(f"line {line} is bad: cause {cause}")

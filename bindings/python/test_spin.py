@@ -1,5 +1,5 @@
-"""Tests of spin.py over the library that SPIN_LIBRARY names: worked cases of the repository, and what each answer is told
-as. Run by `python3 -m unittest` in this folder."""
+"""Tests of spin.py over the library that SPIN_LIBRARY names: worked cases of the repository, and how answers are told.
+Run by `python3 -m unittest` in this folder."""
 
 import os
 import unittest

@@ -2,7 +2,8 @@
 //! are proved. Of this crate nothing is proved. It hands over slices and tells numbers apart.
 //!
 //! ```
-//! let script = b"spin 1\nevent 0 0 -:w last\nhandler 1 -:w result 7\nlane 0 install 0 0 1 0 free plain\nlane 0 raise 0\n";
+//! let script = b"spin 1\nevent 0 0 -:w last\nhandler 1 -:w result 7\n\
+//!     lane 0 install 0 0 1 0 free plain\nlane 0 raise 0\n";
 //! let report = b"report 1\nsegment 0 at 0\n1 0 4 install ok\n1 0 5 raise run 0 1 result 7 = value 7\nend 1\n";
 //! assert_eq!(spin::judge(script, report, &[]), Ok(true));
 //! assert_eq!(spin::judge(b"spin 9\n", report, &[]), Err(spin::Fault::BadScript { line: 1, cause: 3 }));
