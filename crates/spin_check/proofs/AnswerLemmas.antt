@@ -1,5 +1,5 @@
 -- What a command or a deed comes to is one thing, but for the cycle that is told.
-use Rattle.std.proofs.Common.{◌≡◌, ℕ, ◌<◌, ◌^◌, true, false, List, [], ◌∷◌, refl, sym, ap, subst, ◌∙◌, arith}
+use Rattle.std.proofs.Common.{◌≡◌, ℕ, ◌<◌, ◌^◌, true, false, List, [], refl, sym, ap, subst, ◌∙◌, arith}
 use Rattle.std.specs.Prelude.{Option, None, Some, MatchOption, All}
 use Rattle.spin_word.specs.declared.command.Command.{Command}
 use Rattle.spin_word.specs.declared.command.TheConstants.{MAX_PLACE}
@@ -24,26 +24,13 @@ use Rattle.spin_report.specs.declared.entry.What.{What}
 use Rattle.spin_report.specs.declared.entry.What.TheVariants as what
 use Rattle.spin_report.specs.declared.entry.Entry.{Entry}
 use Rattle.spin_report.specs.Asked.{Numbered, asked_by, asked_of}
-use Rattle.spin_report.specs.Legal.{Answers, IsNextEntry, IsLegal}
+use Rattle.spin_report.specs.Legal.{Answers, IsNextEntry}
 use Rattle.spin_report.specs.Jobs.{answer_calls}
 use Rattle.spin_report.proofs.AnswerUniqueness.{one_reply, one_next}
 use Rattle.spin_check.specs.declared.deeds.Ask.{Ask}
 use Rattle.spin_check.specs.Inner.Told.{Begins, TellsVerdict, conflict}
 use Rattle.spin_check.specs.Inner.Asks.{work_of, numbered}
 use Rattle.spin_check.specs.Inner.Answers.{tells_cycle, IsConflictTold, IsJudged, IsDone, IsAnswered}
-
--- one answer leads to one state
-pub same_next : (d : SetupData) (s : State) (e : Entry) (a b : State) → IsNextEntry d s e a → IsNextEntry d s e b → a ≡ b
-same_next d s e a b h k = by_what e.what h.0 k.0 where
-  by_what : (w : What) → Answers d s w a → Answers d s w b → a ≡ b
-  by_what (what.Command c v) x y = one_next d s c v a b x y
-  by_what (what.Deed f r) x y = x.1 ∙ sym y.1
-
-pub same_last : (d : SetupData) (s : State) (es : List Entry) (a b : State) → IsLegal d s es a → IsLegal d s es b → a ≡ b
-same_last d s [] a b h k = h ∙ sym k
-same_last d s (e ∷ es) a b h k =
-    let next = same_next d s e h.0 k.0 h.1 k.1 in
-    same_last d k.0 es a b (subst (λ t. IsLegal d t es a) next h.2) k.2
 
 -- ---- commands
 

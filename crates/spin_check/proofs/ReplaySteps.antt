@@ -27,6 +27,7 @@ use Rattle.spin_report.specs.Jobs.{answer_calls, AreJobsFrom}
 use Rattle.spin_report.specs.Segments.{moment}
 use Rattle.spin_report.specs.Runs.{sends_of}
 use Rattle.spin_report.specs.Legal.{Answers, IsNextEntry}
+use Rattle.spin_report.proofs.AnswerUniqueness.{same_next}
 use Rattle.spin_check.specs.declared.deeds.Ask.{Ask}
 use Rattle.spin_check.specs.declared.answer.Answered.{Answered}
 use Rattle.spin_check.specs.Inner.Told.{Begins}
@@ -36,7 +37,6 @@ use Rattle.spin_check.specs.Inner.Replays.{At, Follows, IsNext, IsFound, sent_by
 use Rattle.spin_check.specs.Inner.Standings.{numbers_of}
 use Rattle.spin_check.proofs.Queues.{all_set}
 use Rattle.spin_check.proofs.ReplayLemmas.{IsAlong, along_none, along_more, along_all, along_stuck}
-use Rattle.spin_check.proofs.AnswerLemmas.{same_next}
 
 -- ---- the place
 

@@ -21,6 +21,7 @@ use Rattle.spin_report.specs.Histories.{Retired, SegmentSeen, retire_line, segme
 use Rattle.spin_report.specs.Segments.{asked_in, wanted_by}
 use Rattle.spin_report.specs.Runs.{Standing, retirements, lost_counts, sends_in, sends_of, sends_of_reply}
 use Rattle.spin_report.proofs.HistoryUniqueness.{one_list_of_jobs}
+use Rattle.spin_report.proofs.AnswerUniqueness.{same_last}
 use Rattle.spin_check.specs.declared.deeds.Ask.{Ask}
 use Rattle.spin_script.specs.Soundness.{commands_in}
 use Rattle.spin_check.specs.Inner.Asks.{AreAsked, commands_left}
@@ -29,7 +30,6 @@ use Rattle.spin_check.specs.Inner.Fronts.{IsBehind}
 use Rattle.spin_check.specs.Inner.Replays.{At, AreEntries, HasReplayed, EndsAt}
 use Rattle.spin_check.specs.Inner.Segments.{Mark, head_text, standing, IsPart, Passes, Goes, IsGoodMark}
 use Rattle.spin_check.proofs.ReplayLemmas.{text_of-append}
-use Rattle.spin_check.proofs.AnswerLemmas.{same_last}
 use Rattle.spin_check.proofs.EndpointFlags.{flags_received}
 
 -- the text of what stands behind the entries
