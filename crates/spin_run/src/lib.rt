@@ -9,8 +9,8 @@
 //! - `lines` makes a segment's lines, `writing` writes them, `one` runs a segment with all this, `ending` ends a run;
 //! - `telling` has what becomes of a segment: it is written, or counted by `tally`;
 //! - `script` runs a whole script, `summary` with a summary in place of the report, `end` has how a run ends;
-//! - `law` says that the place of ready lanes is the number of rows that they know, `place` tells that number, and
-//!   `law` that the records of a capture that is told are determined;
+//! - `law` says that the place of ready lanes is the number of rows that they know, and that a source that tells what
+//!   it has left has one list of records left; `place` tells that place;
 //! - `limits` states the limits.
 #![tactic(auto)]
 

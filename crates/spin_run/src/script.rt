@@ -232,7 +232,7 @@ pub(crate) fn walk<R: Threads + Sync, S: Source, T: Telling, G: Gate>(
 /// segments up to this one want, no more than 65,536 bytes past these were taken, those among them that the reader held
 /// from the start.
 ///
-/// The records are those that the source tells; of a source that tells nothing the clause says that there are records
+/// The records are those that the source tells. Of a source that tells nothing the clause says that there are records
 /// of which all this holds, and so it speaks of the sink and the endpoints whatever the source tells.
 ///
 /// The script is one that [`read_script`](spin_script::read_script) gives, the capture is as

@@ -20,7 +20,7 @@ abbrev pub given_by : Option ReaderState → ℕ
 given_by None = 0
 given_by (Some reader) = reader.given
 
--- What P says of records that are left before, of those left afterwards, and of how the rest is answered: of a call
+-- P speaks of records that are left before a call, of those left afterwards, and of how the rest is answered. Of a call
 -- that stopped it holds of some that were left, and none afterwards. Of one that is done, and of whatever is left then,
 -- it holds of some that were left before.
 abbrev pub Reads : {T : Type 0} → Option ReaderState → SourceSeen → Option ReaderState → SourceSeen

@@ -19,9 +19,13 @@ returns-in-Ok-clause-end g c =
     let tally = c.walk-ended.new.out in
     let whole : c.walk-ended.result ≡ end.Whole = search rules in
     let h = c.walk-ended.ensures.end in
-    let walked = subst (λ (t : Counts). WalksBy script (room_of c.args.capture) h.0 h.1 (untold before) (Some t) (untold after) (Some tally) c.walk-ended.result) c.new-tally.ensures h.3 in
-    (h.0, h.1, h.2, whole_summed script (room_of c.args.capture) c.args.number h.0 h.1 before after tally
-    (subst (λ (e : RunEnd). WalksBy script (room_of c.args.capture) h.0 h.1 (untold before) (Some (counts_in [])) (untold after) (Some tally) e) whole walked) c.in-Ok.ensures.told)
+    let walked = subst (λ (t : Counts). WalksBy script (room_of c.args.capture) h.0 h.1 (untold before) (Some t) (untold after) (Some tally) c.walk-ended.result) c.new-tally.ensures h.3 in (
+      h.0,
+      h.1,
+      h.2,
+      whole_summed script (room_of c.args.capture) c.args.number h.0 h.1 before after tally
+          (subst (λ (e : RunEnd). WalksBy script (room_of c.args.capture) h.0 h.1 (untold before) (Some (counts_in [])) (untold after) (Some tally) e) whole walked) c.in-Ok.ensures.told,
+    )
 
 pub returns-in-Err-clause-end : goal.returns-in-Err-clause-end
 returns-in-Err-clause-end g c =
@@ -33,6 +37,10 @@ returns-in-Err-clause-end g c =
     let tally = c.walk-ended.new.out in
     let whole : c.walk-ended.result ≡ end.Whole = search rules in
     let h = c.walk-ended.ensures.end in
-    let walked = subst (λ (t : Counts). WalksBy script (room_of c.args.capture) h.0 h.1 (untold before) (Some t) (untold after) (Some tally) c.walk-ended.result) c.new-tally.ensures h.3 in
-    (h.0, h.1, h.2, whole_unwritten script (room_of c.args.capture) c.args.number c.args.capture source h.0 h.1 before after tally c.in-Err.end h.2
-    (subst (λ (e : RunEnd). WalksBy script (room_of c.args.capture) h.0 h.1 (untold before) (Some (counts_in [])) (untold after) (Some tally) e) whole walked) c.in-Err.ensures.told)
+    let walked = subst (λ (t : Counts). WalksBy script (room_of c.args.capture) h.0 h.1 (untold before) (Some t) (untold after) (Some tally) c.walk-ended.result) c.new-tally.ensures h.3 in (
+      h.0,
+      h.1,
+      h.2,
+      whole_unwritten script (room_of c.args.capture) c.args.number c.args.capture source h.0 h.1 before after tally c.in-Err.end h.2
+          (subst (λ (e : RunEnd). WalksBy script (room_of c.args.capture) h.0 h.1 (untold before) (Some (counts_in [])) (untold after) (Some tally) e) whole walked) c.in-Err.ensures.told,
+    )
