@@ -90,9 +90,13 @@ module _ (to : ℕ → ℕ) (rises : Rises to) where
         let c = get_or cs k b in
         let c' = get_or cs j b' in
         let r = other_at k b l e in
-        let r' = other_at j b' i f in
-        (k, c, there k b l, get_or_default cs k c b (there k b l),
-          (r.number ∙ ap to is, (j, c', there j b' i, get_or_default cs j c' b' (there j b' i), (r'.number ∙ ap to is', subst IsTrue (sym (must_both b c b' c' r r')) must))))
+        let r' = other_at j b' i f in (
+          k,
+          c,
+          there k b l,
+          get_or_default cs k c b (there k b l),
+          (r.number ∙ ap to is, (j, c', there j b' i, get_or_default cs j c' b' (there j b' i), (r'.number ∙ ap to is', subst IsTrue (sym (must_both b c b' c' r r')) must))),
+        )
 
     pub must_back : (m n : ℕ) → MustPrecede cs (to m) (to n) → MustPrecede bs m n
     must_back m n (k, c, l, e, (is, (j, c', i, f, (is', must)))) =
@@ -102,10 +106,22 @@ module _ (to : ℕ → ℕ) (rises : Rises to) where
         let r' = first_at j c' i f in
         let same = length_renamed to bs cs h in
         let low : k < length bs = omega arith in
-        let low' : j < length bs = omega arith in
-        (k, b, low, get_or_default bs k b c low,
-          (one_to_one to rises b.number m (sym r.number ∙ is), (j, b', low', get_or_default bs j b' c' low',
-            (one_to_one to rises b'.number n (sym r'.number ∙ is'), subst IsTrue (must_both b c b' c' r r') must))))
+        let low' : j < length bs = omega arith in (
+          k,
+          b,
+          low,
+          get_or_default bs k b c low,
+          (
+            one_to_one to rises b.number m (sym r.number ∙ is),
+            (
+              j,
+              b',
+              low',
+              get_or_default bs j b' c' low',
+              (one_to_one to rises b'.number n (sym r'.number ∙ is'), subst IsTrue (must_both b c b' c' r r') must),
+            ),
+          ),
+        )
 
     pairs_to : (ns : List ℕ) → AllPairs (λ m n. MustPrecede bs n m → ⊥) ns → AllPairs (λ m n. MustPrecede cs n m → ⊥) (map to ns)
     pairs_to ns pairs i j d less inside must =

@@ -112,15 +112,20 @@ module _ (place : ℕ) (live : List ℕ) (are : AreNumbers place live) where
     where
       choose : (o : Option ℕ) → position (λ m. eqb m n) live ≡ o → ((at : ℕ) × IsAt live n at) ⊎ ((new_number live n ≡ no_number) × (Contains live n → ⊥))
       choose None none =
-          inr (ap (λ o. option_map_or (λ at. at + 1) o no_number) none,
-            λ h. let fails = position-fails (λ m. eqb m n) live h.0 n none (slice_get_read live (length live) h.0 n refl h.1 (sym h.2)) in absurd (cc (fails, eq-eqb n n refl)))
+          inr (
+            ap (λ o. option_map_or (λ at. at + 1) o no_number) none,
+            λ h. let fails = position-fails (λ m. eqb m n) live h.0 n none (slice_get_read live (length live) h.0 n refl h.1 (sym h.2)) in absurd (cc (fails, eq-eqb n n refl)),
+          )
       choose (Some at) some =
           let found = position-Some (λ m. eqb m n) live at 0 some in
-          inl (at, record {
-            inside = found.0;
-            stands = eqb-true (get_or live at 0) n found.1;
-            new = ap (λ o. option_map_or (λ at. at + 1) o no_number) some;
-          })
+          inl (
+            at,
+            record {
+              inside = found.0;
+              stands = eqb-true (get_or live at 0) n found.1;
+              new = ap (λ o. option_map_or (λ at. at + 1) o no_number) some;
+            },
+          )
 
   pub old_at : (n at : ℕ) → IsAt live n at → old_number live place (at + 1) ≡ n
   old_at n at is =
