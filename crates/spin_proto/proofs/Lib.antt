@@ -7,3 +7,5 @@ pub mod JobCalls
 pub mod RaiseLemmas
 pub mod ReplyLemmas
 pub mod JobCounts
+pub mod RenamedRaises
+pub mod RenamedReplies

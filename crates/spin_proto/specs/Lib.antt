@@ -1,4 +1,5 @@
 pub mod Whole
 pub mod Replies
+pub mod Renamings
 pub mod Inner
 pub mod Limits
