@@ -107,10 +107,11 @@ module _ (to : ℕ → ℕ) (rises : Rises to) where
   arranged_both bs cs (n ∷ ns) h = cons_both to (binding_of bs n) (binding_of cs (to n)) (arranged bs ns) (arranged cs (map to ns)) (found_both to rises bs cs n h) (arranged_both bs cs ns h)
 
   bound_both : (def : EventDef) (e f : EventState) (b : Bound) → IsRenamedEvent to e f → IsBound def e b → (c : Bound) × IsBound def f c × IsSameBound to b c
-  bound_both def e f b h (ns, order, is) =
-      (bound_of (arranged f.bindings (map to ns)) def.merge f.default,
-        (map to ns, the_order_to to rises e.bindings f.bindings h.bindings ns order, refl),
-        from_bound (sym is))
+  bound_both def e f b h (ns, order, is) = (
+    bound_of (arranged f.bindings (map to ns)) def.merge f.default,
+    (map to ns, the_order_to to rises e.bindings f.bindings h.bindings ns order, refl),
+    from_bound (sym is),
+  )
     where
       from_bound : bound_of (arranged e.bindings ns) def.merge e.default ≡ b → IsSameBound to b (bound_of (arranged f.bindings (map to ns)) def.merge f.default)
       from_bound same =
