@@ -106,7 +106,7 @@ class Plain(unittest.TestCase):
     def setUp(self):
         self.top = Path(tempfile.mkdtemp())
         self.addCleanup(shutil.rmtree, self.top)
-        crates = {"spin_main": [], "host_filter": [], "host_plugins": [], "spin_later": []}
+        crates = {"spin_main": [], "host_filter": [], "host_plugins": [], "host_workers": []}
         make_repository(self.top, crates)
         stand_in(self.top, "cargo", CARGO, "sh", "env", "python3", "dirname", "mkdir", "chmod", "sleep")
 

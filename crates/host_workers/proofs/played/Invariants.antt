@@ -1,0 +1,7 @@
+use Rattle.spin_table.specs.SetupOf.{data_of}
+use Rattle.spin_later.specs.Agreements.{CanDoTask}
+use Rattle.host_workers.proofs.played.Given as goal
+
+-- the parties agree on what can be done at the host's setup
+abbrev pub ghosts-play : goal.ghosts-play
+ghosts-play g a = record { allows = λ task. CanDoTask (data_of a.setup.now) task }
