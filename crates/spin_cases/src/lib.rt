@@ -7,7 +7,7 @@
 //!
 //! - of plain data: [`values`], [`rows`], [`expressions`], [`headers`], and [`plans`] of bindings;
 //! - of scripts and reports: [`scripts`], [`setups`], [`reports`], [`entries`], [`generated`];
-//! - of logs and seats: [`logs`], [`seats`];
+//! - of logs, seats and lanes: [`logs`], [`seats`], [`lanes`];
 //! - of jobs and tasks, and of whole runs that are held up: [`jobs`], [`executor`], [`runs`];
 //! - of the outside: [`outside`], [`adapters`], [`captures`], [`reassembly`], [`endpoints`], [`natives`];
 //! - of runs over it: [`filter`], [`faults`], [`top`];
@@ -38,6 +38,8 @@ mod generated;
 mod headers;
 #[cfg(test)]
 mod jobs;
+#[cfg(test)]
+mod lanes;
 #[cfg(test)]
 mod logs;
 #[cfg(test)]

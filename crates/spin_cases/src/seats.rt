@@ -26,7 +26,7 @@ use std::thread::{Threads, join};
 // How often each lane installs and raises in the test with threads.
 const TURNS: u16 = 12;
 
-fn install_of(lane: u8) -> Command
+pub(crate) fn install_of(lane: u8) -> Command
     requires { lane < 16 }
     ensures { IsTrue (is_command result) × (result.lane ≡ lane) }
 {
@@ -87,7 +87,7 @@ fn five(alloc: Global) -> Result<Catalogue, Fail>
 }
 
 // One event, whose last result counts and whose owner allows everything.
-fn setup(alloc: Global) -> Result<Setup, Fail>
+pub(crate) fn setup(alloc: Global) -> Result<Setup, Fail>
     ensures { IfOk result (λ setup. ⟦<Catalogue as Sincere>⟧.sincere setup.catalogue) }
 {
     let event = EventDef {
@@ -381,7 +381,7 @@ fn take_turns_at_once<R: Threads + Sync>(
 }
 
 // How many rows are this one.
-fn count_of(rows: &[Row], row: &Row) -> u16 {
+pub(crate) fn count_of(rows: &[Row], row: &Row) -> u16 {
     let mut count = 0u16;
     for other in rows {
         if other == row {
