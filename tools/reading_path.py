@@ -36,13 +36,13 @@ WORDS = [
      "stand are those that stood and weren't retired",
      ["spin_report:IsSegmentRun", "spin_endpoint:all_received", "spin_endpoint:all_retired"]),
     ("where the status is 0 under `run`", "the words are `run NAME` or `run NAME PACKETS`, and the shelf tells its files",
-     ["spin_top:Headline", "spin_top:IsSpelled"]),
+     ["spin_top:Headline", "spin_words:IsSpelled"]),
     ("and the natives do what they were handed in with", "the call's one condition", ["spin_objects:IsSincere"]),
 ]
 
 # Of these the first hour shows the cases with this word alone.
 CASES = {
-    "spin_top:IsSpelled": "Run",
+    "spin_words:IsSpelled": "Run",
 }
 
 # The first hour: its parts in reading order, each with what it begins with.

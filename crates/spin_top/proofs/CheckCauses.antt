@@ -10,37 +10,28 @@ use Rattle.spin_script.specs.States.{NativeData, ScriptData}
 use Rattle.spin_report.specs.Runs.{Captured}
 use Rattle.spin_check.specs.RunTexts.{IsRunText}
 use Rattle.spin_top.specs.declared.end.End.{End}
-use Rattle.spin_top.specs.declared.end.End.TheVariants.{Refused, Capture, Unread, WriteFault, Absent, NoMemory, LongReport}
-use Rattle.spin_top.specs.declared.end.Input.TheVariants.{Script, Packets, Report}
-use Rattle.spin_top.specs.Captures.{HasBadRecord, IsCaptured, IsLackingCapture, NoWholeBy}
-use Rattle.spin_top.specs.Check.{Answered, CheckHasCause, NoReportBy, ReadBoth, TellsAnswer, answer, answer_end, max_report}
+use Rattle.spin_top.specs.declared.end.End.TheVariants.{Unread, WriteFault, Absent, NoMemory, LongReport}
+use Rattle.spin_top.specs.declared.end.Input.TheVariants.{Report}
+use Rattle.spin_top.specs.Captures.{IsCaptured, NoWholeBy}
+use Rattle.spin_top.specs.Check.{CheckHasCause, NoReportBy, ReadBoth, TellsAnswer, answer, answer_end, max_report}
 use Rattle.spin_top.specs.Ends.{Tells, stop_line}
 use Rattle.spin_top.specs.Loading.{IsContent, IsLoaded, IsOver, NoScriptBy}
 use Rattle.spin_top.specs.Outside.{OnlyStops, Outside}
 use Rattle.spin_top.specs.Shelves.{ShelfStood}
 use Rattle.spin_top.proofs.RunCauses.{tells_nothing}
 use Rattle.spin_top.proofs.ShelfLemmas.{stood_failed, stood_lacked, stood_stood}
+use Rattle.spin_top.proofs.Stages.{whole_behind}
 
 -- ---- stops before the report is judged
 
 pub not_loaded : (natives : NativeData) (before after : Outside) (name report : List ℕ) (packets : Option (List ℕ)) (end : End)
     → NoScriptBy natives before.shelf after.shelf name end → OnlyStops before after end → CheckHasCause natives before after name report packets end
-not_loaded natives before after name report packets (Refused line cause) by only = (by.0, by.1, only)
-not_loaded natives before after name report packets (Unread Script) by only = (by, only)
-not_loaded natives before after name report packets (Absent Script) by only = (by.0, by.1, only)
-not_loaded natives before after name report packets NoMemory by only = (by, only)
-not_loaded natives before after name report packets other by only = absurd by
+not_loaded natives before after name report packets end by only = inl (inl (inl by), only)
 
 pub not_captured : (natives : NativeData) (before after : Outside) (mid : ShelfSeen) (name report : List ℕ) (packets : Option (List ℕ)) (script : ScriptData) (end : End) → ShelfStood before.shelf mid
     → IsLoaded natives before.shelf.files name script → NoWholeBy mid after.shelf packets end → OnlyStops before after end → CheckHasCause natives before after name report packets end
-not_captured natives before after mid name report packets script (Capture at fault) stood loaded by only =
-    (stood_stood before.shelf mid after.shelf stood by.0, script, loaded, subst (λ files. HasBadRecord files packets at fault) stood.files by.1, only)
-not_captured natives before after mid name report packets script (Unread Packets) stood loaded by only =
-    (stood_failed before.shelf mid after.shelf stood by.0, script, loaded, by.1, only)
-not_captured natives before after mid name report packets script (Absent Packets) stood loaded by only =
-    (stood_lacked before.shelf mid after.shelf stood by.0, script, loaded, subst (λ files. IsLackingCapture files packets) stood.files by.1, only)
-not_captured natives before after mid name report packets script NoMemory stood loaded by only = (stood_stood before.shelf mid after.shelf stood by, only)
-not_captured natives before after mid name report packets script other stood loaded by only = absurd by
+not_captured natives before after mid name report packets script end stood loaded by only =
+    inl (inl (inr ((script, loaded), whole_behind before.shelf mid after.shelf packets end stood by)), only)
 
 -- what was read before the report
 abbrev both_read : (natives : NativeData) (first mid : ShelfSeen) (name : List ℕ) (packets : Option (List ℕ)) (script : ScriptData) (capture : Option Captured)
@@ -48,34 +39,26 @@ abbrev both_read : (natives : NativeData) (first mid : ShelfSeen) (name : List �
 both_read natives first mid name packets script capture stood loaded captured =
     record { script = script; loaded = loaded; capture = capture; captured = subst (λ files. IsCaptured files packets capture) stood.files captured }
 
+-- the report behind a shelf that stood
+reported_behind : (a b c : ShelfSeen) (report : List ℕ) (end : End) → ShelfStood a b → NoReportBy b c report end → NoReportBy a c report end
+reported_behind a b c report LongReport stood by = (stood_stood a b c stood by.0, subst (λ files. IsOver max_report files report) stood.files by.1)
+reported_behind a b c report (Unread Report) stood by = stood_failed a b c stood by
+reported_behind a b c report (Absent Report) stood by = (stood_lacked a b c stood by.0, subst (λ files. IsLacking files report) stood.files by.1)
+reported_behind a b c report NoMemory stood by = stood_stood a b c stood by
+reported_behind a b c report other stood by = absurd by
+
 pub not_reported : (natives : NativeData) (before after : Outside) (mid end_shelf : ShelfSeen) (name report : List ℕ) (packets : Option (List ℕ)) (script : ScriptData)
     (capture : Option Captured) (end : End) → ShelfStood before.shelf mid → IsLoaded natives before.shelf.files name script → ShelfStood mid end_shelf
     → IsCaptured mid.files packets capture → NoReportBy end_shelf after.shelf report end → OnlyStops before after end → CheckHasCause natives before after name report packets end
-not_reported natives before after mid end_shelf name report packets script capture LongReport stood loaded stood' captured by only =
-    let all = stood_stood before.shelf mid end_shelf stood stood' in (
-      stood_stood before.shelf end_shelf after.shelf all by.0,
-      both_read natives before.shelf mid name packets script capture stood loaded captured,
-      subst (λ files. IsOver max_report files report) all.files by.1,
-      only,
-    )
-not_reported natives before after mid end_shelf name report packets script capture (Unread Report) stood loaded stood' captured by only =
+not_reported natives before after mid end_shelf name report packets script capture end stood loaded stood' captured by only =
     let all = stood_stood before.shelf mid end_shelf stood stood' in
-    (stood_failed before.shelf end_shelf after.shelf all by, both_read natives before.shelf mid name packets script capture stood loaded captured, only)
-not_reported natives before after mid end_shelf name report packets script capture (Absent Report) stood loaded stood' captured by only =
-    let all = stood_stood before.shelf mid end_shelf stood stood' in (
-      stood_lacked before.shelf end_shelf after.shelf all by.0,
-      both_read natives before.shelf mid name packets script capture stood loaded captured,
-      subst (λ files. IsLacking files report) all.files by.1,
-      only,
-    )
-not_reported natives before after mid end_shelf name report packets script capture NoMemory stood loaded stood' captured by only =
-    (stood_stood before.shelf end_shelf after.shelf (stood_stood before.shelf mid end_shelf stood stood') by, only)
-not_reported natives before after mid end_shelf name report packets script capture other stood loaded stood' captured by only = absurd by
+    inl (inr (both_read natives before.shelf mid name packets script capture stood loaded captured, reported_behind before.shelf end_shelf after.shelf report end all by), only)
 
-pub not_judged : (before after : Outside) (mid end_shelf : ShelfSeen) → ShelfStood before.shelf mid → ShelfStood mid end_shelf
-    → ShelfStood end_shelf after.shelf → OnlyStops before after NoMemory → ShelfStood before.shelf after.shelf × OnlyStops before after NoMemory
-not_judged before after mid end_shelf stood stood' stood'' only =
-    (stood_stood before.shelf end_shelf after.shelf (stood_stood before.shelf mid end_shelf stood stood') stood'', only)
+-- want of memory to judge it
+pub not_judged : (natives : NativeData) (before after : Outside) (mid end_shelf : ShelfSeen) (name report : List ℕ) (packets : Option (List ℕ)) → ShelfStood before.shelf mid
+    → ShelfStood mid end_shelf → ShelfStood end_shelf after.shelf → OnlyStops before after NoMemory → CheckHasCause natives before after name report packets NoMemory
+not_judged natives before after mid end_shelf name report packets stood stood' stood'' only =
+    inl (inl (inl (stood_stood before.shelf end_shelf after.shelf (stood_stood before.shelf mid end_shelf stood stood') stood'')), only)
 
 -- ---- the answer
 
@@ -100,11 +83,6 @@ whole_end : (whether : Bool) → stop_line (answer_end whether) ≡ []
 whole_end true = refl
 whole_end false = refl
 
-by_answer : (natives : NativeData) (before after : Outside) (name report : List ℕ) (packets : Option (List ℕ)) (whether : Bool) → ShelfStood before.shelf after.shelf
-    → after.sink.faults ≡ before.sink.faults → Answered natives before after name report packets whether → CheckHasCause natives before after name report packets (answer_end whether)
-by_answer natives before after name report packets true stood faults answered = (stood, faults, answered)
-by_answer natives before after name report packets false stood faults answered = (stood, faults, answered)
-
 ends_silent : (before after : SinkSeen) (whether : Bool) (end : End) → TellsAnswer before after whether end → stop_line end ≡ []
 ends_silent before after whether end tells = go tells.1
   where
@@ -112,13 +90,11 @@ ends_silent before after whether end tells = go tells.1
     go (inl w) = ap stop_line w.0 ∙ whole_end whether
     go (inr w) = ap stop_line w.0
 
-answered_by : (natives : NativeData) (before after : Outside) (sink : SinkSeen) (name report : List ℕ) (packets : Option (List ℕ)) (whether : Bool) (end : End) → ShelfStood before.shelf after.shelf
-    → after.sink.faults ≡ sink.faults → ((end ≡ answer_end whether) × (sink.faults ≡ before.sink.faults)) ⊎ ((end ≡ WriteFault) × Rose before.sink.faults sink.faults)
-    → Answered natives before after name report packets whether → CheckHasCause natives before after name report packets end
-answered_by natives before after sink name report packets whether end stood same (inl w) answered =
-    subst (λ e. CheckHasCause natives before after name report packets e) (sym w.0) (by_answer natives before after name report packets whether stood (same ∙ w.1) answered)
-answered_by natives before after sink name report packets whether end stood same (inr w) answered =
-    subst (λ e. CheckHasCause natives before after name report packets e) (sym w.0) (stood, subst (λ n. Rose before.sink.faults n) (sym same) w.1, whether, answered)
+-- the counts are as the answer left them
+still_ends : (before sink after : SinkSeen) (whether : Bool) (end : End) → after.faults ≡ sink.faults → ((end ≡ answer_end whether) × (sink.faults ≡ before.faults))
+    ⊎ ((end ≡ WriteFault) × Rose before.faults sink.faults) → ((end ≡ answer_end whether) × (after.faults ≡ before.faults)) ⊎ ((end ≡ WriteFault) × Rose before.faults after.faults)
+still_ends before sink after whether end same (inl w) = inl (w.0, same ∙ w.1)
+still_ends before sink after whether end same (inr w) = inr (w.0, subst (λ n. Rose before.faults n) (sym same) w.1)
 
 pub was_answered : (natives : NativeData) (before after : Outside) (mid end_shelf : ShelfSeen) (sink : SinkSeen) (name report : List ℕ)
     (packets : Option (List ℕ)) (script : ScriptData) (capture : Option Captured) (text : List ℕ) (whether : Bool) (end : End) → ShelfStood before.shelf mid
@@ -128,12 +104,14 @@ pub was_answered : (natives : NativeData) (before after : Outside) (mid end_shel
 was_answered natives before after mid end_shelf sink name report packets script capture text whether end stood loaded stood' captured stood'' read few judged tells line ends =
     let all = stood_stood before.shelf mid end_shelf stood stood' in
     let none : Tells sink after.sink [] = subst (λ bytes. Tells sink after.sink bytes) (ends_silent before.sink sink whether end tells) line in
-    answered_by natives before after sink name report packets whether end (stood_stood before.shelf end_shelf after.shelf all stood'') (tells_nothing sink after.sink none) tells.1 (record {
+    inr (record {
+      stood = stood_stood before.shelf end_shelf after.shelf all stood'';
       both = both_read natives before.shelf mid name packets script capture stood loaded captured;
       text = text;
       read = subst (λ files. IsContent files report text) all.files read;
       few = few;
+      whether = whether;
       judged = judged;
-      tells = tells_only before.sink sink after.sink (answer whether) tells.0 none;
+      tells = (tells_only before.sink sink after.sink (answer whether) tells.0 none, still_ends before.sink sink after.sink whether end (tells_nothing sink after.sink none) tells.1);
       ends = ends;
     })

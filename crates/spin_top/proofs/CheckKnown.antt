@@ -2,6 +2,7 @@
 use Rattle.std.proofs.Common.{◌≡◌, ◌<◌, ◌≤◌, ◌⊎◌, ℕ, Bool, true, false, Option, Some, None, List, length, refl, sym, ap, subst, ◌∙◌, arith, inl, inr}
 use Rattle.std.specs.Prelude.{Result, Ok}
 use Rattle.std.proofs.lemmas.Bool.{false≢true}
+use Rattle.spin_outside.specs.Counts.{Rose}
 use Rattle.spin_outside.specs.Files.{File, content}
 use Rattle.spin_outside.specs.Seen.{ShelfSeen}
 use Rattle.spin_pcap.proofs.CaptureUniqueness.{one_reading}
@@ -13,22 +14,19 @@ use Rattle.spin_script.specs.States.{NativeData}
 use Rattle.spin_report.specs.Runs.{Captured}
 use Rattle.spin_check.specs.RunTexts.{IsRunText}
 use Rattle.spin_top.specs.declared.end.End.{End}
-use Rattle.spin_top.specs.declared.end.End.TheVariants.{Whole, Refused, Capture, Unread, WriteFault, Absent, NoMemory, NoHistory, LongReport}
-use Rattle.spin_top.specs.declared.end.Input.TheVariants.{Script, Packets, Report}
-use Rattle.spin_top.specs.Captures.{HasBadRecord, IsBadAt, IsBadCapture, IsCaptured, IsLackingCapture, IsWholeCapture, cut_of}
-use Rattle.spin_top.specs.Check.{Answered, CheckHasCause, CheckKnows, HoldsBoth, KnowsBadRecord, KnowsLongReport, KnowsNoReport, KnowsReport, ReadBoth, SaysWhether, max_report}
+use Rattle.spin_top.specs.declared.end.End.TheVariants.{Unread, WriteFault, Absent, NoMemory, LongReport}
+use Rattle.spin_top.specs.declared.end.Input.TheVariants.{Report}
+use Rattle.spin_top.specs.Captures.{IsBadCapture, IsCaptured, IsGoodCapture, IsWholeCapture, cut_of}
+use Rattle.spin_top.specs.Check.{Answered, CheckHasCause, CheckKnows, HoldsBoth, KnowsBadRecord, KnowsLongReport, KnowsNoReport}
+use Rattle.spin_top.specs.Check.{KnowsReport, NoReportBy, NotJudgedBy, ReadBoth, SaysWhether, answer_end, max_report}
 use Rattle.spin_top.specs.Ends.{exit_status}
-use Rattle.spin_top.specs.Loading.{HoldsText, IsContent, IsOver, IsScriptText, KnowsNoScript, KnowsRefused, LacksText}
+use Rattle.spin_top.specs.Join.{NotBothBy}
+use Rattle.spin_top.specs.Loading.{IsContent, IsOver}
 use Rattle.spin_top.specs.Outside.{Outside}
 use Rattle.spin_top.specs.Run.{KnowsNoCapture}
-use Rattle.spin_top.proofs.JoinKnown.{bad_lacks, good_bad, good_bad_at}
-use Rattle.spin_top.proofs.ReadingUniqueness.{content_at, lacking_at, loaded_nothing, loaded_text, refused_nothing, script_good, script_there}
-
-some_not_none : {X : Type 0} (x : X) → Some x ≡ None → ⊥
-some_not_none x same = cc
-
-some_is : {X : Type 0} (x y : X) → Some x ≡ Some y → x ≡ y
-some_is x y same = cc
+use Rattle.spin_top.proofs.BadCaptures.{good_bad}
+use Rattle.spin_top.proofs.ReadingUniqueness.{content_at, lacking_at, some_is, some_not_none}
+use Rattle.spin_top.proofs.Stages.{ScriptFirst, both_bad, both_first, both_lost, both_memory, knows_no_script, knows_refused}
 
 -- ---- the capture
 
@@ -77,32 +75,11 @@ captured_good held packets name capture named bad is =
     let file = named_file held packets name capture named is in
     good_bad held name file.0.frames file.1.0 file.1.1 bad
 
-bad_at : (files : Option (List File)) (held : List File) (packets : Option (List ℕ)) (at fault : ℕ)
-    → files ≡ Some held → HasBadRecord files packets at fault → HasBadRecord (Some held) packets at fault
-bad_at files held packets at fault told bad = subst (λ f. HasBadRecord f packets at fault) told bad
-
-bad_there : (held : List File) (packets : Option (List ℕ)) (name : List ℕ) (at fault : ℕ) → packets ≡ Some name → content held name ≡ None → HasBadRecord (Some held) packets at fault → ⊥
-bad_there held packets name at fault named lacking bad =
-    let is : IsBadAt held name at fault = subst (λ p. HasBadRecord (Some held) p at fault) named bad in
-    some_not_none _ (sym is.found ∙ lacking)
-
--- a good capture isn't refused, and is there
-not_bad : (held : List File) (packets : Option (List ℕ)) (capture : Option Captured) (at fault : ℕ) → IsCaptured (Some held) packets capture → HasBadRecord (Some held) packets at fault → ⊥
-not_bad held None capture at fault is bad = bad
-not_bad held (Some name) None at fault is bad = absurd is
-not_bad held (Some name) (Some whole) at fault is bad = good_bad_at held name whole.frames is.0 at fault is.1 bad
-
-not_lacking : (held : List File) (packets : Option (List ℕ)) (capture : Option Captured) → IsCaptured (Some held) packets capture → IsLackingCapture (Some held) packets → ⊥
-not_lacking held None capture is lacking = lacking
-not_lacking held (Some name) None is lacking = absurd is
-not_lacking held (Some name) (Some whole) is lacking = some_not_none _ (sym is.1.found ∙ lacking)
-
-lacking_capture_at : (files : Option (List File)) (held : List File) (packets : Option (List ℕ)) → files ≡ Some held → IsLackingCapture files packets → IsLackingCapture (Some held) packets
-lacking_capture_at files held packets told lacking = subst (λ f. IsLackingCapture f packets) told lacking
-
--- a bad capture that is named is there
-bad_named : (held : List File) (packets : Option (List ℕ)) (name : List ℕ) → packets ≡ Some name → IsBadCapture held name → IsLackingCapture (Some held) packets → ⊥
-bad_named held packets name named bad lacking = bad_lacks held name (subst (λ p. IsLackingCapture (Some held) p) named lacking) bad
+-- what was read whole is a good capture
+is_good : (held : List File) (packets : Option (List ℕ)) (capture : Option Captured) → IsCaptured (Some held) packets capture → IsGoodCapture held packets
+is_good held None capture is = tt
+is_good held (Some name) None is = absurd is
+is_good held (Some name) (Some whole) is = (whole.frames, is.0, is.1)
 
 -- ---- the report
 
@@ -120,48 +97,43 @@ not_within files held report told text is found read long few = omega (arith, lo
 not_over : (files : Option (List File)) (held : List File) (report told : List ℕ) → files ≡ Some held → content held report ≡ Some told → length told ≤ max_report → IsOver max_report files report → ⊥
 not_over files held report told is found few over = omega (arith, few, over.2, ap length (same_report files held report told over.0 is found over.1))
 
--- ---- a text that is no script
+-- one that isn't there
+report_lost : (before after : ShelfSeen) (held : List File) (report : List ℕ) (status : ℕ) (end : End) → status ≡ exit_status end → before.files ≡ Some held
+    → content held report ≡ None → (Rose before.faults after.faults → ⊥) → NoReportBy before after report end → (status ≡ 6) ⊎ (status ≡ 7)
+report_lost before after held report status LongReport is told lacking calm by = absurd (lacks_report before.files held report by.1.0 told lacking by.1.1)
+report_lost before after held report status (Unread Report) is told lacking calm by = absurd (calm by.faults)
+report_lost before after held report status (Absent Report) is told lacking calm by = inl is
+report_lost before after held report status NoMemory is told lacking calm by = inr is
+report_lost before after held report status other is told lacking calm by = absurd by
 
-no_script : (natives : NativeData) (shelf : ShelfSeen) (held : List File) (name text : List ℕ) (packets : Option (List ℕ))
-    → HoldsText shelf held name text → (IsScriptText natives text → ⊥) → ReadBoth natives shelf.files name packets → ⊥
-no_script natives shelf held name text packets holds none both = none (loaded_text natives shelf held name text both.script holds both.loaded)
+-- one that is
+report_long : (before after : ShelfSeen) (held : List File) (report told : List ℕ) (status : ℕ) (end : End) → status ≡ exit_status end → before.files ≡ Some held
+    → content held report ≡ Some told → (Rose before.faults after.faults → ⊥) → NoReportBy before after report end → (status ≡ 10) ⊎ (status ≡ 7)
+report_long before after held report told status LongReport is files found calm by = inl is
+report_long before after held report told status (Unread Report) is files found calm by = absurd (calm by.faults)
+report_long before after held report told status (Absent Report) is files found calm by = absurd (some_not_none told (sym found ∙ lacking_at before.files held report files by.1))
+report_long before after held report told status NoMemory is files found calm by = inr is
+report_long before after held report told status other is files found calm by = absurd by
 
-refused_at : (natives : NativeData) (before after : Outside) (name report : List ℕ) (packets : Option (List ℕ)) (status : ℕ) (end : End)
-    → status ≡ exit_status end → CheckHasCause natives before after name report packets end → KnowsRefused natives before after name status
-refused_at natives before after name report packets status Whole is cause held text holds none calm = absurd (no_script natives before.shelf held name text packets holds none cause.2.both)
-refused_at natives before after name report packets status NoHistory is cause held text holds none calm = absurd (no_script natives before.shelf held name text packets holds none cause.2.both)
-refused_at natives before after name report packets status WriteFault is cause held text holds none calm = absurd (no_script natives before.shelf held name text packets holds none cause.3.both)
-refused_at natives before after name report packets status (Refused line number) is cause held text holds none calm = inl is
-refused_at natives before after name report packets status (Unread Script) is cause held text holds none calm = absurd (calm cause.0.faults)
-refused_at natives before after name report packets status (Absent Script) is cause held text holds none calm = absurd (script_there before.shelf held name text holds cause.1)
-refused_at natives before after name report packets status (Capture at fault) is cause held text holds none calm = absurd (none (loaded_text natives before.shelf held name text cause.1 holds cause.2))
-refused_at natives before after name report packets status (Unread Packets) is cause held text holds none calm = absurd (calm cause.0.faults)
-refused_at natives before after name report packets status (Absent Packets) is cause held text holds none calm = absurd (none (loaded_text natives before.shelf held name text cause.1 holds cause.2))
-refused_at natives before after name report packets status LongReport is cause held text holds none calm = absurd (no_script natives before.shelf held name text packets holds none cause.1)
-refused_at natives before after name report packets status (Unread Report) is cause held text holds none calm = absurd (calm cause.0.faults)
-refused_at natives before after name report packets status (Absent Report) is cause held text holds none calm = absurd (no_script natives before.shelf held name text packets holds none cause.1)
-refused_at natives before after name report packets status NoMemory is cause held text holds none calm = inr is
-refused_at natives before after name report packets status other is cause held text holds none calm = absurd cause
+report_memory : (before after : ShelfSeen) (held : List File) (report told : List ℕ) (status : ℕ) (end : End) → status ≡ exit_status end → before.files ≡ Some held
+    → content held report ≡ Some told → length told ≤ max_report → (Rose before.faults after.faults → ⊥) → NoReportBy before after report end → status ≡ 7
+report_memory before after held report told status LongReport is files found few calm by = absurd (not_over before.files held report told files found few by.1)
+report_memory before after held report told status (Unread Report) is files found few calm by = absurd (calm by.faults)
+report_memory before after held report told status (Absent Report) is files found few calm by = absurd (some_not_none told (sym found ∙ lacking_at before.files held report files by.1))
+report_memory before after held report told status NoMemory is files found few calm by = is
+report_memory before after held report told status other is files found few calm by = absurd by
 
--- ---- a script that isn't there
+-- ---- the script
 
-nothing_read : (natives : NativeData) (shelf : ShelfSeen) (held : List File) (name : List ℕ) (packets : Option (List ℕ)) → LacksText shelf held name → ReadBoth natives shelf.files name packets → ⊥
-nothing_read natives shelf held name packets lacks both = loaded_nothing natives shelf held name both.script lacks both.loaded
+stop_first : (natives : NativeData) (before after : Outside) (name report : List ℕ) (packets : Option (List ℕ)) (end : End)
+    → NotJudgedBy natives before.shelf after.shelf name report packets end → ScriptFirst natives before.shelf after.shelf name end
+stop_first natives before after name report packets end (inl by) = both_first natives before.shelf after.shelf name packets end by
+stop_first natives before after name report packets end (inr by) = inr (by.0.script, by.0.loaded)
 
-absent_at : (natives : NativeData) (before after : Outside) (name report : List ℕ) (packets : Option (List ℕ)) (status : ℕ) (end : End)
-    → status ≡ exit_status end → CheckHasCause natives before after name report packets end → KnowsNoScript before after name status
-absent_at natives before after name report packets status Whole is cause held lacks calm = absurd (nothing_read natives before.shelf held name packets lacks cause.2.both)
-absent_at natives before after name report packets status NoHistory is cause held lacks calm = absurd (nothing_read natives before.shelf held name packets lacks cause.2.both)
-absent_at natives before after name report packets status WriteFault is cause held lacks calm = absurd (nothing_read natives before.shelf held name packets lacks cause.3.both)
-absent_at natives before after name report packets status (Refused line number) is cause held lacks calm = absurd (refused_nothing natives before.shelf held name line number lacks cause.1)
-absent_at natives before after name report packets status (Unread Script) is cause held lacks calm = absurd (calm cause.0.faults)
-absent_at natives before after name report packets status (Capture at fault) is cause held lacks calm = absurd (loaded_nothing natives before.shelf held name cause.1 lacks cause.2)
-absent_at natives before after name report packets status (Unread Packets) is cause held lacks calm = absurd (calm cause.0.faults)
-absent_at natives before after name report packets status LongReport is cause held lacks calm = absurd (nothing_read natives before.shelf held name packets lacks cause.1)
-absent_at natives before after name report packets status (Unread Report) is cause held lacks calm = absurd (calm cause.0.faults)
-absent_at natives before after name report packets status (Absent file) is cause held lacks calm = inl is
-absent_at natives before after name report packets status NoMemory is cause held lacks calm = inr is
-absent_at natives before after name report packets status other is cause held lacks calm = absurd cause
+check_first : (natives : NativeData) (before after : Outside) (name report : List ℕ) (packets : Option (List ℕ)) (end : End)
+    → CheckHasCause natives before after name report packets end → ScriptFirst natives before.shelf after.shelf name end
+check_first natives before after name report packets end (inl stop) = stop_first natives before after name report packets end stop.0
+check_first natives before after name report packets end (inr answered) = inr (answered.both.script, answered.both.loaded)
 
 -- ---- a capture that isn't there
 
@@ -170,26 +142,18 @@ no_capture : (natives : NativeData) (shelf : ShelfSeen) (held : List File) (name
 no_capture natives shelf held name capture packets told named lacking both =
     captured_there held packets capture both.capture named lacking (captured_at shelf.files held packets both.capture told both.captured)
 
+stop_lost : (natives : NativeData) (before after : Outside) (name report : List ℕ) (packets : Option (List ℕ)) (status : ℕ) (end : End)
+    → status ≡ exit_status end → NotJudgedBy natives before.shelf after.shelf name report packets end → KnowsNoCapture natives before after name packets status
+stop_lost natives before after name report packets status end is (inl by) held text capture holds script named lacking calm =
+    both_lost natives before.shelf after.shelf held name text packets capture status end is holds script named lacking calm by
+stop_lost natives before after name report packets status end is (inr by) held text capture holds script named lacking calm =
+    absurd (no_capture natives before.shelf held name capture packets holds.told named lacking by.0)
+
 lost_at : (natives : NativeData) (before after : Outside) (name report : List ℕ) (packets : Option (List ℕ)) (status : ℕ) (end : End)
     → status ≡ exit_status end → CheckHasCause natives before after name report packets end → KnowsNoCapture natives before after name packets status
-lost_at natives before after name report packets status Whole is cause held text capture holds script named lacking calm =
-    absurd (no_capture natives before.shelf held name capture packets holds.told named lacking cause.2.both)
-lost_at natives before after name report packets status NoHistory is cause held text capture holds script named lacking calm =
-    absurd (no_capture natives before.shelf held name capture packets holds.told named lacking cause.2.both)
-lost_at natives before after name report packets status WriteFault is cause held text capture holds script named lacking calm =
-    absurd (no_capture natives before.shelf held name capture packets holds.told named lacking cause.3.both)
-lost_at natives before after name report packets status (Refused line number) is cause held text capture holds script named lacking calm =
-    absurd (script_good natives before.shelf held name text line number holds script cause.1)
-lost_at natives before after name report packets status (Unread Script) is cause held text capture holds script named lacking calm = absurd (calm cause.0.faults)
-lost_at natives before after name report packets status (Capture at fault) is cause held text capture holds script named lacking calm =
-    absurd (bad_there held packets capture at fault named lacking (bad_at before.shelf.files held packets at fault holds.told cause.3))
-lost_at natives before after name report packets status (Unread Packets) is cause held text capture holds script named lacking calm = absurd (calm cause.0.faults)
-lost_at natives before after name report packets status LongReport is cause held text capture holds script named lacking calm =
-    absurd (no_capture natives before.shelf held name capture packets holds.told named lacking cause.1)
-lost_at natives before after name report packets status (Unread Report) is cause held text capture holds script named lacking calm = absurd (calm cause.0.faults)
-lost_at natives before after name report packets status (Absent file) is cause held text capture holds script named lacking calm = inl is
-lost_at natives before after name report packets status NoMemory is cause held text capture holds script named lacking calm = inr is
-lost_at natives before after name report packets status other is cause held text capture holds script named lacking calm = absurd cause
+lost_at natives before after name report packets status end is (inl stop) = stop_lost natives before after name report packets status end is stop.0
+lost_at natives before after name report packets status end is (inr answered) =
+    λ held text capture holds script named lacking calm. absurd (no_capture natives before.shelf held name capture packets holds.told named lacking answered.both)
 
 -- ---- a bad capture
 
@@ -198,96 +162,65 @@ bad_read : (natives : NativeData) (shelf : ShelfSeen) (held : List File) (name c
 bad_read natives shelf held name capture packets told named bad both =
     captured_good held packets capture both.capture named bad (captured_at shelf.files held packets both.capture told both.captured)
 
+stop_bad : (natives : NativeData) (before after : Outside) (name report : List ℕ) (packets : Option (List ℕ)) (status : ℕ) (end : End)
+    → status ≡ exit_status end → NotJudgedBy natives before.shelf after.shelf name report packets end → KnowsBadRecord natives before after name packets status
+stop_bad natives before after name report packets status end is (inl by) capture named held text holds script bad calm =
+    both_bad natives before.shelf after.shelf held name text packets capture status end is holds script named bad calm by
+stop_bad natives before after name report packets status end is (inr by) capture named held text holds script bad calm =
+    absurd (bad_read natives before.shelf held name capture packets holds.told named bad by.0)
+
 capture_at : (natives : NativeData) (before after : Outside) (name report : List ℕ) (packets : Option (List ℕ)) (status : ℕ) (end : End)
     → status ≡ exit_status end → CheckHasCause natives before after name report packets end → KnowsBadRecord natives before after name packets status
-capture_at natives before after name report packets status Whole is cause capture named held text holds script bad calm =
-    absurd (bad_read natives before.shelf held name capture packets holds.told named bad cause.2.both)
-capture_at natives before after name report packets status NoHistory is cause capture named held text holds script bad calm =
-    absurd (bad_read natives before.shelf held name capture packets holds.told named bad cause.2.both)
-capture_at natives before after name report packets status WriteFault is cause capture named held text holds script bad calm =
-    absurd (bad_read natives before.shelf held name capture packets holds.told named bad cause.3.both)
-capture_at natives before after name report packets status (Refused line number) is cause capture named held text holds script bad calm =
-    absurd (script_good natives before.shelf held name text line number holds script cause.1)
-capture_at natives before after name report packets status (Unread Script) is cause capture named held text holds script bad calm = absurd (calm cause.0.faults)
-capture_at natives before after name report packets status (Absent Script) is cause capture named held text holds script bad calm = absurd (script_there before.shelf held name text holds cause.1)
-capture_at natives before after name report packets status (Capture at fault) is cause capture named held text holds script bad calm = inl is
-capture_at natives before after name report packets status (Unread Packets) is cause capture named held text holds script bad calm = absurd (calm cause.0.faults)
-capture_at natives before after name report packets status (Absent Packets) is cause capture named held text holds script bad calm =
-    absurd (bad_named held packets capture named bad (lacking_capture_at before.shelf.files held packets holds.told cause.3))
-capture_at natives before after name report packets status LongReport is cause capture named held text holds script bad calm =
-    absurd (bad_read natives before.shelf held name capture packets holds.told named bad cause.1)
-capture_at natives before after name report packets status (Unread Report) is cause capture named held text holds script bad calm = absurd (calm cause.0.faults)
-capture_at natives before after name report packets status (Absent Report) is cause capture named held text holds script bad calm =
-    absurd (bad_read natives before.shelf held name capture packets holds.told named bad cause.1)
-capture_at natives before after name report packets status NoMemory is cause capture named held text holds script bad calm = inr is
-capture_at natives before after name report packets status other is cause capture named held text holds script bad calm = absurd cause
+capture_at natives before after name report packets status end is (inl stop) = stop_bad natives before after name report packets status end is stop.0
+capture_at natives before after name report packets status end is (inr answered) =
+    λ capture named held text holds script bad calm. absurd (bad_read natives before.shelf held name capture packets holds.told named bad answered.both)
 
 -- ---- beside a script and a good capture, or none
 
-bad_record : (natives : NativeData) (before : Outside) (held : List File) (name text : List ℕ) (packets : Option (List ℕ)) (capture : Option Captured) (at fault : ℕ)
-    → HoldsBoth natives before.shelf held name text packets capture → HasBadRecord before.shelf.files packets at fault → ⊥
-bad_record natives before held name text packets capture at fault both bad =
-    not_bad held packets capture at fault both.captured (bad_at before.shelf.files held packets at fault both.holds.told bad)
+memory_at : (natives : NativeData) (before after : Outside) (held : List File) (name text : List ℕ) (packets : Option (List ℕ)) (capture : Option Captured) (status : ℕ) (end : End)
+    → status ≡ exit_status end → HoldsBoth natives before.shelf held name text packets capture
+    → (Rose before.shelf.faults after.shelf.faults → ⊥) → NotBothBy natives before.shelf after.shelf name packets end → status ≡ 7
+memory_at natives before after held name text packets capture status end is both calm by =
+    both_memory natives before.shelf after.shelf held name text packets status end is both.holds both.script (is_good held packets capture both.captured) calm by
 
-no_packets : (natives : NativeData) (before : Outside) (held : List File) (name text : List ℕ) (packets : Option (List ℕ)) (capture : Option Captured)
-    → HoldsBoth natives before.shelf held name text packets capture → IsLackingCapture before.shelf.files packets → ⊥
-no_packets natives before held name text packets capture both lacking =
-    not_lacking held packets capture both.captured (lacking_capture_at before.shelf.files held packets both.holds.told lacking)
+stop_unreported : (natives : NativeData) (before after : Outside) (name report : List ℕ) (packets : Option (List ℕ)) (status : ℕ) (end : End)
+    → status ≡ exit_status end → NotJudgedBy natives before.shelf after.shelf name report packets end → KnowsNoReport natives before after name report packets status
+stop_unreported natives before after name report packets status end is (inl by) held text capture both lacking calm =
+    inr (memory_at natives before after held name text packets capture status end is both calm by)
+stop_unreported natives before after name report packets status end is (inr by) held text capture both lacking calm =
+    report_lost before.shelf after.shelf held report status end is both.holds.told lacking calm by.1
 
 unreported_at : (natives : NativeData) (before after : Outside) (name report : List ℕ) (packets : Option (List ℕ)) (status : ℕ) (end : End)
     → status ≡ exit_status end → CheckHasCause natives before after name report packets end → KnowsNoReport natives before after name report packets status
-unreported_at natives before after name report packets status Whole is cause held text capture both lacking calm =
-    absurd (lacks_report before.shelf.files held report cause.2.text both.holds.told lacking cause.2.read)
-unreported_at natives before after name report packets status NoHistory is cause held text capture both lacking calm =
-    absurd (lacks_report before.shelf.files held report cause.2.text both.holds.told lacking cause.2.read)
-unreported_at natives before after name report packets status WriteFault is cause held text capture both lacking calm =
-    absurd (lacks_report before.shelf.files held report cause.3.text both.holds.told lacking cause.3.read)
-unreported_at natives before after name report packets status (Refused line number) is cause held text capture both lacking calm =
-    absurd (script_good natives before.shelf held name text line number both.holds both.script cause.1)
-unreported_at natives before after name report packets status (Unread Script) is cause held text capture both lacking calm = absurd (calm cause.0.faults)
-unreported_at natives before after name report packets status (Capture at fault) is cause held text capture both lacking calm =
-    absurd (bad_record natives before held name text packets capture at fault both cause.3)
-unreported_at natives before after name report packets status (Unread Packets) is cause held text capture both lacking calm = absurd (calm cause.0.faults)
-unreported_at natives before after name report packets status LongReport is cause held text capture both lacking calm =
-    absurd (lacks_report before.shelf.files held report cause.2.0 both.holds.told lacking cause.2.1)
-unreported_at natives before after name report packets status (Unread Report) is cause held text capture both lacking calm = absurd (calm cause.0.faults)
-unreported_at natives before after name report packets status (Absent file) is cause held text capture both lacking calm = inl is
-unreported_at natives before after name report packets status NoMemory is cause held text capture both lacking calm = inr is
-unreported_at natives before after name report packets status other is cause held text capture both lacking calm = absurd cause
+unreported_at natives before after name report packets status end is (inl stop) = stop_unreported natives before after name report packets status end is stop.0
+unreported_at natives before after name report packets status end is (inr answered) =
+    λ held text capture both lacking calm. absurd (lacks_report before.shelf.files held report answered.text both.holds.told lacking answered.read)
+
+stop_long : (natives : NativeData) (before after : Outside) (name report : List ℕ) (packets : Option (List ℕ)) (status : ℕ) (end : End) → status ≡ exit_status end
+    → NotJudgedBy natives before.shelf after.shelf name report packets end → KnowsLongReport natives before after name report packets status
+stop_long natives before after name report packets status end is (inl by) held text told capture both found long calm =
+    inr (memory_at natives before after held name text packets capture status end is both calm by)
+stop_long natives before after name report packets status end is (inr by) held text told capture both found long calm =
+    report_long before.shelf after.shelf held report told status end is both.holds.told found calm by.1
 
 long_at : (natives : NativeData) (before after : Outside) (name report : List ℕ) (packets : Option (List ℕ)) (status : ℕ) (end : End)
     → status ≡ exit_status end → CheckHasCause natives before after name report packets end → KnowsLongReport natives before after name report packets status
-long_at natives before after name report packets status Whole is cause held text told capture both found long calm =
-    absurd (not_within before.shelf.files held report told cause.2.text both.holds.told found cause.2.read long cause.2.few)
-long_at natives before after name report packets status NoHistory is cause held text told capture both found long calm =
-    absurd (not_within before.shelf.files held report told cause.2.text both.holds.told found cause.2.read long cause.2.few)
-long_at natives before after name report packets status WriteFault is cause held text told capture both found long calm =
-    absurd (not_within before.shelf.files held report told cause.3.text both.holds.told found cause.3.read long cause.3.few)
-long_at natives before after name report packets status (Refused line number) is cause held text told capture both found long calm =
-    absurd (script_good natives before.shelf held name text line number both.holds both.script cause.1)
-long_at natives before after name report packets status (Unread Script) is cause held text told capture both found long calm = absurd (calm cause.0.faults)
-long_at natives before after name report packets status (Absent Script) is cause held text told capture both found long calm = absurd (script_there before.shelf held name text both.holds cause.1)
-long_at natives before after name report packets status (Capture at fault) is cause held text told capture both found long calm =
-    absurd (bad_record natives before held name text packets capture at fault both cause.3)
-long_at natives before after name report packets status (Unread Packets) is cause held text told capture both found long calm = absurd (calm cause.0.faults)
-long_at natives before after name report packets status (Absent Packets) is cause held text told capture both found long calm =
-    absurd (no_packets natives before held name text packets capture both cause.3)
-long_at natives before after name report packets status LongReport is cause held text told capture both found long calm = inl is
-long_at natives before after name report packets status (Unread Report) is cause held text told capture both found long calm = absurd (calm cause.0.faults)
-long_at natives before after name report packets status (Absent Report) is cause held text told capture both found long calm =
-    absurd (some_not_none told (sym found ∙ lacking_at before.shelf.files held report both.holds.told cause.2))
-long_at natives before after name report packets status NoMemory is cause held text told capture both found long calm = inr is
-long_at natives before after name report packets status other is cause held text told capture both found long calm = absurd cause
+long_at natives before after name report packets status end is (inl stop) = stop_long natives before after name report packets status end is stop.0
+long_at natives before after name report packets status end is (inr answered) =
+    λ held text told capture both found long calm. absurd (not_within before.shelf.files held report told answered.text both.holds.told found answered.read long answered.few)
 
 -- ---- the judgement
 
+-- the status that an answer comes to
+says_so : (P : Type 0) (whether : Bool) (status : ℕ) → status ≡ exit_status (answer_end whether) → (P → whether ≡ true) → (whether ≡ true → P) → ((status ≡ 0) × P) ⊎ ((status ≡ 9) × (P → ⊥))
+says_so P true status is to from = inl (is, from refl)
+says_so P false status is to from = inr (is, λ p. false≢true (to p))
+
 -- what was judged is what lies under these names
-says : (natives : NativeData) (before after : Outside) (held : List File) (name report text told : List ℕ) (packets : Option (List ℕ)) (capture : Option Captured) (whether : Bool) (status : ℕ)
-    → HoldsBoth natives before.shelf held name text packets capture → content held report ≡ Some told → (answered : Answered natives before after name report packets whether)
-    → ((IsRunText answered.both.script capture before.ends told → whether ≡ true) → (whether ≡ true → IsRunText answered.both.script capture before.ends told)
-    → ((status ≡ 0) × IsRunText answered.both.script capture before.ends told) ⊎ ((status ≡ 9) × (IsRunText answered.both.script capture before.ends told → ⊥)))
-    → SaysWhether natives text capture before.ends told status
-says natives before after held name report text told packets capture whether status both found answered telling =
+says : (natives : NativeData) (before after : Outside) (held : List File) (name report text told : List ℕ) (packets : Option (List ℕ)) (capture : Option Captured) (status : ℕ) (end : End)
+    → HoldsBoth natives before.shelf held name text packets capture → content held report ≡ Some told → (answered : Answered natives before after name report packets end)
+    → status ≡ exit_status (answer_end answered.whether) → SaysWhether natives text capture before.ends told status
+says natives before after held name report text told packets capture status end both found answered is =
     let loaded = answered.both.loaded in
     let script = answered.both.script in
     let same_text : loaded.text ≡ text = some_is _ _ (sym (content_at before.shelf.files held name loaded.text both.holds.told loaded.read) ∙ both.holds.found) in
@@ -296,44 +229,41 @@ says natives before after held name report text told packets capture whether sta
     one_captured held packets answered.both.capture capture (captured_at before.shelf.files held packets answered.both.capture both.holds.told answered.both.captured) both.captured in (
       script,
       subst (λ t. IsScript natives t (Ok script)) same_text loaded.reads,
-      telling
+      says_so (IsRunText script capture before.ends told) answered.whether status is
           (λ run. answered.judged.1 (subst (λ c. IsRunText script c before.ends answered.text) (sym same_capture) (subst (λ t. IsRunText script capture before.ends t) (sym same_told) run)))
           (λ yes_is. subst (λ t. IsRunText script capture before.ends t) same_told (subst (λ c. IsRunText script c before.ends answered.text) same_capture (answered.judged.0 yes_is))),
     )
 
+stop_judged : (natives : NativeData) (before after : Outside) (name report : List ℕ) (packets : Option (List ℕ)) (status : ℕ) (end : End)
+    → status ≡ exit_status end → NotJudgedBy natives before.shelf after.shelf name report packets end → KnowsReport natives before after name report packets status
+stop_judged natives before after name report packets status end is (inl by) held text told capture both found few calm still =
+    inr (memory_at natives before after held name text packets capture status end is both calm by)
+stop_judged natives before after name report packets status end is (inr by) held text told capture both found few calm still =
+    inr (report_memory before.shelf after.shelf held report told status end is both.holds.told found few calm by.1)
+
+-- the answer was written, or the sink failed
+answered_known : (natives : NativeData) (before after : Outside) (name report : List ℕ) (packets : Option (List ℕ)) (status : ℕ) (end : End) → status ≡ exit_status end
+    → (answered : Answered natives before after name report packets end) → ((end ≡ answer_end answered.whether) × (after.sink.faults ≡ before.sink.faults))
+    ⊎ ((end ≡ WriteFault) × Rose before.sink.faults after.sink.faults) → KnowsReport natives before after name report packets status
+answered_known natives before after name report packets status end is answered (inl told_all) held text told capture both found few calm still =
+    inl (says natives before after held name report text told packets capture status end both found answered (is ∙ ap number told_all.0))
+answered_known natives before after name report packets status end is answered (inr failed) held text told capture both found few calm still = absurd (still failed.1)
+
 judged_at : (natives : NativeData) (before after : Outside) (name report : List ℕ) (packets : Option (List ℕ)) (status : ℕ) (end : End)
     → status ≡ exit_status end → CheckHasCause natives before after name report packets end → KnowsReport natives before after name report packets status
-judged_at natives before after name report packets status Whole is cause held text told capture both found few calm still =
-    inl (says natives before after held name report text told packets capture true status both found cause.2 (λ whether run. inl (is, run refl)))
-judged_at natives before after name report packets status NoHistory is cause held text told capture both found few calm still =
-    inl (says natives before after held name report text told packets capture false status both found cause.2 (λ whether run. inr (is, λ text_is. false≢true (whether text_is))))
-judged_at natives before after name report packets status WriteFault is cause held text told capture both found few calm still = absurd (still cause.1)
-judged_at natives before after name report packets status (Refused line number) is cause held text told capture both found few calm still =
-    absurd (script_good natives before.shelf held name text line number both.holds both.script cause.1)
-judged_at natives before after name report packets status (Unread Script) is cause held text told capture both found few calm still = absurd (calm cause.0.faults)
-judged_at natives before after name report packets status (Absent Script) is cause held text told capture both found few calm still =
-    absurd (script_there before.shelf held name text both.holds cause.1)
-judged_at natives before after name report packets status (Capture at fault) is cause held text told capture both found few calm still =
-    absurd (bad_record natives before held name text packets capture at fault both cause.3)
-judged_at natives before after name report packets status (Unread Packets) is cause held text told capture both found few calm still = absurd (calm cause.0.faults)
-judged_at natives before after name report packets status (Absent Packets) is cause held text told capture both found few calm still =
-    absurd (no_packets natives before held name text packets capture both cause.3)
-judged_at natives before after name report packets status LongReport is cause held text told capture both found few calm still =
-    absurd (not_over before.shelf.files held report told both.holds.told found few cause.2)
-judged_at natives before after name report packets status (Unread Report) is cause held text told capture both found few calm still = absurd (calm cause.0.faults)
-judged_at natives before after name report packets status (Absent Report) is cause held text told capture both found few calm still =
-    absurd (some_not_none told (sym found ∙ lacking_at before.shelf.files held report both.holds.told cause.2))
-judged_at natives before after name report packets status NoMemory is cause held text told capture both found few calm still = inr is
-judged_at natives before after name report packets status other is cause held text told capture both found few calm still = absurd cause
+judged_at natives before after name report packets status end is (inl stop) = stop_judged natives before after name report packets status end is stop.0
+judged_at natives before after name report packets status end is (inr answered) = answered_known natives before after name report packets status end is answered answered.tells.1
 
 pub check_known : (natives : NativeData) (before after : Outside) (name report : List ℕ) (packets : Option (List ℕ)) (status : ℕ) (end : End)
     → status ≡ exit_status end → CheckHasCause natives before after name report packets end → CheckKnows natives before after name report packets status
-check_known natives before after name report packets status end is cause = record {
-  refused = refused_at natives before after name report packets status end is cause;
-  script_absent = absent_at natives before after name report packets status end is cause;
-  capture_absent = lost_at natives before after name report packets status end is cause;
-  bad_capture = capture_at natives before after name report packets status end is cause;
-  report_absent = unreported_at natives before after name report packets status end is cause;
-  long_report = long_at natives before after name report packets status end is cause;
-  judged = judged_at natives before after name report packets status end is cause;
-}
+check_known natives before after name report packets status end is cause =
+    let first = check_first natives before after name report packets end cause in
+    record {
+      refused = knows_refused natives before after name status end is first;
+      script_absent = knows_no_script natives before after name status end is first;
+      capture_absent = lost_at natives before after name report packets status end is cause;
+      bad_capture = capture_at natives before after name report packets status end is cause;
+      report_absent = unreported_at natives before after name report packets status end is cause;
+      long_report = long_at natives before after name report packets status end is cause;
+      judged = judged_at natives before after name report packets status end is cause;
+    }

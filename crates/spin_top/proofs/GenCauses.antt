@@ -1,5 +1,5 @@
 -- What the end of a summary rests on, and which status it always comes to.
-use Rattle.std.proofs.Common.{◌≡◌, ◌+◌, ℕ, Option, Some, None, List, refl, sym, subst, ◌∙◌, inl, inr}
+use Rattle.std.proofs.Common.{◌≡◌, ◌⊎◌, ◌+◌, ℕ, Option, Some, None, List, refl, sym, ap, subst, ◌∙◌, inl, inr}
 use Rattle.std.specs.Prelude.{Result, Ok, Err}
 use Rattle.spin_outside.specs.Counts.{Rose}
 use Rattle.spin_outside.specs.Seen.{SinkSeen}
@@ -24,7 +24,7 @@ use Rattle.spin_run.specs.Ends.{RunSeen, seen, CountsBy}
 use Rattle.spin_run.specs.Records.{AreRecords, IsTakenPast, room_of}
 use Rattle.spin_run.specs.Summaries.{SumsUpBy, untold}
 use Rattle.spin_top.specs.declared.end.End.{End}
-use Rattle.spin_top.specs.declared.end.End.TheVariants.{Whole, Capture, WriteFault, NoMemory, Endpoint}
+use Rattle.spin_top.specs.declared.end.End.TheVariants.{Capture, NoMemory}
 use Rattle.spin_top.specs.Ends as ends
 use Rattle.spin_top.specs.Ends.{Tells, stop_line}
 use Rattle.spin_top.specs.Gen.{GenHasCause, GenKnows, RanMade}
@@ -47,7 +47,7 @@ pub not_behind : (natives : NativeData) (before after : Outside) (number : ℕ) 
     → HeaderRefuses (packets_of number) end → OnlyStops before after end → GenHasCause natives before after number end
 not_behind natives before after number (Capture at fault) same made refused only =
     absurd (good_not_bad order.Little refused.1 (header_of (packets_of number)) made.capture.header refused.3)
-not_behind natives before after number NoMemory same made refused only = (same, inl only)
+not_behind natives before after number NoMemory same made refused only = (same, inl (refl, only))
 not_behind natives before after number other same made refused only = absurd refused
 
 -- ---- the run
@@ -70,20 +70,6 @@ sums_moved script past past' number frames rest a b run.NoMemory none h =
 sums_moved script past past' number frames rest a b (run.Endpoint n) none h =
     (ends_moved script past past' frames rest (untold a) (untold b) a.source b.source (run.Endpoint n) (λ fs _. none fs) h.0, h.1)
 
-by_end : (natives : NativeData) (before after : Outside) (script : ScriptData) (number past : ℕ) (frames : List (List ℕ)) (left left' : List ℕ) (sink : SinkSeen) (ended : RunEnd)
-    → after.shelf ≡ before.shelf → SumsUpBy script past number frames (Some (Ok next.End)) (seen (held_seen left) before.sink before.ends) (seen (held_seen left') sink after.ends) ended
-    → CountsBy script.endpoints (seen (held_seen left) before.sink before.ends) (seen (held_seen left') sink after.ends) ended
-    → Tells sink after.sink (stop_line (end_of ended)) → RanMade natives before after number ended → GenHasCause natives before after number (end_of ended)
-by_end natives before after script number past frames left left' sink run.Whole same sums counts line ran =
-    (same, tells_nothing sink after.sink line ∙ counts.1, ran)
-by_end natives before after script number past frames left left' sink (run.Capture n fault) same sums counts line ran =
-    absurd (never_bad sums.0.0 (Some (Ok next.End)) refl sums.0.1)
-by_end natives before after script number past frames left left' sink run.ReadFault same sums counts line ran = absurd (never counts.0)
-by_end natives before after script number past frames left left' sink run.WriteFault same sums counts line ran =
-    (same, subst (λ n. Rose before.sink.faults n) (sym (tells_nothing sink after.sink line)) counts.1, ran)
-by_end natives before after script number past frames left left' sink run.NoMemory same sums counts line ran = (same, inr ran)
-by_end natives before after script number past frames left left' sink (run.Endpoint n) same sums counts line ran = (same, ran)
-
 pub over_known : (script : ScriptData) (number : ℕ) (left left' : List ℕ) (reader : ReaderState) (sink sink' : SinkSeen) (ends ends' : List NamedEnd) (ended : RunEnd)
     → ((frames : List (List ℕ)) (rest : Option (Result Next PcapFault)) → AreRecords (Some reader) (held_seen left) frames rest
     → SumsUpBy script (room_of (Some reader)) number frames rest (seen (held_seen left) sink ends) (seen (held_seen left') sink' ends') ended)
@@ -96,31 +82,49 @@ pub was_made : (natives : NativeData) (before after : Outside) (number : ℕ) (s
 was_made natives before after number sink script left reader ended same read made behind over line =
     let from = held_seen left in
     let to = held_seen over.left' in
-    let sums = over.ended_so made.frames (Some (Ok next.End)) (records_left (packets_of number) left reader made.frames (Some (Ok next.End)) behind (Ok next.End, refl, order.Little, made.capture)) in
-    let ran : RanMade natives before after number ended = record {
-      script = script;
-      read = read;
-      frames = made.frames;
-      capture = made.capture;
-      from = from;
-      to = to;
-      sink = sink;
-      ended_so =
-          sums_moved script (room_of (Some reader)) (24 + MAX_HELD) number made.frames (Some (Ok next.End)) (seen from before.sink before.ends) (seen to sink after.ends) ended
-          (λ fs. none_taken (24 + MAX_HELD) None None from to fs refl refl refl) sums;
-      counts = over.counts;
-      line = line;
-    } in
-    by_end natives before after script number (room_of (Some reader)) made.frames left over.left' sink ended same sums over.counts line ran
+    let sums =
+    over.ended_so made.frames (Some (Ok next.End)) (records_left (packets_of number) left reader made.frames (Some (Ok next.End)) behind (Ok next.End, refl, order.Little, made.capture)) in (
+      same,
+      inr (
+        ended,
+        refl,
+        record {
+          script = script;
+          read = read;
+          frames = made.frames;
+          capture = made.capture;
+          left = left;
+          left' = over.left';
+          sink = sink;
+          ended_so =
+              sums_moved script (room_of (Some reader)) (24 + MAX_HELD) number made.frames (Some (Ok next.End)) (seen from before.sink before.ends) (seen to sink after.ends) ended
+              (λ fs. none_taken (24 + MAX_HELD) None None from to fs refl refl refl) sums;
+          counts = over.counts;
+          line = line;
+        },
+      ),
+    )
 
 -- ---- the status
 
+ran_known : (natives : NativeData) (before after : Outside) (number status : ℕ) (end : End) (ended : RunEnd)
+    → status ≡ ends.exit_status end → end ≡ end_of ended → RanMade natives before after number ended → GenKnows before after status
+ran_known natives before after number status end run.Whole is same ran calm = inl (is ∙ ap ends.exit_status same)
+ran_known natives before after number status end (run.Capture at fault) is same ran calm = absurd (never_bad ran.ended_so.0.0 (Some (Ok next.End)) refl ran.ended_so.0.1)
+ran_known natives before after number status end run.ReadFault is same ran calm = absurd (never ran.counts.0)
+ran_known natives before after number status end run.WriteFault is same ran calm =
+    absurd (calm.sink (subst (λ n. Rose before.sink.faults n) (sym (tells_nothing ran.sink after.sink ran.line)) ran.counts.1))
+ran_known natives before after number status end run.NoMemory is same ran calm = inr (is ∙ ap ends.exit_status same)
+ran_known natives before after number status end (run.Endpoint at) is same ran calm =
+    let rose = ran.counts.2 in
+    absurd (calm.ends rose.place rose.there rose.rose)
+
+-- nothing was made, or it was run
+made_known : (natives : NativeData) (before after : Outside) (number status : ℕ) (end : End) → status ≡ ends.exit_status end
+    → ((end ≡ NoMemory) × OnlyStops before after NoMemory) ⊎ ((ended : RunEnd) × (end ≡ end_of ended) × RanMade natives before after number ended) → GenKnows before after status
+made_known natives before after number status end is (inl none) = λ calm. inr (is ∙ ap ends.exit_status none.0)
+made_known natives before after number status end is (inr ran) = ran_known natives before after number status end ran.0 is ran.1 ran.2
+
 pub gen_known : (natives : NativeData) (before after : Outside) (number status : ℕ) (end : End)
     → status ≡ ends.exit_status end → GenHasCause natives before after number end → GenKnows before after status
-gen_known natives before after number status Whole is cause calm = inl is
-gen_known natives before after number status WriteFault is cause calm = absurd (calm.sink cause.1)
-gen_known natives before after number status NoMemory is cause calm = inr is
-gen_known natives before after number status (Endpoint n) is cause calm =
-    let rose = cause.1.counts.2 in
-    absurd (calm.ends rose.place rose.there rose.rose)
-gen_known natives before after number status other is cause calm = absurd cause
+gen_known natives before after number status end is cause = made_known natives before after number status end is cause.1

@@ -1,8 +1,7 @@
 -- What the end of a run over a joined capture rests on.
 use Rattle.std.proofs.Common.{◌≡◌, ◌+◌, ℕ, Option, Some, None, List, [], refl, sym, subst, ◌∙◌, inl, inr, IfSome}
 use Rattle.std.specs.Prelude.{Result, Ok, Err}
-use Rattle.spin_outside.specs.Counts.{Rose}
-use Rattle.spin_outside.specs.Files.{File, IsLacking, IsWholeFile}
+use Rattle.spin_outside.specs.Files.{File, IsWholeFile}
 use Rattle.spin_outside.specs.Seen.{ShelfSeen, SinkSeen}
 use Rattle.spin_endpoint.specs.Named.{NamedEnd}
 use Rattle.spin_pcap.specs.Captures.{IsCapture, header_of}
@@ -20,9 +19,8 @@ use Rattle.spin_run.specs.declared.end.RunEnd.TheVariants as run
 use Rattle.spin_run.specs.Ends.{seen, EndsBy, CountsBy}
 use Rattle.spin_run.specs.Records.{AreRecords, room_of}
 use Rattle.spin_top.specs.declared.end.End.{End}
-use Rattle.spin_top.specs.declared.end.End.TheVariants.{Refused, Capture, Unread, Absent, NoMemory}
-use Rattle.spin_top.specs.declared.end.Input.TheVariants.{Script, Packets}
-use Rattle.spin_top.specs.Captures.{IsBadAt, NoWholeBy}
+use Rattle.spin_top.specs.declared.end.End.TheVariants.{Capture, NoMemory}
+use Rattle.spin_top.specs.Captures.{NoWholeBy}
 use Rattle.spin_top.specs.Ends.{Tells, stop_line}
 use Rattle.spin_top.specs.Held.{held_seen}
 use Rattle.spin_top.specs.Inner.Holding.{HeaderRefuses, IsBehind}
@@ -32,30 +30,21 @@ use Rattle.spin_top.specs.Loading.{IsLoaded, NoScriptBy}
 use Rattle.spin_top.specs.Outside.{OnlyStops, Outside}
 use Rattle.spin_top.specs.Run.{end_of}
 use Rattle.spin_top.specs.Shelves.{ShelfStood}
-use Rattle.spin_top.proofs.MemoryCaptures.{good_not_bad, never, records_left}
-use Rattle.spin_top.proofs.RunCauses.{ends_moved, none_taken, tells_nothing}
-use Rattle.spin_top.proofs.ShelfLemmas.{stood_failed, stood_lacked, stood_stood}
+use Rattle.spin_top.proofs.MemoryCaptures.{good_not_bad, records_left}
+use Rattle.spin_top.proofs.RunCauses.{ends_moved, none_taken}
+use Rattle.spin_top.proofs.ShelfLemmas.{stood_stood}
+use Rattle.spin_top.proofs.Stages.{whole_behind}
 
 -- ---- stops before the run
 
 pub not_loaded : (natives : NativeData) (before after : Outside) (name packets : List ℕ) (end : End)
     → NoScriptBy natives before.shelf after.shelf name end → OnlyStops before after end → JoinHasCause natives before after name packets end
-not_loaded natives before after name packets (Refused line cause) by only = (by.0, by.1, only)
-not_loaded natives before after name packets (Unread Script) by only = (by, only)
-not_loaded natives before after name packets (Absent Script) by only = (by.0, by.1, only)
-not_loaded natives before after name packets NoMemory by only = (by, inl only)
-not_loaded natives before after name packets other by only = absurd by
+not_loaded natives before after name packets end by only = inl (inl by, only)
 
 pub not_joined : (natives : NativeData) (before after : Outside) (mid : ShelfSeen) (name packets : List ℕ) (script : ScriptData) (end : End) → ShelfStood before.shelf mid
     → IsLoaded natives before.shelf.files name script → NoWholeBy mid after.shelf (Some packets) end → OnlyStops before after end → JoinHasCause natives before after name packets end
-not_joined natives before after mid name packets script (Capture number fault) stood loaded by only =
-    (stood_stood before.shelf mid after.shelf stood by.0, script, loaded, subst (λ files. IfSome files (λ held. IsBadAt held packets number fault)) stood.files by.1, only)
-not_joined natives before after mid name packets script (Unread Packets) stood loaded by only =
-    (stood_failed before.shelf mid after.shelf stood by.0, script, loaded, only)
-not_joined natives before after mid name packets script (Absent Packets) stood loaded by only =
-    (stood_lacked before.shelf mid after.shelf stood by.0, script, loaded, subst (λ files. IsLacking files packets) stood.files by.1, only)
-not_joined natives before after mid name packets script NoMemory stood loaded by only = (stood_stood before.shelf mid after.shelf stood by, inl only)
-not_joined natives before after mid name packets script other stood loaded by only = absurd by
+not_joined natives before after mid name packets script end stood loaded by only =
+    inl (inr ((script, loaded), whole_behind before.shelf mid after.shelf (Some packets) end stood by), only)
 
 file_joined : (files : Option (List File)) (name : List ℕ) (left : Option (List ℕ)) (bytes : List ℕ) → IsWholeFile files name left
     → IfSome left (λ file. IsJoined file (Ok bytes)) → IfSome files (λ held. IsJoinedFile held name bytes)
@@ -92,34 +81,23 @@ pub not_behind : (natives : NativeData) (before after : Outside) (mid : ShelfSee
 not_behind natives before after mid name packets bytes script (Capture number fault) stood loaded joined good refused only =
     absurd (good_not_bad order.Little refused.1 (header_of bytes) (joined_good bytes good).header refused.3)
 not_behind natives before after mid name packets bytes script NoMemory stood loaded joined good refused only =
-    (stood_stood before.shelf mid after.shelf stood joined.0, inl only)
+    inl (inl (stood_stood before.shelf mid after.shelf stood joined.0), only)
 not_behind natives before after mid name packets bytes script other stood loaded joined good refused only = absurd refused
 
 -- ---- the run
-
-by_end : (natives : NativeData) (names : List (List ℕ)) (before after : Outside) (sink : SinkSeen) (name packets bytes left left' : List ℕ) (ended : RunEnd) → ShelfStood before.shelf after.shelf
-    → CountsBy names (seen (held_seen left) before.sink before.ends) (seen (held_seen left') sink after.ends) ended → Tells sink after.sink (stop_line (end_of ended))
-    → ((number fault : ℕ) → ended ≡ run.Capture number fault → ⊥) → RanJoined natives before after name packets ended → JoinHasCause natives before after name packets (end_of ended)
-by_end natives names before after sink name packets bytes left left' run.Whole stood counts line never_bad ran =
-    (stood, tells_nothing sink after.sink line ∙ counts.1, ran)
-by_end natives names before after sink name packets bytes left left' (run.Capture number fault) stood counts line never_bad ran = absurd (never_bad number fault refl)
-by_end natives names before after sink name packets bytes left left' run.ReadFault stood counts line never_bad ran = absurd (never counts.0)
-by_end natives names before after sink name packets bytes left left' run.WriteFault stood counts line never_bad ran =
-    (stood, subst (λ n. Rose before.sink.faults n) (sym (tells_nothing sink after.sink line)) counts.1, ran)
-by_end natives names before after sink name packets bytes left left' run.NoMemory stood counts line never_bad ran = (stood, inr ran)
-by_end natives names before after sink name packets bytes left left' (run.Endpoint number) stood counts line never_bad ran = (stood, ran)
 
 ok_not_err : (last : Next) (wrong : PcapFault) (r : Option (Result Next PcapFault)) → r ≡ Some (Ok last) → r ≡ Some (Err wrong) → ⊥
 ok_not_err last wrong r a b = cc
 
 -- over the records of a joined capture no run ends at a bad record
-not_bad : (natives : NativeData) (before after : Outside) (name packets : List ℕ) (number fault : ℕ) (ended : RunEnd)
+pub not_bad : (natives : NativeData) (before after : Outside) (name packets : List ℕ) (number fault : ℕ) (ended : RunEnd)
     → ended ≡ run.Capture number fault → RanJoined natives before after name packets ended → ⊥
 not_bad natives before after name packets number fault ended is ran =
     let frames : List (List ℕ) = joined_frames [] ran.good.1.1 in
     let last : Next = ran.good.1.2 in
-    let by : EndsBy ran.over.script (24 + MAX_HELD) frames (Some (Ok last)) (seen ran.from before.sink before.ends) (seen ran.to ran.over.sink after.ends) (run.Capture number fault) =
-    subst (λ e. EndsBy ran.over.script (24 + MAX_HELD) frames (Some (Ok last)) (seen ran.from before.sink before.ends) (seen ran.to ran.over.sink after.ends) e) is
+    let by : EndsBy ran.over.script (24 + MAX_HELD) frames (Some (Ok last)) (seen (held_seen ran.left) before.sink before.ends)
+    (seen (held_seen ran.left') ran.over.sink after.ends) (run.Capture number fault) =
+    subst (λ e. EndsBy ran.over.script (24 + MAX_HELD) frames (Some (Ok last)) (seen (held_seen ran.left) before.sink before.ends) (seen (held_seen ran.left') ran.over.sink after.ends) e) is
     (ran.over.ended_so frames (Some (Ok last)) (Ok last, refl, order.Little, joined_good ran.bytes ran.good)) in
     ok_not_err last by.0 (Some (Ok last)) refl by.1
 
@@ -129,26 +107,29 @@ pub was_joined : (natives : NativeData) (before after : Outside) (mid : ShelfSee
 was_joined natives before after mid sink name packets bytes left script reader ended stood loaded joined good behind over line =
     let from = held_seen left in
     let to = held_seen over.left' in
-    let ran : RanJoined natives before after name packets ended = record {
-      bytes = bytes;
-      joined = joined_at mid after.shelf before.shelf.files packets bytes stood.files joined;
-      good = good;
-      from = from;
-      to = to;
-      over = record {
-        script = script;
-        loaded = loaded;
-        sink = sink;
-        ended_so = λ frames rest are.
-            let by = over.ended_so frames rest (records_left bytes left reader frames rest behind are) in
-            ends_moved script (room_of (Some reader)) (24 + MAX_HELD) frames rest (seen from before.sink before.ends) (seen to sink after.ends) from to ended
-            (λ fs taken. none_taken (24 + MAX_HELD) None None from to fs refl refl refl) by;
-        counts = over.counts;
-        line = line;
-      };
-    } in
-    by_end natives script.endpoints before after sink name packets bytes left over.left' ended (stood_stood before.shelf mid after.shelf stood joined.0) over.counts line
-    (λ number fault is. not_bad natives before after name packets number fault ended is ran) ran
+    inr (
+      ended,
+      refl,
+      record {
+        stood = stood_stood before.shelf mid after.shelf stood joined.0;
+        bytes = bytes;
+        joined = joined_at mid after.shelf before.shelf.files packets bytes stood.files joined;
+        good = good;
+        left = left;
+        left' = over.left';
+        over = record {
+          script = script;
+          loaded = loaded;
+          sink = sink;
+          ended_so = λ frames rest are.
+              let by = over.ended_so frames rest (records_left bytes left reader frames rest behind are) in
+              ends_moved script (room_of (Some reader)) (24 + MAX_HELD) frames rest (seen from before.sink before.ends) (seen to sink after.ends) from to ended
+              (λ fs taken. none_taken (24 + MAX_HELD) None None from to fs refl refl refl) by;
+          counts = over.counts;
+          line = line;
+        };
+      },
+    )
 
 pub over_known : (script : ScriptData) (left left' : List ℕ) (reader : ReaderState) (sink sink' : SinkSeen) (ends ends' : List NamedEnd) (ended : RunEnd)
     → ((frames : List (List ℕ)) (rest : Option (Result Next PcapFault)) → AreRecords (Some reader) (held_seen left) frames rest

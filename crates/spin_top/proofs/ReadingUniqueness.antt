@@ -20,10 +20,10 @@ pub neither : {A B : Type 0} → A ⊎ B → (A → ⊥) → (B → ⊥) → ⊥
 neither (inl a) no_a no_b = no_a a
 neither (inr b) no_a no_b = no_b b
 
-some_not_none : {X : Type 0} (x : X) → Some x ≡ None → ⊥
+pub some_not_none : {X : Type 0} (x : X) → Some x ≡ None → ⊥
 some_not_none x same = cc
 
-some_is : {X : Type 0} (x y : X) → Some x ≡ Some y → x ≡ y
+pub some_is : {X : Type 0} (x y : X) → Some x ≡ Some y → x ≡ y
 some_is x y same = cc
 
 -- ---- the script

@@ -18,42 +18,31 @@ use Rattle.spin_run.specs.declared.end.RunEnd.TheVariants as run
 use Rattle.spin_run.specs.Ends.{RunSeen, seen, EndsBy, CountsBy}
 use Rattle.spin_run.specs.Records.{AreBytesLeft, AreLeftBy, AreRecords, HasRecords, IsTakenPast, room_of}
 use Rattle.spin_top.specs.declared.end.End.{End}
-use Rattle.spin_top.specs.declared.end.End.TheVariants.{Refused, Capture, Unread, Absent, NoMemory}
-use Rattle.spin_top.specs.declared.end.Input.TheVariants.{Script, Packets}
-use Rattle.spin_top.specs.Captures.{AreBytesOf, AreOpened, AreRecordsOf, HasBadHeader, IsBehindHeader, IsLackingCapture, IsOpened, IsTakenUnder, NoCaptureBy}
+use Rattle.spin_top.specs.Captures.{AreBytesOf, AreOpened, AreRecordsOf, IsBehindHeader, IsOpened, IsTakenUnder, NoCaptureBy}
 use Rattle.spin_top.specs.Ends.{Tells, stop_line}
 use Rattle.spin_top.specs.Inner.Running.{RunsOver}
 use Rattle.spin_top.specs.Loading.{IsLoaded, NoScriptBy}
 use Rattle.spin_top.specs.Shelves.{ReadsOnly, ShelfStood}
 use Rattle.spin_top.specs.Outside.{OnlyStops, Outside, outside}
-use Rattle.spin_top.specs.Run.{Ran, RunHasCause, end_of}
+use Rattle.spin_top.specs.Run.{RunHasCause, ShelfBy, end_of}
 use Rattle.spin_pcap.proofs.Making.{some_file}
 use Rattle.spin_pcap.proofs.SourceBytes.{more_none, more_twice}
 use Rattle.spin_pcap.proofs.CaptureUniqueness.{one_reading}
 use Rattle.spin_top.proofs.ScriptBytes.{script_no_capture}
 use Rattle.spin_top.proofs.OpenedCaptures.{still_named}
-use Rattle.spin_top.proofs.ShelfLemmas.{stood_failed, stood_lacked, stood_stood}
+use Rattle.spin_top.proofs.ShelfLemmas.{stood_failed, stood_stood}
+use Rattle.spin_top.proofs.Stages.{opened_behind}
 
 -- ---- stops before the run
 
 pub not_loaded : (natives : NativeData) (before after : Outside) (name : List ℕ) (packets : Option (List ℕ)) (end : End)
     → NoScriptBy natives before.shelf after.shelf name end → OnlyStops before after end → RunHasCause natives before after name packets end
-not_loaded natives before after name packets (Refused line cause) by only = (by.0, by.1, only)
-not_loaded natives before after name packets (Unread Script) by only = (by, only)
-not_loaded natives before after name packets (Absent Script) by only = (by.0, by.1, only)
-not_loaded natives before after name packets NoMemory by only = (by, inl only)
-not_loaded natives before after name packets other by only = absurd by
+not_loaded natives before after name packets end by only = inl (inl by, only)
 
 pub not_opened : (natives : NativeData) (before after : Outside) (mid : ShelfSeen) (name : List ℕ) (packets : Option (List ℕ)) (script : ScriptData) (end : End) → ShelfStood before.shelf mid
     → IsLoaded natives before.shelf.files name script → NoCaptureBy mid after.shelf packets end → OnlyStops before after end → RunHasCause natives before after name packets end
-not_opened natives before after mid name packets script (Capture number fault) stood loaded by only =
-    (stood_stood before.shelf mid after.shelf stood by.0, inl (script, loaded, by.1, subst (λ files. HasBadHeader files packets fault) stood.files by.2, only))
-not_opened natives before after mid name packets script (Unread Packets) stood loaded by only =
-    (stood_failed before.shelf mid after.shelf stood by.0, inl (script, loaded, by.1, only))
-not_opened natives before after mid name packets script (Absent Packets) stood loaded by only =
-    (stood_lacked before.shelf mid after.shelf stood by.0, script, loaded, subst (λ files. IsLackingCapture files packets) stood.files by.1, only)
-not_opened natives before after mid name packets script NoMemory stood loaded by only = (stood_stood before.shelf mid after.shelf stood by, inl only)
-not_opened natives before after mid name packets script other stood loaded by only = absurd by
+not_opened natives before after mid name packets script end stood loaded by only =
+    inl (inr ((script, loaded), opened_behind before.shelf mid after.shelf packets end stood by), only)
 
 -- ---- the run
 
@@ -117,26 +106,14 @@ tells_nothing a b (inr w) = absurd (omega (arith, w.1))
 shelf_stood : (mid after : ShelfSeen) (file file' ref ref' : ℕ) → (file_seen after file' ref').keep ≡ (file_seen mid file ref).keep → after.faults ≡ mid.faults → ShelfStood mid after
 shelf_stood mid after file file' ref ref' kept faults = record { files = ap (λ k. k.files) kept; faults = faults; absences = ap (λ k. k.absences) kept }
 
--- a run that ended so gives the end its cause
-by_end : (natives : NativeData) (names : List (List ℕ)) (before after : Outside) (mid : ShelfSeen) (sink : SinkSeen) (name : List ℕ) (packets : Option (List ℕ))
-    (file file' ref ref' : ℕ) (ended : RunEnd) → ShelfStood before.shelf mid → (file_seen after.shelf file' ref').keep ≡ (file_seen mid file ref).keep
-    → CountsBy names (seen (file_seen mid file ref) before.sink before.ends) (seen (file_seen after.shelf file' ref') sink after.ends) ended
-    → Tells sink after.sink (stop_line (end_of ended)) → Ran natives before after name packets ended → RunHasCause natives before after name packets (end_of ended)
-by_end natives names before after mid sink name packets file file' ref ref' run.Whole stood kept counts line ran =
-    (stood_stood before.shelf mid after.shelf stood (shelf_stood mid after.shelf file file' ref ref' kept counts.0), tells_nothing sink after.sink line ∙ counts.1, ran)
-by_end natives names before after mid sink name packets file file' ref ref' (run.Capture number fault) stood kept counts line ran =
-    (stood_stood before.shelf mid after.shelf stood (shelf_stood mid after.shelf file file' ref ref' kept counts.0), inr ran)
-by_end natives names before after mid sink name packets file file' ref ref' run.ReadFault stood kept counts line ran =
-    (stood_failed before.shelf mid after.shelf stood (record { files = ap (λ k. k.files) kept; faults = counts.0; absences = ap (λ k. k.absences) kept }), inr ran)
-by_end natives names before after mid sink name packets file file' ref ref' run.WriteFault stood kept counts line ran = (
-  stood_stood before.shelf mid after.shelf stood (shelf_stood mid after.shelf file file' ref ref' kept counts.0),
-  subst (λ n. Rose before.sink.faults n) (sym (tells_nothing sink after.sink line)) counts.1,
-  ran,
-)
-by_end natives names before after mid sink name packets file file' ref ref' run.NoMemory stood kept counts line ran =
-    (stood_stood before.shelf mid after.shelf stood (shelf_stood mid after.shelf file file' ref ref' kept counts.0), inr ran)
-by_end natives names before after mid sink name packets file file' ref ref' (run.Endpoint number) stood kept counts line ran =
-    (stood_stood before.shelf mid after.shelf stood (shelf_stood mid after.shelf file file' ref ref' kept counts.0), ran)
+-- what a run that ended so did to the shelf
+shelf_by : (names : List (List ℕ)) (before after : Outside) (mid : ShelfSeen) (sink : SinkSeen) (file file' ref ref' : ℕ) (ended : RunEnd)
+    → ShelfStood before.shelf mid → (file_seen after.shelf file' ref').keep ≡ (file_seen mid file ref).keep
+    → CountsBy names (seen (file_seen mid file ref) before.sink before.ends) (seen (file_seen after.shelf file' ref') sink after.ends) ended → ShelfBy before.shelf after.shelf ended
+shelf_by names before after mid sink file file' ref ref' run.ReadFault stood kept counts =
+    stood_failed before.shelf mid after.shelf stood (record { files = ap (λ k. k.files) kept; faults = counts.0; absences = ap (λ k. k.absences) kept })
+shelf_by names before after mid sink file file' ref ref' other stood kept counts =
+    stood_stood before.shelf mid after.shelf stood (shelf_stood mid after.shelf file file' ref ref' kept counts.0)
 
 -- ---- what was read of the capture
 
@@ -264,35 +241,39 @@ was_run natives before after loaded_shelf opened_shelf sink name packets script 
     let some = over.ended_so in
     let has : HasBytes before.shelf.files packets some.0 some.1 =
     subst (λ files. HasBytes files packets some.0 some.1) stood.files (opened_bytes loaded_shelf opened_shelf packets file reader over.reference some.0 some.1 opened some.2) in
-    let ran : Ran natives before after name packets ended = record {
-      bytes = has.0;
-      capture = has.1;
-      from = from_of loaded_shelf (file_seen opened_shelf file over.reference) packets;
-      to = from_of after.shelf (file_seen after.shelf over.file' over.reference') packets;
-      taken = (
-        taken_from before.shelf loaded_shelf (file_seen opened_shelf file over.reference) name packets stood.files
-            (λ held told. apart natives before.shelf.files held name packets script told loaded has.0 has.1) reads,
-        taken_to after.shelf (file_seen after.shelf over.file' over.reference') packets,
-      );
-      over = record {
-        script = script;
-        loaded = loaded;
-        sink = sink;
-        ended_so = λ frames rest are.
-            let one = one_records packets has.0 some.0 frames some.1 rest has.2 are in
-            subst (λ (x : List (List ℕ) × Option (Result Next PcapFault)). EndsBy script (24 + MAX_HELD) x.0 x.1 (seen (from_of loaded_shelf (file_seen opened_shelf file over.reference) packets)
-            before.sink before.ends) (seen (from_of after.shelf (file_seen after.shelf over.file' over.reference') packets) sink after.ends) ended) (λ i. (one.0 i, one.1 i))
-            (ends_moved script (room_of reader) (24 + MAX_HELD) some.0 some.1 (seen (file_seen opened_shelf file over.reference) before.sink before.ends)
-            (seen (file_seen after.shelf over.file' over.reference') sink after.ends) (from_of loaded_shelf (file_seen opened_shelf file over.reference) packets)
-            (from_of after.shelf (file_seen after.shelf over.file' over.reference') packets) ended
-            (past_header loaded_shelf opened_shelf after.shelf packets file over.file' over.reference over.reference' reader opened over.keep) some.3);
-        counts = counts_moved script.endpoints (seen (file_seen opened_shelf file over.reference) before.sink before.ends) (seen (file_seen after.shelf over.file' over.reference') sink after.ends)
-            (from_of loaded_shelf (file_seen opened_shelf file over.reference) packets) (from_of after.shelf (file_seen after.shelf over.file' over.reference') packets) ended refl refl over.counts;
-        line = line;
-      };
-    } in
-    by_end natives script.endpoints before after opened_shelf sink name packets file over.file' over.reference over.reference' ended
-    (stood_stood before.shelf loaded_shelf opened_shelf stood (opened_stood loaded_shelf opened_shelf packets file reader opened)) over.keep over.counts line ran
+    inr (
+      ended,
+      refl,
+      record {
+        shelf = shelf_by script.endpoints before after opened_shelf sink file over.file' over.reference over.reference' ended
+            (stood_stood before.shelf loaded_shelf opened_shelf stood (opened_stood loaded_shelf opened_shelf packets file reader opened)) over.keep over.counts;
+        bytes = has.0;
+        capture = has.1;
+        from = from_of loaded_shelf (file_seen opened_shelf file over.reference) packets;
+        to = from_of after.shelf (file_seen after.shelf over.file' over.reference') packets;
+        taken = (
+          taken_from before.shelf loaded_shelf (file_seen opened_shelf file over.reference) name packets stood.files
+              (λ held told. apart natives before.shelf.files held name packets script told loaded has.0 has.1) reads,
+          taken_to after.shelf (file_seen after.shelf over.file' over.reference') packets,
+        );
+        over = record {
+          script = script;
+          loaded = loaded;
+          sink = sink;
+          ended_so = λ frames rest are.
+              let one = one_records packets has.0 some.0 frames some.1 rest has.2 are in
+              subst (λ (x : List (List ℕ) × Option (Result Next PcapFault)). EndsBy script (24 + MAX_HELD) x.0 x.1 (seen (from_of loaded_shelf (file_seen opened_shelf file over.reference) packets)
+              before.sink before.ends) (seen (from_of after.shelf (file_seen after.shelf over.file' over.reference') packets) sink after.ends) ended) (λ i. (one.0 i, one.1 i))
+              (ends_moved script (room_of reader) (24 + MAX_HELD) some.0 some.1 (seen (file_seen opened_shelf file over.reference) before.sink before.ends)
+              (seen (file_seen after.shelf over.file' over.reference') sink after.ends) (from_of loaded_shelf (file_seen opened_shelf file over.reference) packets)
+              (from_of after.shelf (file_seen after.shelf over.file' over.reference') packets) ended
+              (past_header loaded_shelf opened_shelf after.shelf packets file over.file' over.reference over.reference' reader opened over.keep) some.3);
+          counts = counts_moved script.endpoints (seen (file_seen opened_shelf file over.reference) before.sink before.ends) (seen (file_seen after.shelf over.file' over.reference') sink after.ends)
+              (from_of loaded_shelf (file_seen opened_shelf file over.reference) packets) (from_of after.shelf (file_seen after.shelf over.file' over.reference') packets) ended refl refl over.counts;
+          line = line;
+        };
+      },
+    )
 
 pub over_known : (script : ScriptData) (file file' ref ref' : ℕ) (reader : Option ReaderState) (shelf shelf' : ShelfSeen) (sink sink' : SinkSeen) (ends ends' : List NamedEnd) (ended : RunEnd)
     → (file_seen shelf' file' ref').keep ≡ (file_seen shelf file ref).keep

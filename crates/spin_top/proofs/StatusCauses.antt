@@ -1,20 +1,21 @@
 -- Which status comes, from the causes of all commands.
-use Rattle.std.proofs.Common.{◌≡◌, ℕ, zero, suc, List, sym, subst, ◌∙◌, inl, inr}
+use Rattle.std.proofs.Common.{◌≡◌, ℕ, zero, suc, List, refl, sym, subst, ◌∙◌, inl, inr}
 use Rattle.spin_script.specs.States.{NativeData}
 use Rattle.spin_top.specs.declared.end.End.{End}
 use Rattle.spin_top.specs.declared.end.End.TheVariants.{Whole, Usage, Refused, Capture, Unread, WriteFault, Absent, NoMemory, Endpoint, NoHistory, LongReport, Trace, Unsuited}
 use Rattle.spin_top.specs.declared.end.Input.{Input}
-use Rattle.spin_top.specs.declared.words.Asked.{Asked}
-use Rattle.spin_top.specs.declared.words.Asked.TheVariants.{Run, Gen, Check, Join, Vm}
-use Rattle.spin_top.specs.Words.{IsAsked}
+use Rattle.spin_words.specs.declared.words.Asked.{Asked}
+use Rattle.spin_words.specs.declared.words.Asked.TheVariants.{Run, Gen, Check, Join, Vm}
+use Rattle.spin_words.specs.Words.{IsAsked}
 use Rattle.spin_top.specs.Ends.{exit_status}
 use Rattle.spin_top.specs.Outside.{OnlyStops, Outside}
 use Rattle.spin_top.specs.Statuses.{AsksNothing, ByCommand, Call, CommandHasCause, CommandKnows, HasCause, IsCommandStatus, IsStatus, KeepsTable, KnowsCommand, KnowsUsage, Row}
 use Rattle.spin_top.specs.Vm.{IsVmStatus}
 use Rattle.spin_top.proofs.CheckKnown.{check_known}
-use Rattle.spin_top.proofs.CommandForms.{one_asked}
+use Rattle.spin_words.proofs.CommandForms.{one_asked}
 use Rattle.spin_top.proofs.GenCauses.{gen_known}
 use Rattle.spin_top.proofs.JoinKnown.{join_known}
+use Rattle.spin_top.proofs.NotUsage.{check_cause_not_usage, gen_cause_not_usage, join_cause_not_usage, run_cause_not_usage, vm_cause_not_usage}
 use Rattle.spin_top.proofs.RunKnown.{run_known}
 use Rattle.spin_top.proofs.ShelfLemmas.{same_stood}
 use Rattle.spin_top.proofs.VmKnown.{vm_known}
@@ -23,19 +24,19 @@ use Rattle.spin_top.proofs.VmKnown.{vm_known}
 
 -- nothing was done for want of memory, which is a cause of every command
 only_memory : (natives : NativeData) (before after : Outside) (asked : Asked) → after.shelf ≡ before.shelf → OnlyStops before after NoMemory → CommandHasCause natives before after asked NoMemory
-only_memory natives before after (Run name packets) same only = (same_stood before.shelf after.shelf same, inl only)
-only_memory natives before after (Gen number) same only = (same, inl only)
-only_memory natives before after (Check name report packets) same only = (same_stood before.shelf after.shelf same, only)
-only_memory natives before after (Join name packets) same only = (same_stood before.shelf after.shelf same, inl only)
-only_memory natives before after (Vm name trace) same only = (same_stood before.shelf after.shelf same, inl only)
+only_memory natives before after (Run name packets) same only = inl (inl (same_stood before.shelf after.shelf same), only)
+only_memory natives before after (Gen number) same only = (same, inl (refl, only))
+only_memory natives before after (Check name report packets) same only = inl (inl (inl (same_stood before.shelf after.shelf same)), only)
+only_memory natives before after (Join name packets) same only = inl (inl (same_stood before.shelf after.shelf same), only)
+only_memory natives before after (Vm name trace) same only = inl (inl (same_stood before.shelf after.shelf same), only)
 
 -- words that ask for a command aren't usage
 not_usage : (natives : NativeData) (before after : Outside) (asked : Asked) → CommandHasCause natives before after asked Usage → ⊥
-not_usage natives before after (Run name packets) cause = cause
-not_usage natives before after (Gen number) cause = cause
-not_usage natives before after (Check name report packets) cause = cause
-not_usage natives before after (Join name packets) cause = cause
-not_usage natives before after (Vm name trace) cause = cause
+not_usage natives before after (Run name packets) cause = run_cause_not_usage natives before after name packets cause
+not_usage natives before after (Gen number) cause = gen_cause_not_usage natives before after number cause
+not_usage natives before after (Check name report packets) cause = check_cause_not_usage natives before after name report packets cause
+not_usage natives before after (Join name packets) cause = join_cause_not_usage natives before after name packets cause
+not_usage natives before after (Vm name trace) cause = vm_cause_not_usage natives before after name trace cause
 
 -- which status a command always comes to
 command_known : (natives : NativeData) (before after : Outside) (asked : Asked) (status : ℕ) → IsCommandStatus natives before after asked status → CommandKnows natives before after asked status
@@ -145,6 +146,11 @@ usage_status call none same only is = (Usage, is, (none, same, only))
 
 pub memory_status : (call : Call) → call.after.shelf ≡ call.before.shelf → OnlyStops call.before call.after NoMemory → call.status ≡ 7 → IsStatus call
 memory_status call same only is = (NoMemory, is, inl (same, only))
+
+-- this is what was asked for
+pub asked_status : (natives : NativeData) (before after : Outside) (asked other : Asked) (status : ℕ) → asked ≡ other
+    → IsCommandStatus natives before after other status → IsCommandStatus natives before after asked status
+asked_status natives before after asked other status is by = subst (λ a. IsCommandStatus natives before after a status) (sym is) by
 
 -- a trace is what was asked for
 pub vm_status : (natives : NativeData) (before after : Outside) (name trace : List ℕ) (asked : Asked) (status : ℕ)

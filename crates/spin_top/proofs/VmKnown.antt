@@ -1,6 +1,7 @@
 -- Which status a trace always comes to, from the causes of all its ends.
-use Rattle.std.proofs.Common.{◌≡◌, ℕ, Bool, true, false, Option, Some, None, List, ◌&&◌, [], ◌∷◌, map, refl, sym, ap, subst, ◌∙◌, inl, inr}
+use Rattle.std.proofs.Common.{◌≡◌, ◌⊎◌, ℕ, Bool, true, false, Option, Some, None, List, ◌&&◌, [], ◌∷◌, map, refl, sym, ap, subst, ◌∙◌, inl, inr}
 use Rattle.std.specs.Prelude.{Result, Ok, Err}
+use Rattle.spin_outside.specs.Counts.{Rose}
 use Rattle.spin_outside.specs.Files.{File, content}
 use Rattle.spin_outside.specs.Seen.{ShelfSeen}
 use Rattle.spin_script.specs.Language.{IsScript}
@@ -15,13 +16,16 @@ use Rattle.spin_vm.specs.declared.line.TraceLine.{TraceLine}
 use Rattle.spin_vm.specs.Scripts.{asks_commands, has_fault_events, is_single, is_suited}
 use Rattle.spin_vm.specs.Traces.{outcome}
 use Rattle.spin_top.specs.declared.end.End.{End}
-use Rattle.spin_top.specs.declared.end.End.TheVariants.{Whole, Refused, Unread, WriteFault, Absent, NoMemory, Trace, Unsuited}
+use Rattle.spin_top.specs.declared.end.End.TheVariants.{Unread, Absent, NoMemory, Trace}
 use Rattle.spin_top.specs.declared.end.Input.TheVariants as input
 use Rattle.spin_top.specs.Ends.{exit_status}
-use Rattle.spin_top.specs.Loading.{HoldsText, IsContent, IsScriptText, KnowsNoScript, KnowsRefused}
+use Rattle.spin_top.specs.Loading.{HoldsText, IsContent, IsScriptText}
 use Rattle.spin_top.specs.Outside.{Outside}
-use Rattle.spin_top.specs.Vm.{IsBadTrace, IsSuitedText, IsTraceComplete, KnowsNoTrace, KnowsTrace, KnowsUnsuited, LoadsSuited, RanTrace, VmHasCause, VmKnows}
-use Rattle.spin_top.proofs.ReadingUniqueness.{content_at, lacking_at, loaded_nothing, loaded_text, refused_nothing, script_good, script_there}
+use Rattle.spin_top.specs.Vm.{IsBadTrace, IsSuitedText, IsTraceComplete, KnowsNoTrace, KnowsTrace, KnowsUnsuited}
+use Rattle.spin_top.specs.Vm.{LoadsSuited, NoSuitedTraceBy, NotTracedBy, NoTraceBy, RanTrace, VmHasCause, VmKnows, vm_end}
+use Rattle.spin_top.proofs.ReadingUniqueness.{content_at, lacking_at, some_is, some_not_none}
+use Rattle.spin_top.proofs.RunCauses.{tells_nothing}
+use Rattle.spin_top.proofs.Stages.{ScriptFirst, knows_no_script, knows_refused, script_memory}
 
 -- ---- one script, and one trace
 
@@ -43,9 +47,6 @@ one_kind : (natives : NativeData) (text : List ℕ) (a b : ScriptData) → IsScr
 one_kind natives text a b is_a is_b =
     sym (bare_suited a) ∙ ap is_suited (one_outcome natives text (Ok a) (Ok b) is_a is_b) ∙ bare_suited b
 
-some_is : {X : Type 0} (x y : X) → Some x ≡ Some y → x ≡ y
-some_is x y same = cc
-
 both_kinds : (natives : NativeData) (shelf : ShelfSeen) (held : List File) (name text : List ℕ) (a b : Bool)
     → HoldsText shelf held name text → IsSuitedText natives text a → LoadsSuited natives shelf.files name b → b ≡ a
 both_kinds natives shelf held name text a b holds is loads =
@@ -53,17 +54,14 @@ both_kinds natives shelf held name text a b holds is loads =
     let reads : IsScript natives text (Ok loads.0) = subst (λ t. IsScript natives t (Ok loads.0)) same loads.1.reads in
     sym loads.2 ∙ one_kind natives text loads.0 is.0 reads is.1 ∙ is.2
 
-some_not_none : {X : Type 0} (x : X) → Some x ≡ None → ⊥
-some_not_none x same = cc
-
 ok_not_err : {A B : Type 0} (r : Result A B) (a : A) (b : B) → r ≡ Ok a → r ≡ Err b → ⊥
 ok_not_err r a b good bad = cc
 
 is_script : (natives : NativeData) (text : List ℕ) (suited : Bool) → IsSuitedText natives text suited → IsScriptText natives text
 is_script natives text suited is = (is.0, is.1)
 
-suited_of : (natives : NativeData) (before after : Outside) (name trace : List ℕ) (ended : VmEnd) → RanTrace natives before after name trace ended → LoadsSuited natives before.shelf.files name true
-suited_of natives before after name trace ended ran = (ran.script, ran.loaded, ran.suited)
+loads_suited : (natives : NativeData) (before after : Outside) (name trace : List ℕ) (ended : VmEnd) → RanTrace natives before after name trace ended → LoadsSuited natives before.shelf.files name true
+loads_suited natives before after name trace ended ran = (ran.script, ran.loaded, ran.suited)
 
 -- the trace that was read is the text under its name
 same_trace : (files : Option (List File)) (held : List File) (trace traced text : List ℕ) → files ≡ Some held → content held trace ≡ Some traced → IsContent files trace text → text ≡ traced
@@ -72,47 +70,16 @@ same_trace files held trace traced text told found read = some_is text traced (s
 lacks_trace : (files : Option (List File)) (held : List File) (trace text : List ℕ) → files ≡ Some held → content held trace ≡ None → IsContent files trace text → ⊥
 lacks_trace files held trace text told lacking read = some_not_none text (sym (content_at files held trace text told read) ∙ lacking)
 
--- ---- a text that is no script
+-- ---- the script
 
-refused_at : (natives : NativeData) (before after : Outside) (name trace : List ℕ) (status : ℕ) (end : End)
-    → status ≡ exit_status end → VmHasCause natives before after name trace end → KnowsRefused natives before after name status
-refused_at natives before after name trace status Whole is cause held text holds none calm =
-    absurd (none (loaded_text natives before.shelf held name text cause.2.script holds cause.2.loaded))
-refused_at natives before after name trace status (Refused line number) is cause held text holds none calm = inl is
-refused_at natives before after name trace status (Unread input.Script) is cause held text holds none calm = absurd (calm cause.0.faults)
-refused_at natives before after name trace status (Unread input.Trace) is cause held text holds none calm = absurd (calm cause.0.faults)
-refused_at natives before after name trace status WriteFault is cause held text holds none calm =
-    absurd (none (loaded_text natives before.shelf held name text cause.2.script holds cause.2.loaded))
-refused_at natives before after name trace status (Absent input.Script) is cause held text holds none calm =
-    absurd (script_there before.shelf held name text holds cause.1)
-refused_at natives before after name trace status (Absent input.Trace) is cause held text holds none calm =
-    absurd (none (loaded_text natives before.shelf held name text cause.1.0 holds cause.1.1))
-refused_at natives before after name trace status NoMemory is cause held text holds none calm = inr is
-refused_at natives before after name trace status (Trace line number) is cause held text holds none calm =
-    absurd (none (loaded_text natives before.shelf held name text cause.1.0 holds cause.1.1))
-refused_at natives before after name trace status Unsuited is cause held text holds none calm =
-    absurd (none (loaded_text natives before.shelf held name text cause.1.0 holds cause.1.1))
-refused_at natives before after name trace status other is cause held text holds none calm = absurd cause
+stop_first : (natives : NativeData) (before after : Outside) (name trace : List ℕ) (end : End)
+    → NotTracedBy natives before.shelf after.shelf name trace end → ScriptFirst natives before.shelf after.shelf name end
+stop_first natives before after name trace end (inl by) = inl by
+stop_first natives before after name trace end (inr by) = inr (by.1.0, by.1.1)
 
--- ---- a script that isn't there
-
-absent_at : (natives : NativeData) (before after : Outside) (name trace : List ℕ) (status : ℕ) (end : End)
-    → status ≡ exit_status end → VmHasCause natives before after name trace end → KnowsNoScript before after name status
-absent_at natives before after name trace status Whole is cause held lacks calm =
-    absurd (loaded_nothing natives before.shelf held name cause.2.script lacks cause.2.loaded)
-absent_at natives before after name trace status (Refused line number) is cause held lacks calm =
-    absurd (refused_nothing natives before.shelf held name line number lacks cause.1)
-absent_at natives before after name trace status (Unread input.Script) is cause held lacks calm = absurd (calm cause.0.faults)
-absent_at natives before after name trace status (Unread input.Trace) is cause held lacks calm = absurd (calm cause.0.faults)
-absent_at natives before after name trace status WriteFault is cause held lacks calm =
-    absurd (loaded_nothing natives before.shelf held name cause.2.script lacks cause.2.loaded)
-absent_at natives before after name trace status (Absent file) is cause held lacks calm = inl is
-absent_at natives before after name trace status NoMemory is cause held lacks calm = inr is
-absent_at natives before after name trace status (Trace line number) is cause held lacks calm =
-    absurd (loaded_nothing natives before.shelf held name cause.1.0 lacks cause.1.1)
-absent_at natives before after name trace status Unsuited is cause held lacks calm =
-    absurd (loaded_nothing natives before.shelf held name cause.1.0 lacks cause.1.1)
-absent_at natives before after name trace status other is cause held lacks calm = absurd cause
+vm_first : (natives : NativeData) (before after : Outside) (name trace : List ℕ) (end : End) → VmHasCause natives before after name trace end → ScriptFirst natives before.shelf after.shelf name end
+vm_first natives before after name trace end (inl stop) = stop_first natives before after name trace end stop.0
+vm_first natives before after name trace end (inr ran) = inr (ran.2.script, ran.2.loaded)
 
 -- ---- a script that isn't suited
 
@@ -124,45 +91,50 @@ suits : (natives : NativeData) (shelf : ShelfSeen) (held : List File) (name text
     → HoldsText shelf held name text → IsSuitedText natives text true → LoadsSuited natives shelf.files name false → ⊥
 suits natives shelf held name text holds is loads = true_not_false false (both_kinds natives shelf held name text true false holds is loads) refl
 
+unsuited_by : (natives : NativeData) (before after : Outside) (name trace : List ℕ) (status : ℕ) (end : End) (suited : Bool) → status ≡ exit_status end
+    → LoadsSuited natives before.shelf.files name suited → NoSuitedTraceBy suited before.shelf after.shelf trace end → KnowsUnsuited natives before after name status
+unsuited_by natives before after name trace status end false is loads by held text holds script calm = inl (is ∙ ap exit_status by.0)
+unsuited_by natives before after name trace status end true is loads by held text holds script calm = absurd (suits_not natives before.shelf held name text holds script loads)
+
+-- a suited script's trace wasn't read
+trace_by : (natives : NativeData) (before after : ShelfSeen) (held : List File) (name text trace : List ℕ) (end : End) (suited : Bool) → HoldsText before held name text
+    → IsSuitedText natives text true → LoadsSuited natives before.files name suited → NoSuitedTraceBy suited before after trace end → NoTraceBy before after trace end
+trace_by natives before after held name text trace end false holds script loads by = absurd (suits natives before held name text holds script loads)
+trace_by natives before after held name text trace end true holds script loads by = by
+
+stop_unsuited : (natives : NativeData) (before after : Outside) (name trace : List ℕ) (status : ℕ) (end : End) → status ≡ exit_status end
+    → NotTracedBy natives before.shelf after.shelf name trace end → KnowsUnsuited natives before after name status
+stop_unsuited natives before after name trace status end is (inl by) held text holds script calm =
+    inr (script_memory natives before.shelf after.shelf held name text status end is holds (is_script natives text false script) calm by)
+stop_unsuited natives before after name trace status end is (inr by) held text holds script calm = unsuited_by natives before after name trace status end by.0 is by.1 by.2 held text holds script calm
+
 unsuited_at : (natives : NativeData) (before after : Outside) (name trace : List ℕ) (status : ℕ) (end : End)
     → status ≡ exit_status end → VmHasCause natives before after name trace end → KnowsUnsuited natives before after name status
-unsuited_at natives before after name trace status Whole is cause held text holds script calm =
-    absurd (suits_not natives before.shelf held name text holds script (suited_of natives before after name trace vm.Whole cause.2))
-unsuited_at natives before after name trace status (Refused line number) is cause held text holds script calm =
-    absurd (script_good natives before.shelf held name text line number holds (is_script natives text false script) cause.1)
-unsuited_at natives before after name trace status (Unread input.Script) is cause held text holds script calm = absurd (calm cause.0.faults)
-unsuited_at natives before after name trace status (Unread input.Trace) is cause held text holds script calm = absurd (calm cause.0.faults)
-unsuited_at natives before after name trace status WriteFault is cause held text holds script calm =
-    absurd (suits_not natives before.shelf held name text holds script (suited_of natives before after name trace vm.WriteFault cause.2))
-unsuited_at natives before after name trace status (Absent input.Script) is cause held text holds script calm =
-    absurd (script_there before.shelf held name text holds cause.1)
-unsuited_at natives before after name trace status (Absent input.Trace) is cause held text holds script calm =
-    absurd (suits_not natives before.shelf held name text holds script cause.1)
-unsuited_at natives before after name trace status NoMemory is cause held text holds script calm = inr is
-unsuited_at natives before after name trace status (Trace line number) is cause held text holds script calm =
-    absurd (suits_not natives before.shelf held name text holds script cause.1)
-unsuited_at natives before after name trace status Unsuited is cause held text holds script calm = inl is
-unsuited_at natives before after name trace status other is cause held text holds script calm = absurd cause
+unsuited_at natives before after name trace status end is (inl stop) = stop_unsuited natives before after name trace status end is stop.0
+unsuited_at natives before after name trace status end is (inr ran) =
+    λ held text holds script calm. absurd (suits_not natives before.shelf held name text holds script (loads_suited natives before after name trace ran.0 ran.2))
 
 -- ---- a trace that isn't there
 
+trace_lost : (before after : ShelfSeen) (held : List File) (trace : List ℕ) (status : ℕ) (end : End) → status ≡ exit_status end → before.files ≡ Some held
+    → content held trace ≡ None → (Rose before.faults after.faults → ⊥) → NoTraceBy before after trace end → (status ≡ 6) ⊎ (status ≡ 7)
+trace_lost before after held trace status (Trace line cause) is told lacking calm by = absurd (lacks_trace before.files held trace by.1.0 told lacking by.1.1)
+trace_lost before after held trace status (Unread input.Trace) is told lacking calm by = absurd (calm by.faults)
+trace_lost before after held trace status (Absent input.Trace) is told lacking calm by = inl is
+trace_lost before after held trace status NoMemory is told lacking calm by = inr is
+trace_lost before after held trace status other is told lacking calm by = absurd by
+
+stop_lost : (natives : NativeData) (before after : Outside) (name trace : List ℕ) (status : ℕ) (end : End) → status ≡ exit_status end
+    → NotTracedBy natives before.shelf after.shelf name trace end → KnowsNoTrace natives before after name trace status
+stop_lost natives before after name trace status end is (inl by) held text holds script lacking calm =
+    inr (script_memory natives before.shelf after.shelf held name text status end is holds (is_script natives text true script) calm by)
+stop_lost natives before after name trace status end is (inr by) held text holds script lacking calm =
+    trace_lost before.shelf after.shelf held trace status end is holds.told lacking calm (trace_by natives before.shelf after.shelf held name text trace end by.0 holds script by.1 by.2)
+
 lost_at : (natives : NativeData) (before after : Outside) (name trace : List ℕ) (status : ℕ) (end : End) → status ≡ exit_status end
     → VmHasCause natives before after name trace end → KnowsNoTrace natives before after name trace status
-lost_at natives before after name trace status Whole is cause held text holds script lacking calm =
-    absurd (lacks_trace before.shelf.files held trace cause.2.text holds.told lacking cause.2.read)
-lost_at natives before after name trace status (Refused line number) is cause held text holds script lacking calm =
-    absurd (script_good natives before.shelf held name text line number holds (is_script natives text true script) cause.1)
-lost_at natives before after name trace status (Unread input.Script) is cause held text holds script lacking calm = absurd (calm cause.0.faults)
-lost_at natives before after name trace status (Unread input.Trace) is cause held text holds script lacking calm = absurd (calm cause.0.faults)
-lost_at natives before after name trace status WriteFault is cause held text holds script lacking calm =
-    absurd (lacks_trace before.shelf.files held trace cause.2.text holds.told lacking cause.2.read)
-lost_at natives before after name trace status (Absent file) is cause held text holds script lacking calm = inl is
-lost_at natives before after name trace status NoMemory is cause held text holds script lacking calm = inr is
-lost_at natives before after name trace status (Trace line number) is cause held text holds script lacking calm =
-    absurd (lacks_trace before.shelf.files held trace cause.2.0 holds.told lacking cause.2.1)
-lost_at natives before after name trace status Unsuited is cause held text holds script lacking calm =
-    absurd (suits natives before.shelf held name text holds script cause.1)
-lost_at natives before after name trace status other is cause held text holds script lacking calm = absurd cause
+lost_at natives before after name trace status end is (inl stop) = stop_lost natives before after name trace status end is stop.0
+lost_at natives before after name trace status end is (inr ran) = λ held text holds script lacking calm. absurd (lacks_trace before.shelf.files held trace ran.2.text holds.told lacking ran.2.read)
 
 -- ---- a text that is no trace
 
@@ -171,55 +143,85 @@ good_trace : (files : Option (List File)) (held : List File) (trace traced text 
 good_trace files held trace traced text line why lines told found bad read good =
     ok_not_err (outcome text) lines (line, why) good (ap outcome (same_trace files held trace traced text told found read) ∙ bad)
 
+trace_bad : (before after : ShelfSeen) (held : List File) (trace traced : List ℕ) (status : ℕ) (end : End) → status ≡ exit_status end → before.files ≡ Some held
+    → content held trace ≡ Some traced → (Rose before.faults after.faults → ⊥) → NoTraceBy before after trace end → (status ≡ 11) ⊎ (status ≡ 7)
+trace_bad before after held trace traced status (Trace line cause) is told found calm by = inl is
+trace_bad before after held trace traced status (Unread input.Trace) is told found calm by = absurd (calm by.faults)
+trace_bad before after held trace traced status (Absent input.Trace) is told found calm by = absurd (some_not_none traced (sym found ∙ lacking_at before.files held trace told by.1))
+trace_bad before after held trace traced status NoMemory is told found calm by = inr is
+trace_bad before after held trace traced status other is told found calm by = absurd by
+
+stop_bad : (natives : NativeData) (before after : Outside) (name trace : List ℕ) (status : ℕ) (end : End) → status ≡ exit_status end
+    → NotTracedBy natives before.shelf after.shelf name trace end → KnowsTrace natives before after name trace status
+stop_bad natives before after name trace status end is (inl by) held text traced line why holds script found bad calm =
+    inr (script_memory natives before.shelf after.shelf held name text status end is holds (is_script natives text true script) calm by)
+stop_bad natives before after name trace status end is (inr by) held text traced line why holds script found bad calm =
+    trace_bad before.shelf after.shelf held trace traced status end is holds.told found calm (trace_by natives before.shelf after.shelf held name text trace end by.0 holds script by.1 by.2)
+
+ran_bad : (natives : NativeData) (before after : Outside) (name trace : List ℕ) (status : ℕ) (end : End) (ended : VmEnd) → status ≡ exit_status end
+    → end ≡ vm_end ended → RanTrace natives before after name trace ended → KnowsTrace natives before after name trace status
+ran_bad natives before after name trace status end vm.Whole is same ran held text traced line why holds script found bad calm =
+    let by = ran.ended_so in
+    absurd (good_trace before.shelf.files held trace traced ran.text line why by.0 holds.told found bad ran.read by.2)
+ran_bad natives before after name trace status end (vm.Trace at cause) is same ran held text traced line why holds script found bad calm = inl (is ∙ ap exit_status same)
+ran_bad natives before after name trace status end vm.WriteFault is same ran held text traced line why holds script found bad calm =
+    let by = ran.ended_so in
+    absurd (good_trace before.shelf.files held trace traced ran.text line why by.0 holds.told found bad ran.read by.2)
+ran_bad natives before after name trace status end vm.NoMemory is same ran held text traced line why holds script found bad calm = inr (is ∙ ap exit_status same)
+
 trace_at : (natives : NativeData) (before after : Outside) (name trace : List ℕ) (status : ℕ) (end : End)
     → status ≡ exit_status end → VmHasCause natives before after name trace end → KnowsTrace natives before after name trace status
-trace_at natives before after name trace status Whole is cause held text traced line why holds script found bad calm =
-    let by = cause.2.ended_so in
-    absurd (good_trace before.shelf.files held trace traced cause.2.text line why by.0 holds.told found bad cause.2.read by.2)
-trace_at natives before after name trace status (Refused at number) is cause held text traced line why holds script found bad calm =
-    absurd (script_good natives before.shelf held name text at number holds (is_script natives text true script) cause.1)
-trace_at natives before after name trace status (Unread input.Script) is cause held text traced line why holds script found bad calm = absurd (calm cause.0.faults)
-trace_at natives before after name trace status (Unread input.Trace) is cause held text traced line why holds script found bad calm = absurd (calm cause.0.faults)
-trace_at natives before after name trace status WriteFault is cause held text traced line why holds script found bad calm =
-    let by = cause.2.ended_so in
-    absurd (good_trace before.shelf.files held trace traced cause.2.text line why by.0 holds.told found bad cause.2.read by.2)
-trace_at natives before after name trace status (Absent input.Script) is cause held text traced line why holds script found bad calm =
-    absurd (script_there before.shelf held name text holds cause.1)
-trace_at natives before after name trace status (Absent input.Trace) is cause held text traced line why holds script found bad calm =
-    absurd (some_not_none traced (sym found ∙ lacking_at before.shelf.files held trace holds.told cause.2))
-trace_at natives before after name trace status NoMemory is cause held text traced line why holds script found bad calm = inr is
-trace_at natives before after name trace status (Trace at number) is cause held text traced line why holds script found bad calm = inl is
-trace_at natives before after name trace status Unsuited is cause held text traced line why holds script found bad calm =
-    absurd (suits natives before.shelf held name text holds script cause.1)
-trace_at natives before after name trace status other is cause held text traced line why holds script found bad calm = absurd cause
+trace_at natives before after name trace status end is (inl stop) = stop_bad natives before after name trace status end is stop.0
+trace_at natives before after name trace status end is (inr ran) = ran_bad natives before after name trace status end ran.0 is ran.1 ran.2
 
 -- ---- nothing bad
 
+-- one outcome of the trace
+good_bad : (files : Option (List File)) (held : List File) (trace traced : List ℕ) (at cause : ℕ) (lines : List TraceLine)
+    → files ≡ Some held → content held trace ≡ Some traced → outcome traced ≡ Ok lines → IsBadTrace files trace at cause → ⊥
+good_bad files held trace traced at cause lines told found good bad =
+    ok_not_err (outcome traced) lines (at, bad.2) good (ap outcome (sym (same_trace files held trace traced bad.0 told found bad.1)) ∙ bad.3)
+
+trace_memory : (before after : ShelfSeen) (held : List File) (trace traced : List ℕ) (lines : List TraceLine) (status : ℕ) (end : End) → status ≡ exit_status end
+    → before.files ≡ Some held → content held trace ≡ Some traced → outcome traced ≡ Ok lines → (Rose before.faults after.faults → ⊥) → NoTraceBy before after trace end → status ≡ 7
+trace_memory before after held trace traced lines status (Trace line cause) is told found good calm by = absurd (good_bad before.files held trace traced line cause lines told found good by.1)
+trace_memory before after held trace traced lines status (Unread input.Trace) is told found good calm by = absurd (calm by.faults)
+trace_memory before after held trace traced lines status (Absent input.Trace) is told found good calm by = absurd (some_not_none traced (sym found ∙ lacking_at before.files held trace told by.1))
+trace_memory before after held trace traced lines status NoMemory is told found good calm by = is
+trace_memory before after held trace traced lines status other is told found good calm by = absurd by
+
+stop_complete : (natives : NativeData) (before after : Outside) (name trace : List ℕ) (status : ℕ) (end : End) → status ≡ exit_status end
+    → NotTracedBy natives before.shelf after.shelf name trace end → IsTraceComplete natives before after name trace status
+stop_complete natives before after name trace status end is (inl by) held text traced lines holds script found good calm =
+    inr (script_memory natives before.shelf after.shelf held name text status end is holds (is_script natives text true script) calm.faults by)
+stop_complete natives before after name trace status end is (inr by) held text traced lines holds script found good calm =
+    inr (trace_memory before.shelf after.shelf held trace traced lines status end is holds.told found good calm.faults
+    (trace_by natives before.shelf after.shelf held name text trace end by.0 holds script by.1 by.2))
+
+ran_complete : (natives : NativeData) (before after : Outside) (name trace : List ℕ) (status : ℕ) (end : End) (ended : VmEnd) → status ≡ exit_status end
+    → end ≡ vm_end ended → RanTrace natives before after name trace ended → IsTraceComplete natives before after name trace status
+ran_complete natives before after name trace status end vm.Whole is same ran held text traced lines holds script found good calm = inl (is ∙ ap exit_status same)
+ran_complete natives before after name trace status end (vm.Trace at cause) is same ran held text traced lines holds script found good calm =
+    let by = ran.ended_so in
+    absurd (good_bad before.shelf.files held trace traced at cause lines holds.told found good (ran.text, ran.read, by.0, by.1, by.2))
+ran_complete natives before after name trace status end vm.WriteFault is same ran held text traced lines holds script found good calm =
+    absurd (calm.sink (subst (λ n. Rose before.sink.faults n) (sym (tells_nothing ran.sink after.sink ran.line)) ran.counts))
+ran_complete natives before after name trace status end vm.NoMemory is same ran held text traced lines holds script found good calm = inr (is ∙ ap exit_status same)
+
 complete_at : (natives : NativeData) (before after : Outside) (name trace : List ℕ) (status : ℕ) (end : End) → status ≡ exit_status end
     → VmHasCause natives before after name trace end → IsTraceComplete natives before after name trace status
-complete_at natives before after name trace status Whole is cause held text traced lines holds script found good calm = inl is
-complete_at natives before after name trace status (Refused at number) is cause held text traced lines holds script found good calm =
-    absurd (script_good natives before.shelf held name text at number holds (is_script natives text true script) cause.1)
-complete_at natives before after name trace status (Unread input.Script) is cause held text traced lines holds script found good calm = absurd (calm.faults cause.0.faults)
-complete_at natives before after name trace status (Unread input.Trace) is cause held text traced lines holds script found good calm = absurd (calm.faults cause.0.faults)
-complete_at natives before after name trace status WriteFault is cause held text traced lines holds script found good calm = absurd (calm.sink cause.1)
-complete_at natives before after name trace status (Absent input.Script) is cause held text traced lines holds script found good calm = absurd (calm.absences cause.0.absences)
-complete_at natives before after name trace status (Absent input.Trace) is cause held text traced lines holds script found good calm = absurd (calm.absences cause.0.absences)
-complete_at natives before after name trace status NoMemory is cause held text traced lines holds script found good calm = inr is
-complete_at natives before after name trace status (Trace at number) is cause held text traced lines holds script found good calm =
-    let bad : IsBadTrace before.shelf.files trace at number = cause.2 in
-    absurd (ok_not_err (outcome traced) lines (at, bad.2) good (ap outcome (sym (same_trace before.shelf.files held trace traced bad.0 holds.told found bad.1)) ∙ bad.3))
-complete_at natives before after name trace status Unsuited is cause held text traced lines holds script found good calm =
-    absurd (suits natives before.shelf held name text holds script cause.1)
-complete_at natives before after name trace status other is cause held text traced lines holds script found good calm = absurd cause
+complete_at natives before after name trace status end is (inl stop) = stop_complete natives before after name trace status end is stop.0
+complete_at natives before after name trace status end is (inr ran) = ran_complete natives before after name trace status end ran.0 is ran.1 ran.2
 
 pub vm_known : (natives : NativeData) (before after : Outside) (name trace : List ℕ) (status : ℕ) (end : End)
     → status ≡ exit_status end → VmHasCause natives before after name trace end → VmKnows natives before after name trace status
-vm_known natives before after name trace status end is cause = record {
-  refused = refused_at natives before after name trace status end is cause;
-  script_absent = absent_at natives before after name trace status end is cause;
-  unsuited = unsuited_at natives before after name trace status end is cause;
-  trace_absent = lost_at natives before after name trace status end is cause;
-  bad_trace = trace_at natives before after name trace status end is cause;
-  complete = complete_at natives before after name trace status end is cause;
-}
+vm_known natives before after name trace status end is cause =
+    let first = vm_first natives before after name trace end cause in
+    record {
+      refused = knows_refused natives before after name status end is first;
+      script_absent = knows_no_script natives before after name status end is first;
+      unsuited = unsuited_at natives before after name trace status end is cause;
+      trace_absent = lost_at natives before after name trace status end is cause;
+      bad_trace = trace_at natives before after name trace status end is cause;
+      complete = complete_at natives before after name trace status end is cause;
+    }

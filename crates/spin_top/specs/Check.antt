@@ -1,6 +1,6 @@
 -- The command `check`: why it ends so, and what its status tells.
-use Rattle.std.specs.Prelude.{◌≡◌, ◌≤◌, ◌<◌, ◌⊎◌, ℕ, Bool, true, false, Decides}
-use Rattle.std.specs.Prelude.{if◌then◌else◌, Option, Some, None, List, Ok, length, codes}
+use Rattle.std.specs.Prelude.{◌≡◌, ◌≤◌, ◌<◌, ◌⊎◌, ℕ, Bool, Decides, if◌then◌else◌}
+use Rattle.std.specs.Prelude.{Option, Some, None, List, Ok, length, codes}
 use Rattle.spin_outside.specs.Counts.{Rose}
 use Rattle.spin_outside.specs.Files.{File, content, IsLacking}
 use Rattle.spin_outside.specs.Seen.{ShelfSeen, SinkSeen}
@@ -12,14 +12,13 @@ use Rattle.spin_report.specs.Runs.{Captured}
 use Rattle.spin_check.specs.RunTexts.{IsRunText}
 use Rattle.spin_top.specs.declared.commands.check.TheConstants.{REPORT_LIMIT}
 use Rattle.spin_top.specs.declared.end.End.{End}
-use Rattle.spin_top.specs.declared.end.End.TheVariants.{Whole, Refused, Capture, Unread, WriteFault}
-use Rattle.spin_top.specs.declared.end.End.TheVariants.{Absent, NoMemory, NoHistory, LongReport}
-use Rattle.spin_top.specs.declared.end.Input.TheVariants.{Script, Packets, Report}
-use Rattle.spin_top.specs.Captures.{HasBadRecord, IsCaptured, IsLackingCapture, IsNamed}
+use Rattle.spin_top.specs.declared.end.End.TheVariants.{Whole, Unread, WriteFault, Absent}
+use Rattle.spin_top.specs.declared.end.End.TheVariants.{NoMemory, NoHistory, LongReport}
+use Rattle.spin_top.specs.declared.end.Input.TheVariants.{Report}
+use Rattle.spin_top.specs.Captures.{IsCaptured}
 use Rattle.spin_top.specs.Ends.{exit_status, Tells}
-use Rattle.spin_top.specs.Join.{KnowsBadCapture}
-use Rattle.spin_top.specs.Loading.{IsContent, IsLoaded, IsOver, IsScriptRefused}
-use Rattle.spin_top.specs.Loading.{HoldsText, IsScriptText, KnowsRefused, KnowsNoScript}
+use Rattle.spin_top.specs.Join.{NotBothBy, KnowsBadCapture}
+use Rattle.spin_top.specs.Loading.{IsContent, IsLoaded, IsOver, HoldsText, IsScriptText, KnowsRefused, KnowsNoScript}
 use Rattle.spin_top.specs.Outside.{Outside, OnlyStops, NoReadFailed}
 use Rattle.spin_top.specs.Run.{KnowsNoCapture}
 use Rattle.spin_top.specs.Shelves.{ShelfStood, ShelfFailed, ShelfLacked}
@@ -68,71 +67,35 @@ pub record ReadBoth (natives : NativeData) (files : Option (List File)) (name : 
   pub captured : IsCaptured files packets capture
 
 -- Script, capture and report were read; the answer is whether the report is that of a history of the script with the
--- capture and the endpoints that stand; and it was written, or a front of it. The endpoints are as before.
+-- capture and the endpoints that stand; it was written, or a front of it, and so the call ended. The endpoints are as
+-- before.
 pub record Answered (natives : NativeData) (before after : Outside) (name report : List ℕ)
-    (packets : Option (List ℕ)) (whether : Bool) : Type 0 where
+    (packets : Option (List ℕ)) (end : End) : Type 0 where
+  pub stood : ShelfStood before.shelf after.shelf
   pub both : ReadBoth natives before.shelf.files name packets
   pub text : List ℕ
   pub read : IsContent before.shelf.files report text
   pub few : length text ≤ max_report
+  pub whether : Bool
   pub judged : Decides whether (IsRunText both.script both.capture before.ends text)
-  pub tells : Tells before.sink after.sink (answer whether)
+  pub tells : TellsAnswer before.sink after.sink whether end
   pub ends : after.ends ≡ before.ends
 
--- Why a call of this script, report and capture ended so, and what was written. The script comes first, then the whole
--- capture, then the report.
+-- Why no report was judged: script and capture weren't both read; or they were, and the report wasn't.
+abbrev pub NotJudgedBy : NativeData → ShelfSeen → ShelfSeen → List ℕ → List ℕ → Option (List ℕ) → End
+    → Type 0
+NotJudgedBy natives before after name report packets end =
+    NotBothBy natives before after name packets end
+    ⊎ (ReadBoth natives before.files name packets × NoReportBy before after report end)
+
+-- Why a call of this script, report and capture ended so, and what was written: no report was judged, and only the line
+-- of the end was written; or it was answered. Want of memory to judge the report ends the call as want of memory to
+-- read it does.
 abbrev pub CheckHasCause : NativeData → Outside → Outside → List ℕ → List ℕ → Option (List ℕ) → End
     → Type 0
-CheckHasCause natives before after name report packets Whole =
-    ShelfStood before.shelf after.shelf × (after.sink.faults ≡ before.sink.faults)
-    × Answered natives before after name report packets true
-CheckHasCause natives before after name report packets NoHistory =
-    ShelfStood before.shelf after.shelf × (after.sink.faults ≡ before.sink.faults)
-    × Answered natives before after name report packets false
-CheckHasCause natives before after name report packets WriteFault =
-    ShelfStood before.shelf after.shelf × Rose before.sink.faults after.sink.faults
-    × (whether : Bool) × Answered natives before after name report packets whether
-CheckHasCause natives before after name report packets (Refused line cause) =
-    ShelfStood before.shelf after.shelf
-    × IsScriptRefused natives before.shelf.files name line cause
-    × OnlyStops before after (Refused line cause)
-CheckHasCause natives before after name report packets (Unread Script) =
-    ShelfFailed before.shelf after.shelf × OnlyStops before after (Unread Script)
-CheckHasCause natives before after name report packets (Absent Script) =
-    ShelfLacked before.shelf after.shelf
-    × IsLacking before.shelf.files name
-    × OnlyStops before after (Absent Script)
-CheckHasCause natives before after name report packets (Capture at fault) =
-    ShelfStood before.shelf after.shelf
-    × (script : ScriptData) × IsLoaded natives before.shelf.files name script
-    × HasBadRecord before.shelf.files packets at fault
-    × OnlyStops before after (Capture at fault)
-CheckHasCause natives before after name report packets (Unread Packets) =
-    ShelfFailed before.shelf after.shelf
-    × (script : ScriptData) × IsLoaded natives before.shelf.files name script
-    × IsNamed packets × OnlyStops before after (Unread Packets)
-CheckHasCause natives before after name report packets (Absent Packets) =
-    ShelfLacked before.shelf after.shelf
-    × (script : ScriptData) × IsLoaded natives before.shelf.files name script
-    × IsLackingCapture before.shelf.files packets
-    × OnlyStops before after (Absent Packets)
-CheckHasCause natives before after name report packets LongReport =
-    ShelfStood before.shelf after.shelf
-    × ReadBoth natives before.shelf.files name packets
-    × IsOver max_report before.shelf.files report
-    × OnlyStops before after LongReport
-CheckHasCause natives before after name report packets (Unread Report) =
-    ShelfFailed before.shelf after.shelf
-    × ReadBoth natives before.shelf.files name packets
-    × OnlyStops before after (Unread Report)
-CheckHasCause natives before after name report packets (Absent Report) =
-    ShelfLacked before.shelf after.shelf
-    × ReadBoth natives before.shelf.files name packets
-    × IsLacking before.shelf.files report
-    × OnlyStops before after (Absent Report)
-CheckHasCause natives before after name report packets NoMemory =
-    ShelfStood before.shelf after.shelf × OnlyStops before after NoMemory
-CheckHasCause natives before after name report packets other = ⊥
+CheckHasCause natives before after name report packets end =
+    (NotJudgedBy natives before.shelf after.shelf name report packets end × OnlyStops before after end)
+    ⊎ Answered natives before after name report packets end
 
 -- The status is the number of an end that has its cause.
 abbrev pub IsCheckStatus : NativeData → Outside → Outside → List ℕ → List ℕ → Option (List ℕ) → ℕ

@@ -2,7 +2,6 @@
 use Rattle.std.specs.Prelude.{◌≡◌, ◌<◌, ◌+◌, ◌⊎◌, ℕ, Some, List, Ok, length}
 use Rattle.spin_outside.specs.Counts.{Rose}
 use Rattle.spin_outside.specs.Seen.{SinkSeen}
-use Rattle.spin_outside.specs.Sources.{SourceSeen}
 use Rattle.spin_pcap.specs.declared.limits.TheConstants.{MAX_HELD}
 use Rattle.spin_pcap.specs.declared.next.Next.TheVariants as next
 use Rattle.spin_pcap.specs.declared.order.Order.TheVariants as order
@@ -11,13 +10,13 @@ use Rattle.spin_script.specs.States.{NativeData, ScriptData}
 use Rattle.spin_script.specs.Language.{IsScript}
 use Rattle.spin_gen.specs.Texts.{script_of, packets_of}
 use Rattle.spin_run.specs.declared.end.RunEnd.{RunEnd}
-use Rattle.spin_run.specs.declared.end.RunEnd.TheVariants as run
 use Rattle.spin_run.specs.Ends.{seen, CountsBy, faults_at}
 use Rattle.spin_run.specs.Summaries.{SumsUpBy}
 use Rattle.spin_top.specs.declared.end.End.{End}
-use Rattle.spin_top.specs.declared.end.End.TheVariants.{Whole, WriteFault, NoMemory, Endpoint}
+use Rattle.spin_top.specs.declared.end.End.TheVariants.{NoMemory}
 use Rattle.spin_top.specs.Ends as ends
 use Rattle.spin_top.specs.Ends.{stop_line, Tells}
+use Rattle.spin_top.specs.Held.{held_seen}
 use Rattle.spin_top.specs.Outside.{Outside, OnlyStops}
 use Rattle.spin_top.specs.Run.{end_of}
 
@@ -31,32 +30,24 @@ pub record RanMade (natives : NativeData) (before after : Outside) (number : ℕ
   pub read : IsScript natives (script_of number) (Ok script)
   pub frames : List (List ℕ)
   pub capture : IsCapture (packets_of number) order.Little frames (Ok next.End)
-  -- what contracts see of the capture in memory, behind its header and when the run ended
-  pub from : SourceSeen
-  pub to : SourceSeen
+  -- what is left of the capture in memory, behind its header and when the run ended
+  pub left : List ℕ
+  pub left' : List ℕ
   -- the sink when the run ended
   pub sink : SinkSeen
   pub ended_so : SumsUpBy script (24 + MAX_HELD) number frames (Some (Ok next.End))
-      (seen from before.sink before.ends) (seen to sink after.ends) ended
+      (seen (held_seen left) before.sink before.ends) (seen (held_seen left') sink after.ends) ended
   pub counts : CountsBy script.endpoints
-      (seen from before.sink before.ends) (seen to sink after.ends) ended
+      (seen (held_seen left) before.sink before.ends) (seen (held_seen left') sink after.ends) ended
   pub line : Tells sink after.sink (stop_line (end_of ended))
 
--- Why a summary of what is made from that number ended so, what was written, and what the endpoints received. The shelf
--- isn't looked at.
+-- Why a summary of what is made from that number ended so, what was written, and what the endpoints received: there was
+-- no memory to make it, and only the line of that was written; or the run ended so. The shelf isn't looked at.
 abbrev pub GenHasCause : NativeData → Outside → Outside → ℕ → End → Type 0
-GenHasCause natives before after number Whole =
-    (after.shelf ≡ before.shelf) × (after.sink.faults ≡ before.sink.faults)
-    × RanMade natives before after number run.Whole
-GenHasCause natives before after number WriteFault =
-    (after.shelf ≡ before.shelf) × Rose before.sink.faults after.sink.faults
-    × RanMade natives before after number run.WriteFault
-GenHasCause natives before after number NoMemory =
+GenHasCause natives before after number end =
     (after.shelf ≡ before.shelf)
-    × (OnlyStops before after NoMemory ⊎ RanMade natives before after number run.NoMemory)
-GenHasCause natives before after number (Endpoint at) =
-    (after.shelf ≡ before.shelf) × RanMade natives before after number (run.Endpoint at)
-GenHasCause natives before after number other = ⊥
+    × (((end ≡ NoMemory) × OnlyStops before after NoMemory)
+    ⊎ ((ended : RunEnd) × (end ≡ end_of ended) × RanMade natives before after number ended))
 
 -- The status is the number of an end that has its cause.
 abbrev pub IsGenStatus : NativeData → Outside → Outside → ℕ → ℕ → Type 0

@@ -6,11 +6,11 @@ use Rattle.spin_script.specs.Language.{IsScript}
 use Rattle.spin_script.specs.States.{NativeData, ScriptData}
 use Rattle.spin_report.specs.Histories.{HistorySeen, report_text}
 use Rattle.spin_report.specs.Runs.{Captured, IsRun, Standing}
-use Rattle.spin_top.specs.declared.words.Asked.TheVariants.{Run}
+use Rattle.spin_words.specs.declared.words.Asked.TheVariants.{Run}
 use Rattle.spin_top.specs.Captures.{IsCaptured}
 use Rattle.spin_top.specs.Outside.{Outside}
 use Rattle.spin_top.specs.Statuses.{Call}
-use Rattle.spin_top.specs.Words.{IsSpelled}
+use Rattle.spin_words.specs.Words.{IsSpelled}
 
 -- What the run of a script leaves that was run to its end, over a shelf with these files.
 pub record IsRunTold (natives : NativeData) (held : List File) (before after : Outside) (name : List ℕ)

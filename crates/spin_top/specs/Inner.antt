@@ -2,6 +2,5 @@
 pub mod Holding
 pub mod Joining
 pub mod Making
-pub mod Parsing
 pub mod Recording
 pub mod Running

@@ -1,24 +1,19 @@
 -- The command `join`: why it ends so, and what its status tells.
-use Rattle.std.specs.Prelude.{◌≡◌, ◌⊎◌, ℕ, Some, List, Ok, IfSome}
-use Rattle.spin_outside.specs.Counts.{Rose}
-use Rattle.spin_outside.specs.Files.{File, IsLacking}
+use Rattle.std.specs.Prelude.{◌≡◌, ◌⊎◌, ℕ, Option, Some, List, Ok, IfSome}
+use Rattle.spin_outside.specs.Files.{File}
 use Rattle.spin_outside.specs.Seen.{ShelfSeen}
-use Rattle.spin_outside.specs.Sources.{SourceSeen}
 use Rattle.spin_pcap.specs.declared.next.Next.{Next}
 use Rattle.spin_reass.specs.JoinedCaptures.{joined_capture, IsJoinedCapture}
-use Rattle.spin_script.specs.States.{NativeData, ScriptData}
+use Rattle.spin_script.specs.States.{NativeData}
 use Rattle.spin_run.specs.declared.end.RunEnd.{RunEnd}
-use Rattle.spin_run.specs.declared.end.RunEnd.TheVariants as run
 use Rattle.spin_top.specs.declared.end.End.{End}
-use Rattle.spin_top.specs.declared.end.End.TheVariants.{Whole, Refused, Capture, Unread}
-use Rattle.spin_top.specs.declared.end.End.TheVariants.{WriteFault, Absent, NoMemory, Endpoint}
-use Rattle.spin_top.specs.declared.end.Input.TheVariants.{Script, Packets}
-use Rattle.spin_top.specs.Captures.{AreRecordsIn, IsBadAt, IsBadCapture, IsCaptureFile}
+use Rattle.spin_top.specs.Captures.{AreRecordsIn, IsBadCapture, IsCaptureFile, NoWholeBy}
 use Rattle.spin_top.specs.Ends.{exit_status}
-use Rattle.spin_top.specs.Loading.{IsLoaded, IsScriptRefused, HoldsText, IsScriptText, KnowsRefused, KnowsNoScript}
+use Rattle.spin_top.specs.Held.{held_seen}
+use Rattle.spin_top.specs.Loading.{Loads, NoScriptBy, HoldsText, IsScriptText, KnowsRefused, KnowsNoScript}
 use Rattle.spin_top.specs.Outside.{Outside, OnlyStops, NoReadFailed}
-use Rattle.spin_top.specs.Run.{RanOver, KnowsNoCapture, IsComplete}
-use Rattle.spin_top.specs.Shelves.{ShelfStood, ShelfFailed, ShelfLacked}
+use Rattle.spin_top.specs.Run.{end_of, RanOver, KnowsNoCapture, IsComplete}
+use Rattle.spin_top.specs.Shelves.{ShelfStood}
 
 -- ---- the joined capture
 
@@ -40,56 +35,29 @@ IsJoinedBy before after name bytes =
 -- capture ended so; and then the line of that end was written.
 pub record RanJoined (natives : NativeData) (before after : Outside) (name packets : List ℕ)
     (ended : RunEnd) : Type 0 where
+  pub stood : ShelfStood before.shelf after.shelf
   -- the joined capture
   pub bytes : List ℕ
   pub joined : IfSome before.shelf.files (λ held. IsJoinedFile held packets bytes)
   pub good : IsJoinedCapture bytes
-  -- what contracts see of it in memory, behind its header and when the run ended
-  pub from : SourceSeen
-  pub to : SourceSeen
-  pub over : RanOver natives before after name (AreRecordsIn bytes) from to ended
+  -- what is left of it in memory, behind its header and when the run ended
+  pub left : List ℕ
+  pub left' : List ℕ
+  pub over : RanOver natives before after name (AreRecordsIn bytes) (held_seen left) (held_seen left') ended
 
--- Why a run of this script over the joined capture ended so, what was written, and what the endpoints received. A
--- capture that isn't read or is bad stops before the run, and nothing of the report was written; that it is bad is
--- known of a shelf that tells its files.
+-- Why script and capture weren't both read: the script wasn't; or it was, and the capture wasn't read whole.
+abbrev pub NotBothBy : NativeData → ShelfSeen → ShelfSeen → List ℕ → Option (List ℕ) → End → Type 0
+NotBothBy natives before after name packets end =
+    NoScriptBy natives before after name end
+    ⊎ (Loads natives before.files name × NoWholeBy before after packets end)
+
+-- Why a run of this script over the joined capture ended so, what was written, and what the endpoints received: script
+-- and capture weren't both read, and only the line of the end was written; or the run ended so. That a capture is bad
+-- is known of a shelf that tells its files.
 abbrev pub JoinHasCause : NativeData → Outside → Outside → List ℕ → List ℕ → End → Type 0
-JoinHasCause natives before after name packets Whole =
-    ShelfStood before.shelf after.shelf × (after.sink.faults ≡ before.sink.faults)
-    × RanJoined natives before after name packets run.Whole
-JoinHasCause natives before after name packets (Refused line cause) =
-    ShelfStood before.shelf after.shelf
-    × IsScriptRefused natives before.shelf.files name line cause
-    × OnlyStops before after (Refused line cause)
-JoinHasCause natives before after name packets (Capture at fault) =
-    ShelfStood before.shelf after.shelf
-    × (script : ScriptData) × IsLoaded natives before.shelf.files name script
-    × IfSome before.shelf.files (λ held. IsBadAt held packets at fault)
-    × OnlyStops before after (Capture at fault)
-JoinHasCause natives before after name packets (Unread Script) =
-    ShelfFailed before.shelf after.shelf × OnlyStops before after (Unread Script)
-JoinHasCause natives before after name packets (Unread Packets) =
-    ShelfFailed before.shelf after.shelf
-    × (script : ScriptData) × IsLoaded natives before.shelf.files name script
-    × OnlyStops before after (Unread Packets)
-JoinHasCause natives before after name packets WriteFault =
-    ShelfStood before.shelf after.shelf × Rose before.sink.faults after.sink.faults
-    × RanJoined natives before after name packets run.WriteFault
-JoinHasCause natives before after name packets (Absent Script) =
-    ShelfLacked before.shelf after.shelf
-    × IsLacking before.shelf.files name
-    × OnlyStops before after (Absent Script)
-JoinHasCause natives before after name packets (Absent Packets) =
-    ShelfLacked before.shelf after.shelf
-    × (script : ScriptData) × IsLoaded natives before.shelf.files name script
-    × IsLacking before.shelf.files packets
-    × OnlyStops before after (Absent Packets)
-JoinHasCause natives before after name packets NoMemory =
-    ShelfStood before.shelf after.shelf
-    × (OnlyStops before after NoMemory ⊎ RanJoined natives before after name packets run.NoMemory)
-JoinHasCause natives before after name packets (Endpoint at) =
-    ShelfStood before.shelf after.shelf
-    × RanJoined natives before after name packets (run.Endpoint at)
-JoinHasCause natives before after name packets other = ⊥
+JoinHasCause natives before after name packets end =
+    (NotBothBy natives before.shelf after.shelf name (Some packets) end × OnlyStops before after end)
+    ⊎ ((ended : RunEnd) × (end ≡ end_of ended) × RanJoined natives before after name packets ended)
 
 -- The status is the number of an end that has its cause.
 abbrev pub IsJoinStatus : NativeData → Outside → Outside → List ℕ → List ℕ → ℕ → Type 0

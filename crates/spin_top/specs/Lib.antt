@@ -13,4 +13,3 @@ pub mod Run
 pub mod Shelves
 pub mod Statuses
 pub mod Vm
-pub mod Words

@@ -50,6 +50,10 @@ pub record IsLoaded (natives : NativeData) (files : Option (List File)) (name : 
   pub read : IsContent files name text
   pub reads : IsScript natives text (Ok script)
 
+-- Some script was read under the name.
+abbrev pub Loads : NativeData → Option (List File) → List ℕ → Type 0
+Loads natives files name = (script : ScriptData) × IsLoaded natives files name script
+
 -- The text under the name is refused at that line for that cause.
 abbrev pub IsScriptRefused : NativeData → Option (List File) → List ℕ → ℕ → ℕ → Type 0
 IsScriptRefused natives files name line cause =

@@ -1,8 +1,7 @@
 -- The command `run`: why it ends so, and what its status tells.
 use Rattle.std.specs.Prelude.{◌≡◌, ◌+◌, ◌⊎◌, ℕ, Option, Some, None, List, Result}
-use Rattle.spin_outside.specs.Counts.{Rose}
-use Rattle.spin_outside.specs.Files.{File, content, IsLacking}
-use Rattle.spin_outside.specs.Seen.{SinkSeen}
+use Rattle.spin_outside.specs.Files.{File, content}
+use Rattle.spin_outside.specs.Seen.{ShelfSeen, SinkSeen}
 use Rattle.spin_outside.specs.Sources.{SourceSeen}
 use Rattle.spin_pcap.specs.declared.fault.PcapFault.{PcapFault}
 use Rattle.spin_pcap.specs.declared.next.Next.{Next}
@@ -12,15 +11,13 @@ use Rattle.spin_run.specs.declared.end.RunEnd.{RunEnd}
 use Rattle.spin_run.specs.declared.end.RunEnd.TheVariants as run
 use Rattle.spin_run.specs.Ends.{seen, EndsBy, CountsBy}
 use Rattle.spin_top.specs.declared.end.End.{End}
-use Rattle.spin_top.specs.declared.end.End.TheVariants.{Whole, Refused, Capture, Unread}
-use Rattle.spin_top.specs.declared.end.End.TheVariants.{WriteFault, Absent, NoMemory, Endpoint}
-use Rattle.spin_top.specs.declared.end.Input.TheVariants.{Script, Packets}
-use Rattle.spin_top.specs.Captures.{IsNamed, HasBadHeader, IsLackingCapture, IsBadCapture}
-use Rattle.spin_top.specs.Captures.{IsGoodCapture, AreBytesOf, AreRecordsOf, IsTakenUnder}
+use Rattle.spin_top.specs.declared.end.End.TheVariants.{Whole, Capture, Unread, WriteFault, NoMemory, Endpoint}
+use Rattle.spin_top.specs.declared.end.Input.TheVariants.{Packets}
+use Rattle.spin_top.specs.Captures.{IsBadCapture, IsGoodCapture, AreBytesOf, AreRecordsOf, IsTakenUnder, NoCaptureBy}
 use Rattle.spin_top.specs.Ends.{exit_status, stop_line, Tells}
-use Rattle.spin_top.specs.Loading.{IsLoaded, IsScriptRefused, HoldsText, IsScriptText, KnowsRefused, KnowsNoScript}
+use Rattle.spin_top.specs.Loading.{IsLoaded, Loads, NoScriptBy, HoldsText, IsScriptText, KnowsRefused, KnowsNoScript}
 use Rattle.spin_top.specs.Outside.{Outside, OnlyStops, NoReadFailed, NoneRose}
-use Rattle.spin_top.specs.Shelves.{ShelfStood, ShelfFailed, ShelfLacked}
+use Rattle.spin_top.specs.Shelves.{ShelfStood, ShelfFailed}
 
 -- ---- why
 
@@ -49,12 +46,18 @@ pub record RanOver (natives : NativeData) (before after : Outside) (name : List 
       (seen from before.sink before.ends) (seen to sink after.ends) ended
   pub line : Tells sink after.sink (stop_line (end_of ended))
 
+-- What a run that ended so does to the shelf: only a failed read raises a count.
+abbrev pub ShelfBy : ShelfSeen → ShelfSeen → RunEnd → Type 0
+ShelfBy before after run.ReadFault = ShelfFailed before after
+ShelfBy before after other = ShelfStood before after
+
 -- The script was read, and the header of the capture, if one is named; the run over the script and the capture's
 -- records ended so; and then the line of that end was written. Of the capture no more was read than its header, the
 -- records that are wanted up to a stop in a segment, and 65,536 bytes past these. On a shelf that tells no files the
 -- capture has some bytes, of which all this holds.
 pub record Ran (natives : NativeData) (before after : Outside) (name : List ℕ)
     (packets : Option (List ℕ)) (ended : RunEnd) : Type 0 where
+  pub shelf : ShelfBy before.shelf after.shelf ended
   -- the bytes of the capture, if one is named
   pub bytes : List ℕ
   pub capture : AreBytesOf before.shelf.files packets bytes
@@ -64,46 +67,18 @@ pub record Ran (natives : NativeData) (before after : Outside) (name : List ℕ)
   pub taken : IsTakenUnder packets before.shelf from × IsTakenUnder packets after.shelf to
   pub over : RanOver natives before after name (AreRecordsOf packets bytes) from to ended
 
--- Why a run of these files ended so, what was written, and what the endpoints received.
+-- Why nothing was run: the script wasn't read; or it was, and the capture wasn't opened.
+abbrev pub NotRunBy : NativeData → ShelfSeen → ShelfSeen → List ℕ → Option (List ℕ) → End → Type 0
+NotRunBy natives before after name packets end =
+    NoScriptBy natives before after name end
+    ⊎ (Loads natives before.files name × NoCaptureBy before after packets end)
+
+-- Why a run of these files ended so, what was written, and what the endpoints received: nothing was run, and only the
+-- line of the end was written; or the run ended so.
 abbrev pub RunHasCause : NativeData → Outside → Outside → List ℕ → Option (List ℕ) → End → Type 0
-RunHasCause natives before after name packets Whole =
-    ShelfStood before.shelf after.shelf × (after.sink.faults ≡ before.sink.faults)
-    × Ran natives before after name packets run.Whole
-RunHasCause natives before after name packets (Refused line cause) =
-    ShelfStood before.shelf after.shelf
-    × IsScriptRefused natives before.shelf.files name line cause
-    × OnlyStops before after (Refused line cause)
-RunHasCause natives before after name packets (Capture at fault) =
-    ShelfStood before.shelf after.shelf
-    × (((script : ScriptData) × IsLoaded natives before.shelf.files name script
-    × (at ≡ 0) × HasBadHeader before.shelf.files packets fault
-    × OnlyStops before after (Capture at fault))
-    ⊎ Ran natives before after name packets (run.Capture at fault))
-RunHasCause natives before after name packets (Unread Script) =
-    ShelfFailed before.shelf after.shelf × OnlyStops before after (Unread Script)
-RunHasCause natives before after name packets (Unread Packets) =
-    ShelfFailed before.shelf after.shelf
-    × (((script : ScriptData) × IsLoaded natives before.shelf.files name script
-    × IsNamed packets × OnlyStops before after (Unread Packets))
-    ⊎ Ran natives before after name packets run.ReadFault)
-RunHasCause natives before after name packets WriteFault =
-    ShelfStood before.shelf after.shelf × Rose before.sink.faults after.sink.faults
-    × Ran natives before after name packets run.WriteFault
-RunHasCause natives before after name packets (Absent Script) =
-    ShelfLacked before.shelf after.shelf
-    × IsLacking before.shelf.files name
-    × OnlyStops before after (Absent Script)
-RunHasCause natives before after name packets (Absent Packets) =
-    ShelfLacked before.shelf after.shelf
-    × (script : ScriptData) × IsLoaded natives before.shelf.files name script
-    × IsLackingCapture before.shelf.files packets
-    × OnlyStops before after (Absent Packets)
-RunHasCause natives before after name packets NoMemory =
-    ShelfStood before.shelf after.shelf
-    × (OnlyStops before after NoMemory ⊎ Ran natives before after name packets run.NoMemory)
-RunHasCause natives before after name packets (Endpoint at) =
-    ShelfStood before.shelf after.shelf × Ran natives before after name packets (run.Endpoint at)
-RunHasCause natives before after name packets other = ⊥
+RunHasCause natives before after name packets end =
+    (NotRunBy natives before.shelf after.shelf name packets end × OnlyStops before after end)
+    ⊎ ((ended : RunEnd) × (end ≡ end_of ended) × Ran natives before after name packets ended)
 
 -- The status of a run of these files is the number of an end that has its cause.
 abbrev pub IsRunStatus : NativeData → Outside → Outside → List ℕ → Option (List ℕ) → ℕ → Type 0

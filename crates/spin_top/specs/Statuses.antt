@@ -5,8 +5,8 @@ use Rattle.spin_top.specs.declared.end.End.{End}
 use Rattle.spin_top.specs.declared.end.End.TheVariants.{Usage, Refused, Capture, Unread, WriteFault, Absent}
 use Rattle.spin_top.specs.declared.end.End.TheVariants.{NoMemory, Endpoint, NoHistory, LongReport, Trace, Unsuited}
 use Rattle.spin_top.specs.declared.end.Input.{Input}
-use Rattle.spin_top.specs.declared.words.Asked.{Asked}
-use Rattle.spin_top.specs.declared.words.Asked.TheVariants.{Run, Gen, Check, Join, Vm}
+use Rattle.spin_words.specs.declared.words.Asked.{Asked}
+use Rattle.spin_words.specs.declared.words.Asked.TheVariants.{Run, Gen, Check, Join, Vm}
 use Rattle.spin_top.specs.Check.{CheckHasCause, CheckKnows}
 use Rattle.spin_top.specs.Ends.{exit_status}
 use Rattle.spin_top.specs.Gen.{GenHasCause, GenKnows}
@@ -14,7 +14,7 @@ use Rattle.spin_top.specs.Outside.{Outside, OnlyStops}
 use Rattle.spin_top.specs.Join.{JoinHasCause, JoinKnows}
 use Rattle.spin_top.specs.Run.{RunHasCause, RunKnows}
 use Rattle.spin_top.specs.Vm.{VmHasCause, VmKnows}
-use Rattle.spin_top.specs.Words.{IsAsked}
+use Rattle.spin_words.specs.Words.{IsAsked}
 
 -- a call: the natives and the words that are handed in, what is seen before and after it, and the status
 pub record Call : Type 0 where

@@ -1,6 +1,5 @@
 -- The command `vm`: why it ends so, and what its status tells.
 use Rattle.std.specs.Prelude.{◌≡◌, ◌⊎◌, ℕ, Bool, true, false, Option, Some, None, List, Ok, Err}
-use Rattle.spin_outside.specs.Counts.{Rose}
 use Rattle.spin_outside.specs.Files.{File, content, IsLacking}
 use Rattle.spin_outside.specs.Seen.{ShelfSeen, SinkSeen}
 use Rattle.spin_script.specs.Language.{IsScript}
@@ -13,11 +12,10 @@ use Rattle.spin_vm.specs.Ends.{TraceEndsBy, TraceCountsBy}
 use Rattle.spin_vm.specs.Scripts.{is_suited}
 use Rattle.spin_vm.specs.Traces.{outcome, trace_cause_number}
 use Rattle.spin_top.specs.declared.end.End.{End}
-use Rattle.spin_top.specs.declared.end.End.TheVariants.{Whole, Refused, Unread, WriteFault}
-use Rattle.spin_top.specs.declared.end.End.TheVariants.{Absent, NoMemory, Trace, Unsuited}
+use Rattle.spin_top.specs.declared.end.End.TheVariants.{Whole, Unread, WriteFault, Absent, NoMemory, Trace, Unsuited}
 use Rattle.spin_top.specs.declared.end.Input.TheVariants as input
 use Rattle.spin_top.specs.Ends.{exit_status, stop_line, Tells}
-use Rattle.spin_top.specs.Loading.{IsContent, IsLoaded, IsScriptRefused, HoldsText, KnowsRefused, KnowsNoScript}
+use Rattle.spin_top.specs.Loading.{IsContent, IsLoaded, NoScriptBy, HoldsText, KnowsRefused, KnowsNoScript}
 use Rattle.spin_top.specs.Outside.{Outside, OnlyStops, NoReadFailed, NoneRose}
 use Rattle.spin_top.specs.Shelves.{ShelfStood, ShelfFailed, ShelfLacked}
 
@@ -57,6 +55,7 @@ vm_end vm.NoMemory = NoMemory
 -- the line of that end was written. The endpoints are as before.
 pub record RanTrace (natives : NativeData) (before after : Outside) (name trace : List ℕ)
     (ended : VmEnd) : Type 0 where
+  pub stood : ShelfStood before.shelf after.shelf
   pub script : ScriptData
   pub loaded : IsLoaded natives before.shelf.files name script
   pub suited : is_suited script ≡ true
@@ -69,47 +68,24 @@ pub record RanTrace (natives : NativeData) (before after : Outside) (name trace 
   pub line : Tells sink after.sink (stop_line (vm_end ended))
   pub ends : after.ends ≡ before.ends
 
--- Why a call of this script and trace ended so, and what was written. The script comes first, then whether it is
--- suited, then the trace.
+-- Why there is no trace for a script that is suited, or isn't: it isn't; or it is, and the trace wasn't read.
+abbrev pub NoSuitedTraceBy : Bool → ShelfSeen → ShelfSeen → List ℕ → End → Type 0
+NoSuitedTraceBy false before after name end = (end ≡ Unsuited) × ShelfStood before after
+NoSuitedTraceBy true before after name end = NoTraceBy before after name end
+
+-- Why no trace was run: the script wasn't read; or it was, and there is no trace for it.
+abbrev pub NotTracedBy : NativeData → ShelfSeen → ShelfSeen → List ℕ → List ℕ → End → Type 0
+NotTracedBy natives before after name trace end =
+    NoScriptBy natives before after name end
+    ⊎ ((suited : Bool) × LoadsSuited natives before.files name suited
+    × NoSuitedTraceBy suited before after trace end)
+
+-- Why a call of this script and trace ended so, and what was written: no trace was run, and only the line of the end
+-- was written; or the trace ended so.
 abbrev pub VmHasCause : NativeData → Outside → Outside → List ℕ → List ℕ → End → Type 0
-VmHasCause natives before after name trace Whole =
-    ShelfStood before.shelf after.shelf × (after.sink.faults ≡ before.sink.faults)
-    × RanTrace natives before after name trace vm.Whole
-VmHasCause natives before after name trace (Refused line cause) =
-    ShelfStood before.shelf after.shelf
-    × IsScriptRefused natives before.shelf.files name line cause
-    × OnlyStops before after (Refused line cause)
-VmHasCause natives before after name trace (Unread input.Script) =
-    ShelfFailed before.shelf after.shelf × OnlyStops before after (Unread input.Script)
-VmHasCause natives before after name trace (Unread input.Trace) =
-    ShelfFailed before.shelf after.shelf
-    × LoadsSuited natives before.shelf.files name true
-    × OnlyStops before after (Unread input.Trace)
-VmHasCause natives before after name trace WriteFault =
-    ShelfStood before.shelf after.shelf × Rose before.sink.faults after.sink.faults
-    × RanTrace natives before after name trace vm.WriteFault
-VmHasCause natives before after name trace (Absent input.Script) =
-    ShelfLacked before.shelf after.shelf
-    × IsLacking before.shelf.files name
-    × OnlyStops before after (Absent input.Script)
-VmHasCause natives before after name trace (Absent input.Trace) =
-    ShelfLacked before.shelf after.shelf
-    × LoadsSuited natives before.shelf.files name true
-    × IsLacking before.shelf.files trace
-    × OnlyStops before after (Absent input.Trace)
-VmHasCause natives before after name trace NoMemory =
-    ShelfStood before.shelf after.shelf
-    × (OnlyStops before after NoMemory ⊎ RanTrace natives before after name trace vm.NoMemory)
-VmHasCause natives before after name trace (Trace line cause) =
-    ShelfStood before.shelf after.shelf
-    × LoadsSuited natives before.shelf.files name true
-    × IsBadTrace before.shelf.files trace line cause
-    × OnlyStops before after (Trace line cause)
-VmHasCause natives before after name trace Unsuited =
-    ShelfStood before.shelf after.shelf
-    × LoadsSuited natives before.shelf.files name false
-    × OnlyStops before after Unsuited
-VmHasCause natives before after name trace other = ⊥
+VmHasCause natives before after name trace end =
+    (NotTracedBy natives before.shelf after.shelf name trace end × OnlyStops before after end)
+    ⊎ ((ended : VmEnd) × (end ≡ vm_end ended) × RanTrace natives before after name trace ended)
 
 -- The status is the number of an end that has its cause.
 abbrev pub IsVmStatus : NativeData → Outside → Outside → List ℕ → List ℕ → ℕ → Type 0

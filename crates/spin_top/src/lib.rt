@@ -2,7 +2,6 @@
 //! gate.
 //!
 //! - [`top`] has the call, [`spin`], which chooses the command;
-//! - [`words`] says what the words ask for;
 //! - [`commands`] has a module for each command;
 //! - [`load`] reads a file and the script whole, [`capture`] finds and opens a capture, [`records`] reads one whole;
 //! - [`held`] is a source over bytes in memory, and reads the header of a capture there;
@@ -18,7 +17,6 @@ mod limits;
 mod load;
 mod records;
 mod top;
-mod words;
 
 pub use end::{End, Input, stop};
 pub use limits::limits_are_stated;

@@ -79,19 +79,19 @@ fn read_capture<S: Source>(alloc: Global, source: &mut S) -> Result<Captured, En
 pub fn captured_of<F: Shelf>(
     alloc: Global,
     shelf: &mut F,
-    packets: Option<Text>,
+    packets: &Option<Text>,
 ) -> Result<Option<Captured>, End>
     ensures stood { IfOk result (λ _. ShelfStood (F.seen shelf.old) (F.seen shelf.new)) }
     ensures read { IfOk result (λ capture.
-        IsCaptured (F.seen shelf.old).files packets (option_map capture_of capture)) }
+        IsCaptured (F.seen shelf.old).files packets.now (option_map capture_of capture)) }
     ensures few { IfOk result (λ capture.
         IfSome capture (λ c. length c.frames ≤ MAX_RECORDS)) }
-    ensures refused { IfErr result (NoWholeBy (F.seen shelf.old) (F.seen shelf.new) packets) }
+    ensures refused { IfErr result (NoWholeBy (F.seen shelf.old) (F.seen shelf.new) packets.now) }
 {
     let Some(name) = packets else {
         return Ok(None);
     };
-    let file = find_packets(shelf, &name)?;
+    let file = find_packets(shelf, name)?;
     let mut source = ShelfSource { shelf, file };
     match read_capture(alloc, &mut source) {
         Ok(capture) => Ok(Some(capture)),

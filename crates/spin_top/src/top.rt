@@ -12,12 +12,12 @@ use crate::commands::join::join_command;
 use crate::commands::run::run_command;
 use crate::commands::vm::vm_command;
 use crate::end::{End, stop};
-use crate::words::{Asked, read_words};
 use spin_code::Sincere;
 use spin_endpoint::{Ends, EndsSeen};
 use spin_objects::Natives;
 use spin_outside::{Gate, Shelf, Sink};
 use spin_values::{NoMemory, Text};
+use spin_words::{Asked, read_words};
 use std::alloc::Global;
 use std::thread::Threads;
 
@@ -25,7 +25,7 @@ use std::thread::Threads;
 fn do_command<R: Threads + Sync, F: Shelf, K: Sink, G: Gate>(
     rt: &R,
     alloc: Global,
-    asked: Asked,
+    asked: &Asked,
     shelf: &mut F,
     out: &mut K,
     natives: Natives,
@@ -36,13 +36,13 @@ fn do_command<R: Threads + Sync, F: Shelf, K: Sink, G: Gate>(
     ensures { IsCommandStatus (natives_seen natives)
         (outside (F.seen shelf.old) (K.seen out.old) (⟦<Ends as EndsSeen>⟧.all ends.old))
         (outside (F.seen shelf.new) (K.seen out.new) (⟦<Ends as EndsSeen>⟧.all ends.new))
-        asked result }
+        asked.now result }
 {
     match asked {
         Asked::Run { script, packets } => {
             run_command(rt, alloc, script, packets, shelf, out, natives, ends, gate)
         }
-        Asked::Gen { number } => gen_command(rt, alloc, number, out, natives, ends, gate),
+        Asked::Gen { number } => gen_command(rt, alloc, *number, out, natives, ends, gate),
         Asked::Check {
             script,
             report,
@@ -77,7 +77,7 @@ fn choose<R: Threads + Sync, F: Shelf, K: Sink, G: Gate>(
         IsStatus call }
 {
     match read_words(alloc, words) {
-        Ok(Some(asked)) => do_command(rt, alloc, asked, shelf, out, natives, ends, gate),
+        Ok(Some(asked)) => do_command(rt, alloc, &asked, shelf, out, natives, ends, gate),
         Ok(None) => stop(out, End::Usage),
         Err(NoMemory) => stop(out, End::NoMemory),
     }

@@ -108,7 +108,7 @@ fn check_script<F: Shelf, K: Sink>(
     alloc: Global,
     script: &Script,
     report: &Text,
-    packets: Option<Text>,
+    packets: &Option<Text>,
     shelf: &mut F,
     out: &mut K,
     ends: &Ends,
@@ -123,7 +123,7 @@ fn check_script<F: Shelf, K: Sink>(
         → IsCheckStatus natives
         (outside before (K.seen out.old) (⟦<Ends as EndsSeen>⟧.all ends.now))
         (outside (F.seen shelf.new) (K.seen out.new) (⟦<Ends as EndsSeen>⟧.all ends.now))
-        name report.now packets result }
+        name report.now packets.now result }
 {
     let capture = match captured_of(alloc, shelf, packets) {
         Ok(capture) => capture,
@@ -145,9 +145,9 @@ fn check_script<F: Shelf, K: Sink>(
 /// sent to the endpoints; which of them stand is all that is asked. Script, capture and report are held in memory.
 pub fn check_command<F: Shelf, K: Sink>(
     alloc: Global,
-    name: Text,
-    report: Text,
-    packets: Option<Text>,
+    name: &Text,
+    report: &Text,
+    packets: &Option<Text>,
     shelf: &mut F,
     out: &mut K,
     natives: Natives,
@@ -157,10 +157,10 @@ pub fn check_command<F: Shelf, K: Sink>(
     ensures { IsCheckStatus (natives_seen natives)
         (outside (F.seen shelf.old) (K.seen out.old) (⟦<Ends as EndsSeen>⟧.all ends.now))
         (outside (F.seen shelf.new) (K.seen out.new) (⟦<Ends as EndsSeen>⟧.all ends.now))
-        name report packets result }
+        name.now report.now packets.now result }
 {
-    match script_of(alloc, shelf, &name, natives) {
-        Ok(script) => check_script(alloc, &script, &report, packets, shelf, out, ends),
+    match script_of(alloc, shelf, name, natives) {
+        Ok(script) => check_script(alloc, &script, report, packets, shelf, out, ends),
         Err(end) => stop(out, end),
     }
 }

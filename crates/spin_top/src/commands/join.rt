@@ -92,8 +92,8 @@ fn run_over<R: Threads + Sync, K: Sink, G: Gate>(
 pub fn join_command<R: Threads + Sync, F: Shelf, K: Sink, G: Gate>(
     rt: &R,
     alloc: Global,
-    name: Text,
-    packets: Text,
+    name: &Text,
+    packets: &Text,
     shelf: &mut F,
     out: &mut K,
     natives: Natives,
@@ -104,13 +104,13 @@ pub fn join_command<R: Threads + Sync, F: Shelf, K: Sink, G: Gate>(
     ensures { IsJoinStatus (natives_seen natives)
         (outside (F.seen shelf.old) (K.seen out.old) (⟦<Ends as EndsSeen>⟧.all ends.old))
         (outside (F.seen shelf.new) (K.seen out.new) (⟦<Ends as EndsSeen>⟧.all ends.new))
-        name packets result }
+        name.now packets.now result }
 {
-    let script = match script_of(alloc, shelf, &name, natives) {
+    let script = match script_of(alloc, shelf, name, natives) {
         Ok(script) => script,
         Err(end) => return stop(out, end),
     };
-    let bytes = match joined_of(alloc, shelf, &packets) {
+    let bytes = match joined_of(alloc, shelf, packets) {
         Ok(bytes) => bytes,
         Err(end) => return stop(out, end),
     };

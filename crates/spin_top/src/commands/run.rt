@@ -44,17 +44,17 @@ pub fn end_of(ended: RunEnd) -> End
 fn capture_of<F: Shelf>(
     alloc: Global,
     shelf: &mut F,
-    packets: Option<Text>,
+    packets: &Option<Text>,
 ) -> Result<(u32, Option<Reader>), End>
     ensures opened { IfOk result (λ opened.
-        AreOpened (F.seen shelf.old) (F.seen shelf.new) packets opened.0 opened.1) }
+        AreOpened (F.seen shelf.old) (F.seen shelf.new) packets.now opened.0 opened.1) }
     ensures refused { IfErr result
-        (NoCaptureBy (F.seen shelf.old) (F.seen shelf.new) packets) }
+        (NoCaptureBy (F.seen shelf.old) (F.seen shelf.new) packets.now) }
 {
     let Some(name) = packets else {
         return Ok((0, None));
     };
-    let Capture { file, reader } = open(alloc, shelf, &name)?;
+    let Capture { file, reader } = open(alloc, shelf, name)?;
     Ok((file, Some(reader)))
 }
 
@@ -87,8 +87,8 @@ fn run_over<R: Threads + Sync, F: Shelf, K: Sink, G: Gate>(
 pub fn run_command<R: Threads + Sync, F: Shelf, K: Sink, G: Gate>(
     rt: &R,
     alloc: Global,
-    name: Text,
-    packets: Option<Text>,
+    name: &Text,
+    packets: &Option<Text>,
     shelf: &mut F,
     out: &mut K,
     natives: Natives,
@@ -99,9 +99,9 @@ pub fn run_command<R: Threads + Sync, F: Shelf, K: Sink, G: Gate>(
     ensures { IsRunStatus (natives_seen natives)
         (outside (F.seen shelf.old) (K.seen out.old) (⟦<Ends as EndsSeen>⟧.all ends.old))
         (outside (F.seen shelf.new) (K.seen out.new) (⟦<Ends as EndsSeen>⟧.all ends.new))
-        name packets result }
+        name.now packets.now result }
 {
-    let script = match script_of(alloc, shelf, &name, natives) {
+    let script = match script_of(alloc, shelf, name, natives) {
         Ok(script) => script,
         Err(end) => return stop(out, end),
     };

@@ -21,7 +21,7 @@ pub returns-in-Err-is_of_history : goal.returns-in-Err-is_of_history
 returns-in-Err-is_of_history g c natives before name stood loaded = (
   NoMemory,
   c.stop-in-Err-is_of_history.ensures.status,
-  not_judged _ _ _ _ stood c.in-Ok.ensures.stood c.in-Ok-report_of.ensures.stood (record { ends = refl; tells = c.stop-in-Err-is_of_history.ensures.line }),
+  not_judged _ _ _ _ _ _ _ _ stood c.in-Ok.ensures.stood c.in-Ok-report_of.ensures.stood (record { ends = refl; tells = c.stop-in-Err-is_of_history.ensures.line }),
 )
 
 pub returns : goal.returns

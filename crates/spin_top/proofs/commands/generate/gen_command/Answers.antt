@@ -10,7 +10,7 @@ use Rattle.spin_top.proofs.GenCauses.{not_behind, was_made}
 use Rattle.spin_top.proofs.commands.generate.gen_command.Goals as goal
 
 pub returns-in-Err : goal.returns-in-Err
-returns-in-Err g c = λ shelf. (NoMemory, c.stop.ensures.status, (refl, inl (record { ends = refl; tells = c.stop.ensures.line })))
+returns-in-Err g c = λ shelf. (NoMemory, c.stop.ensures.status, (refl, inl (refl, record { ends = refl; tells = c.stop.ensures.line })))
 
 pub made_script-requires-clause-made : goal.made_script-requires-clause-made
 made_script-requires-clause-made g c =
@@ -18,7 +18,7 @@ made_script-requires-clause-made g c =
 
 pub returns-in-Err-made_script : goal.returns-in-Err-made_script
 returns-in-Err-made_script g c =
-    λ shelf. (NoMemory, c.stop-in-Err-made_script.ensures.status, (refl, inl (record { ends = refl; tells = c.stop-in-Err-made_script.ensures.line })))
+    λ shelf. (NoMemory, c.stop-in-Err-made_script.ensures.status, (refl, inl (refl, record { ends = refl; tells = c.stop-in-Err-made_script.ensures.line })))
 
 pub returns-in-Err-behind_header : goal.returns-in-Err-behind_header
 returns-in-Err-behind_header g c =

@@ -1,7 +1,7 @@
 use Rattle.std.proofs.Common.{◌∙◌, subst, sym}
-use Rattle.spin_top.specs.Words.{IsPlain}
-use Rattle.spin_top.proofs.ArgumentParsing.{more_words}
-use Rattle.spin_top.proofs.words.plain_words.Goals as goal
+use Rattle.spin_words.specs.Words.{IsPlain}
+use Rattle.spin_words.proofs.ArgumentParsing.{more_words}
+use Rattle.spin_words.proofs.words.plain_words.Goals as goal
 
 pub loop-word-preserved : goal.loop-word-preserved
 loop-word-preserved c =

@@ -3,9 +3,9 @@ use Rattle.std.proofs.Common.{◌≡◌, ℕ, Option, Some, None, List, [], ◌�
 use Rattle.std.specs.Prelude.{bytes_eq, if◌then◌else◌}
 use Rattle.spin_grammar.specs.Spelling as grammar
 use Rattle.spin_grammar.specs.Spelling.{within, greatest}
-use Rattle.spin_top.specs.declared.words.Asked.{Asked}
-use Rattle.spin_top.specs.declared.words.Asked.TheVariants.{Run, Gen, Check, Join, Vm}
-use Rattle.spin_top.specs.Words.{IsSpelled}
+use Rattle.spin_words.specs.declared.words.Asked.{Asked}
+use Rattle.spin_words.specs.declared.words.Asked.TheVariants.{Run, Gen, Check, Join, Vm}
+use Rattle.spin_words.specs.Words.{IsSpelled}
 
 -- what the words behind `run` ask for
 abbrev run_of : List (List ℕ) → Option Asked

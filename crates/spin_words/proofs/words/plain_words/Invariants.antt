@@ -1,7 +1,7 @@
 use Rattle.std.proofs.Common.{◌≡◌, map, take}
 use Rattle.std.specs.List.{All}
-use Rattle.spin_top.specs.Words.{IsPlain}
-use Rattle.spin_top.proofs.words.plain_words.Given as goal
+use Rattle.spin_words.specs.Words.{IsPlain}
+use Rattle.spin_words.proofs.words.plain_words.Given as goal
 
 abbrev pub invariant-loop-word : goal.invariant-loop-word
 invariant-loop-word l =

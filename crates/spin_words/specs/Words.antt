@@ -3,8 +3,8 @@ use Rattle.std.specs.Prelude.{◌≡◌, ◌≢◌, ◌<◌, ℕ, List, [], ◌�
 use Rattle.std.specs.List.{All}
 use Rattle.spin_grammar.specs.Spelling as grammar
 use Rattle.spin_grammar.specs.Spelling.{within, greatest}
-use Rattle.spin_top.specs.declared.words.Asked.{Asked}
-use Rattle.spin_top.specs.declared.words.Asked.TheVariants.{Run, Gen, Check, Join, Vm}
+use Rattle.spin_words.specs.declared.words.Asked.{Asked}
+use Rattle.spin_words.specs.declared.words.Asked.TheVariants.{Run, Gen, Check, Join, Vm}
 
 -- a word that can't be taken for an option: not empty, not begun by `-`, and UTF-8
 pub record IsPlain (word : List ℕ) : Type 0 where

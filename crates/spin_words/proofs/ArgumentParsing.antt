@@ -8,8 +8,8 @@ use Rattle.std.proofs.lemmas.List.{append-nil, append_assoc, map_push, take_more
 use Rattle.std.proofs.lemmas.List.Elements.{All-push}
 use Rattle.std.specs.Borrow.{Bor}
 use Rattle.std.specs.List.{All}
-use Rattle.spin_top.specs.Words.{IsPlain}
-use Rattle.spin_top.specs.Inner.Parsing.{app}
+use Rattle.spin_words.specs.Words.{IsPlain}
+use Rattle.spin_words.specs.Inner.Parsing.{app}
 use Rattle.clap.specs.Lexer.{long_of, short_of}
 use Rattle.clap.specs.Walk.{Text, Walk, all_of, finished, nothing_held, positional, walk, walk_from, walked}
 use Rattle.clap.specs.Simple.{Shape, built, entered, is_simple, matches_of}

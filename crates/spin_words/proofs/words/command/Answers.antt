@@ -2,8 +2,8 @@ use Rattle.std.proofs.Common.{◌≡◌, true, ap, ap₂, ◌∙◌, Some, None,
 use Rattle.clap.specs.Words.{Rule, app_of, rule_of}
 use Rattle.clap.specs.Simple.{app_of_fields, on_top, with_rule}
 use Rattle.clap.specs.declared.builder.range.ValueRange.{ValueRange}
-use Rattle.spin_top.specs.Inner.Parsing.{argument, bare}
-use Rattle.spin_top.proofs.words.command.Goals as goal
+use Rattle.spin_words.specs.Inner.Parsing.{argument, bare}
+use Rattle.spin_words.proofs.words.command.Goals as goal
 
 some_is : (o : Option ValueRange) (r : ValueRange) → IsSomeAnd o (λ s. s ≡ r) → o ≡ Some r
 some_is None r is = absurd is

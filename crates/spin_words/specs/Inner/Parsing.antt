@@ -2,8 +2,8 @@
 use Rattle.std.specs.Prelude.{◌≢◌, ℕ, List, true, [], Some, codes}
 use Rattle.clap.specs.Walk.{Rule}
 use Rattle.clap.specs.Simple.{App, new_rule, new_shape, with_rule}
-use Rattle.spin_top.specs.declared.words.Name.{Name}
-use Rattle.spin_top.specs.declared.words.Name.TheVariants as name
+use Rattle.spin_words.specs.declared.words.Name.{Name}
+use Rattle.spin_words.specs.declared.words.Name.TheVariants as name
 
 -- its one argument, which has one to four words; of those behind the first none is taken for an option
 abbrev pub argument : Rule

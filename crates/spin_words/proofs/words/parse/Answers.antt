@@ -2,8 +2,8 @@ use Rattle.std.proofs.Common.{map, ap, ◌∙◌, sym, arith}
 use Rattle.std.proofs.lemmas.List.{length-map}
 use Rattle.clap.specs.Words.{App, all_of, fault_of, found_of, is_simple, is_simple_and_free, matches_of, takes}
 use Rattle.clap.proofs.WalkLemmas.{raw_values-rows}
-use Rattle.spin_top.proofs.ArgumentParsing.{id, simple, simple_and_free, words_taken, words_are, some_given}
-use Rattle.spin_top.proofs.words.parse.Goals as goal
+use Rattle.spin_words.proofs.ArgumentParsing.{id, simple, simple_and_free, words_taken, words_are, some_given}
+use Rattle.spin_words.proofs.words.parse.Goals as goal
 
 pub returns-in-Ok-clause-found : goal.returns-in-Ok-clause-found
 returns-in-Ok-clause-found c =

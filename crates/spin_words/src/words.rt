@@ -3,8 +3,8 @@
 ghost use Rattle.std.specs.Prelude.{◌≡◌, ◌<◌, ◌≤◌, Some, ◌∷◌, IfOk, IfSome, IfNone, map, length, codes, option_map};
 ghost use Rattle.std.specs.List.{All};
 ghost use Rattle.clap.specs.Words.{app_of, raw_values, matched_of, found_of};
-ghost use Rattle.spin_top.specs.Inner.Parsing.{app, spelling, BeginsNone};
-ghost use Rattle.spin_top.specs.Words.{IsPlain, IsAsked, IsSpelled};
+ghost use Rattle.spin_words.specs.Inner.Parsing.{app, spelling, BeginsNone};
+ghost use Rattle.spin_words.specs.Words.{IsPlain, IsAsked, IsSpelled};
 
 use clap::error::ErrorKind;
 use clap::{Arg, ArgMatches, Command};

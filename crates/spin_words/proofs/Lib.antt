@@ -1,0 +1,2 @@
+pub mod CommandForms
+pub mod ArgumentParsing
