@@ -8,18 +8,16 @@
 //! `out0` to `out3` goes to the files `out0.bin` to `out3.bin` of that folder, and the replies to the echo requests
 //! that are sent to the endpoint `echo` to `echo.bin`.
 //!
-//! The one call, [`spin`](spin_top::spin), works over any shelf, sink, endpoints, natives and gate; [`natives`] are
-//! those that the program hands in.
+//! The one call, [`spin`](spin_top::spin), works over any shelf, sink, endpoints, natives and gate; [`spin_natives`]
+//! has the natives that the program hands in.
 #![tactic(auto)]
 
-mod natives;
-
-ghost use Rattle.spin_main.specs.Natives as program;
+ghost use Rattle.spin_natives.specs.Natives as program;
 ghost use Rattle.spin_top.specs.Outside.{outside};
 ghost use Rattle.spin_top.specs.Statuses.{Call, IsStatus};
 
-use crate::natives::{boxed_objects, natives_of};
 use spin_endpoint::{Endpoint, Ends, EndsSeen, FileEnd};
+use spin_natives::{boxed_objects, natives_of};
 use spin_objects::{Guard, Handler};
 use spin_outside::{FolderShelf, OpenGate, Shelf, Sink, StdSink};
 use spin_policy::Authoriser;
@@ -106,48 +104,48 @@ fn file_end<R: Files + Clone + Drop + AllocGlobal>(
     name: &[u8],
     file: &[u8],
 ) -> Result<(Text, Box<FileEnd<R>>), NoMemory> {
+    let name = Text::from_bytes(rt.alloc(), name)?;
     let end = over_file(rt, file)?;
-    Ok((
-        Text::from_bytes(rt.alloc(), name)?,
-        Box::new(rt.alloc(), end)?,
-    ))
+    Ok((name, Box::new(rt.alloc(), end)?))
 }
 
 // The endpoint `echo`, which writes its replies to a file.
 fn echo_end<R: Files + Clone + Drop + AllocGlobal>(
     rt: &R,
 ) -> Result<(Text, Box<EchoEnd<FileEnd<R>>>), NoMemory> {
+    let name = Text::from_bytes(rt.alloc(), b"echo")?;
     let end = EchoEnd::new(rt.alloc(), over_file(rt, b"echo.bin")?)?;
-    Ok((
-        Text::from_bytes(rt.alloc(), b"echo")?,
-        Box::new(rt.alloc(), end)?,
-    ))
+    Ok((name, Box::new(rt.alloc(), end)?))
 }
 
 fn main(rt: HostRuntime) -> ExitCode {
     let mut out = StdSink::new(io::writer(&rt));
     let mut ends = Ends::new(rt.alloc());
+    // The names differ and are few, so only memory may be lacking.
+    let mut all_added = true;
     for (name, file) in [
         (b"out0", b"out0.bin"),
         (b"out1", b"out1.bin"),
         (b"out2", b"out2.bin"),
         (b"out3", b"out3.bin"),
     ] {
-        let Ok((name, end)) = file_end(&rt, name, file) else {
-            return ExitCode::from(stop(&mut out, End::NoMemory));
-        };
-        let end: Box<dyn Endpoint> = end;
-        // The names differ and are few, so only memory may be lacking.
-        if let Err(_) = ends.add(name, end) {
-            return ExitCode::from(stop(&mut out, End::NoMemory));
+        if let Ok((name, end)) = file_end(&rt, name, file) {
+            let end: Box<dyn Endpoint> = end;
+            all_added &= ends.add(name, end).is_ok();
+        } else {
+            all_added = false;
         }
     }
-    let Ok((name, end)) = echo_end(&rt) else {
-        return ExitCode::from(stop(&mut out, End::NoMemory));
-    };
-    let end: Box<dyn Endpoint> = end;
-    if let Err(_) = ends.add(name, end) {
-        return ExitCode::from(stop(&mut out, End::NoMemory));
+    if let Ok((name, end)) = echo_end(&rt) {
+        let end: Box<dyn Endpoint> = end;
+        all_added &= ends.add(name, end).is_ok();
+    } else {
+        all_added = false;
     }
-    ExitCode::from(run(&rt, &mut out, &mut ends))
+    let status = if all_added {
+        run(&rt, &mut out, &mut ends)
+    } else {
+        stop(&mut out, End::NoMemory)
+    };
+    ExitCode::from(status)
 }

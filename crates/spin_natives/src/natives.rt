@@ -4,7 +4,7 @@ ghost use Rattle.std.specs.Prelude.{◌≡◌, [], None, Ok, IfOk, OnOk};
 ghost use Rattle.spin_objects.specs.Adding.{IsNativeBy};
 ghost use Rattle.spin_objects.specs.Units.{native_handlers, native_guards, native_authorisers};
 ghost use Rattle.spin_script.specs.States.{natives_seen};
-ghost use Rattle.spin_main.specs.Natives as specs;
+ghost use Rattle.spin_natives.specs.Natives as specs;
 
 use spin_code::{Act, ActStep, Cmp, Expr, Sincere, Steplist, Test, value};
 use spin_objects::{Guard, Handler, NativeFault, Natives, Outcome, run_act};
@@ -186,8 +186,9 @@ fn add_is_ipv4(
     ensures authorisers { native_authorisers natives.new ≡ native_authorisers natives.old }
 {
     let name = Text::from_bytes(alloc, b"is_ipv4")?;
+    let sig = of_bytes(alloc, false)?;
     let test = Test::Compare(Cmp::Eq, ether_type(), Expr::Const(IPV4));
-    unrefused(natives.add_guard(name, of_bytes(alloc, false)?, test, object))
+    unrefused(natives.add_guard(name, sig, test, object))
 }
 
 // Adds an authoriser that follows what `own_two` follows, as the first native authoriser.
@@ -208,6 +209,29 @@ fn add_own_two(
     unrefused(natives.add_authoriser(name, own_two(alloc)?, object))
 }
 
+// Adds the three natives, of these objects, to none.
+fn add_all(
+    alloc: Global,
+    natives: &mut Natives,
+    handler: Box<dyn Handler + Send + Sync>,
+    guard: Box<dyn Guard + Send + Sync>,
+    authoriser: Box<dyn Authoriser + Send + Sync>,
+) -> Result<(), NoMemory>
+    requires handler { does handler ≡ specs.first_word }
+    requires guard { asks guard ≡ specs.is_ipv4 }
+    requires authoriser { follows authoriser ≡ specs.own_two }
+    requires no_handlers { native_handlers natives.old ≡ [] }
+    requires no_guards { native_guards natives.old ≡ [] }
+    requires no_authorisers { native_authorisers natives.old ≡ [] }
+    requires sincere { ⟦<Natives as Sincere>⟧.sincere natives.old }
+    ensures sincere { ⟦<Natives as Sincere>⟧.sincere natives.new }
+    ensures seen { OnOk result (natives_seen natives.new ≡ specs.natives) }
+{
+    add_first_word(alloc, natives, handler)?;
+    add_is_ipv4(alloc, natives, guard)?;
+    add_own_two(alloc, natives, authoriser)
+}
+
 /// The natives of the program, of these objects: exactly the handler `first_word`, the guard `is_ipv4` and the
 /// authoriser `own_two`.
 pub fn natives_of(
@@ -223,8 +247,6 @@ pub fn natives_of(
     ensures seen { IfOk result (λ natives. natives_seen natives ≡ specs.natives) }
 {
     let mut natives = Natives::new(alloc);
-    add_first_word(alloc, &mut natives, handler)?;
-    add_is_ipv4(alloc, &mut natives, guard)?;
-    add_own_two(alloc, &mut natives, authoriser)?;
+    add_all(alloc, &mut natives, handler, guard, authoriser)?;
     Ok(natives)
 }
