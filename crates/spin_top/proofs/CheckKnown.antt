@@ -246,7 +246,7 @@ answered_known : (natives : NativeData) (before after : Outside) (name report : 
     → (answered : Answered natives before after name report packets end) → ((end ≡ answer_end answered.whether) × (after.sink.faults ≡ before.sink.faults))
     ⊎ ((end ≡ WriteFault) × Rose before.sink.faults after.sink.faults) → KnowsReport natives before after name report packets status
 answered_known natives before after name report packets status end is answered (inl told_all) held text told capture both found few calm still =
-    inl (says natives before after held name report text told packets capture status end both found answered (is ∙ ap number told_all.0))
+    inl (says natives before after held name report text told packets capture status end both found answered (is ∙ ap exit_status told_all.0))
 answered_known natives before after name report packets status end is answered (inr failed) held text told capture both found few calm still = absurd (still failed.1)
 
 judged_at : (natives : NativeData) (before after : Outside) (name report : List ℕ) (packets : Option (List ℕ)) (status : ℕ) (end : End)
