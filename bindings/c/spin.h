@@ -7,6 +7,8 @@
  * Left to C is what no call can test:
  * - a pointer that isn't null leads to memory that is as long as its length says, and that nothing else writes
  *   meanwhile; what a call writes to overlaps nothing else that it is handed;
+ * - a handle begins as {NULL}; one that is open isn't copied, and is given to one call at a time, on the thread that
+ *   opened it;
  * - the calls are made on the stack of a thread, and not from a signal handler;
  * - malloc, realloc and free are those of one allocator.
  */
@@ -25,6 +27,11 @@ enum spin_error {
     SPIN_NO_MEMORY = 1,  /* there was no memory */
     SPIN_BAD_SCRIPT = 2, /* the text is no script: its first bad line, and the cause, are told */
     SPIN_NO_HISTORY = 3, /* the report isn't that of a history of the script */
+    SPIN_CLOSED = 4,     /* the handle is closed */
+    SPIN_OPEN = 5,       /* the handle is open already */
+    SPIN_NO_COMMAND = 6, /* the row stands for no command of lane 0 */
+    SPIN_FULL = 7,       /* the log has as many commands as it holds */
+    SPIN_REFUSED = 8,    /* the command is refused: its place, and the number of the refusal, are told */
     SPIN_NULL = 100      /* a pointer is null that may not be */
 };
 
@@ -34,10 +41,46 @@ struct spin_fault {
     uint32_t cause; /* the number of the cause, as docs/FORMATS.md has them */
 };
 
+/* A handle: a hub over a script, and its one seat; closed where it is {NULL}. */
+struct spin_lane {
+    void *at;
+};
+
+/* The kinds of answers to a raise; from SPIN_UNKNOWN_EVENT on there is none. */
+enum spin_kind {
+    SPIN_NO_HANDLER = 0,       /* no binding ran, and there is no default */
+    SPIN_DONE = 1,             /* bindings ran, and gave no result */
+    SPIN_VALUE = 2,            /* bindings ran; the value is told */
+    SPIN_DEFAULT_VALUE = 3,    /* the default ran; its result is told */
+    SPIN_DEFAULT = 4,          /* the default ran, and gave no result */
+    SPIN_UNKNOWN_EVENT = 5,    /* there is no event of that number */
+    SPIN_WRONG_ARGUMENTS = 6,  /* the arguments don't fit the event */
+    SPIN_TOO_MANY_HANDLERS = 7 /* more than 4096 handlers would start: nothing is done */
+};
+
+/* What a call of a handle tells besides its number; zeros where nothing is told. */
+struct spin_answer {
+    uint32_t place; /* the number of commands that were accepted up to the answer; of a bad script its first bad line */
+    uint32_t kind;  /* the kind of an answer to a raise; the number of a refusal; of a bad script the cause */
+    uint64_t value; /* the value of an answer to a raise, where it has one */
+    uint64_t steps; /* the number of steps of a raise */
+};
+
+/* A command as four words, by the table of crates/spin_word/src/row.rt. */
+struct spin_row {
+    uint64_t a, b, c, d;
+};
+
 /* The calls as they are proved. A pointer with a length may not be null, nor may any other. */
 uint32_t spin_version(void);
 uint32_t spin_check(const uint8_t *text, size_t text_length, const uint8_t *report, size_t report_length,
                     const uint8_t *standing, size_t standing_length, struct spin_fault *fault);
+
+uint32_t spin_open(const uint8_t *text, size_t text_length, struct spin_lane *lane, struct spin_answer *answer);
+uint32_t spin_raise_words(struct spin_lane *lane, uint8_t event, const uint64_t *words, size_t count,
+                          struct spin_answer *answer);
+uint32_t spin_command(struct spin_lane *lane, const struct spin_row *row, struct spin_answer *answer);
+uint32_t spin_close(struct spin_lane *lane, struct spin_answer *answer);
 
 /* Bytes that are handed in: null stands for none where the length is 0. */
 static inline const uint8_t *spin_bytes(const void *at, size_t length) {
@@ -56,6 +99,83 @@ static inline uint32_t spin_judge(const void *text, size_t text_length, const vo
     return spin_check(texts[0], text_length, texts[1], report_length, texts[2], standing_length, fault);
 }
 
+/* Opens a closed handle over a script: what it declares, with nothing bound. */
+static inline uint32_t spin_lane_open(struct spin_lane *lane, const void *text, size_t length,
+                                      struct spin_answer *answer) {
+    const uint8_t *bytes = spin_bytes(text, length);
+    return bytes == NULL || lane == NULL || answer == NULL ? SPIN_NULL : spin_open(bytes, length, lane, answer);
+}
+
+/* Raises an event with words as its arguments. */
+static inline uint32_t spin_lane_raise(struct spin_lane *lane, uint8_t event, const uint64_t *words, size_t count,
+                                       struct spin_answer *answer) {
+    static const uint64_t none[1] = {0};
+    const uint64_t *given = words == NULL && count == 0 ? none : words;
+    return given == NULL || lane == NULL || answer == NULL ? SPIN_NULL
+                                                           : spin_raise_words(lane, event, given, count, answer);
+}
+
+/* Closes a handle. */
+static inline uint32_t spin_lane_close(struct spin_lane *lane, struct spin_answer *answer) {
+    return lane == NULL || answer == NULL ? SPIN_NULL : spin_close(lane, answer);
+}
+
+enum spin_op { SPIN_INSTALL = 1, SPIN_REMOVE = 2, SPIN_REPLACE = 3, SPIN_SET_DEFAULT = 4, SPIN_NO_DEFAULT = 5 };
+enum spin_place { SPIN_FREE = 0, SPIN_FIRST = 1, SPIN_LAST = 2 };
+enum spin_mode { SPIN_PLAIN = 0, SPIN_FILTER = 1, SPIN_ASYNC = 2 };
+
+/* A command. What its op doesn't use is 0. `before` and `after` name up to four bindings each, rising, and then 0. */
+struct spin_command_words {
+    enum spin_op op;
+    uint16_t event, requester, handler, guard, target;
+    enum spin_place place;
+    enum spin_mode mode;
+    uint16_t before[4], after[4];
+};
+
+/* Four numbers of bindings as one word, 65535 standing for none. */
+static inline uint64_t spin_quarters(const uint16_t numbers[4]) {
+    uint64_t word = 0;
+    for (int at = 3; at >= 0; at--) {
+        word = word << 16 | (numbers[at] == 0 ? 65535u : numbers[at]);
+    }
+    return word;
+}
+
+/* The row of a command of lane 0; where a number has no room in it, a row that stands for none. */
+static inline struct spin_row spin_row_of(const struct spin_command_words *command) {
+    const struct spin_command_words c = *command;
+    const struct spin_row none = {UINT64_MAX, UINT64_MAX, UINT64_MAX, UINT64_MAX};
+    if ((unsigned)c.op >> 3 || c.event >> 6 || c.requester >> 8 || c.handler >> 10 || c.guard >> 10 ||
+        c.target >> 13 || (unsigned)c.place >> 3 || (unsigned)c.mode >> 2) {
+        return none;
+    }
+    struct spin_row row = {(uint64_t)c.mode | (uint64_t)c.place << 2 | (uint64_t)c.guard << 15 |
+                               (uint64_t)c.handler << 25 | (uint64_t)c.requester << 35 | (uint64_t)c.event << 43 |
+                               (uint64_t)c.op << 53,
+                           c.target, spin_quarters(c.before), spin_quarters(c.after)};
+    return row;
+}
+
+/* Does a command. */
+static inline uint32_t spin_lane_command(struct spin_lane *lane, const struct spin_command_words *command,
+                                         struct spin_answer *answer) {
+    if (lane == NULL || command == NULL || answer == NULL) {
+        return SPIN_NULL;
+    }
+    const struct spin_row row = spin_row_of(command);
+    return spin_command(lane, &row, answer);
+}
+
+/* The name of a refusal, as reports have it, and "unknown" of any other number. */
+static inline const char *spin_refusal_name(uint32_t refusal) {
+    static const char *const names[] = {"unknown",         "unknown_event",   "unknown_module", "unknown_handler",
+                                        "unknown_guard",   "unknown_binding", "wrong_type",     "downward",
+                                        "wrong_mode",      "denied",          "too_many",       "conflict",
+                                        "forced_mode"};
+    return names[refusal < sizeof names / sizeof *names ? refusal : 0];
+}
+
 /* The name of an error, and "unknown" of any other number. */
 static inline const char *spin_error_name(uint32_t error) {
     switch (error) {
@@ -63,6 +183,11 @@ static inline const char *spin_error_name(uint32_t error) {
     case SPIN_NO_MEMORY: return "no memory";
     case SPIN_BAD_SCRIPT: return "no script";
     case SPIN_NO_HISTORY: return "no history of the script";
+    case SPIN_CLOSED: return "closed";
+    case SPIN_OPEN: return "open";
+    case SPIN_NO_COMMAND: return "no command";
+    case SPIN_FULL: return "the log is full";
+    case SPIN_REFUSED: return "refused";
     case SPIN_NULL: return "null";
     default: return "unknown";
     }

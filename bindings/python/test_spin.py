@@ -74,5 +74,57 @@ class Judging(unittest.TestCase):
         self.assertTrue(self.library.judge(SCRIPT, REPORT, ["out0 out1", ""]))
 
 
+class Lanes(unittest.TestCase):
+    """What a lane answers."""
+
+    SCRIPT = (
+        b"spin 1\nmodules 2\nevent 0 0 w:w last\nhandler 1 w:w result + a0 1\nhandler 2 w:w result + a0 2\n"
+        b"handler 3 -:w result 9\nrule 0 1 1 any any all deny\n"
+    )
+
+    def setUp(self):
+        self.library = spin.Library(os.environ["SPIN_LIBRARY"])
+
+    def test_raises_by_the_commands_before_them(self):
+        with self.library.open(self.SCRIPT) as lane:
+            self.assertEqual(lane.raise_event(0, 41), spin.Reply(0, "no handler", None, 0))
+            self.assertEqual(lane.command(0, 1, handler=1), 1)
+            self.assertEqual(lane.raise_event(0, 41), spin.Reply(1, "value", 42, 2))
+            self.assertEqual(lane.command(0, 3, target=1, handler=2), 2)
+            self.assertEqual(lane.raise_event(0, 41).value, 43)
+            self.assertEqual(lane.command(0, 2, target=1), 3)
+            self.assertEqual(lane.command(0, 4, handler=1), 4)
+            self.assertEqual(lane.raise_event(0, 1), spin.Reply(4, "default value", 2, 2))
+
+    def test_refused_raises_and_commands_change_nothing(self):
+        with self.library.open(self.SCRIPT) as lane:
+            self.assertEqual(lane.raise_event(1, 41).kind, "unknown event")
+            self.assertEqual(lane.raise_event(0).kind, "wrong arguments")
+            for number, words in ((6, {"handler": 3}), (3, {"handler": 9}), (9, {"handler": 1, "requester": 1})):
+                with self.assertRaises(spin.Refused) as refused:
+                    lane.command(0, 1, **words)
+                self.assertEqual((refused.exception.number, refused.exception.place), (number, 0))
+                self.assertEqual(refused.exception.name, spin.REFUSALS[number - 1])
+            self.assertEqual(lane.raise_event(0, 1).place, 0)
+            for op, words in ((7, {}), (1, {"handler": 1024}), (8, {}), (2, {"target": 8192})):
+                with self.assertRaisesRegex(spin.Fault, "no command"):
+                    lane.command(0, op, **words)
+            for event, word in ((256, 1), (0, -1), (0, 2**64)):
+                with self.assertRaises(ValueError):
+                    lane.raise_event(event, word)
+
+    def test_a_closed_lane(self):
+        lane = self.library.open(self.SCRIPT)
+        lane.close()
+        lane.close()
+        with self.assertRaisesRegex(spin.Fault, "closed"):
+            lane.raise_event(0, 1)
+
+    def test_no_lane_over_a_text_that_is_no_script(self):
+        with self.assertRaises(spin.BadScript) as told:
+            self.library.open(b"spin 1\nbad\n")
+        self.assertEqual((told.exception.line, told.exception.cause), (2, 4))
+
+
 if __name__ == "__main__":
     unittest.main()

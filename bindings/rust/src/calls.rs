@@ -1,6 +1,8 @@
 //! The proved calls, and what stands for them in Rust. All unsafe code of this crate stands here.
 
 use crate::fault::Fault;
+use std::ffi::c_void;
+use std::ptr::null_mut;
 
 /// Where a text is no script, and why.
 #[repr(C)]
@@ -22,6 +24,16 @@ unsafe extern "C" {
         standing_length: usize,
         fault: *mut SpinFault,
     ) -> u32;
+    fn spin_open(text: *const u8, text_length: usize, lane: *mut SpinLane, answer: *mut SpinAnswer) -> u32;
+    fn spin_raise_words(
+        lane: *mut SpinLane,
+        event: u8,
+        words: *const u64,
+        count: usize,
+        answer: *mut SpinAnswer,
+    ) -> u32;
+    fn spin_command(lane: *mut SpinLane, row: *const [u64; 4], answer: *mut SpinAnswer) -> u32;
+    fn spin_close(lane: *mut SpinLane, answer: *mut SpinAnswer) -> u32;
 }
 
 pub(crate) fn version() -> u32 {
@@ -49,5 +61,76 @@ pub(crate) fn check(text: &[u8], report: &[u8], standing: &[u8]) -> Result<bool,
         1 => Err(Fault::NoMemory),
         2 => Err(Fault::BadScript { line: fault.line, cause: fault.cause }),
         other => Err(Fault::Unknown(other)),
+    }
+}
+
+/// What a call of a handle tells besides its number.
+#[repr(C)]
+#[derive(Clone, Copy, Default)]
+pub(crate) struct SpinAnswer {
+    pub(crate) place: u32,
+    pub(crate) kind: u32,
+    pub(crate) value: u64,
+    pub(crate) steps: u64,
+}
+
+/// A handle; closed where it is null.
+#[repr(C)]
+struct SpinLane {
+    at: *mut c_void,
+}
+
+/// A handle that is open. It stays on its thread, since the pointer does.
+pub(crate) struct Held {
+    lane: SpinLane,
+}
+
+/// The fault that a number tells, where it isn't one of those that the call is asked for.
+fn fault_of(number: u32, answer: &SpinAnswer) -> Fault {
+    match number {
+        1 => Fault::NoMemory,
+        2 => Fault::BadScript { line: answer.place, cause: answer.kind },
+        6 => Fault::NoCommand,
+        7 => Fault::Full,
+        other => Fault::Unknown(other),
+    }
+}
+
+impl Held {
+    pub(crate) fn open(text: &[u8]) -> Result<Held, Fault> {
+        let (mut lane, mut answer) = (SpinLane { at: null_mut() }, SpinAnswer::default());
+        // SAFETY: a slice with its length, and two values of this function.
+        match unsafe { spin_open(text.as_ptr(), text.len(), &mut lane, &mut answer) } {
+            0 => Ok(Held { lane }),
+            number => Err(fault_of(number, &answer)),
+        }
+    }
+
+    pub(crate) fn raise(&mut self, event: u8, words: &[u64]) -> Result<SpinAnswer, Fault> {
+        let mut answer = SpinAnswer::default();
+        // SAFETY: the handle is this value's own; a slice with its length, and a value of this function.
+        match unsafe { spin_raise_words(&mut self.lane, event, words.as_ptr(), words.len(), &mut answer) } {
+            0 => Ok(answer),
+            number => Err(fault_of(number, &answer)),
+        }
+    }
+
+    pub(crate) fn command(&mut self, row: [u64; 4]) -> Result<(bool, SpinAnswer), Fault> {
+        let mut answer = SpinAnswer::default();
+        // SAFETY: the handle is this value's own; the row and the answer are values of this function.
+        match unsafe { spin_command(&mut self.lane, &row, &mut answer) } {
+            0 => Ok((true, answer)),
+            8 => Ok((false, answer)),
+            number => Err(fault_of(number, &answer)),
+        }
+    }
+}
+
+impl Drop for Held {
+    fn drop(&mut self) {
+        let mut answer = SpinAnswer::default();
+        // SAFETY: the handle is this value's own, and isn't used again. Without memory for the call it isn't closed,
+        // and what it holds is lost.
+        unsafe { spin_close(&mut self.lane, &mut answer) };
     }
 }

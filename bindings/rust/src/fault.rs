@@ -16,6 +16,10 @@ pub enum Fault {
         /// The number of the cause.
         cause: u32,
     },
+    /// A number of the command has no room in it, or a field is used that its op doesn't use.
+    NoCommand,
+    /// The log has as many commands as it holds.
+    Full,
     /// The library answered a number that this crate doesn't know.
     Unknown(u32),
 }
@@ -26,6 +30,8 @@ impl Display for Fault {
             Fault::NoMemory => write!(out, "there was no memory"),
             Fault::BadScript { line: 0, .. } => write!(out, "the script is too large"),
             Fault::BadScript { line, cause } => write!(out, "line {line} is bad: cause {cause}"),
+            Fault::NoCommand => write!(out, "that is no command"),
+            Fault::Full => write!(out, "the log is full"),
             Fault::Unknown(number) => write!(out, "the library answered {number}"),
         }
     }

@@ -12,8 +12,10 @@
 
 mod calls;
 mod fault;
+mod lane;
 
 pub use fault::Fault;
+pub use lane::{Answer, Command, Lane, Mode, Op, Place, Refusal, Reply};
 
 /// The version of the proved calls. It grows where one of them is changed.
 pub fn version() -> u32 {

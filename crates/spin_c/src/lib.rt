@@ -1,22 +1,42 @@
 //! The dispatcher for hosts that aren't Rattle: the calls that `bindings/c/spin.h` declares.
 //!
 //! - [`verdict`] has what a report is judged to be, and [`judge`] judges it;
-//! - [`told`] has what is told of it in numbers.
+//! - [`lane`] is what a handle holds, a hub with its one seat, and [`handle`] the handle, over [`maybe`] and [`loose`]:
+//!   pointers that own a box, or may be null;
+//! - [`ask`] is what is asked of a handle and what it comes to, [`turn`] does it, and [`asking`] asks;
+//! - [`row`] is a command as it is handed in, and [`told`] what is told in numbers.
 #![tactic(auto)]
 
-ghost use Rattle.std.specs.Prelude.{◌≡◌};
+ghost use Rattle.std.specs.Prelude.{◌≡◌, map};
+ghost use Rattle.spin_values.specs.declared.values.Value.TheVariants as value;
 ghost use Rattle.spin_grammar.specs.Words.{words};
 ghost use Rattle.spin_c.specs.declared.verdict.Verdict.{Verdict as VerdictValue};
+ghost use Rattle.spin_c.specs.declared.ask.Ask.TheVariants as asked;
+ghost use Rattle.spin_c.specs.Tellings.{TellsOf, row_from};
 ghost use Rattle.spin_c.specs.Verdicts.{IsVerdict, no_natives, fault_of, number_of};
 
+mod ask;
+mod asking;
+mod handle;
 mod judge;
+mod lane;
+mod loose;
+mod maybe;
+mod row;
 mod told;
+mod turn;
 mod verdict;
 
+use ask::Ask;
+use asking::{args_of, ask_of, no_memory};
+pub use handle::SpinLane;
 use judge::judge;
+pub use row::SpinRow;
+use row::row_from;
 use spin_objects::Natives;
+use spin_values::{NoMemory, Octets};
 use std::alloc::Global;
-pub use told::SpinFault;
+pub use told::{SpinAnswer, SpinFault};
 use told::{fault_of, number_of};
 pub use verdict::Verdict;
 
@@ -47,4 +67,65 @@ pub extern "C" fn spin_check(
     let verdict = judge(alloc, Natives::new(alloc), text, report, standing);
     *fault = fault_of(&verdict);
     number_of(&verdict)
+}
+
+/// Opens a closed handle over a script: a hub with one lane over what the script declares, at its start, where nothing
+/// is bound. Its lane lines aren't done. It answers a number: 0 where it is open now, 1 where there was no memory, 2
+/// where the text is no script, whose first bad line and cause it tells as place and kind, and 5 where it was open.
+#[unsafe(no_mangle)]
+pub extern "C" fn spin_open(
+    alloc: Global,
+    text: &[u8],
+    lane: &mut SpinLane,
+    answer: &mut SpinAnswer,
+) -> u32
+    ensures { TellsOf lane.old.kept (asked.Open text.now) lane.new.kept result answer.new }
+{
+    match Octets::from_bytes(alloc, text) {
+        Ok(text) => ask_of(alloc, lane, Ask::Open(text), answer),
+        Err(NoMemory) => no_memory(answer),
+    }
+}
+
+/// Raises an event with these words as its arguments, and tells the answer: its place, the number of its kind, its
+/// value and the number of its steps. It answers 0 where the raise has a reply, 1 where there was no memory, and 4
+/// where the handle is closed.
+#[unsafe(no_mangle)]
+pub extern "C" fn spin_raise_words(
+    alloc: Global,
+    lane: &mut SpinLane,
+    event: u8,
+    words: &[u64],
+    answer: &mut SpinAnswer,
+) -> u32
+    ensures { TellsOf lane.old.kept (asked.Raise event (map value.Word words.now)) lane.new.kept result answer.new }
+{
+    match args_of(alloc, words) {
+        Ok(args) => ask_of(alloc, lane, Ask::Raise { event, args }, answer),
+        Err(NoMemory) => no_memory(answer),
+    }
+}
+
+/// Does the command of a row, and tells the place of its verdict and the number of its refusal. It answers 0 where it
+/// is accepted, 1 where there was no memory, 4 where the handle is closed, 6 where the row stands for no command of the
+/// handle's lane, 7 where the log is full, and 8 where the command is refused.
+#[unsafe(no_mangle)]
+pub extern "C" fn spin_command(
+    alloc: Global,
+    lane: &mut SpinLane,
+    row: &SpinRow,
+    answer: &mut SpinAnswer,
+) -> u32
+    ensures { TellsOf lane.old.kept (asked.Command (row_from row.now)) lane.new.kept result answer.new }
+{
+    ask_of(alloc, lane, Ask::Command(row_from(row)), answer)
+}
+
+/// Closes a handle. It answers 0 where it was open and is closed now, 1 where there was no memory for the call, and 4
+/// where it was closed.
+#[unsafe(no_mangle)]
+pub extern "C" fn spin_close(alloc: Global, lane: &mut SpinLane, answer: &mut SpinAnswer) -> u32
+    ensures { TellsOf lane.old.kept asked.Close lane.new.kept result answer.new }
+{
+    ask_of(alloc, lane, Ask::Close, answer)
 }

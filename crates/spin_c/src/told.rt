@@ -1,9 +1,13 @@
 //! What is told in numbers.
 
 ghost use Rattle.std.specs.Prelude.{◌≡◌};
+ghost use Rattle.spin_report.specs.Verdicts.{refusal_number};
+ghost use Rattle.spin_c.specs.Tellings.{answer_of, code_of, verdict_code, verdict_kind};
 ghost use Rattle.spin_c.specs.Verdicts.{fault_of, number_of};
 
+use crate::ask::Outcome;
 use crate::verdict::Verdict;
+use spin_table::{Refusal, Verdicted};
 
 /// Where a text is no script, and why; zeros where nothing is told.
 #[repr(C)]
@@ -37,5 +41,95 @@ pub(crate) fn number_of(verdict: &Verdict) -> u32
         Verdict::NoMemory => 1,
         Verdict::Bad { .. } => 2,
         Verdict::NoHistory => 3,
+    }
+}
+
+/// What a call of a handle tells besides its number.
+#[repr(C)]
+#[derive(Clone, Copy, PartialEq, Eq, Debug)]
+pub struct SpinAnswer {
+    /// The place of the answer; of a text that is no script its first bad line.
+    pub place: u32,
+    /// The number of the answer's kind, of the refusal, or of the cause.
+    pub kind: u32,
+    /// The value, where there is one.
+    pub value: u64,
+    /// The number of steps.
+    pub steps: u64,
+}
+
+// The number of a refusal, as reports tell it.
+fn refusal_number(refusal: &Refusal) -> u32
+    ensures { result ≡ refusal_number refusal.now }
+{
+    match refusal {
+        Refusal::UnknownEvent => 1,
+        Refusal::UnknownModule => 2,
+        Refusal::UnknownHandler => 3,
+        Refusal::UnknownGuard => 4,
+        Refusal::UnknownBinding => 5,
+        Refusal::WrongType => 6,
+        Refusal::Downward => 7,
+        Refusal::WrongMode => 8,
+        Refusal::Denied(_) => 9,
+        Refusal::TooMany => 10,
+        Refusal::Conflict(_) => 11,
+        Refusal::ForcedMode(_) => 12,
+    }
+}
+
+// The number of a verdict's refusal, and 0 where there is none.
+fn verdict_kind(verdict: &Verdicted) -> u32
+    ensures { result ≡ verdict_kind verdict.now }
+{
+    match verdict {
+        Verdicted::Accepted => 0,
+        Verdicted::Refused(refusal) => refusal_number(refusal),
+    }
+}
+
+// The number that a verdict answers a call by.
+fn verdict_code(verdict: &Verdicted) -> u32
+    ensures { result ≡ verdict_code verdict.now }
+{
+    match verdict {
+        Verdicted::Accepted => 0,
+        Verdicted::Refused(_) => 8,
+    }
+}
+
+// The number that a call answers.
+pub(crate) fn code_of(outcome: &Outcome) -> u32
+    ensures { result ≡ code_of outcome.now }
+{
+    match outcome {
+        Outcome::Done | Outcome::Raised { .. } => 0,
+        Outcome::NoMemory => 1,
+        Outcome::Bad { .. } => 2,
+        Outcome::Closed => 4,
+        Outcome::Open => 5,
+        Outcome::NoCommand => 6,
+        Outcome::Full => 7,
+        Outcome::Judged(judged) => verdict_code(&judged.verdict),
+    }
+}
+
+// What a call tells besides.
+pub(crate) fn answer_of(outcome: &Outcome) -> SpinAnswer
+    ensures { result ≡ answer_of outcome.now }
+{
+    let (place, kind, value, steps) = match outcome {
+        Outcome::Bad { line, cause } => (*line, u32::from(*cause), 0, 0),
+        Outcome::Judged(judged) => (u32::from(judged.place), verdict_kind(&judged.verdict), 0, 0),
+        Outcome::Raised { place, told } => {
+            (u32::from(*place), told.kind, told.value, told.steps)
+        }
+        _ => (0, 0, 0, 0),
+    };
+    SpinAnswer {
+        place,
+        kind,
+        value,
+        steps,
     }
 }

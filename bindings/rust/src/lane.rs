@@ -1,0 +1,206 @@
+//! A hub over a script, with its one seat.
+
+use crate::calls::{Held, SpinAnswer};
+use crate::fault::Fault;
+use std::fmt::{self, Display, Formatter};
+
+/// What a raise is answered.
+#[derive(Clone, Copy, Debug, PartialEq, Eq)]
+pub enum Answer {
+    /// No binding ran, and the event has no default.
+    NoHandler,
+    /// Bindings ran, and none gave a result that is merged.
+    Done,
+    /// Bindings ran, and their results merged to this one.
+    Value(u64),
+    /// No binding ran, and the event's default did. This is its result, if it gave one.
+    Default(Option<u64>),
+    /// There is no event of that number.
+    UnknownEvent,
+    /// The arguments don't fit the event.
+    WrongArguments,
+    /// More than 4096 handlers would start, and nothing was done.
+    TooManyHandlers,
+}
+
+/// The reply to a raise.
+#[derive(Clone, Copy, Debug, PartialEq, Eq)]
+pub struct Reply {
+    /// How many commands were accepted before it.
+    pub place: u32,
+    /// What it is answered.
+    pub answer: Answer,
+    /// The number of its steps.
+    pub steps: u64,
+}
+
+/// What a command does. What a field's number has no room for is no command.
+#[derive(Clone, Copy, Debug, PartialEq, Eq)]
+pub enum Op {
+    /// Adds a binding.
+    Install {
+        /// The number of its handler.
+        handler: u16,
+        /// The number of its guard; 0 is none.
+        guard: u16,
+        /// Where it goes.
+        place: Place,
+        /// How its handler runs.
+        mode: Mode,
+    },
+    /// Takes this binding out.
+    Remove(u16),
+    /// Gives a binding another handler and guard.
+    Replace {
+        /// The number of the binding.
+        target: u16,
+        /// The number of its new handler.
+        handler: u16,
+        /// The number of its new guard; 0 is none.
+        guard: u16,
+    },
+    /// Makes the handler of this number the event's default.
+    Default(u16),
+    /// Leaves the event without a default.
+    NoDefault,
+}
+
+/// Where a binding goes.
+#[derive(Clone, Copy, Debug, PartialEq, Eq)]
+pub enum Place {
+    /// Anywhere.
+    Free,
+    /// Before each binding that isn't first too.
+    First,
+    /// After each binding that isn't last too.
+    Last,
+    /// Before this binding.
+    Before(u16),
+    /// After this binding.
+    After(u16),
+}
+
+/// How a binding's handler runs.
+#[derive(Clone, Copy, Debug, PartialEq, Eq)]
+pub enum Mode {
+    /// During the raise.
+    Plain,
+    /// During the raise; it may change the arguments for the handlers after it.
+    Filter,
+    /// Later, as a job of its own.
+    Async,
+}
+
+/// A command that module `requester` asks for.
+#[derive(Clone, Copy, Debug, PartialEq, Eq)]
+pub struct Command {
+    /// The event whose bindings are changed, below 64.
+    pub event: u8,
+    /// The module that asks for it.
+    pub requester: u8,
+    /// What it does.
+    pub op: Op,
+}
+
+/// Why a command changes nothing: the number of the refusal, from 1 to 12, and the place at which it is refused.
+#[derive(Clone, Copy, Debug, PartialEq, Eq)]
+pub struct Refusal {
+    /// The number of the refusal.
+    pub number: u32,
+    /// How many commands were accepted before it.
+    pub place: u32,
+}
+
+const REFUSALS: [&str; 12] = [
+    "unknown_event", "unknown_module", "unknown_handler", "unknown_guard", "unknown_binding", "wrong_type", "downward",
+    "wrong_mode", "denied", "too_many", "conflict", "forced_mode",
+];
+
+impl Refusal {
+    /// Its name, as reports have it.
+    pub fn name(&self) -> &'static str {
+        (self.number as usize).checked_sub(1).and_then(|at| REFUSALS.get(at)).copied().unwrap_or("unknown")
+    }
+}
+
+impl Display for Refusal {
+    fn fmt(&self, out: &mut Formatter<'_>) -> fmt::Result {
+        write!(out, "refused {} {} at {}", self.number, self.name(), self.place)
+    }
+}
+
+impl std::error::Error for Refusal {}
+
+/// The word of the numbers of bindings, of which one at most is named.
+fn quarters(number: Option<u16>) -> u64 {
+    u64::from(number.unwrap_or(u16::MAX)) | 0xffff_ffff_ffff_0000
+}
+
+impl Command {
+    /// The row that stands for it; where a number has no room in it, one that stands for none.
+    fn row(&self) -> [u64; 4] {
+        let (op, handler, guard, target, place, mode) = match self.op {
+            Op::Install { handler, guard, place, mode } => (1, handler, guard, 0, place, mode as u64),
+            Op::Remove(target) => (2, 0, 0, target, Place::Free, 0),
+            Op::Replace { target, handler, guard } => (3, handler, guard, target, Place::Free, 0),
+            Op::Default(handler) => (4, handler, 0, 0, Place::Free, 0),
+            Op::NoDefault => (5, 0, 0, 0, Place::Free, 0),
+        };
+        let is_none = matches!(place, Place::Before(u16::MAX) | Place::After(u16::MAX));
+        if self.event >= 64 || handler >= 1024 || guard >= 1024 || target >= 8192 || is_none {
+            return [u64::MAX; 4];
+        }
+        let (place, before, after) = match place {
+            Place::Free => (0, None, None),
+            Place::First => (1, None, None),
+            Place::Last => (2, None, None),
+            Place::Before(number) => (0, Some(number), None),
+            Place::After(number) => (0, None, Some(number)),
+        };
+        let first = mode
+            | place << 2
+            | u64::from(guard) << 15
+            | u64::from(handler) << 25
+            | u64::from(self.requester) << 35
+            | u64::from(self.event) << 43
+            | op << 53;
+        [first, u64::from(target), quarters(before), quarters(after)]
+    }
+}
+
+/// A hub over a script, with its one seat: what the script declares, and the bindings that commands made.
+pub struct Lane {
+    held: Held,
+}
+
+impl Lane {
+    /// A lane over the script: what it declares, with nothing bound. Its lane lines aren't done.
+    pub fn open(script: &[u8]) -> Result<Lane, Fault> {
+        Ok(Lane { held: Held::open(script)? })
+    }
+
+    /// Raises the event with these words as its arguments.
+    pub fn raise(&mut self, event: u8, words: &[u64]) -> Result<Reply, Fault> {
+        let SpinAnswer { place, kind, value, steps } = self.held.raise(event, words)?;
+        let answer = match kind {
+            0 => Answer::NoHandler,
+            1 => Answer::Done,
+            2 => Answer::Value(value),
+            3 => Answer::Default(Some(value)),
+            4 => Answer::Default(None),
+            5 => Answer::UnknownEvent,
+            6 => Answer::WrongArguments,
+            7 => Answer::TooManyHandlers,
+            other => return Err(Fault::Unknown(other)),
+        };
+        Ok(Reply { place, answer, steps })
+    }
+
+    /// Does the command. Where it is accepted the place of its own is answered, which is also the number of the binding
+    /// that it installs.
+    pub fn command(&mut self, command: &Command) -> Result<Result<u32, Refusal>, Fault> {
+        let (is_accepted, answer) = self.held.command(command.row())?;
+        let SpinAnswer { place, kind: number, .. } = answer;
+        Ok(if is_accepted { Ok(place) } else { Err(Refusal { number, place }) })
+    }
+}

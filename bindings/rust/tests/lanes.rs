@@ -1,0 +1,67 @@
+//! What a lane answers.
+
+use spin::{Answer, Command, Fault, Lane, Mode, Op, Place};
+
+const SCRIPT: &[u8] = b"spin 1\nmodules 2\nevent 0 0 w:w last\nhandler 1 w:w result + a0 1\n\
+    handler 2 w:w result + a0 2\nhandler 3 -:w result 9\nrule 0 1 1 any any all deny\n";
+
+fn install(handler: u16) -> Op {
+    Op::Install { handler, guard: 0, place: Place::Free, mode: Mode::Plain }
+}
+
+fn by(requester: u8, op: Op) -> Command {
+    Command { event: 0, requester, op }
+}
+
+#[test]
+fn raises_are_answered_by_the_commands_before_them() -> Result<(), Fault> {
+    let mut lane = Lane::open(SCRIPT)?;
+    assert_eq!(lane.raise(0, &[41])?.answer, Answer::NoHandler);
+    assert_eq!(lane.command(&by(0, install(1)))?, Ok(1));
+    let reply = lane.raise(0, &[41])?;
+    assert_eq!((reply.place, reply.answer, reply.steps), (1, Answer::Value(42), 2));
+    let replace = Op::Replace { target: 1, handler: 2, guard: 0 };
+    assert_eq!(lane.command(&by(0, replace))?, Ok(2));
+    assert_eq!(lane.raise(0, &[41])?.answer, Answer::Value(43));
+    assert_eq!(lane.command(&by(0, Op::Remove(1)))?, Ok(3));
+    assert_eq!(lane.command(&by(0, Op::Default(1)))?, Ok(4));
+    assert_eq!(lane.raise(0, &[1])?.answer, Answer::Default(Some(2)));
+    assert_eq!(lane.command(&by(0, Op::NoDefault))?, Ok(5));
+    assert_eq!(lane.raise(0, &[1])?.answer, Answer::NoHandler);
+    Ok(())
+}
+
+#[test]
+fn places_are_kept() -> Result<(), Fault> {
+    let mut lane = Lane::open(SCRIPT)?;
+    assert_eq!(lane.command(&by(0, install(1)))?, Ok(1));
+    let before = Op::Install { handler: 2, guard: 0, place: Place::Before(1), mode: Mode::Plain };
+    assert_eq!(lane.command(&by(0, before))?, Ok(2));
+    assert_eq!(lane.raise(0, &[10])?.answer, Answer::Value(11));
+    let after = Op::Install { handler: 2, guard: 0, place: Place::After(1), mode: Mode::Plain };
+    assert_eq!(lane.command(&by(0, after))?, Ok(3));
+    assert_eq!(lane.raise(0, &[10])?.answer, Answer::Value(12));
+    Ok(())
+}
+
+#[test]
+fn what_is_refused_changes_nothing() -> Result<(), Fault> {
+    let mut lane = Lane::open(SCRIPT)?;
+    assert_eq!(lane.raise(1, &[41])?.answer, Answer::UnknownEvent);
+    assert_eq!(lane.raise(0, &[])?.answer, Answer::WrongArguments);
+    for (number, command) in [(6, by(0, install(3))), (3, by(0, install(9))), (9, by(1, install(1)))] {
+        let refusal = lane.command(&command)?.unwrap_err();
+        assert_eq!((refusal.number, refusal.place), (number, 0), "{refusal}");
+    }
+    assert_eq!(lane.command(&by(1, install(1)))?.unwrap_err().name(), "denied");
+    assert_eq!(lane.command(&by(0, install(1024))), Err(Fault::NoCommand));
+    let before_none = Op::Install { handler: 1, guard: 0, place: Place::Before(u16::MAX), mode: Mode::Plain };
+    assert_eq!(lane.command(&by(0, before_none)), Err(Fault::NoCommand));
+    assert_eq!(lane.raise(0, &[1])?.place, 0);
+    Ok(())
+}
+
+#[test]
+fn no_lane_is_over_a_text_that_is_no_script() {
+    assert_eq!(Lane::open(b"spin 1\nbad\n").err(), Some(Fault::BadScript { line: 2, cause: 4 }));
+}

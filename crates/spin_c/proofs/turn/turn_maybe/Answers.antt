@@ -1,0 +1,25 @@
+use Rattle.std.proofs.Common.{◌≡◌, Some, refl, sym, ap, subst, ◌∙◌}
+use Rattle.std.specs.Prelude.{IfSome}
+use Rattle.spin_script.specs.States.{natives_seen}
+use Rattle.spin_c.specs.Turns.{IsWell, IsWellLane, Does, Turns}
+use Rattle.spin_c.proofs.Turning.{stays_open}
+use Rattle.spin_c.proofs.turn.turn_maybe.Goals as goal
+
+pub turn_lane-outcome-requires : goal.turn_lane-outcome-requires
+turn_lane-outcome-requires g c =
+    let held = c.deref_mut.ensures.value ∙ c.into_box-lane.ensures in
+    record { sincere = rw held (rw c.in-Some.ensures at c.requires.sincere); well = rw held (rw c.in-Some.ensures at c.requires.well) }
+
+pub returns : goal.returns
+returns g c =
+    let kept = c.of-2.ensures ∙ ap Some c.of.ensures in
+    let held = c.deref_mut.ensures.value ∙ c.into_box-lane.ensures in
+    let after = c.turn_lane-outcome.new.lane in let told = c.turn_lane-outcome.result in
+    let does = subst (λ l. Does l c.into_inner-ask.result after told) held c.turn_lane-outcome.ensures.does in
+    let open' = stays_open c.in-Some.loose.value after c.into_inner-ask.result told c.in_default-ask-2.not-Close does in
+    record {
+      well = subst (λ l. IsWell l) (sym kept) c.turn_lane-outcome.ensures.well;
+      does = subst (λ l. Turns (natives_seen c.args.natives) c.args.maybe.value c.args.call.ask.value l told) (sym kept)
+          (subst (λ l. Turns (natives_seen c.args.natives) l c.args.call.ask.value (Some after) told) (sym c.in-Some.ensures)
+          (subst (λ a. Turns (natives_seen c.args.natives) (Some c.in-Some.loose.value) a (Some after) told) c.into_inner-ask.ensures open'));
+    }

@@ -1,0 +1,154 @@
+-- What a call does to what a handle holds, and what it comes to.
+use Rattle.std.specs.Prelude.{◌≡◌, ◌≢◌, ◌⊎◌, ℕ, List, [], Option, None, Some, IfSome, Result, Ok, Err, length, ⊤}
+use Rattle.spin_word.specs.declared.command.Command.{Command}
+use Rattle.spin_word.specs.declared.command.TheConstants.{MAX_PLACE}
+use Rattle.spin_word.specs.declared.row.Row.{Row}
+use Rattle.spin_word.specs.declared.work.Deed.TheVariants as deed
+use Rattle.spin_word.specs.Rows.{StandsFor, StandsForNone, lane_of}
+use Rattle.spin_values.specs.declared.values.Value.{Value}
+use Rattle.spin_raise.specs.declared.answer.Answer.{Answer}
+use Rattle.spin_raise.specs.declared.answer.Answer.TheVariants as answer
+use Rattle.spin_proto.specs.declared.reply.Reply.{Reply}
+use Rattle.spin_proto.specs.declared.reply.Reply.TheVariants as reply
+use Rattle.spin_table.specs.SetupOf.{data_of}
+use Rattle.spin_script.specs.Language.{IsScript}
+use Rattle.spin_script.specs.Scripts.{IsBad}
+use Rattle.spin_script.specs.States.{NativeData, ScriptData}
+use Rattle.spin_script.specs.declared.script.ScriptFault.TheVariants as fault
+use Rattle.spin_seat.specs.Calls.{Gives, AddsAtMostAPin, ReadsOn, reply_answer, verdict_answer}
+use Rattle.spin_seat.specs.Seats.{IsSeatOf}
+use Rattle.spin_c.specs.Verdicts.{no_natives}
+use Rattle.spin_c.specs.declared.lane.Lane.{Lane}
+use Rattle.spin_c.specs.declared.ask.Ask.{Ask}
+use Rattle.spin_c.specs.declared.ask.Ask.TheVariants as ask
+use Rattle.spin_c.specs.declared.ask.Told.{Told}
+use Rattle.spin_c.specs.declared.ask.Outcome.{Outcome}
+use Rattle.spin_c.specs.declared.ask.Outcome.TheVariants as outcome
+
+-- Below, A and B, C and D, E and F are the kinds of the boxed handlers, guards and authorisers.
+
+-- ---- what holds of every lane
+
+-- its seat is one of its hub, and writes in the hub's log
+abbrev pub IsWellLane : {A C E : Type 0} {B : A → Type 0} {D : C → Type 0} {F : E → Type 0} → Lane A C E B D F → Type 0
+IsWellLane l = (l.seat.pen.log ≡ l.hub.log.id) × IsSeatOf (data_of l.hub.setup) l.seat
+
+-- so it is of what a handle holds
+abbrev pub IsWell : {A C E : Type 0} {B : A → Type 0} {D : C → Type 0} {F : E → Type 0}
+    → Option (Lane A C E B D F) → Type 0
+IsWell kept = IfSome kept (λ l. IsWellLane l)
+
+-- ---- opening
+
+-- The lane is over the setup of the script, at its start.
+pub record IsOpened {A C E : Type 0} {B : A → Type 0} {D : C → Type 0}
+    {F : E → Type 0} (natives : NativeData) (text : List ℕ)
+    (l : Lane A C E B D F) : Type 0 where
+  pub script : ScriptData
+  pub read : IsScript natives text (Ok script)
+  pub setup : data_of l.hub.setup ≡ script.setup
+  pub front : l.seat.pen.front ≡ []
+  pub reply : l.reply ≡ None
+
+-- why there is no lane over this text: it is no script, or there was no memory
+abbrev pub NotOpened : NativeData → List ℕ → Outcome → Type 0
+NotOpened natives text (outcome.Bad line cause) = IsBad natives text (fault.Bad line cause)
+NotOpened natives text outcome.NoMemory = ⊤
+NotOpened natives text other = ⊥
+
+abbrev pub Opens : {A C E : Type 0} {B : A → Type 0} {D : C → Type 0} {F : E → Type 0}
+    → NativeData → List ℕ → Result (Lane A C E B D F) Outcome → Type 0
+Opens natives text (Ok l) = IsOpened natives text l
+Opens natives text (Err why) = NotOpened natives text why
+
+-- what a closed handle holds afterwards, and what is answered
+abbrev pub OpensTo : {A C E : Type 0} {B : A → Type 0} {D : C → Type 0} {F : E → Type 0}
+    → NativeData → List ℕ → Option (Lane A C E B D F) → Outcome → Type 0
+OpensTo natives text (Some l) told = IsOpened natives text l × (told ≡ outcome.Done)
+OpensTo natives text None told = NotOpened natives text told
+
+-- ---- raising
+
+-- what an answer is told as, and the number of the steps that led to it
+abbrev pub answer_told : Answer → ℕ → Told
+answer_told answer.NoHandler steps = record { kind = 0; value = 0; steps = steps }
+answer_told answer.Done steps = record { kind = 1; value = 0; steps = steps }
+answer_told (answer.Value value) steps = record { kind = 2; value = value; steps = steps }
+answer_told (answer.Default (Some value)) steps = record { kind = 3; value = value; steps = steps }
+answer_told (answer.Default None) steps = record { kind = 4; value = 0; steps = steps }
+
+-- a raise without an answer is told by the number of why
+abbrev pub no_answer : ℕ → Told
+no_answer kind = record { kind = kind; value = 0; steps = 0 }
+
+abbrev pub told_of : Reply → Told
+told_of (reply.Ran said trace jobs) = answer_told said (length trace)
+told_of reply.UnknownEvent = no_answer 5
+told_of reply.WrongArgs = no_answer 6
+told_of reply.Spent = no_answer 7
+told_of (reply.Queued call) = no_answer 8
+
+-- The raise has this reply, which is that of the plain dispatcher at that place; it is kept, and told so.
+pub record IsRaised {A C E : Type 0} {B : A → Type 0} {D : C → Type 0}
+    {F : E → Type 0} (l : Lane A C E B D F) (event : ℕ)
+    (args : List Value) (after : Lane A C E B D F) (place : ℕ) (told : Told) : Type 0 where
+  pub reply : Reply
+  pub kept : after.reply ≡ Some reply
+  pub gives : Gives (data_of l.hub.setup) l.seat.pen
+      (reply_answer l.seat.pen.lane (deed.Raise event args) place reply) after.seat.pen
+  pub told_is : told ≡ told_of reply
+
+-- what a raise comes to
+abbrev pub Raises : {A C E : Type 0} {B : A → Type 0} {D : C → Type 0} {F : E → Type 0}
+    → Lane A C E B D F → ℕ → List Value → Lane A C E B D F → Outcome → Type 0
+Raises l event args after (outcome.Raised place told) = (after.hub ≡ l.hub) × IsRaised l event args after place told
+Raises l event args after outcome.NoMemory = (after.hub ≡ l.hub) × AddsAtMostAPin l.seat.pen after.seat.pen
+Raises l event args after other = ⊥
+
+-- ---- commands
+
+-- what the command of a row comes to
+abbrev pub Commands : {A C E : Type 0} {B : A → Type 0} {D : C → Type 0} {F : E → Type 0}
+    → Lane A C E B D F → Row → Lane A C E B D F → Outcome → Type 0
+Commands l row after (outcome.Judged judged) =
+    (after.hub ≡ l.hub) × ((c : Command) × StandsFor row c
+    × Gives (data_of l.hub.setup) l.seat.pen
+    (verdict_answer l.seat.pen.lane c judged.place judged.verdict) after.seat.pen)
+Commands l row after outcome.NoCommand = (after ≡ l) × (StandsForNone row ⊎ (lane_of row ≢ l.seat.pen.lane))
+Commands l row after outcome.Full =
+    (after.hub ≡ l.hub) × ReadsOn l.seat.pen after.seat.pen × (length after.seat.pen.front ≡ MAX_PLACE)
+Commands l row after outcome.NoMemory = (after.hub ≡ l.hub) × ReadsOn l.seat.pen after.seat.pen
+Commands l row after other = ⊥
+
+-- ---- a call
+
+-- what is asked of an open lane does this, but for a close
+abbrev pub Does : {A C E : Type 0} {B : A → Type 0} {D : C → Type 0} {F : E → Type 0}
+    → Lane A C E B D F → Ask → Lane A C E B D F → Outcome → Type 0
+Does l (ask.Open text) after told = (after ≡ l) × (told ≡ outcome.Open)
+Does l (ask.Raise event args) after told = Raises l event args after told
+Does l (ask.Command row) after told = Commands l row after told
+Does l ask.Close after told = (after ≡ l) × (told ≡ outcome.Done)
+
+-- a closed handle can only be opened
+abbrev pub DoesClosed : {A C E : Type 0} {B : A → Type 0} {D : C → Type 0} {F : E → Type 0}
+    → NativeData → Ask → Option (Lane A C E B D F) → Outcome → Type 0
+DoesClosed natives (ask.Open text) after told = OpensTo natives text after told
+DoesClosed natives other after told = (after ≡ None) × (told ≡ outcome.Closed)
+
+-- an open handle stays open until it is closed
+abbrev pub DoesOpen : {A C E : Type 0} {B : A → Type 0} {D : C → Type 0} {F : E → Type 0}
+    → Lane A C E B D F → Ask → Option (Lane A C E B D F) → Outcome → Type 0
+DoesOpen l ask.Close after told = (after ≡ None) × (told ≡ outcome.Done)
+DoesOpen l asked None told = ⊥
+DoesOpen l asked (Some after) told = Does l asked after told
+
+abbrev pub Turns : {A C E : Type 0} {B : A → Type 0} {D : C → Type 0} {F : E → Type 0}
+    → NativeData → Option (Lane A C E B D F) → Ask → Option (Lane A C E B D F) → Outcome → Type 0
+Turns natives None asked after told = DoesClosed natives asked after told
+Turns natives (Some l) asked after told = DoesOpen l asked after told
+
+-- The call does so; or there was no memory for what is asked, and the handle is as it was.
+abbrev pub IsCalled : {A C E : Type 0} {B : A → Type 0} {D : C → Type 0} {F : E → Type 0}
+    → Option (Lane A C E B D F) → Ask → Option (Lane A C E B D F) → Outcome → Type 0
+IsCalled kept asked after told = Turns no_natives kept asked after told ⊎ ((after ≡ kept) × (told ≡ outcome.NoMemory))

@@ -1,0 +1,76 @@
+//! What is asked of a handle, and what it comes to.
+
+use spin_seat::Judged;
+use spin_values::{Args, Octets};
+use spin_word::Row;
+use std::alloc::Global;
+
+/// What is asked of a handle.
+#[derive(Drop)]
+pub enum Ask {
+    /// To open it over this script.
+    Open(Octets),
+    /// To raise an event.
+    Raise {
+        /// The number of the event.
+        event: u8,
+        /// Its arguments.
+        args: Args,
+    },
+    /// To do the command of this row.
+    Command(Row),
+    /// To close it.
+    Close,
+}
+
+/// A call of a handle. What is asked stands in a box.
+#[derive(Drop)]
+pub struct Call {
+    pub(crate) alloc: Global,
+    pub(crate) ask: Box<Ask>,
+}
+
+/// What a raise is told as.
+#[derive(Clone, Copy, PartialEq, Eq, Debug)]
+pub struct Told {
+    /// The number of the answer's kind: 0 no handler, 1 done, 2 a value, 3 a default with a value, 4 one without; and
+    /// of why there is none: 5 no such event, 6 other arguments, 7 too many handlers, 8 queued.
+    pub kind: u32,
+    /// The value, where there is one, and else 0.
+    pub value: u64,
+    /// The number of its steps.
+    pub steps: u64,
+}
+
+/// What a call comes to.
+#[derive(Drop)]
+pub enum Outcome {
+    /// It was done.
+    Done,
+    /// The handle is closed.
+    Closed,
+    /// The handle is open.
+    Open,
+    /// There was no memory.
+    NoMemory,
+    /// The text is no script.
+    Bad {
+        /// The first bad line, counted from 1; 0 where the text is too large.
+        line: u32,
+        /// The number of the cause.
+        cause: u8,
+    },
+    /// The row stands for no command of the handle's lane.
+    NoCommand,
+    /// The log is full.
+    Full,
+    /// The verdict on a command.
+    Judged(Judged),
+    /// The reply to a raise.
+    Raised {
+        /// The place of the version on which it was done.
+        place: u16,
+        /// What it is told as.
+        told: Told,
+    },
+}

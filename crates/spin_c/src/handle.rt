@@ -1,0 +1,64 @@
+//! What C holds: a pointer that owns a lane, or null.
+
+ghost use Rattle.std.specs.Prelude.{◌≡◌, None, Option};
+ghost use Rattle.spin_c.specs.Lanes.{LaneAt, kept_coded, handle_owns};
+ghost use Rattle.spin_c.specs.Turns.{Turns};
+ghost use Rattle.spin_c.specs.Verdicts.{no_natives};
+
+use crate::ask::{Call, Outcome};
+use crate::lane::Lane;
+use crate::maybe::Maybe;
+use crate::turn::turn_maybe;
+use spin_objects::Natives;
+use std::alloc::Global;
+use std::marker::Model;
+use std::ptr::null_mut;
+
+/// A handle. Null is a closed one. C starts it as zeros, and copies no open one.
+#[repr(C)]
+#[derive(Drop)]
+pub struct SpinLane {
+    at: *mut u8,
+    alloc: Global,
+    pub ghost kept: { Option LaneAt } by { kept_coded },
+}
+
+impl Model for SpinLane {
+    ghost also_owns = { λ h. handle_owns h.alloc h.at h.kept };
+}
+
+impl SpinLane {
+    // A closed handle.
+    pub(crate) fn closed(alloc: Global) -> SpinLane
+        ensures { result.kept ≡ None }
+    {
+        SpinLane {
+            at: null_mut(),
+            alloc,
+        }
+    }
+
+    // Does the call on what the handle holds. There are no natives.
+    pub(crate) fn turn(self, none: Global, call: Call) -> (SpinLane, Outcome)
+        ensures { Turns no_natives self.kept call.ask.value result.0.kept result.1 }
+    {
+        let SpinLane { at, alloc } = self;
+        let natives = Natives::new(none);
+        let (maybe, outcome) = turn_maybe(
+            Maybe {
+                at: at as *mut Lane,
+                alloc,
+            },
+            natives,
+            call,
+        );
+        let Maybe { at, alloc } = maybe;
+        (
+            SpinLane {
+                at: at as *mut u8,
+                alloc,
+            },
+            outcome,
+        )
+    }
+}

@@ -1,0 +1,178 @@
+//! The calls of a handle.
+
+ghost use Rattle.std.specs.Prelude.{◌≡◌, IfOk, IfSome, None, Some, Option};
+ghost use Rattle.spin_script.specs.States.{natives_seen};
+ghost use Rattle.spin_table.specs.SetupOf.{data_of};
+ghost use Rattle.spin_seat.specs.Seats.{IsSeatOf};
+ghost use Rattle.spin_c.specs.Turns.{IsWell, IsWellLane, Opens, OpensTo, Raises, Commands, Does, Turns};
+ghost use Rattle.spin_c.specs.Turns.{answer_told, no_answer, told_of};
+
+use crate::ask::{Ask, Call, Outcome, Told};
+use crate::lane::Lane;
+use crate::loose::Loose;
+use crate::maybe::Maybe;
+use spin_code::Sincere;
+use spin_objects::{Catalogue, Natives};
+use spin_proto::Reply;
+use spin_raise::Answer;
+use spin_script::{Script, ScriptFault, read_script};
+use spin_seat::{Hub, Raised, SeatFault};
+use spin_values::{Args, NoMemory};
+use spin_word::{Deed, Row, unpack};
+use std::alloc::Global;
+
+// A lane over the script, at its start.
+fn open(alloc: Global, natives: Natives, text: &[u8]) -> Result<Lane, Outcome>
+    requires sincere { ⟦<Natives as Sincere>⟧.sincere natives }
+    ensures opens { Opens (natives_seen natives) text.now result }
+    ensures sincere { IfOk result (λ l. ⟦<Catalogue as Sincere>⟧.sincere l.hub.setup.catalogue) }
+    ensures well { IfOk result IsWellLane }
+{
+    let script = match read_script(alloc, text, natives) {
+        Ok(script) => script,
+        Err(ScriptFault::Bad { line, cause }) => return Err(Outcome::Bad { line, cause }),
+        Err(ScriptFault::NoMemory) => return Err(Outcome::NoMemory),
+    };
+    let Script { setup, .. } = script;
+    let (hub, mut seats) = match Hub::new(alloc, setup, 1) {
+        Ok(made) => made,
+        Err(NoMemory) => return Err(Outcome::NoMemory),
+    };
+    let Some(seat) = seats.take_first() else {
+        unreachable!()
+    };
+    let reply = None;
+    Ok(Lane { hub, seat, reply })
+}
+
+// What an answer is told as: the number of its kind, and its value.
+fn answer_told(answer: Answer, steps: u64) -> Told
+    ensures { result ≡ answer_told answer steps }
+{
+    let (kind, value) = match answer {
+        Answer::NoHandler => (0, 0),
+        Answer::Done => (1, 0),
+        Answer::Value(value) => (2, value),
+        Answer::Default(Some(value)) => (3, value),
+        Answer::Default(None) => (4, 0),
+    };
+    Told { kind, value, steps }
+}
+
+// What a raise that has no answer is told as.
+fn no_answer(kind: u32) -> Told
+    ensures { result ≡ no_answer kind }
+{
+    let (value, steps) = (0, 0);
+    Told { kind, value, steps }
+}
+
+// What a reply is told as.
+fn reply_told(reply: &Reply) -> Told
+    ensures { result ≡ told_of reply.now }
+{
+    match reply {
+        Reply::Ran { answer, trace, .. } => answer_told(*answer, trace.len() as u64),
+        Reply::UnknownEvent => no_answer(5),
+        Reply::WrongArgs => no_answer(6),
+        Reply::Spent => no_answer(7),
+        Reply::Queued(_) => no_answer(8),
+    }
+}
+
+// Raises the event, and keeps the reply.
+fn raise(alloc: Global, lane: &mut Lane, event: u8, args: Args) -> Outcome
+    requires sincere { ⟦<Catalogue as Sincere>⟧.sincere lane.old.hub.setup.catalogue }
+    requires well { IsWellLane lane.old }
+    ensures well { IsWellLane lane.new }
+    ensures raises { Raises lane.old event args lane.new result }
+{
+    lane.reply = None;
+    match lane
+        .seat
+        .raise(alloc, &lane.hub, &Deed::Raise { event, args })
+    {
+        Ok(Raised { place, reply, .. }) => {
+            let told = reply_told(&reply);
+            lane.reply = Some(reply);
+            Outcome::Raised { place, told }
+        }
+        Err(NoMemory) => Outcome::NoMemory,
+    }
+}
+
+// Does the command of the row.
+fn command(alloc: Global, lane: &mut Lane, row: &Row) -> Outcome
+    requires sincere { ⟦<Catalogue as Sincere>⟧.sincere lane.old.hub.setup.catalogue }
+    requires well { IsWellLane lane.old }
+    ensures well { IsWellLane lane.new }
+    ensures commands { Commands lane.old row.now lane.new result }
+{
+    let Some(command) = unpack(row) else {
+        return Outcome::NoCommand;
+    };
+    if command.lane != lane.seat.lane() {
+        return Outcome::NoCommand;
+    }
+    lane.reply = None;
+    match lane.seat.command(alloc, &lane.hub, &command) {
+        Ok(judged) => Outcome::Judged(judged),
+        Err(SeatFault::Full) => Outcome::Full,
+        Err(SeatFault::NoMemory) => Outcome::NoMemory,
+    }
+}
+
+// Does what is asked of an open lane, which only a close closes.
+fn turn_lane(alloc: Global, lane: &mut Lane, ask: Ask) -> Outcome
+    requires sincere { ⟦<Catalogue as Sincere>⟧.sincere lane.old.hub.setup.catalogue }
+    requires well { IsWellLane lane.old }
+    ensures well { IsWellLane lane.new }
+    ensures does { Does lane.old ask lane.new result }
+{
+    match ask {
+        Ask::Open(_) => Outcome::Open,
+        Ask::Raise { event, args } => raise(alloc, lane, event, args),
+        Ask::Command(row) => command(alloc, lane, &row),
+        Ask::Close => Outcome::Done,
+    }
+}
+
+// Opens a closed handle.
+fn open_maybe(alloc: Global, natives: Natives, text: &[u8]) -> (Maybe<Lane>, Outcome)
+    requires sincere { ⟦<Natives as Sincere>⟧.sincere natives }
+    ensures well { IsWell result.0.value }
+    ensures opens { OpensTo (natives_seen natives) text.now result.0.value result.1 }
+{
+    let lane = match open(alloc, natives, text) {
+        Ok(lane) => lane,
+        Err(outcome) => return (Maybe::none(alloc), outcome),
+    };
+    match Box::new(alloc, lane) {
+        Ok(lane) => (Maybe::of(Loose::of(lane)), Outcome::Done),
+        Err(_) => (Maybe::none(alloc), Outcome::NoMemory),
+    }
+}
+
+// Does the call on what a handle holds.
+pub(crate) fn turn_maybe(maybe: Maybe<Lane>, natives: Natives, call: Call) -> (Maybe<Lane>, Outcome)
+    requires natives { ⟦<Natives as Sincere>⟧.sincere natives }
+    requires sincere { IfSome maybe.value (λ l. ⟦<Catalogue as Sincere>⟧.sincere l.hub.setup.catalogue) }
+    requires well { IsWell maybe.value }
+    ensures well { IsWell result.0.value }
+    ensures does { Turns (natives_seen natives) maybe.value call.ask.value result.0.value result.1 }
+{
+    let Call { alloc, ask } = call;
+    let ask = Box::into_inner(ask);
+    let Some(loose) = maybe.into_loose() else {
+        return match ask {
+            Ask::Open(text) => open_maybe(alloc, natives, text.as_slice()),
+            _ => (Maybe::none(alloc), Outcome::Closed),
+        };
+    };
+    let mut lane = loose.into_box();
+    if let Ask::Close = ask {
+        return (Maybe::none(alloc), Outcome::Done);
+    }
+    let outcome = turn_lane(alloc, &mut lane, ask);
+    (Maybe::of(Loose::of(lane)), outcome)
+}
