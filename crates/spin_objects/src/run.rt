@@ -34,7 +34,7 @@ fn part_value(alloc: Global, part: &Part, args: &Args) -> Result<Value, NoMemory
 fn part_values(alloc: Global, parts: &[Part], args: &Args) -> Result<Args, NoMemory>
     ensures { IfOk result (λ made. made ≡ map (part_of args.now) parts.now) }
 {
-    let mut made = Args::new(alloc);
+    let mut made = Args::with_capacity(alloc, parts.len())?;
     for part in parts {
         made.push(part_value(alloc, part, args)?)?;
     }
