@@ -5,7 +5,7 @@ use kit::alloc::Global;
 use kit::boxed::boxed;
 use spin_code::{Act, ActStep, Expr, Steplist};
 use spin_objects::{Handler, Item, Natives, Outcome};
-use spin_proto::{Deed, Reply, Step};
+use spin_proto::{Deed, ReplyBuffer, Step};
 use spin_script::{Script, read_script};
 use spin_seat::{Hub, Seat};
 use spin_table::Verdicted;
@@ -142,7 +142,14 @@ fn main() {
             for _ in 0..count {
                 last = Some(seat.raise(alloc, &hub, &deed).unwrap());
             }
-            ran = last.map_or(0, |raised| match &raised.reply { Reply::Ran { trace, .. } => handlers(trace.as_slice()), _ => 0 });
+            ran = last.map_or(0, |raised| handlers(raised.reply.trace()));
+        }
+        "raise_into" => {
+            let mut buffer = ReplyBuffer::new(alloc);
+            for _ in 0..count {
+                seat.raise_into(alloc, &hub, &deed, &mut buffer).unwrap();
+            }
+            ran = handlers(buffer.trace());
         }
         _ => panic!("no such call"),
     }
