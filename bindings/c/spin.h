@@ -24,19 +24,19 @@ extern "C" {
 
 enum spin_error {
     SPIN_OK = 0,
-    SPIN_NO_MEMORY = 1,  /* there was no memory */
-    SPIN_BAD_SCRIPT = 2, /* the text is no script: its first bad line, and the cause, are told */
-    SPIN_NO_HISTORY = 3, /* the report isn't that of a history of the script */
-    SPIN_CLOSED = 4,     /* the handle is closed */
-    SPIN_OPEN = 5,       /* the handle is open already */
-    SPIN_NO_COMMAND = 6, /* the row stands for no command of lane 0 */
-    SPIN_FULL = 7,       /* the log has as many commands as it holds */
-    SPIN_REFUSED = 8,    /* the command is refused: its place, and the number of the refusal, are told */
-    SPIN_NO_REPLY = 9,   /* no reply is kept: nothing was raised yet, or a command was done since */
-    SPIN_NO_STEP = 10,   /* the reply has no step of that index */
-    SPIN_TOO_SMALL = 11, /* the bytes don't fit the buffer; how many they are is told */
+    SPIN_NO_MEMORY = 1,    /* there was no memory */
+    SPIN_BAD_SCRIPT = 2,   /* the text is no script: its first bad line, and the cause, are told */
+    SPIN_NO_HISTORY = 3,   /* the report isn't that of a history of the script */
+    SPIN_CLOSED = 4,       /* the handle is closed */
+    SPIN_OPEN = 5,         /* the handle is open already */
+    SPIN_NO_COMMAND = 6,   /* the row stands for no command of lane 0 */
+    SPIN_FULL = 7,         /* the log has as many commands as it holds */
+    SPIN_REFUSED = 8,      /* the command is refused: its place, and the number of the refusal, are told */
+    SPIN_NO_REPLY = 9,     /* no reply is kept: nothing was raised yet, or a command was done since */
+    SPIN_NO_STEP = 10,     /* the reply has no step of that index */
+    SPIN_TOO_SMALL = 11,   /* the bytes don't fit the buffer; how many they are is told */
     SPIN_NO_ARGUMENT = 12, /* an argument is neither a word nor a range within the bytes: nothing is done */
-    SPIN_NULL = 100      /* a pointer is null that may not be */
+    SPIN_NULL = 100        /* a pointer is null that may not be */
 };
 
 /* Where a text is no script, and why; zeros where nothing is told. */
@@ -134,7 +134,10 @@ static inline uint32_t spin_judge(const void *text, size_t text_length, const vo
 static inline uint32_t spin_lane_open(struct spin_lane *lane, const void *text, size_t length,
                                       struct spin_answer *answer) {
     const uint8_t *bytes = spin_bytes(text, length);
-    return bytes == NULL || lane == NULL || answer == NULL ? SPIN_NULL : spin_open(bytes, length, lane, answer);
+    if (bytes == NULL || lane == NULL || answer == NULL) {
+        return SPIN_NULL;
+    }
+    return spin_open(bytes, length, lane, answer);
 }
 
 /* Raises an event with words as its arguments. */
@@ -142,8 +145,10 @@ static inline uint32_t spin_lane_raise(struct spin_lane *lane, uint8_t event, co
                                        struct spin_answer *answer) {
     static const uint64_t none[1] = {0};
     const uint64_t *given = words == NULL && count == 0 ? none : words;
-    return given == NULL || lane == NULL || answer == NULL ? SPIN_NULL
-                                                           : spin_raise_words(lane, event, given, count, answer);
+    if (given == NULL || lane == NULL || answer == NULL) {
+        return SPIN_NULL;
+    }
+    return spin_raise_words(lane, event, given, count, answer);
 }
 
 /* An argument that is a word. */
@@ -164,15 +169,19 @@ static inline uint32_t spin_lane_raise_args(struct spin_lane *lane, uint8_t even
     static const struct spin_arg none[1] = {{SPIN_WORD, 0, 0}};
     const struct spin_arg *given = args == NULL && count == 0 ? none : args;
     const uint8_t *at = spin_bytes(bytes, length);
-    return at == NULL || given == NULL || lane == NULL || answer == NULL
-               ? SPIN_NULL
-               : spin_raise(lane, event, at, length, given, count, answer);
+    if (at == NULL || given == NULL || lane == NULL || answer == NULL) {
+        return SPIN_NULL;
+    }
+    return spin_raise(lane, event, at, length, given, count, answer);
 }
 
 /* Tells the step at an index, counted from 0, of the reply to the last raise. It is kept until the next raise, and the
  * next row that stands for a command. */
 static inline uint32_t spin_lane_step(struct spin_lane *lane, uint64_t index, struct spin_step *step) {
-    return lane == NULL || step == NULL ? SPIN_NULL : spin_step(lane, index, step);
+    if (lane == NULL || step == NULL) {
+        return SPIN_NULL;
+    }
+    return spin_step(lane, index, step);
 }
 
 /* Copies the bytes that such a step sends into a buffer, null standing for one of no bytes, and tells how many. */
@@ -180,13 +189,18 @@ static inline uint32_t spin_lane_step_bytes(struct spin_lane *lane, uint64_t ind
                                             uint64_t *length) {
     uint8_t none[1] = {0};
     uint8_t *at = buffer == NULL && room == 0 ? none : (uint8_t *)buffer;
-    return at == NULL || lane == NULL || length == NULL ? SPIN_NULL
-                                                        : spin_step_bytes(lane, index, at, room, length);
+    if (at == NULL || lane == NULL || length == NULL) {
+        return SPIN_NULL;
+    }
+    return spin_step_bytes(lane, index, at, room, length);
 }
 
 /* Closes a handle. */
 static inline uint32_t spin_lane_close(struct spin_lane *lane, struct spin_answer *answer) {
-    return lane == NULL || answer == NULL ? SPIN_NULL : spin_close(lane, answer);
+    if (lane == NULL || answer == NULL) {
+        return SPIN_NULL;
+    }
+    return spin_close(lane, answer);
 }
 
 enum spin_op { SPIN_INSTALL = 1, SPIN_REMOVE = 2, SPIN_REPLACE = 3, SPIN_SET_DEFAULT = 4, SPIN_NO_DEFAULT = 5 };
