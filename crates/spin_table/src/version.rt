@@ -3,7 +3,7 @@
 ghost use Rattle.std.specs.Prelude.{◌≡◌, ◌≤◌, ◌<◌, ◌+◌, ℕ, List, [], map, IsTrue, IfOk, Some};
 ghost use Rattle.std.specs.Prelude.{None, MatchResult, length, slice_get, slice_set};
 ghost use Rattle.std.specs.Prelude.{IsSomeAnd, Decides};
-ghost use Rattle.spin_word.specs.Commands.{is_command};
+ghost use Rattle.spin_word.specs.Commands.{is_command, no_number};
 ghost use Rattle.spin_place.specs.Precedence.{IsTheOrder, HasLawfulOrder};
 ghost use Rattle.spin_values.specs.First.{first_of};
 ghost use Rattle.spin_table.specs.Setups.{has_authority};
@@ -16,7 +16,6 @@ ghost use Rattle.spin_objects.specs.Units.{tests_of};
 ghost use Rattle.spin_table.specs.Soundness.{IsSound, IsSoundEvent};
 ghost use Rattle.spin_table.specs.SetupOf.{data_of};
 ghost use Rattle.spin_table.specs.declared.setup.TheConstants.{MAX_LIVE};
-ghost use Rattle.spin_word.specs.declared.command.TheConstants.{MAX_PLACE};
 ghost use Rattle.spin_table.specs.States.{first_state, start_of};
 ghost use Rattle.std.specs.Arc.{arc_value};
 
@@ -99,7 +98,7 @@ impl EventSlot {
         place: u16,
         c: &Command,
     ) -> Result<Bindings, NoMemory>
-        requires room { place < MAX_PLACE }
+        requires room { place + 1 < no_number }
         requires few { length self.now.bindings ≤ MAX_LIVE }
         requires there { IsTrue (has_authority (data_of setup.now).policies def.now.authority) }
         requires sincere { ⟦<Catalogue as Sincere>⟧.sincere setup.now.catalogue }
@@ -123,7 +122,7 @@ impl EventSlot {
         steps: &mut Steps<L>,
     ) -> Result<EventSlot, StepFault>
         requires sincere { ⟦<Catalogue as Sincere>⟧.sincere setup.now.catalogue }
-        requires room { place < MAX_PLACE }
+        requires room { place + 1 < no_number }
         requires event { slice_get (data_of setup.now).events c.now.event ≡ Some def.now }
         requires sound { IsSoundEvent (data_of setup.now) place c.now.event def.now self.now }
         requires passed { first_of (refusals_at (data_of setup.now) def.now self.now.bindings c.now) ≡ None }
@@ -160,7 +159,7 @@ impl EventSlot {
         steps: &mut Steps<L>,
     ) -> Result<EventSlot, StepFault>
         requires sincere { ⟦<Catalogue as Sincere>⟧.sincere setup.now.catalogue }
-        requires room { place < MAX_PLACE }
+        requires room { place + 1 < no_number }
         requires event { slice_get (data_of setup.now).events c.now.event ≡ Some def.now }
         requires sound { IsSoundEvent (data_of setup.now) place c.now.event def.now self.now }
         requires passed { first_of (refusals_at (data_of setup.now) def.now self.now.bindings c.now) ≡ None }
@@ -309,7 +308,7 @@ impl Version {
     // The next version, in which this slot is the event's.
     fn with_event(&self, alloc: Global, event: u8, slot: EventSlot) -> Result<Version, NoMemory>
         requires there { event < length self.now.events }
-        requires room { self.now.place < MAX_PLACE }
+        requires room { self.now.place + 1 < no_number }
         ensures { IfOk result (λ v.
             v
             ≡ record
@@ -343,7 +342,7 @@ impl Version {
     ) -> Result<Version, StepFault>
         requires sincere { ⟦<Catalogue as Sincere>⟧.sincere setup.now.catalogue }
         requires valid { IsTrue (is_command c.now) }
-        requires room { self.now.place < MAX_PLACE }
+        requires room { self.now.place + 1 < no_number }
         requires sound { IsSound (data_of setup.now) self.now }
         ensures answer { specs.IsAnswer (data_of setup.now) self.now c.now result }
         ensures sound { IfOk result (λ v. IsSound (data_of setup.now) v) }
@@ -382,7 +381,7 @@ impl Version {
         requires some { 0 < L.parts }
         requires sincere { ⟦<Catalogue as Sincere>⟧.sincere setup.now.catalogue }
         requires valid { IsTrue (is_command c.now) }
-        requires room { self.now.place < MAX_PLACE }
+        requires room { self.now.place + 1 < no_number }
         requires sound { IsSound (data_of setup.now) self.now }
         ensures answer { specs.IsAnswer (data_of setup.now) self.now c.now result }
         ensures sound { IfOk result (λ v. IsSound (data_of setup.now) v) }
@@ -395,7 +394,7 @@ impl Version {
     pub fn next(&self, alloc: Global, setup: &Setup, c: &Command) -> Result<Version, StepFault>
         requires sincere { ⟦<Catalogue as Sincere>⟧.sincere setup.now.catalogue }
         requires valid { IsTrue (is_command c.now) }
-        requires room { self.now.place < MAX_PLACE }
+        requires room { self.now.place + 1 < no_number }
         requires sound { IsSound (data_of setup.now) self.now }
         ensures answer { specs.IsAnswer (data_of setup.now) self.now c.now result }
         ensures sound { IfOk result (λ v. IsSound (data_of setup.now) v) }
@@ -414,7 +413,7 @@ impl Version {
         cycle: &[u16],
     ) -> Result<bool, NoMemory>
         requires sincere { ⟦<Catalogue as Sincere>⟧.sincere setup.now.catalogue }
-        requires room { self.now.place < MAX_PLACE }
+        requires room { self.now.place + 1 < no_number }
         requires sound { IsSound (data_of setup.now) self.now }
         ensures { IfOk result (λ told.
             Decides told (MayConflict (data_of setup.now) self.now c.now cycle.now)) }
