@@ -1,4 +1,4 @@
-"""build [--all]: proves the crates that the program stands on and builds it; with --all the three hosts too.
+"""build [--all]: proves the crates that the program stands on and builds it; with --all the hosts too.
 
 A crate is built by `rt lib` as soon as those that it stands on are, several at once; jobs.py has the order. What was built
 stays: a build that was killed is gone on with by the next. The outcome of each call of rt lies in out/build/NAME.log.
@@ -18,7 +18,7 @@ from wrapper.program import CRATE, NOT_RUN, PROGRAM, TOP, crates_listed, is_buil
 from wrapper.trial import has_toolchain, passed
 
 LOGS = TOP / "out" / "build"
-HOSTS = ("host_filter", "host_plugins", "host_workers")
+HOSTS = ("host_filter", "host_logger", "host_plugins", "host_workers")
 
 # What has to be free before a build begins, in bytes.
 MEMORY, DISK = 3_000_000_000, 6_000_000_000

@@ -16,6 +16,9 @@ TOOL = TOP / "tools" / "plain"
 OUT = TOP / "out" / "plain"
 KEPT = 3
 
+# A host in ordinary Rust, over the sources as `write_sources` leaves them.
+HOST = TOP / "examples" / "plain_host"
+
 # What the files are called from which the plain program is made.
 SUFFIXES = (".rt", ".rs", ".toml", ".py")
 
@@ -112,6 +115,15 @@ def by_cargo():
     words = ["--quiet", "--offline", "--target-dir", str(OUT / "target"), "--package", "spin_main"]
     call(["cargo", "build", *words])
     return OUT / "target" / "debug" / "spin_main"
+
+
+def host():
+    """The file of the host in ordinary Rust, which cargo builds over the sources as Rust."""
+    with locked():
+        write_sources()
+        words = ["--quiet", "--offline", "--manifest-path", str(HOST / "Cargo.toml"), "--target-dir", str(OUT / "target")]
+        call(["cargo", "build", *words])
+    return OUT / "target" / "debug" / HOST.name
 
 
 def by_rustc(erase):

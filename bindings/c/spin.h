@@ -24,15 +24,19 @@ extern "C" {
 
 enum spin_error {
     SPIN_OK = 0,
-    SPIN_NO_MEMORY = 1,  /* there was no memory */
-    SPIN_BAD_SCRIPT = 2, /* the text is no script: its first bad line, and the cause, are told */
-    SPIN_NO_HISTORY = 3, /* the report isn't that of a history of the script */
-    SPIN_CLOSED = 4,     /* the handle is closed */
-    SPIN_OPEN = 5,       /* the handle is open already */
-    SPIN_NO_COMMAND = 6, /* the row stands for no command of lane 0 */
-    SPIN_FULL = 7,       /* the log has as many commands as it holds */
-    SPIN_REFUSED = 8,    /* the command is refused: its place, and the number of the refusal, are told */
-    SPIN_NULL = 100      /* a pointer is null that may not be */
+    SPIN_NO_MEMORY = 1,    /* there was no memory */
+    SPIN_BAD_SCRIPT = 2,   /* the text is no script: its first bad line, and the cause, are told */
+    SPIN_NO_HISTORY = 3,   /* the report isn't that of a history of the script */
+    SPIN_CLOSED = 4,       /* the handle is closed */
+    SPIN_OPEN = 5,         /* the handle is open already */
+    SPIN_NO_COMMAND = 6,   /* the row stands for no command of lane 0 */
+    SPIN_FULL = 7,         /* the log has as many commands as it holds */
+    SPIN_REFUSED = 8,      /* the command is refused: its place, and the number of the refusal, are told */
+    SPIN_NO_REPLY = 9,     /* no reply is kept: nothing was raised yet, or a command was done since */
+    SPIN_NO_STEP = 10,     /* the reply has no step of that index */
+    SPIN_TOO_SMALL = 11,   /* the bytes don't fit the buffer; how many they are is told */
+    SPIN_NO_ARGUMENT = 12, /* an argument is neither a word nor a range within the bytes: nothing is done */
+    SPIN_NULL = 100        /* a pointer is null that may not be */
 };
 
 /* Where a text is no script, and why; zeros where nothing is told. */
@@ -66,6 +70,29 @@ struct spin_answer {
     uint64_t steps; /* the number of steps of a raise */
 };
 
+/* The kinds of steps of a reply. */
+enum spin_step_kind {
+    SPIN_RUN = 1,     /* the handler of binding `number` of `event` runs, 0 being the default; its steps follow */
+    SPIN_RESULT = 2,  /* the act gives the result `value` */
+    SPIN_SEND = 3,    /* the act sends `length` bytes to endpoint `number` */
+    SPIN_UP = 4,      /* a raise upwards of `event` begins; its steps follow */
+    SPIN_BACK = 5,    /* the last raise upwards that hasn't ended ends: `answer` is its spin_kind, `value` its value */
+    SPIN_DROPPED = 6, /* the act drops a packet: `number` is that of the fault of its headers */
+    SPIN_JOB = 7      /* the handler of binding `number` of `event` is left to a job */
+};
+
+/* A step of a reply. What its kind doesn't have is 0. */
+struct spin_step {
+    uint32_t kind, event, number, answer;
+    uint64_t value, length;
+};
+
+/* An argument: a word, which is `at`; or `length` bytes from `at` on of those that are handed in beside it. */
+enum spin_argument_kind { SPIN_WORD = 0, SPIN_BYTES = 1 };
+struct spin_arg {
+    uint64_t kind, at, length;
+};
+
 /* A command as four words, by the table of crates/spin_word/src/row.rt. */
 struct spin_row {
     uint64_t a, b, c, d;
@@ -79,6 +106,10 @@ uint32_t spin_check(const uint8_t *text, size_t text_length, const uint8_t *repo
 uint32_t spin_open(const uint8_t *text, size_t text_length, struct spin_lane *lane, struct spin_answer *answer);
 uint32_t spin_raise_words(struct spin_lane *lane, uint8_t event, const uint64_t *words, size_t count,
                           struct spin_answer *answer);
+uint32_t spin_raise(struct spin_lane *lane, uint8_t event, const uint8_t *bytes, size_t length,
+                    const struct spin_arg *args, size_t count, struct spin_answer *answer);
+uint32_t spin_step(struct spin_lane *lane, uint64_t index, struct spin_step *step);
+uint32_t spin_step_bytes(struct spin_lane *lane, uint64_t index, uint8_t *buffer, size_t room, uint64_t *length);
 uint32_t spin_command(struct spin_lane *lane, const struct spin_row *row, struct spin_answer *answer);
 uint32_t spin_close(struct spin_lane *lane, struct spin_answer *answer);
 
@@ -103,7 +134,10 @@ static inline uint32_t spin_judge(const void *text, size_t text_length, const vo
 static inline uint32_t spin_lane_open(struct spin_lane *lane, const void *text, size_t length,
                                       struct spin_answer *answer) {
     const uint8_t *bytes = spin_bytes(text, length);
-    return bytes == NULL || lane == NULL || answer == NULL ? SPIN_NULL : spin_open(bytes, length, lane, answer);
+    if (bytes == NULL || lane == NULL || answer == NULL) {
+        return SPIN_NULL;
+    }
+    return spin_open(bytes, length, lane, answer);
 }
 
 /* Raises an event with words as its arguments. */
@@ -111,13 +145,62 @@ static inline uint32_t spin_lane_raise(struct spin_lane *lane, uint8_t event, co
                                        struct spin_answer *answer) {
     static const uint64_t none[1] = {0};
     const uint64_t *given = words == NULL && count == 0 ? none : words;
-    return given == NULL || lane == NULL || answer == NULL ? SPIN_NULL
-                                                           : spin_raise_words(lane, event, given, count, answer);
+    if (given == NULL || lane == NULL || answer == NULL) {
+        return SPIN_NULL;
+    }
+    return spin_raise_words(lane, event, given, count, answer);
+}
+
+/* An argument that is a word. */
+static inline struct spin_arg spin_word(uint64_t word) {
+    const struct spin_arg arg = {SPIN_WORD, word, 0};
+    return arg;
+}
+
+/* An argument that is a range of the bytes that are handed in beside it. */
+static inline struct spin_arg spin_range(uint64_t start, uint64_t length) {
+    const struct spin_arg arg = {SPIN_BYTES, start, length};
+    return arg;
+}
+
+/* Raises an event with these arguments, words and ranges of these bytes. */
+static inline uint32_t spin_lane_raise_args(struct spin_lane *lane, uint8_t event, const void *bytes, size_t length,
+                                            const struct spin_arg *args, size_t count, struct spin_answer *answer) {
+    static const struct spin_arg none[1] = {{SPIN_WORD, 0, 0}};
+    const struct spin_arg *given = args == NULL && count == 0 ? none : args;
+    const uint8_t *at = spin_bytes(bytes, length);
+    if (at == NULL || given == NULL || lane == NULL || answer == NULL) {
+        return SPIN_NULL;
+    }
+    return spin_raise(lane, event, at, length, given, count, answer);
+}
+
+/* Tells the step at an index, counted from 0, of the reply to the last raise. It is kept until the next raise, and the
+ * next row that stands for a command. */
+static inline uint32_t spin_lane_step(struct spin_lane *lane, uint64_t index, struct spin_step *step) {
+    if (lane == NULL || step == NULL) {
+        return SPIN_NULL;
+    }
+    return spin_step(lane, index, step);
+}
+
+/* Copies the bytes that such a step sends into a buffer, null standing for one of no bytes, and tells how many. */
+static inline uint32_t spin_lane_step_bytes(struct spin_lane *lane, uint64_t index, void *buffer, size_t room,
+                                            uint64_t *length) {
+    uint8_t none[1] = {0};
+    uint8_t *at = buffer == NULL && room == 0 ? none : (uint8_t *)buffer;
+    if (at == NULL || lane == NULL || length == NULL) {
+        return SPIN_NULL;
+    }
+    return spin_step_bytes(lane, index, at, room, length);
 }
 
 /* Closes a handle. */
 static inline uint32_t spin_lane_close(struct spin_lane *lane, struct spin_answer *answer) {
-    return lane == NULL || answer == NULL ? SPIN_NULL : spin_close(lane, answer);
+    if (lane == NULL || answer == NULL) {
+        return SPIN_NULL;
+    }
+    return spin_close(lane, answer);
 }
 
 enum spin_op { SPIN_INSTALL = 1, SPIN_REMOVE = 2, SPIN_REPLACE = 3, SPIN_SET_DEFAULT = 4, SPIN_NO_DEFAULT = 5 };
@@ -188,6 +271,10 @@ static inline const char *spin_error_name(uint32_t error) {
     case SPIN_NO_COMMAND: return "no command";
     case SPIN_FULL: return "the log is full";
     case SPIN_REFUSED: return "refused";
+    case SPIN_NO_REPLY: return "no reply";
+    case SPIN_NO_STEP: return "no such step";
+    case SPIN_TOO_SMALL: return "the buffer is too small";
+    case SPIN_NO_ARGUMENT: return "no argument";
     case SPIN_NULL: return "null";
     default: return "unknown";
     }

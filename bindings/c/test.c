@@ -1,4 +1,4 @@
-/* What spin.h's own code answers: null pointers, and the names of errors. */
+/* What the calls of a handle answer, and spin.h's own code: null pointers, and the names of errors. */
 #include "spin.h"
 
 #include <stdio.h>
@@ -55,8 +55,117 @@ static void expect_lanes(void) {
     expect("its close", spin_lane_close(&lane, &answer), SPIN_OK);
 }
 
+/* A script whose raise has a step of each kind: an act that sends, gives a result and raises upwards, where a packet is
+ * dropped; and an asynchronous handler. */
+static const char trail[] =
+    "spin 1\nevent 0 0 bw:w last\nevent 1 0 b last\nevent 2 0 bwww last\nendpoint 0 out0\n"
+    "handler 1 bw:w send 0 0 1 up 1 1 b 0 0 result a1\nhandler 2 b layer ipv4 2\nhandler 3 bw:w result a1\n";
+
+static const struct spin_step steps[] = {
+    {.kind = SPIN_RUN, .event = 0, .number = 1}, {.kind = SPIN_SEND, .number = 0, .length = 2},
+    {.kind = SPIN_RESULT, .value = 7},           {.kind = SPIN_UP, .event = 1},
+    {.kind = SPIN_RUN, .event = 1, .number = 2}, {.kind = SPIN_DROPPED, .number = 1},
+    {.kind = SPIN_BACK, .answer = SPIN_DONE},    {.kind = SPIN_JOB, .event = 0, .number = 3},
+};
+
+/* What is told where no step is. */
+static void expect_no_step(struct spin_lane *lane, uint64_t index, uint32_t wanted) {
+    const struct spin_step none = {0, 0, 0, 0, 0, 0};
+    struct spin_step step = {9, 9, 9, 9, 9, 9};
+    uint64_t length = 9;
+    char buffer[2] = "-";
+    expect("no step", spin_lane_step(lane, index, &step), wanted);
+    expect("no bytes", spin_lane_step_bytes(lane, index, buffer, 1, &length), wanted);
+    if (memcmp(&step, &none, sizeof step) != 0 || length != 0 || buffer[0] != '-') {
+        puts("where no step is one is told");
+        wrong = 1;
+    }
+}
+
+/* What a buffer of so much room gets of a step's bytes. */
+static void expect_bytes(struct spin_lane *lane, uint64_t index, size_t room, uint32_t wanted, const char *bytes) {
+    char buffer[] = "-----", filled[] = "-----";
+    uint64_t length = 9;
+    expect("the bytes of a step", spin_lane_step_bytes(lane, index, buffer, room, &length), wanted);
+    if (wanted == SPIN_OK) {
+        memcpy(filled, bytes, strlen(bytes));
+    }
+    if (length != strlen(bytes) || strcmp(buffer, filled) != 0) {
+        printf("of a step %u bytes are told, and the buffer is %s\n", (unsigned)length, buffer);
+        wrong = 1;
+    }
+}
+
+/* What is told of the steps of a raise with bytes. */
+static void expect_steps(void) {
+    const struct spin_arg args[2] = {spin_range(1, 3), spin_word(7)};
+    struct spin_lane lane = {NULL};
+    struct spin_answer answer = {9, 9, 9, 9};
+    struct spin_step step;
+    expect_no_step(&lane, 0, SPIN_CLOSED);
+    expect("an open", spin_lane_open(&lane, trail, sizeof trail - 1, &answer), SPIN_OK);
+    expect_no_step(&lane, 0, SPIN_NO_REPLY);
+    for (uint16_t number = 1; number < 4; number++) {
+        const struct spin_command_words install = {
+            .op = SPIN_INSTALL, .event = number == 2, .handler = number, .mode = number == 3 ? SPIN_ASYNC : SPIN_PLAIN};
+        expect("a command", spin_lane_command(&lane, &install, &answer), SPIN_OK);
+    }
+    expect("a raise", spin_lane_raise_args(&lane, 0, "abcde", 5, args, 2, &answer), SPIN_OK);
+    if (answer.kind != SPIN_VALUE || answer.value != 7 || answer.steps != sizeof steps / sizeof *steps) {
+        puts("the raise with bytes has another answer");
+        wrong = 1;
+    }
+    for (uint64_t index = 0; index < answer.steps; index++) {
+        expect("a step", spin_lane_step(&lane, index, &step), SPIN_OK);
+        if (memcmp(&step, &steps[index], sizeof step) != 0) {
+            printf("step %u is another, of kind %u\n", (unsigned)index, step.kind);
+            wrong = 1;
+        }
+    }
+    expect_no_step(&lane, answer.steps, SPIN_NO_STEP);
+    expect_no_step(&lane, UINT64_MAX, SPIN_NO_STEP);
+    expect_bytes(&lane, 1, 5, SPIN_OK, "cd");
+    expect_bytes(&lane, 1, 2, SPIN_OK, "cd");
+    expect_bytes(&lane, 1, 1, SPIN_TOO_SMALL, "cd");
+    expect_bytes(&lane, 0, 0, SPIN_OK, "");
+    expect("a null step", spin_lane_step(&lane, 0, NULL), SPIN_NULL);
+    expect("a null buffer", spin_lane_step_bytes(&lane, 1, NULL, 2, &answer.value), SPIN_NULL);
+    expect("a null buffer of no bytes", spin_lane_step_bytes(&lane, 1, NULL, 0, &answer.value), SPIN_TOO_SMALL);
+    expect("a close", spin_lane_close(&lane, &answer), SPIN_OK);
+}
+
+/* What is told of arguments that aren't given, and when a reply goes. */
+static void expect_replies(void) {
+    const struct spin_arg whole[2] = {spin_range(0, 5), spin_word(7)}, past[2] = {spin_range(3, 3), spin_word(7)};
+    const struct spin_arg huge[1] = {spin_range(UINT64_MAX, 2)}, other[1] = {{2, 0, 0}};
+    const struct spin_command_words none = {.op = SPIN_INSTALL, .handler = 1024}, install = {.op = SPIN_INSTALL};
+    struct spin_lane lane = {NULL};
+    struct spin_answer answer = {9, 9, 9, 9};
+    struct spin_step step;
+    expect("an open", spin_lane_open(&lane, trail, sizeof trail - 1, &answer), SPIN_OK);
+    expect("a raise of no handler", spin_lane_raise_args(&lane, 0, "abcde", 5, whole, 2, &answer), SPIN_OK);
+    expect_no_step(&lane, 0, SPIN_NO_STEP);
+    expect("a range past the end", spin_lane_raise_args(&lane, 0, "abcde", 5, past, 2, &answer), SPIN_NO_ARGUMENT);
+    expect("a huge range", spin_lane_raise_args(&lane, 0, "abcde", 5, huge, 1, &answer), SPIN_NO_ARGUMENT);
+    expect("another kind", spin_lane_raise_args(&lane, 0, "abcde", 5, other, 1, &answer), SPIN_NO_ARGUMENT);
+    expect("null bytes", spin_lane_raise_args(&lane, 0, NULL, 5, whole, 2, &answer), SPIN_NULL);
+    expect("null arguments", spin_lane_raise_args(&lane, 0, "abcde", 5, NULL, 2, &answer), SPIN_NULL);
+    expect("a row that is no command", spin_lane_command(&lane, &none, &answer), SPIN_NO_COMMAND);
+    expect("the reply stays", spin_lane_step(&lane, 0, &step), SPIN_NO_STEP);
+    expect("a refused command", spin_lane_command(&lane, &install, &answer), SPIN_REFUSED);
+    expect("the reply is gone", spin_lane_step(&lane, 0, &step), SPIN_NO_REPLY);
+    expect("no arguments", spin_lane_raise_args(&lane, 0, NULL, 0, NULL, 0, &answer), SPIN_OK);
+    if (answer.kind != SPIN_WRONG_ARGUMENTS) {
+        puts("no arguments fit the event");
+        wrong = 1;
+    }
+    expect("a close", spin_lane_close(&lane, &answer), SPIN_OK);
+}
+
 int main(void) {
     expect_lanes();
+    expect_steps();
+    expect_replies();
     static const char script[] =
         "spin 1\nevent 0 0 -:w last\nhandler 1 -:w result 7\nlane 0 install 0 0 1 0 free plain\nlane 0 raise 0\n";
     static const char report[] =

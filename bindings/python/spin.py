@@ -14,16 +14,23 @@ from collections.abc import Iterable
 from dataclasses import dataclass
 from os import PathLike, fspath
 
-__all__ = ["BadScript", "Fault", "KINDS", "Lane", "Library", "NoMemory", "REFUSALS", "Refused", "Reply"]
+__all__ = [
+    *("BadScript", "Fault", "KINDS", "Lane", "Library", "NoMemory", "NoStep", "REFUSALS", "Refused", "Reply"),
+    *("STEPS", "Step"),
+]
 
 # The numbers that the calls answer, as bindings/c/spin.h has them.
 _OK, _NO_MEMORY, _BAD_SCRIPT, _NO_HISTORY, _CLOSED, _OPEN, _NO_COMMAND, _FULL, _REFUSED = range(9)
+_NO_REPLY, _NO_STEP = 9, 10
 
 # The kinds of replies to a raise, by number.
 KINDS = (
     *("no handler", "done", "value", "default value", "default"),
     *("unknown event", "wrong arguments", "too many handlers"),
 )
+
+# The kinds of steps of replies, by number from 1.
+STEPS = ("run", "result", "send", "up", "back", "dropped", "job")
 
 # The names of refusals, by number from 1.
 REFUSALS = (
@@ -35,6 +42,7 @@ REFUSALS = (
 _SAID = {
     **{_CLOSED: "the lane is closed", _OPEN: "the lane is open"},
     **{_NO_COMMAND: "that is no command", _FULL: "the log is full"},
+    **{_NO_REPLY: "no reply is kept", _NO_STEP: "the reply has no such step"},
 }
 
 
@@ -65,6 +73,10 @@ class Refused(Fault):
         super().__init__(f"refused {number} {self.name} at {place}")
 
 
+class NoStep(Fault):
+    """The reply has no step of that index."""
+
+
 class _SpinFault(ctypes.Structure):
     """As struct spin_fault of bindings/c/spin.h."""
 
@@ -77,6 +89,21 @@ class _SpinAnswer(ctypes.Structure):
     _fields_ = [
         *(("place", ctypes.c_uint32), ("kind", ctypes.c_uint32)),
         *(("value", ctypes.c_uint64), ("steps", ctypes.c_uint64)),
+    ]
+
+
+class _SpinArg(ctypes.Structure):
+    """As struct spin_arg of bindings/c/spin.h."""
+
+    _fields_ = [("kind", ctypes.c_uint64), ("at", ctypes.c_uint64), ("length", ctypes.c_uint64)]
+
+
+class _SpinStep(ctypes.Structure):
+    """As struct spin_step of bindings/c/spin.h."""
+
+    _fields_ = [
+        *(("kind", ctypes.c_uint32), ("event", ctypes.c_uint32), ("number", ctypes.c_uint32)),
+        *(("answer", ctypes.c_uint32), ("value", ctypes.c_uint64), ("length", ctypes.c_uint64)),
     ]
 
 
@@ -94,7 +121,21 @@ def _fault(number: int, answer: _SpinAnswer) -> Fault:
         return BadScript(answer.place, answer.kind)
     if number == _REFUSED:
         return Refused(answer.kind, answer.place)
-    return Fault(_SAID.get(number, f"the library answered {number}"))
+    return (NoStep if number == _NO_STEP else Fault)(_SAID.get(number, f"the library answered {number}"))
+
+
+def _value(kind: int, value: int) -> int | None:
+    """The value of an answer of this kind, where it has one."""
+    return value if kind in (2, 3) else None
+
+
+def _given(args: Iterable[int | bytes]) -> tuple[bytes, ctypes.Array]:
+    """Arguments as they are handed in: all bytes, and what each argument is."""
+    data, given = bytearray(), []
+    for arg in args:
+        given.append(_SpinArg(0, arg, 0) if isinstance(arg, int) else _SpinArg(1, len(data), len(arg)))
+        data += b"" if isinstance(arg, int) else arg
+    return bytes(data), (_SpinArg * len(given))(*given)
 
 
 @dataclass(frozen=True)
@@ -106,6 +147,21 @@ class Reply:
     kind: str
     value: int | None
     steps: int
+
+
+@dataclass(frozen=True)
+class Step:
+    """A step of a reply. `kind` is a name of STEPS. A handler that runs or is left to a job has its event and the
+    number of its binding, 0 being the default; a raise upwards its event; a send the number of its endpoint and the
+    bytes; a packet that is dropped the number of the fault of its headers; the end of a raise upwards the kind of its
+    answer; and this or a result the value, where there is one."""
+
+    kind: str
+    event: int | None = None
+    number: int | None = None
+    answer: str | None = None
+    value: int | None = None
+    data: bytes = b""
 
 
 class Lane:
@@ -125,19 +181,57 @@ class Lane:
     def _ask(self, call, *words) -> _SpinAnswer:
         """Makes the call, and answers what it tells; or raises the fault that its number tells."""
         answer = _SpinAnswer()
-        number = call(*words, ctypes.byref(answer))
-        if number:
-            raise _fault(number, answer)
+        self._tell(call(*words, ctypes.byref(answer)), answer)
         return answer
 
-    def raise_event(self, event: int, *words: int) -> Reply:
-        """Raises the event with these words, from 0 to 2**64 - 1, as its arguments."""
+    @staticmethod
+    def _tell(number: int, answer: _SpinAnswer) -> None:
+        """Raises the fault that a number tells."""
+        if number:
+            raise _fault(number, answer)
+
+    def raise_event(self, event: int, *args: int | bytes) -> Reply:
+        """Raises the event with these arguments, words from 0 to 2**64 - 1 and bytes."""
+        words = [arg for arg in args if isinstance(arg, int)]
         if not 0 <= event < 2**8 or not all(0 <= word < 2**64 for word in words):
             raise ValueError("an event is a number below 256, and a word one below 2**64")
-        given = (ctypes.c_uint64 * len(words))(*words)
-        told = self._ask(self._calls.spin_raise_words, ctypes.byref(self._lane), event, given, len(words))
-        value = told.value if told.kind in (2, 3) else None
-        return Reply(told.place, KINDS[told.kind], value, told.steps)
+        lane, count = ctypes.byref(self._lane), len(args)
+        if len(words) == count:
+            told = self._ask(self._calls.spin_raise_words, lane, event, (ctypes.c_uint64 * count)(*words), count)
+        else:
+            data, given = _given(args)
+            told = self._ask(self._calls.spin_raise, lane, event, data, len(data), given, count)
+        return Reply(told.place, KINDS[told.kind], _value(told.kind, told.value), told.steps)
+
+    def step(self, index: int) -> Step:
+        """The step at an index, counted from 0, of the reply to the last raise, which is kept until the next raise or
+        command."""
+        told, lane = _SpinStep(), ctypes.byref(self._lane)
+        self._tell(self._calls.spin_step(lane, index, ctypes.byref(told)), _SpinAnswer())
+        kind, data = STEPS[told.kind - 1], b""
+        if told.length:
+            buffer, length = ctypes.create_string_buffer(told.length), ctypes.c_uint64()
+            number = self._calls.spin_step_bytes(lane, index, buffer, told.length, ctypes.byref(length))
+            self._tell(number, _SpinAnswer())
+            data = buffer.raw
+        has_event, has_number = kind in ("run", "up", "job"), kind in ("run", "send", "dropped", "job")
+        return Step(
+            kind,
+            told.event if has_event else None,
+            told.number if has_number else None,
+            KINDS[told.answer] if kind == "back" else None,
+            told.value if kind == "result" else _value(told.answer, told.value),
+            data,
+        )
+
+    def steps(self) -> list[Step]:
+        """All steps of that reply."""
+        steps = []
+        while True:
+            try:
+                steps.append(self.step(len(steps)))
+            except NoStep:
+                return steps
 
     def command(
         self, event: int, op: int, *, requester: int = 0, handler: int = 0, guard: int = 0, target: int = 0
@@ -171,10 +265,15 @@ class Library:
         for call, given in (
             (calls.spin_open, [*text, *one]),
             (calls.spin_raise_words, [*one, ctypes.c_uint8, words, ctypes.c_size_t]),
+            (calls.spin_raise, [*one, ctypes.c_uint8, *text, ctypes.POINTER(_SpinArg), ctypes.c_size_t]),
             (calls.spin_command, [*one, words]),
             (calls.spin_close, one),
         ):
             call.argtypes, call.restype = [*given, *told], ctypes.c_uint32
+        index, length = ctypes.c_uint64, ctypes.POINTER(ctypes.c_uint64)
+        calls.spin_step.argtypes = [*one, index, ctypes.POINTER(_SpinStep)]
+        calls.spin_step_bytes.argtypes = [*one, index, *text, length]
+        calls.spin_step.restype = calls.spin_step_bytes.restype = ctypes.c_uint32
         self._calls = calls
 
     def open(self, script: bytes) -> "Lane":

@@ -113,6 +113,41 @@ class Lanes(unittest.TestCase):
                 with self.assertRaises(ValueError):
                     lane.raise_event(event, word)
 
+    TRAIL = (
+        b"spin 1\nevent 0 0 bw:w last\nevent 1 0 b last\nevent 2 0 bwww last\nendpoint 0 out0\n"
+        b"handler 1 bw:w send 0 0 1 up 1 1 b 0 0 result a1\nhandler 2 b layer ipv4 2\nhandler 3 bw:w result a1\n"
+    )
+
+    def test_steps_are_those_of_the_last_raise(self):
+        with self.library.open(self.TRAIL) as lane:
+            with self.assertRaisesRegex(spin.Fault, "no reply"):
+                lane.steps()
+            lane.command(0, 1, handler=1)
+            lane.command(1, 1, handler=2)
+            self.assertEqual(lane.raise_event(0, b"bcd", 7), spin.Reply(2, "value", 7, 7))
+            self.assertEqual(
+                lane.steps(),
+                [
+                    *(spin.Step("run", 0, 1), spin.Step("send", number=0, data=b"cd"), spin.Step("result", value=7)),
+                    *(spin.Step("up", 1), spin.Step("run", 1, 2), spin.Step("dropped", number=1)),
+                    spin.Step("back", answer="done"),
+                ],
+            )
+            with self.assertRaises(spin.NoStep):
+                lane.step(7)
+            self.assertEqual(lane.raise_event(0, 7, b"").kind, "wrong arguments")
+            self.assertEqual(lane.steps(), [])
+            lane.command(0, 4, handler=3)
+            with self.assertRaisesRegex(spin.Fault, "no reply"):
+                lane.step(0)
+
+    def test_bytes_are_sent_as_they_are_handed_in(self):
+        with self.library.open(self.TRAIL) as lane:
+            lane.command(0, 1, handler=1)
+            for data in (b"", b"x", bytes(range(256)) * 200):
+                lane.raise_event(0, data, 1)
+                self.assertEqual(lane.step(1).data, data[1:])
+
     def test_a_closed_lane(self):
         lane = self.library.open(self.SCRIPT)
         lane.close()

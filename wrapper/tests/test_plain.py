@@ -7,6 +7,7 @@ import tempfile
 import unittest
 from pathlib import Path
 
+from wrapper import build
 from wrapper.tests import TOP, make_repository, stand_in
 
 sys.path.insert(0, str(TOP / "tools" / "plain"))
@@ -106,7 +107,7 @@ class Plain(unittest.TestCase):
     def setUp(self):
         self.top = Path(tempfile.mkdtemp())
         self.addCleanup(shutil.rmtree, self.top)
-        crates = {"spin_main": [], "host_filter": [], "host_plugins": [], "host_workers": []}
+        crates = {name: [] for name in ("spin_main", *build.HOSTS)}
         make_repository(self.top, crates)
         stand_in(self.top, "cargo", CARGO, "sh", "env", "python3", "dirname", "mkdir", "chmod", "sleep")
 

@@ -32,6 +32,17 @@ unsafe extern "C" {
         count: usize,
         answer: *mut SpinAnswer,
     ) -> u32;
+    fn spin_raise(
+        lane: *mut SpinLane,
+        event: u8,
+        bytes: *const u8,
+        length: usize,
+        args: *const SpinArg,
+        count: usize,
+        answer: *mut SpinAnswer,
+    ) -> u32;
+    fn spin_step(lane: *mut SpinLane, index: u64, step: *mut SpinStep) -> u32;
+    fn spin_step_bytes(lane: *mut SpinLane, index: u64, buffer: *mut u8, room: usize, length: *mut u64) -> u32;
     fn spin_command(lane: *mut SpinLane, row: *const [u64; 4], answer: *mut SpinAnswer) -> u32;
     fn spin_close(lane: *mut SpinLane, answer: *mut SpinAnswer) -> u32;
 }
@@ -74,6 +85,37 @@ pub(crate) struct SpinAnswer {
     pub(crate) steps: u64,
 }
 
+/// An argument: a word, or a range of the bytes that are handed in beside it.
+#[repr(C)]
+#[derive(Clone, Copy)]
+pub(crate) struct SpinArg {
+    kind: u64,
+    at: u64,
+    length: u64,
+}
+
+impl SpinArg {
+    pub(crate) fn word(word: u64) -> SpinArg {
+        SpinArg { kind: 0, at: word, length: 0 }
+    }
+
+    pub(crate) fn range(start: usize, length: usize) -> SpinArg {
+        SpinArg { kind: 1, at: start as u64, length: length as u64 }
+    }
+}
+
+/// A step of a reply.
+#[repr(C)]
+#[derive(Clone, Copy, Default)]
+pub(crate) struct SpinStep {
+    pub(crate) kind: u32,
+    pub(crate) event: u32,
+    pub(crate) number: u32,
+    pub(crate) answer: u32,
+    pub(crate) value: u64,
+    pub(crate) length: u64,
+}
+
 /// A handle; closed where it is null.
 #[repr(C)]
 struct SpinLane {
@@ -92,6 +134,8 @@ fn fault_of(number: u32, answer: &SpinAnswer) -> Fault {
         2 => Fault::BadScript { line: answer.place, cause: answer.kind },
         6 => Fault::NoCommand,
         7 => Fault::Full,
+        9 => Fault::NoReply,
+        10 => Fault::NoStep,
         other => Fault::Unknown(other),
     }
 }
@@ -112,6 +156,35 @@ impl Held {
         match unsafe { spin_raise_words(&mut self.lane, event, words.as_ptr(), words.len(), &mut answer) } {
             0 => Ok(answer),
             number => Err(fault_of(number, &answer)),
+        }
+    }
+
+    pub(crate) fn raise_args(&mut self, event: u8, bytes: &[u8], args: &[SpinArg]) -> Result<SpinAnswer, Fault> {
+        let mut answer = SpinAnswer::default();
+        let (at, length) = (bytes.as_ptr(), bytes.len());
+        // SAFETY: the handle is this value's own; two slices with their lengths, and a value of this function.
+        match unsafe { spin_raise(&mut self.lane, event, at, length, args.as_ptr(), args.len(), &mut answer) } {
+            0 => Ok(answer),
+            number => Err(fault_of(number, &answer)),
+        }
+    }
+
+    pub(crate) fn step(&mut self, index: u64) -> Result<SpinStep, Fault> {
+        let mut step = SpinStep::default();
+        // SAFETY: the handle is this value's own; the step is a value of this function.
+        match unsafe { spin_step(&mut self.lane, index, &mut step) } {
+            0 => Ok(step),
+            number => Err(fault_of(number, &SpinAnswer::default())),
+        }
+    }
+
+    pub(crate) fn step_bytes(&mut self, index: u64, length: u64) -> Result<Vec<u8>, Fault> {
+        let (mut bytes, mut wanted) = (vec![0; length as usize], 0);
+        let (at, room) = (bytes.as_mut_ptr(), bytes.len());
+        // SAFETY: the handle is this value's own; a slice with its length, and a value of this function.
+        match unsafe { spin_step_bytes(&mut self.lane, index, at, room, &mut wanted) } {
+            0 => Ok(bytes),
+            number => Err(fault_of(number, &SpinAnswer::default())),
         }
     }
 

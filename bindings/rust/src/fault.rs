@@ -20,6 +20,10 @@ pub enum Fault {
     NoCommand,
     /// The log has as many commands as it holds.
     Full,
+    /// No reply is kept: nothing was raised yet, or a command was done since.
+    NoReply,
+    /// The reply has no step of that index.
+    NoStep,
     /// The library answered a number that this crate doesn't know.
     Unknown(u32),
 }
@@ -32,6 +36,8 @@ impl Display for Fault {
             Fault::BadScript { line, cause } => write!(out, "line {line} is bad: cause {cause}"),
             Fault::NoCommand => write!(out, "that is no command"),
             Fault::Full => write!(out, "the log is full"),
+            Fault::NoReply => write!(out, "no reply is kept"),
+            Fault::NoStep => write!(out, "the reply has no such step"),
             Fault::Unknown(number) => write!(out, "the library answered {number}"),
         }
     }

@@ -1,37 +1,17 @@
 //! A hub over a script, with its one seat.
 
-use crate::calls::{Held, SpinAnswer};
+use crate::calls::{Held, SpinAnswer, SpinArg};
 use crate::fault::Fault;
+use crate::reply::{Reply, Step};
 use std::fmt::{self, Display, Formatter};
 
-/// What a raise is answered.
+/// An argument of a raise.
 #[derive(Clone, Copy, Debug, PartialEq, Eq)]
-pub enum Answer {
-    /// No binding ran, and the event has no default.
-    NoHandler,
-    /// Bindings ran, and none gave a result that is merged.
-    Done,
-    /// Bindings ran, and their results merged to this one.
-    Value(u64),
-    /// No binding ran, and the event's default did. This is its result, if it gave one.
-    Default(Option<u64>),
-    /// There is no event of that number.
-    UnknownEvent,
-    /// The arguments don't fit the event.
-    WrongArguments,
-    /// More than 4096 handlers would start, and nothing was done.
-    TooManyHandlers,
-}
-
-/// The reply to a raise.
-#[derive(Clone, Copy, Debug, PartialEq, Eq)]
-pub struct Reply {
-    /// How many commands were accepted before it.
-    pub place: u32,
-    /// What it is answered.
-    pub answer: Answer,
-    /// The number of its steps.
-    pub steps: u64,
+pub enum Arg<'a> {
+    /// A word of 64 bits.
+    Word(u64),
+    /// Bytes.
+    Bytes(&'a [u8]),
 }
 
 /// What a command does. What a field's number has no room for is no command.
@@ -181,19 +161,43 @@ impl Lane {
 
     /// Raises the event with these words as its arguments.
     pub fn raise(&mut self, event: u8, words: &[u64]) -> Result<Reply, Fault> {
-        let SpinAnswer { place, kind, value, steps } = self.held.raise(event, words)?;
-        let answer = match kind {
-            0 => Answer::NoHandler,
-            1 => Answer::Done,
-            2 => Answer::Value(value),
-            3 => Answer::Default(Some(value)),
-            4 => Answer::Default(None),
-            5 => Answer::UnknownEvent,
-            6 => Answer::WrongArguments,
-            7 => Answer::TooManyHandlers,
-            other => return Err(Fault::Unknown(other)),
-        };
-        Ok(Reply { place, answer, steps })
+        Reply::of(self.held.raise(event, words)?)
+    }
+
+    /// Raises the event with these arguments. The bytes are copied.
+    pub fn raise_with(&mut self, event: u8, args: &[Arg<'_>]) -> Result<Reply, Fault> {
+        let mut bytes = Vec::new();
+        let mut given = Vec::with_capacity(args.len());
+        for arg in args {
+            given.push(match *arg {
+                Arg::Word(word) => SpinArg::word(word),
+                Arg::Bytes(more) => SpinArg::range(bytes.len(), more.len()),
+            });
+            if let Arg::Bytes(more) = *arg {
+                bytes.extend_from_slice(more);
+            }
+        }
+        Reply::of(self.held.raise_args(event, &bytes, &given)?)
+    }
+
+    /// The step at an index, counted from 0, of the reply to the last raise, which is kept until the next raise or
+    /// command.
+    pub fn step(&mut self, index: u64) -> Result<Step, Fault> {
+        let told = self.held.step(index)?;
+        let bytes = if told.length == 0 { Vec::new() } else { self.held.step_bytes(index, told.length)? };
+        Step::of(told, bytes)
+    }
+
+    /// All steps of that reply.
+    pub fn steps(&mut self) -> Result<Vec<Step>, Fault> {
+        let mut steps = Vec::new();
+        loop {
+            match self.step(steps.len() as u64) {
+                Ok(step) => steps.push(step),
+                Err(Fault::NoStep) => return Ok(steps),
+                Err(fault) => return Err(fault),
+            }
+        }
     }
 
     /// Does the command. Where it is accepted the place of its own is answered, which is also the number of the binding

@@ -13,9 +13,11 @@
 mod calls;
 mod fault;
 mod lane;
+mod reply;
 
 pub use fault::Fault;
-pub use lane::{Answer, Command, Lane, Mode, Op, Place, Refusal, Reply};
+pub use lane::{Arg, Command, Lane, Mode, Op, Place, Refusal};
+pub use reply::{Answer, Reply, Step};
 
 /// The version of the proved calls. It grows where one of them is changed.
 pub fn version() -> u32 {

@@ -1,6 +1,6 @@
 //! What a lane answers.
 
-use spin::{Answer, Command, Fault, Lane, Mode, Op, Place};
+use spin::{Answer, Arg, Command, Fault, Lane, Mode, Op, Place, Step};
 
 const SCRIPT: &[u8] = b"spin 1\nmodules 2\nevent 0 0 w:w last\nhandler 1 w:w result + a0 1\n\
     handler 2 w:w result + a0 2\nhandler 3 -:w result 9\nrule 0 1 1 any any all deny\n";
@@ -64,4 +64,36 @@ fn what_is_refused_changes_nothing() -> Result<(), Fault> {
 #[test]
 fn no_lane_is_over_a_text_that_is_no_script() {
     assert_eq!(Lane::open(b"spin 1\nbad\n").err(), Some(Fault::BadScript { line: 2, cause: 4 }));
+}
+
+const TRAIL: &[u8] = b"spin 1\nevent 0 0 bw:w last\nevent 1 0 b last\nevent 2 0 bwww last\nendpoint 0 out0\n\
+    handler 1 bw:w send 0 0 1 up 1 1 b 0 0 result a1\nhandler 2 b layer ipv4 2\nhandler 3 bw:w result a1\n";
+
+#[test]
+fn steps_are_those_of_the_last_raise() -> Result<(), Fault> {
+    let mut lane = Lane::open(TRAIL)?;
+    assert_eq!(lane.steps(), Err(Fault::NoReply));
+    assert_eq!(lane.command(&by(0, install(1)))?, Ok(1));
+    assert_eq!(lane.command(&Command { event: 1, requester: 0, op: install(2) })?, Ok(2));
+    let later = Op::Install { handler: 3, guard: 0, place: Place::Free, mode: Mode::Async };
+    assert_eq!(lane.command(&by(0, later))?, Ok(3));
+    let reply = lane.raise_with(0, &[Arg::Bytes(b"bcd"), Arg::Word(7)])?;
+    assert_eq!((reply.answer, reply.steps), (Answer::Value(7), 8));
+    let steps = [
+        Step::Run { event: 0, number: 1 },
+        Step::Send { endpoint: 0, bytes: b"cd".to_vec() },
+        Step::Result(7),
+        Step::Up(1),
+        Step::Run { event: 1, number: 2 },
+        Step::Dropped(1),
+        Step::Back(Answer::Done),
+        Step::Job { event: 0, number: 3 },
+    ];
+    assert_eq!(lane.steps()?, steps);
+    assert_eq!(lane.step(8), Err(Fault::NoStep));
+    assert_eq!(lane.raise_with(0, &[Arg::Word(7), Arg::Bytes(b"")])?.answer, Answer::WrongArguments);
+    assert_eq!(lane.steps()?, []);
+    assert!(lane.command(&by(0, Op::Remove(9)))?.is_err());
+    assert_eq!(lane.step(0), Err(Fault::NoReply));
+    Ok(())
 }

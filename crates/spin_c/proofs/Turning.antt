@@ -12,4 +12,6 @@ pub stays_open : {A C E : Type 0} {B : A → Type 0} {D : C → Type 0} {F : E �
 stays_open l after (ask.Open text) told others does = does
 stays_open l after (ask.Raise event args) told others does = does
 stays_open l after (ask.Command row) told others does = does
+stays_open l after (ask.Step index) told others does = does
+stays_open l after (ask.Bytes index) told others does = does
 stays_open l after ask.Close told others does = absurd (others refl)

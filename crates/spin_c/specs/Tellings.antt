@@ -1,16 +1,21 @@
 -- By which numbers it is told what a call comes to.
-use Rattle.std.specs.Prelude.{◌≡◌, ℕ, Option}
+use Rattle.std.specs.Prelude.{◌≡◌, ◌<◌, ◌≤◌, ◌++◌, ◌⊎◌, ℕ, List, Option, All, drop, length, map}
 use Rattle.spin_table.specs.declared.refusal.Refusal.{Refusal}
 use Rattle.spin_table.specs.declared.refusal.Refusal.TheVariants as refusal
 use Rattle.spin_table.specs.declared.refusal.Verdicted.{Verdicted}
 use Rattle.spin_table.specs.declared.refusal.Verdicted.TheVariants as verdicted
 use Rattle.spin_report.specs.Verdicts.{refusal_number}
+use Rattle.spin_c.specs.Given.{IsGiven, value_of}
+use Rattle.spin_c.specs.Trails.{blank}
 use Rattle.spin_c.specs.Turns.{IsCalled}
 use Rattle.spin_c.specs.declared.ask.Ask.{Ask}
+use Rattle.spin_c.specs.declared.ask.Ask.TheVariants as asked
 use Rattle.spin_c.specs.declared.ask.Outcome.{Outcome}
 use Rattle.spin_c.specs.declared.ask.Outcome.TheVariants as outcome
+use Rattle.spin_c.specs.declared.given.SpinArg.{SpinArg}
 use Rattle.spin_c.specs.declared.lane.Lane.{Lane}
 use Rattle.spin_c.specs.declared.row.SpinRow.{SpinRow}
+use Rattle.spin_c.specs.declared.step.SpinStep.{SpinStep}
 use Rattle.spin_c.specs.declared.told.SpinAnswer.{SpinAnswer}
 use Rattle.spin_word.specs.declared.row.Row.{Row}
 
@@ -29,7 +34,12 @@ code_of outcome.Open = 5
 code_of outcome.NoCommand = 6
 code_of outcome.Full = 7
 code_of (outcome.Judged judged) = verdict_code judged.verdict
+code_of outcome.NoReply = 9
+code_of outcome.NoStep = 10
+code_of outcome.NoArgument = 12
 code_of (outcome.Raised place told) = 0
+code_of (outcome.Step found) = 0
+code_of (outcome.Bytes bytes) = 0
 
 -- the number of the refusal, and 0 where the command is accepted
 abbrev pub verdict_kind : Verdicted → ℕ
@@ -48,11 +58,57 @@ answer_of other = record { place = 0; kind = 0; value = 0; steps = 0 }
 -- The call does so, or there was no memory for it and the handle is as it was; and what it comes to is told.
 pub record TellsOf {A C E : Type 0} {B : A → Type 0} {D : C → Type 0}
     {F : E → Type 0} (kept : Option (Lane A C E B D F))
-    (asked : Ask) (after : Option (Lane A C E B D F)) (number : ℕ) (answer : SpinAnswer) : Type 0 where
+    (call : Ask) (after : Option (Lane A C E B D F)) (number : ℕ) (answer : SpinAnswer) : Type 0 where
   pub told : Outcome
-  pub called : IsCalled kept asked after told
+  pub called : IsCalled kept call after told
   pub number_is : number ≡ code_of told
   pub answer_is : answer ≡ answer_of told
+
+-- The call raises so, where the arguments are given; else it is told that one isn't, and the handle is as it was.
+abbrev pub TellsOfArgs : {A C E : Type 0} {B : A → Type 0} {D : C → Type 0} {F : E → Type 0}
+    → Option (Lane A C E B D F) → ℕ → List ℕ → List SpinArg → Option (Lane A C E B D F) → ℕ → SpinAnswer → Type 0
+TellsOfArgs kept event bytes given after number answer =
+    (All (IsGiven bytes) given × TellsOf kept (asked.Raise event (map (value_of bytes) given)) after number answer)
+    ⊎ ((All (IsGiven bytes) given → ⊥) × (after ≡ kept)
+    × (number ≡ code_of outcome.NoArgument) × (answer ≡ answer_of outcome.NoArgument))
+
+-- ---- steps
+
+-- the step that is told; zeros where there is none
+abbrev pub step_of : Outcome → SpinStep
+step_of (outcome.Step found) = found
+step_of other = blank 0
+
+-- The call tells a step of the reply that is kept.
+pub record TellsStep {A C E : Type 0} {B : A → Type 0} {D : C → Type 0}
+    {F : E → Type 0} (kept : Option (Lane A C E B D F))
+    (index : ℕ) (after : Option (Lane A C E B D F)) (number : ℕ) (step : SpinStep) : Type 0 where
+  pub told : Outcome
+  pub called : IsCalled kept (asked.Step index) after told
+  pub number_is : number ≡ code_of told
+  pub step_is : step ≡ step_of told
+
+-- Bytes stand at the front of a buffer where it has room for them; else it is as it was, which is told.
+abbrev pub AreCopied : List ℕ → List ℕ → ℕ → List ℕ → Type 0
+AreCopied bytes before number after =
+    ((length bytes ≤ length before) × (number ≡ 0) × (after ≡ bytes ++ drop (length bytes) before))
+    ⊎ ((length before < length bytes) × (number ≡ 11) × (after ≡ before))
+
+-- bytes that are handed out are copied, and it is told how many they are; else the buffer is as it was
+abbrev pub AreHandedTo : Outcome → List ℕ → ℕ → List ℕ → ℕ → Type 0
+AreHandedTo (outcome.Bytes bytes) before number after wanted =
+    AreCopied bytes before number after × (wanted ≡ length bytes)
+AreHandedTo other before number after wanted = (number ≡ code_of other) × (after ≡ before) × (wanted ≡ 0)
+
+-- The call copies the bytes of such a step into a buffer.
+pub record HandsBytes {A C E : Type 0} {B : A → Type 0} {D : C → Type 0}
+    {F : E → Type 0} (kept : Option (Lane A C E B D F)) (index : ℕ) (before : List ℕ)
+    (after : Option (Lane A C E B D F)) (number : ℕ) (buffer : List ℕ) (wanted : ℕ) : Type 0 where
+  pub told : Outcome
+  pub called : IsCalled kept (asked.Bytes index) after told
+  pub handed : AreHandedTo told before number buffer wanted
+
+-- ---- commands
 
 -- the row that C hands in
 abbrev pub row_from : SpinRow → Row

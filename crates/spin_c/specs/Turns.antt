@@ -6,10 +6,7 @@ use Rattle.spin_word.specs.declared.row.Row.{Row}
 use Rattle.spin_word.specs.declared.work.Deed.TheVariants as deed
 use Rattle.spin_word.specs.Rows.{StandsFor, StandsForNone, lane_of}
 use Rattle.spin_values.specs.declared.values.Value.{Value}
-use Rattle.spin_raise.specs.declared.answer.Answer.{Answer}
-use Rattle.spin_raise.specs.declared.answer.Answer.TheVariants as answer
 use Rattle.spin_proto.specs.declared.reply.Reply.{Reply}
-use Rattle.spin_proto.specs.declared.reply.Reply.TheVariants as reply
 use Rattle.spin_table.specs.SetupOf.{data_of}
 use Rattle.spin_script.specs.Language.{IsScript}
 use Rattle.spin_script.specs.Scripts.{IsBad}
@@ -17,6 +14,7 @@ use Rattle.spin_script.specs.States.{NativeData, ScriptData}
 use Rattle.spin_script.specs.declared.script.ScriptFault.TheVariants as fault
 use Rattle.spin_seat.specs.Calls.{Gives, AddsAtMostAPin, ReadsOn, reply_answer, verdict_answer}
 use Rattle.spin_seat.specs.Seats.{IsSeatOf}
+use Rattle.spin_c.specs.Trails.{IsHanded, IsTold, step_at, told_of}
 use Rattle.spin_c.specs.Verdicts.{no_natives}
 use Rattle.spin_c.specs.declared.lane.Lane.{Lane}
 use Rattle.spin_c.specs.declared.ask.Ask.{Ask}
@@ -69,25 +67,6 @@ OpensTo natives text None told = NotOpened natives text told
 
 -- ---- raising
 
--- what an answer is told as, and the number of the steps that led to it
-abbrev pub answer_told : Answer → ℕ → Told
-answer_told answer.NoHandler steps = record { kind = 0; value = 0; steps = steps }
-answer_told answer.Done steps = record { kind = 1; value = 0; steps = steps }
-answer_told (answer.Value value) steps = record { kind = 2; value = value; steps = steps }
-answer_told (answer.Default (Some value)) steps = record { kind = 3; value = value; steps = steps }
-answer_told (answer.Default None) steps = record { kind = 4; value = 0; steps = steps }
-
--- a raise without an answer is told by the number of why
-abbrev pub no_answer : ℕ → Told
-no_answer kind = record { kind = kind; value = 0; steps = 0 }
-
-abbrev pub told_of : Reply → Told
-told_of (reply.Ran said trace jobs) = answer_told said (length trace)
-told_of reply.UnknownEvent = no_answer 5
-told_of reply.WrongArgs = no_answer 6
-told_of reply.Spent = no_answer 7
-told_of (reply.Queued call) = no_answer 8
-
 -- The raise has this reply, which is that of the plain dispatcher at that place; it is kept, and told so.
 pub record IsRaised {A C E : Type 0} {B : A → Type 0} {D : C → Type 0}
     {F : E → Type 0} (l : Lane A C E B D F) (event : ℕ)
@@ -102,22 +81,25 @@ pub record IsRaised {A C E : Type 0} {B : A → Type 0} {D : C → Type 0}
 abbrev pub Raises : {A C E : Type 0} {B : A → Type 0} {D : C → Type 0} {F : E → Type 0}
     → Lane A C E B D F → ℕ → List Value → Lane A C E B D F → Outcome → Type 0
 Raises l event args after (outcome.Raised place told) = (after.hub ≡ l.hub) × IsRaised l event args after place told
-Raises l event args after outcome.NoMemory = (after.hub ≡ l.hub) × AddsAtMostAPin l.seat.pen after.seat.pen
+Raises l event args after outcome.NoMemory =
+    (after.hub ≡ l.hub) × AddsAtMostAPin l.seat.pen after.seat.pen × (after.reply ≡ None)
 Raises l event args after other = ⊥
 
 -- ---- commands
 
--- what the command of a row comes to
+-- What the command of a row comes to. A reply isn't kept where the row stands for a command.
 abbrev pub Commands : {A C E : Type 0} {B : A → Type 0} {D : C → Type 0} {F : E → Type 0}
     → Lane A C E B D F → Row → Lane A C E B D F → Outcome → Type 0
 Commands l row after (outcome.Judged judged) =
     (after.hub ≡ l.hub) × ((c : Command) × StandsFor row c
     × Gives (data_of l.hub.setup) l.seat.pen
-    (verdict_answer l.seat.pen.lane c judged.place judged.verdict) after.seat.pen)
+    (verdict_answer l.seat.pen.lane c judged.place judged.verdict) after.seat.pen) × (after.reply ≡ None)
 Commands l row after outcome.NoCommand = (after ≡ l) × (StandsForNone row ⊎ (lane_of row ≢ l.seat.pen.lane))
 Commands l row after outcome.Full =
     (after.hub ≡ l.hub) × ReadsOn l.seat.pen after.seat.pen × (length after.seat.pen.front ≡ MAX_PLACE)
-Commands l row after outcome.NoMemory = (after.hub ≡ l.hub) × ReadsOn l.seat.pen after.seat.pen
+    × (after.reply ≡ None)
+Commands l row after outcome.NoMemory =
+    (after.hub ≡ l.hub) × ReadsOn l.seat.pen after.seat.pen × (after.reply ≡ None)
 Commands l row after other = ⊥
 
 -- ---- a call
@@ -128,6 +110,8 @@ abbrev pub Does : {A C E : Type 0} {B : A → Type 0} {D : C → Type 0} {F : E 
 Does l (ask.Open text) after told = (after ≡ l) × (told ≡ outcome.Open)
 Does l (ask.Raise event args) after told = Raises l event args after told
 Does l (ask.Command row) after told = Commands l row after told
+Does l (ask.Step index) after told = (after ≡ l) × IsTold (step_at l.reply index) told
+Does l (ask.Bytes index) after told = (after ≡ l) × IsHanded (step_at l.reply index) told
 Does l ask.Close after told = (after ≡ l) × (told ≡ outcome.Done)
 
 -- a closed handle can only be opened

@@ -1,5 +1,6 @@
 //! What is asked of a handle, and what it comes to.
 
+use crate::step::SpinStep;
 use spin_seat::Judged;
 use spin_values::{Args, Octets};
 use spin_word::Row;
@@ -19,6 +20,10 @@ pub enum Ask {
     },
     /// To do the command of this row.
     Command(Row),
+    /// To tell the step at this index of the reply that is kept.
+    Step(u64),
+    /// To hand out the bytes of the step at this index of the reply that is kept.
+    Bytes(u64),
     /// To close it.
     Close,
 }
@@ -64,6 +69,12 @@ pub enum Outcome {
     NoCommand,
     /// The log is full.
     Full,
+    /// No reply is kept.
+    NoReply,
+    /// The reply has no step at the index.
+    NoStep,
+    /// An argument is neither a word nor within the bytes.
+    NoArgument,
     /// The verdict on a command.
     Judged(Judged),
     /// The reply to a raise.
@@ -73,4 +84,8 @@ pub enum Outcome {
         /// What it is told as.
         told: Told,
     },
+    /// A step of a reply.
+    Step(SpinStep),
+    /// The bytes of such a step.
+    Bytes(Octets),
 }

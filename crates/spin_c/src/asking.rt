@@ -4,12 +4,13 @@ ghost use Rattle.std.specs.Prelude.{◌≡◌, IfOk, map};
 ghost use Rattle.spin_values.specs.declared.values.Value.TheVariants as value;
 ghost use Rattle.spin_c.specs.Turns.{IsCalled, Turns};
 ghost use Rattle.spin_c.specs.Verdicts.{no_natives};
-ghost use Rattle.spin_c.specs.Tellings.{TellsOf, answer_of, code_of};
-ghost use Rattle.spin_c.specs.declared.ask.Outcome.TheVariants as outcome;
+ghost use Rattle.spin_c.specs.Tellings.{HandsBytes, TellsOf, TellsStep, answer_of, code_of};
 
 use crate::ask::{Ask, Call, Outcome};
+use crate::copying::hand_to;
 use crate::handle::SpinLane;
-use crate::told::{SpinAnswer, answer_of, code_of};
+use crate::step::SpinStep;
+use crate::told::{SpinAnswer, answer_of, code_of, step_of};
 use spin_values::{Args, NoMemory, Value};
 use std::alloc::Global;
 use std::mem;
@@ -45,13 +46,13 @@ fn call_on(alloc: Global, lane: &mut SpinLane, ask: Ask) -> Outcome
     }
 }
 
-// Tells that there is no memory for what is asked.
-pub(crate) fn no_memory(answer: &mut SpinAnswer) -> u32
-    ensures number { result ≡ code_of outcome.NoMemory }
-    ensures answer { answer.new ≡ answer_of outcome.NoMemory }
+// Tells what a call comes to.
+pub(crate) fn tell(outcome: &Outcome, answer: &mut SpinAnswer) -> u32
+    ensures number { result ≡ code_of outcome.now }
+    ensures answer { answer.new ≡ answer_of outcome.now }
 {
-    *answer = answer_of(&Outcome::NoMemory);
-    code_of(&Outcome::NoMemory)
+    *answer = answer_of(outcome);
+    code_of(outcome)
 }
 
 // Does what is asked, and tells what it comes to.
@@ -59,6 +60,28 @@ pub(crate) fn ask_of(alloc: Global, lane: &mut SpinLane, ask: Ask, answer: &mut 
     ensures { TellsOf lane.old.kept ask lane.new.kept result answer.new }
 {
     let outcome = call_on(alloc, lane, ask);
-    *answer = answer_of(&outcome);
+    tell(&outcome, answer)
+}
+
+// Tells the step at an index of the reply that is kept.
+pub(crate) fn ask_step(alloc: Global, lane: &mut SpinLane, index: u64, step: &mut SpinStep) -> u32
+    ensures { TellsStep lane.old.kept index lane.new.kept result step.new }
+{
+    let outcome = call_on(alloc, lane, Ask::Step(index));
+    *step = step_of(&outcome);
     code_of(&outcome)
+}
+
+// Copies the bytes of such a step into a buffer.
+pub(crate) fn ask_bytes(
+    alloc: Global,
+    lane: &mut SpinLane,
+    index: u64,
+    buffer: &mut [u8],
+    wanted: &mut u64,
+) -> u32
+    ensures { HandsBytes lane.old.kept index buffer.old lane.new.kept result buffer.new wanted.new }
+{
+    let outcome = call_on(alloc, lane, Ask::Bytes(index));
+    hand_to(&outcome, buffer, wanted)
 }

@@ -4,7 +4,9 @@
 //! - [`lane`] is what a handle holds, a hub with its one seat, and [`handle`] the handle, over [`maybe`] and [`loose`]:
 //!   pointers that own a box, or may be null;
 //! - [`ask`] is what is asked of a handle and what it comes to, [`turn`] does it, and [`asking`] asks;
-//! - [`row`] is a command as it is handed in, and [`told`] what is told in numbers.
+//! - [`row`] is a command as it is handed in, and [`given`] the arguments of a raise;
+//! - [`trail`] tells a reply in numbers, and its steps one by one as a [`step`]; [`told`] tells whatever else a call
+//!   comes to, and [`copying`] copies bytes into a buffer.
 #![tactic(auto)]
 
 ghost use Rattle.std.specs.Prelude.{◌≡◌, map};
@@ -12,23 +14,29 @@ ghost use Rattle.spin_values.specs.declared.values.Value.TheVariants as value;
 ghost use Rattle.spin_grammar.specs.Words.{words};
 ghost use Rattle.spin_c.specs.declared.verdict.Verdict.{Verdict as VerdictValue};
 ghost use Rattle.spin_c.specs.declared.ask.Ask.TheVariants as asked;
-ghost use Rattle.spin_c.specs.Tellings.{TellsOf, row_from};
+ghost use Rattle.spin_c.specs.Tellings.{HandsBytes, TellsOf, TellsOfArgs, TellsStep, row_from};
 ghost use Rattle.spin_c.specs.Verdicts.{IsVerdict, no_natives, fault_of, number_of};
 
 mod ask;
 mod asking;
+mod copying;
+mod given;
 mod handle;
 mod judge;
 mod lane;
 mod loose;
 mod maybe;
 mod row;
+mod step;
 mod told;
+mod trail;
 mod turn;
 mod verdict;
 
-use ask::Ask;
-use asking::{args_of, ask_of, no_memory};
+use ask::{Ask, Outcome};
+use asking::{args_of, ask_bytes, ask_of, ask_step, tell};
+pub use given::SpinArg;
+use given::{are_given, values_of};
 pub use handle::SpinLane;
 use judge::judge;
 pub use row::SpinRow;
@@ -36,6 +44,7 @@ use row::row_from;
 use spin_objects::Natives;
 use spin_values::{NoMemory, Octets};
 use std::alloc::Global;
+pub use step::SpinStep;
 pub use told::{SpinAnswer, SpinFault};
 use told::{fault_of, number_of};
 pub use verdict::Verdict;
@@ -83,7 +92,7 @@ pub extern "C" fn spin_open(
 {
     match Octets::from_bytes(alloc, text) {
         Ok(text) => ask_of(alloc, lane, Ask::Open(text), answer),
-        Err(NoMemory) => no_memory(answer),
+        Err(NoMemory) => tell(&Outcome::NoMemory, answer),
     }
 }
 
@@ -102,8 +111,62 @@ pub extern "C" fn spin_raise_words(
 {
     match args_of(alloc, words) {
         Ok(args) => ask_of(alloc, lane, Ask::Raise { event, args }, answer),
-        Err(NoMemory) => no_memory(answer),
+        Err(NoMemory) => tell(&Outcome::NoMemory, answer),
     }
+}
+
+/// Raises an event with these arguments, each a word or a range of the bytes, and tells the answer as
+/// [`spin_raise_words`] does. It answers 12 where an argument is of no kind or reaches past the bytes, and changes
+/// nothing then; and else as [`spin_raise_words`].
+#[unsafe(no_mangle)]
+pub extern "C" fn spin_raise(
+    alloc: Global,
+    lane: &mut SpinLane,
+    event: u8,
+    bytes: &[u8],
+    args: &[SpinArg],
+    answer: &mut SpinAnswer,
+) -> u32
+    ensures { TellsOfArgs lane.old.kept event bytes.now args.now lane.new.kept result answer.new }
+{
+    if !are_given(bytes, args) {
+        return tell(&Outcome::NoArgument, answer);
+    }
+    match values_of(alloc, bytes, args) {
+        Ok(args) => ask_of(alloc, lane, Ask::Raise { event, args }, answer),
+        Err(NoMemory) => tell(&Outcome::NoMemory, answer),
+    }
+}
+
+/// Tells the step at an index, counted from 0, of the reply to the last raise. It answers 0 where it is told, and zeros
+/// beside another number: 1 where there was no memory, 4 where the handle is closed, 9 where no reply is kept, since
+/// nothing was raised or a command was done since, and 10 where the reply has no step of that index.
+#[unsafe(no_mangle)]
+pub extern "C" fn spin_step(
+    alloc: Global,
+    lane: &mut SpinLane,
+    index: u64,
+    step: &mut SpinStep,
+) -> u32
+    ensures { TellsStep lane.old.kept index lane.new.kept result step.new }
+{
+    ask_step(alloc, lane, index, step)
+}
+
+/// Copies the bytes that the step at an index sends to the front of a buffer, and tells how many they are: none where
+/// it sends nothing. It answers 0 where they are copied; 11 where the buffer is too small, which is as it was then; and
+/// else a number as [`spin_step`], where the buffer is as it was and 0 is told.
+#[unsafe(no_mangle)]
+pub extern "C" fn spin_step_bytes(
+    alloc: Global,
+    lane: &mut SpinLane,
+    index: u64,
+    buffer: &mut [u8],
+    wanted: &mut u64,
+) -> u32
+    ensures { HandsBytes lane.old.kept index buffer.old lane.new.kept result buffer.new wanted.new }
+{
+    ask_bytes(alloc, lane, index, buffer, wanted)
 }
 
 /// Does the command of a row, and tells the place of its verdict and the number of its refusal. It answers 0 where it

@@ -2,10 +2,12 @@
 
 ghost use Rattle.std.specs.Prelude.{◌≡◌};
 ghost use Rattle.spin_report.specs.Verdicts.{refusal_number};
-ghost use Rattle.spin_c.specs.Tellings.{answer_of, code_of, verdict_code, verdict_kind};
+ghost use Rattle.spin_c.specs.Tellings.{answer_of, code_of, step_of, verdict_code, verdict_kind};
 ghost use Rattle.spin_c.specs.Verdicts.{fault_of, number_of};
 
 use crate::ask::Outcome;
+use crate::step::SpinStep;
+use crate::trail::blank;
 use crate::verdict::Verdict;
 use spin_table::{Refusal, Verdicted};
 
@@ -104,6 +106,7 @@ pub(crate) fn code_of(outcome: &Outcome) -> u32
 {
     match outcome {
         Outcome::Done | Outcome::Raised { .. } => 0,
+        Outcome::Step(_) | Outcome::Bytes(_) => 0,
         Outcome::NoMemory => 1,
         Outcome::Bad { .. } => 2,
         Outcome::Closed => 4,
@@ -111,6 +114,9 @@ pub(crate) fn code_of(outcome: &Outcome) -> u32
         Outcome::NoCommand => 6,
         Outcome::Full => 7,
         Outcome::Judged(judged) => verdict_code(&judged.verdict),
+        Outcome::NoReply => 9,
+        Outcome::NoStep => 10,
+        Outcome::NoArgument => 12,
     }
 }
 
@@ -131,5 +137,15 @@ pub(crate) fn answer_of(outcome: &Outcome) -> SpinAnswer
         kind,
         value,
         steps,
+    }
+}
+
+// The step that a call tells; zeros where there is none.
+pub(crate) fn step_of(outcome: &Outcome) -> SpinStep
+    ensures { result ≡ step_of outcome.now }
+{
+    match outcome {
+        Outcome::Step(step) => *step,
+        _ => blank(0),
     }
 }

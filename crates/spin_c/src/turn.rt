@@ -5,16 +5,14 @@ ghost use Rattle.spin_script.specs.States.{natives_seen};
 ghost use Rattle.spin_table.specs.SetupOf.{data_of};
 ghost use Rattle.spin_seat.specs.Seats.{IsSeatOf};
 ghost use Rattle.spin_c.specs.Turns.{IsWell, IsWellLane, Opens, OpensTo, Raises, Commands, Does, Turns};
-ghost use Rattle.spin_c.specs.Turns.{answer_told, no_answer, told_of};
 
-use crate::ask::{Ask, Call, Outcome, Told};
+use crate::ask::{Ask, Call, Outcome};
 use crate::lane::Lane;
 use crate::loose::Loose;
 use crate::maybe::Maybe;
+use crate::trail::{hand_bytes, reply_told, tell_step};
 use spin_code::Sincere;
 use spin_objects::{Catalogue, Natives};
-use spin_proto::Reply;
-use spin_raise::Answer;
 use spin_script::{Script, ScriptFault, read_script};
 use spin_seat::{Hub, Raised, SeatFault};
 use spin_values::{Args, NoMemory};
@@ -43,41 +41,6 @@ fn open(alloc: Global, natives: Natives, text: &[u8]) -> Result<Lane, Outcome>
     };
     let reply = None;
     Ok(Lane { hub, seat, reply })
-}
-
-// What an answer is told as: the number of its kind, and its value.
-fn answer_told(answer: Answer, steps: u64) -> Told
-    ensures { result ≡ answer_told answer steps }
-{
-    let (kind, value) = match answer {
-        Answer::NoHandler => (0, 0),
-        Answer::Done => (1, 0),
-        Answer::Value(value) => (2, value),
-        Answer::Default(Some(value)) => (3, value),
-        Answer::Default(None) => (4, 0),
-    };
-    Told { kind, value, steps }
-}
-
-// What a raise that has no answer is told as.
-fn no_answer(kind: u32) -> Told
-    ensures { result ≡ no_answer kind }
-{
-    let (value, steps) = (0, 0);
-    Told { kind, value, steps }
-}
-
-// What a reply is told as.
-fn reply_told(reply: &Reply) -> Told
-    ensures { result ≡ told_of reply.now }
-{
-    match reply {
-        Reply::Ran { answer, trace, .. } => answer_told(*answer, trace.len() as u64),
-        Reply::UnknownEvent => no_answer(5),
-        Reply::WrongArgs => no_answer(6),
-        Reply::Spent => no_answer(7),
-        Reply::Queued(_) => no_answer(8),
-    }
 }
 
 // Raises the event, and keeps the reply.
@@ -133,6 +96,8 @@ fn turn_lane(alloc: Global, lane: &mut Lane, ask: Ask) -> Outcome
         Ask::Open(_) => Outcome::Open,
         Ask::Raise { event, args } => raise(alloc, lane, event, args),
         Ask::Command(row) => command(alloc, lane, &row),
+        Ask::Step(index) => tell_step(&lane.reply, index),
+        Ask::Bytes(index) => hand_bytes(alloc, &lane.reply, index),
         Ask::Close => Outcome::Done,
     }
 }

@@ -34,6 +34,7 @@ pub enum Expr {
 }
 
 /// The word of an argument, counted from 0: 0 where it isn't there or is bytes.
+#[inline]
 pub fn argument_word(args: &Args, arg: u8) -> u64
     ensures { result ≡ word_at args.now arg }
 {
@@ -48,6 +49,7 @@ pub fn argument_word(args: &Args, arg: u8) -> u64
 }
 
 /// The bytes of an argument, counted from 0: none where it isn't there or is a word.
+#[inline]
 pub fn argument_bytes(args: &Args, arg: u8) -> &[u8]
     ensures { result.now ≡ bytes_at args.now arg }
 {
@@ -83,20 +85,32 @@ fn field(bytes: &[u8], offset: u16, width: u8) -> u64
     }
 }
 
-/// The value of an expression over these arguments.
-///
-/// An argument that isn't there, or is of the other kind, counts as 0 where a word is wanted and as no bytes where
-/// bytes are wanted. A field that reaches past the end of its bytes is 0, and so is one whose width isn't 1, 2, 4
-/// or 8. It takes time linear in the expression's nodes.
-pub fn value(e: &Expr, args: &Args) -> u64
+// The value of an expression, node by node.
+fn tree_value(e: &Expr, args: &Args) -> u64
     ensures { result ≡ value_of e.now args.now }
 {
     match e {
         Expr::Const(number) => *number,
         Expr::Arg(arg) => argument_word(args, *arg),
         Expr::Field { arg, offset, width } => field(argument_bytes(args, *arg), *offset, *width),
-        Expr::Plus(a, b) => value(a, args).wrapping_add(value(b, args)),
-        Expr::And(a, b) => value(a, args) & value(b, args),
-        Expr::Or(a, b) => value(a, args) | value(b, args),
+        Expr::Plus(a, b) => tree_value(a, args).wrapping_add(tree_value(b, args)),
+        Expr::And(a, b) => tree_value(a, args) & tree_value(b, args),
+        Expr::Or(a, b) => tree_value(a, args) | tree_value(b, args),
+    }
+}
+
+/// The value of an expression over these arguments.
+///
+/// An argument that isn't there, or is of the other kind, counts as 0 where a word is wanted and as no bytes where
+/// bytes are wanted. A field that reaches past the end of its bytes is 0, and so is one whose width isn't 1, 2, 4
+/// or 8. It takes time linear in the expression's nodes, and no call where it is a number or an argument.
+#[inline]
+pub fn value(e: &Expr, args: &Args) -> u64
+    ensures { result ≡ value_of e.now args.now }
+{
+    match e {
+        Expr::Const(number) => *number,
+        Expr::Arg(arg) => argument_word(args, *arg),
+        _ => tree_value(e, args),
     }
 }

@@ -45,6 +45,7 @@ pub enum Test {
 }
 
 // Whether two numbers compare so.
+#[inline]
 fn compare(cmp: Cmp, a: u64, b: u64) -> bool
     ensures { result ≡ compares cmp a b }
 {
@@ -56,17 +57,28 @@ fn compare(cmp: Cmp, a: u64, b: u64) -> bool
     }
 }
 
-// Whether a test holds, without a count.
-fn is_true(t: &Test, args: &Args) -> bool
+// Whether a test holds, node by node.
+fn is_tree_true(t: &Test, args: &Args) -> bool
     ensures { result ≡ truth_of t.now args.now }
 {
     match t {
         Test::True => true,
         Test::Compare(cmp, a, b) => compare(*cmp, value(a, args), value(b, args)),
         Test::HasBytes { arg, length } => *length as usize <= argument_bytes(args, *arg).len(),
-        Test::Not(t) => !is_true(t, args),
-        Test::All(a, b) => is_true(a, args) && is_true(b, args),
-        Test::Any(a, b) => is_true(a, args) || is_true(b, args),
+        Test::Not(t) => !is_tree_true(t, args),
+        Test::All(a, b) => is_tree_true(a, args) && is_tree_true(b, args),
+        Test::Any(a, b) => is_tree_true(a, args) || is_tree_true(b, args),
+    }
+}
+
+// Whether a test holds, without a count: at once where it is a comparison.
+#[inline]
+fn is_true(t: &Test, args: &Args) -> bool
+    ensures { result ≡ truth_of t.now args.now }
+{
+    match t {
+        Test::Compare(cmp, a, b) => compare(*cmp, value(a, args), value(b, args)),
+        _ => is_tree_true(t, args),
     }
 }
 

@@ -228,7 +228,7 @@ fn value(alloc: Global, word: &[u8]) -> Result<Value, Fault>
 fn read_values(alloc: Global, words: &mut Words) -> Result<Args, Fault>
     ensures { Gives (λ vs. map value_atom vs) (Values MAX_PARAMS ∷ []) result words.old words.new }
 {
-    let mut values = Args::new(alloc);
+    let mut values = Args::with_capacity(alloc, 1)?;
     for _ in 0..MAX_PARAMS {
         let Some(word) = words.next() else {
             values.shrink_to_fit();

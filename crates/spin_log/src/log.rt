@@ -5,6 +5,7 @@ ghost use Rattle.std.specs.Prelude.{map, length, vec_capacity, IfOk};
 ghost use Rattle.core.specs.Mem.Slots.{slots_items, slots_len, IsFull};
 ghost use Rattle.spin_word.specs.declared.row.Row.{Row as RowValue};
 ghost use Rattle.spin_word.specs.Rows.{lane_of};
+ghost use Rattle.spin_word.specs.declared.command.TheConstants.{MAX_PLACE};
 ghost use Rattle.spin_log.specs.Rows.{size_of, name_of, turn, IsRowOf, IsCommandBelow, row_words};
 ghost use Rattle.spin_log.specs.Rows.{StandsAt};
 ghost use Rattle.spin_log.specs.Inner.Places.{place_of, IsNameIn};
@@ -38,6 +39,15 @@ const NAMES_PER_LANE: u64 = MAX_PLACE as u64;
 
 /// Rows, in order.
 pub type Rows = Sequence<Row>;
+
+/// Room for all rows that a log can have, which [`Log::close_into`] fills. Whoever has it knows that a log can be
+/// closed without want of memory. It takes 131 kB.
+#[derive(Drop)]
+pub struct RowRoom {
+    rows: Vec<Row>,
+    ghost empty: { length rows.items ≡ 0 },
+    ghost room: { MAX_PLACE ≤ vec_capacity rows },
+}
 
 /// What [`Log::look`] found.
 #[derive(Debug, Clone, Copy, PartialEq, Eq)]
@@ -140,6 +150,15 @@ fn read_rows(closed: &Closed<(), Global>, rows: &mut Vec<Row>)
             return;
         }
         rows.push_reserved(read_row(closed, name));
+    }
+}
+
+impl RowRoom {
+    /// The room, with no row in it.
+    pub fn new(alloc: Global) -> Result<RowRoom, NoMemory> {
+        Ok(RowRoom {
+            rows: Vec::with_capacity(alloc, usize::from(MAX_PLACE))?,
+        })
     }
 }
 
@@ -332,9 +351,26 @@ impl Log {
         taker
     }
 
-    /// All rows of the log, in order. Each pen's front begins them; its own rows are exactly those of its lane,
-    /// and all lie in its front; and the rows and the pins of all pens come from one history. So all pens of the
-    /// log, handed in together, tell whose each row is. After want of memory the log and the pens are gone.
+    /// All rows of the log, in order, where there is room for them. Each pen's front begins them; its own rows are
+    /// exactly those of its lane, and all lie in its front; and the rows and the pins of all pens come from one
+    /// history. So all pens of the log, handed in together, tell whose each row is. It takes no memory, and so can't
+    /// fail. It takes time linear in the rows and the pens.
+    pub fn close_into(self, room: RowRoom, pens: Pens) -> Rows
+        requires { All (λ pen. pen.log ≡ self.id) pens }
+        ensures pens { All (StandsIn result) pens }
+        ensures history { (moments : List Moment) × IsHistory result pens moments }
+        ensures rows { All (IsCommandBelow self.lanes) result × (length result ≤ MAX_PLACE) }
+    {
+        let RowRoom { mut rows } = room;
+        let taker = self.gather(pens);
+        let Log { table } = self;
+        let closed = table.close_with(taker);
+        read_rows(&closed, &mut rows);
+        closed.free();
+        Rows::from_vec(rows)
+    }
+
+    /// All rows of the log, as [`Log::close_into`] gives them. After want of memory the log and the pens are gone.
     pub fn close(self, alloc: Global, pens: Pens) -> Result<Rows, NoMemory>
         requires { All (λ pen. pen.log ≡ self.id) pens }
         ensures pens { IfOk result (λ log. All (StandsIn log) pens) }
@@ -343,12 +379,7 @@ impl Log {
         ensures rows { IfOk result
             (λ log. All (IsCommandBelow self.lanes) log × (length log ≤ MAX_PLACE)) }
     {
-        let mut rows = Vec::with_capacity(alloc, usize::from(MAX_PLACE))?;
-        let taker = self.gather(pens);
-        let Log { table } = self;
-        let closed = table.close_with(taker);
-        read_rows(&closed, &mut rows);
-        closed.free();
-        Ok(Rows::from_vec(rows))
+        let room = RowRoom::new(alloc)?;
+        Ok(self.close_into(room, pens))
     }
 }

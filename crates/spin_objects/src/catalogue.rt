@@ -115,6 +115,7 @@ impl Catalogue {
     }
 
     // The handler of a number that is there.
+    #[inline]
     fn body(&self, handler: u16) -> &Body
         requires first { 0 < handler }
         requires last { handler ≤ length (handlers_of self.now) }
@@ -125,6 +126,7 @@ impl Catalogue {
     }
 
     // The guard of a number that is there.
+    #[inline]
     fn check(&self, guard: u16) -> &Check
         requires first { 0 < guard }
         requires last { guard ≤ length (guards_of self.now) }
@@ -142,6 +144,7 @@ impl Catalogue {
     }
 
     /// Of a handler that is there, the index of the native that it is; `None` exactly where it is coded.
+    #[inline]
     pub fn native_handler(&self, handler: u16) -> Option<u16>
         requires first { 0 < handler }
         requires last { handler ≤ length (handlers_of self.now) }
@@ -152,6 +155,7 @@ impl Catalogue {
     }
 
     /// Of a guard that is there, the index of the native that it is; `None` exactly where it is coded.
+    #[inline]
     pub fn native_guard(&self, guard: u16) -> Option<u16>
         requires first { 0 < guard }
         requires last { guard ≤ length (guards_of self.now) }
@@ -169,6 +173,7 @@ impl Catalogue {
     }
 
     /// The act of a handler that is there.
+    #[inline]
     pub fn act_of(&self, handler: u16) -> &Act
         requires first { 0 < handler }
         requires last { handler ≤ length (acts_of self.now) }
@@ -206,6 +211,7 @@ impl Catalogue {
 
     /// Does the act of a handler that is there, by its object where it is native: changes the arguments, and appends
     /// what the act gives. After want of memory nothing is known of the two.
+    #[inline]
     pub fn run(
         &self,
         alloc: Global,
@@ -236,6 +242,7 @@ impl Guards for Catalogue {
         self.checks.len() as u16
     }
 
+    #[inline]
     fn test_of(&self, guard: u16) -> &Test {
         match self.check(guard) {
             Check::Coded(_, test) => test,
@@ -244,6 +251,7 @@ impl Guards for Catalogue {
     }
 
     /// Asks the object where the guard is native.
+    #[inline]
     fn admits<L: Ledger>(&self, guard: u16, args: &Args, steps: &mut Steps<L>) -> bool {
         match self.native_guard(guard) {
             None => holds(self.test_of(guard), args, steps),

@@ -23,7 +23,7 @@ fn read_packet(alloc: Global, packet: &[u8]) -> Result<Result<Args, HeaderFault>
         Err(fault) => return Ok(Err(fault)),
     };
     let payload = &packet[usize::from(header.header_len)..usize::from(header.total_len)];
-    let mut args = Args::new(alloc);
+    let mut args = Args::with_capacity(alloc, 4)?;
     args.push(Value::Bytes(Octets::from_bytes(alloc, payload)?))?;
     args.push(Value::Word(u64::from(header.protocol)))?;
     args.push(Value::Word(u64::from(header.source)))?;
@@ -55,7 +55,7 @@ fn read_datagram(
         Err(fault) => return Ok(Err(fault)),
     };
     let payload = &datagram[UDP_HEADER..usize::from(header.length)];
-    let mut args = Args::new(alloc);
+    let mut args = Args::with_capacity(alloc, 5)?;
     args.push(Value::Bytes(Octets::from_bytes(alloc, payload)?))?;
     args.push(Value::Word(u64::from(header.source_port)))?;
     args.push(Value::Word(u64::from(header.destination_port)))?;

@@ -34,7 +34,7 @@ fn part_value(alloc: Global, part: &Part, args: &Args) -> Result<Value, NoMemory
 fn part_values(alloc: Global, parts: &[Part], args: &Args) -> Result<Args, NoMemory>
     ensures { IfOk result (λ made. made ≡ map (part_of args.now) parts.now) }
 {
-    let mut made = Args::new(alloc);
+    let mut made = Args::with_capacity(alloc, parts.len())?;
     for part in parts {
         made.push(part_value(alloc, part, args)?)?;
     }
@@ -52,6 +52,7 @@ fn layer_item(alloc: Global, layer: Layer, event: u8, args: &Args) -> Result<Ite
 }
 
 // Does one step.
+#[inline]
 fn run_step(
     alloc: Global,
     step: &ActStep,
@@ -103,6 +104,7 @@ fn run_step(
 /// An argument that isn't there, or is of the other kind, counts as by [`value`]. After want of memory nothing is
 /// known of the arguments and the outcome, and the caller lets both go. It takes time linear in the act's nodes and
 /// in the bytes that it copies or sums.
+#[inline]
 pub fn run_act(alloc: Global, act: &Act, args: &mut Args, out: &mut Outcome) -> Result<(), NoMemory>
     ensures done { OnOk result (IsDone act.now args.old out.old args.new out.new) }
 {

@@ -1,8 +1,9 @@
 //! The reader of a capture.
 
 ghost use Rattle.std.specs.Prelude.{◌≡◌, ◌<◌, ◌≤◌, ◌+◌, ℕ, List, [], ◌++◌, length, IfOk, IfErr};
-ghost use Rattle.std.specs.Prelude.{IfSome, ⊤};
+ghost use Rattle.std.specs.Prelude.{IfSome, ⊤, true, false};
 ghost use Rattle.spin_pcap.specs.Inner.Filling.{Copies};
+ghost use Rattle.spin_pcap.specs.Inner.Held.{HasPassed};
 ghost use Rattle.spin_pcap.specs.Passing.{Passes, UnlessFailed, ReadsByCount, IsStart};
 ghost use Rattle.spin_pcap.specs.Passing.{TakesHeader, IsFresh, IsAnswer, IsGone};
 ghost use Rattle.spin_pcap.specs.Passing.{EmptyUnlessPacket, IfReading, Repeats, given_after};
@@ -232,6 +233,59 @@ impl Reader {
             }
         }
         result
+    }
+
+    // Goes past the next record, where it may be given and all of it is held. The answer says whether it did.
+    fn pass_held(&mut self) -> bool
+        ensures passed { result ≡ true → HasPassed self.old self.new }
+        ensures other { result ≡ false → self.new ≡ self.old }
+        ensures bound { (length self.old.held ≤ MAX_HELD) × (length self.new.held ≤ MAX_HELD) }
+    {
+        let held = self.window.held();
+        if self.state != State::Reading || self.given >= MAX_RECORDS || held.len() < RECORD {
+            return false;
+        }
+        let captured = self.order.read_u32(&held[8..]);
+        if captured > MAX_CAPTURED || held.len() - RECORD < captured as usize {
+            return false;
+        }
+        self.window.skip(RECORD + captured as usize);
+        self.given += 1;
+        true
+    }
+
+    /// Goes past the next record, and gives none of its bytes. It answers and refuses as [`next`](Reader::next) does,
+    /// as often, and leaves the reader as that would. The bytes of a record that is held are not even read; of one
+    /// that isn't they are put into a list, which is dropped.
+    pub fn pass<S: Source>(&mut self, alloc: Global, source: &mut S) -> Result<Next, PcapFault>
+        ensures repeats { Repeats self.old.state result }
+        ensures record { (frame : List ℕ)
+            × IfReading self.old.state
+            (IfSome (left_for self.old.held (S.seen source.old).left) (λ bytes.
+            IsAnswer self.old.order self.old.given bytes result frame
+            (left_for self.new.held (S.seen source.new).left)))
+            (source.new ≡ source.old)
+            × (gone : List ℕ)
+            × Passes gone self.old.held (S.seen source.old) self.new.held (S.seen source.new)
+            × IsGone self.old.order result gone frame }
+        ensures reader { IfReading self.old.state
+            (self.new ≡ record self.old {
+              held = self.new.held;
+              given = given_after self.old.given result;
+              state = state_after result;
+            })
+            (self.new ≡ self.old) }
+        ensures bound { (length self.old.held ≤ MAX_HELD) × (length self.new.held ≤ MAX_HELD) }
+        ensures few { result ≡ Ok Next.Packet → self.old.given < MAX_RECORDS }
+        ensures cut { IfReading self.old.state (IsCutShort self.old.given result) ⊤ }
+        ensures refused { IfReading self.old.state (IsRefusal self.old.given result) ⊤ }
+        ensures cause { ReadsByCount (S.seen source.old).faults (S.seen source.new).faults result }
+    {
+        if self.pass_held() {
+            return Ok(Next::Packet);
+        }
+        let mut frame = Octets::new(alloc);
+        self.next(source, &mut frame)
     }
 
     /// The number of whole records that were given, which is at most [`MAX_RECORDS`].

@@ -34,6 +34,7 @@ pub(crate) fn file(
 }
 
 // The positions under a constant.
+#[inline]
 pub(crate) fn at_constant(keyed: &Keyed, constant: u64) -> &[u32]
     ensures { result.now ≡ positions_at keyed.now.entries constant }
 {
@@ -44,6 +45,7 @@ pub(crate) fn at_constant(keyed: &Keyed, constant: u64) -> &[u32]
 }
 
 // The first position at or after `from`.
+#[inline]
 fn first_from(positions: &[u32], from: u32) -> Option<u32>
     requires { IsNonDecreasing positions.now }
     ensures { result ≡ find (nat_le from) positions.now }
@@ -57,6 +59,7 @@ fn first_from(positions: &[u32], from: u32) -> Option<u32>
 }
 
 // The lesser one, or the one that is there.
+#[inline]
 fn least(a: Option<u32>, b: Option<u32>) -> Option<u32>
     ensures { result ≡ least a b }
 {
@@ -68,6 +71,7 @@ fn least(a: Option<u32>, b: Option<u32>) -> Option<u32>
 }
 
 // The first position at or after `from` in one of two rising lists.
+#[inline]
 pub(crate) fn first_of_both(a: &[u32], b: &[u32], from: u32) -> Option<u32>
     requires a { IsNonDecreasing a.now }
     requires b { IsNonDecreasing b.now }

@@ -14,7 +14,7 @@ use crate::index::{Keyed, at_constant, file, first_of_both};
 use crate::key::key_of;
 use crate::read::Read;
 use crate::reads::required_of;
-use spin_code::{Guards, value};
+use spin_code::Guards;
 use spin_place::Binding;
 use spin_values::{Args, NoMemory, Sequence, Steps};
 use spin_word::Mode;
@@ -52,6 +52,7 @@ impl Model for Plan {
 }
 
 // Whether the guard's test holds: 0 is no guard and always holds.
+#[inline]
 fn admits<C: Guards, L: Ledger>(guards: &C, guard: u16, args: &Args, steps: &mut Steps<L>) -> bool
     requires there { IsGuard (length (C.tests guards.now)) guard }
     requires sincere { C.sincere guards.now }
@@ -63,6 +64,7 @@ fn admits<C: Guards, L: Ledger>(guards: &C, guard: u16, args: &Args, steps: &mut
 }
 
 // Whether the binding's own guard and all its imposed guards hold. None is asked after one that doesn't hold.
+#[inline]
 fn admits_all<C: Guards, L: Ledger>(
     guards: &C,
     binding: &Binding,
@@ -153,6 +155,7 @@ impl Plan {
     }
 
     /// The binding at a position that is there.
+    #[inline]
     pub fn binding(&self, at: u32) -> &Binding
         requires { at < length self.now.bindings }
         ensures { slice_get self.now.bindings at ≡ Some result.now }
@@ -185,17 +188,19 @@ impl Plan {
     }
 
     // The positions of the bindings that require the key's value on these arguments.
+    #[inline]
     fn keyed_at(&self, args: &Args) -> &[u32]
         ensures { result.now
             ≡ positions_under self.now.keyed (key_value self.now.key args.now) }
     {
         match &self.key {
             None => &[],
-            Some(read) => at_constant(&self.keyed, value(&read.expr(), args)),
+            Some(read) => at_constant(&self.keyed, read.value(args)),
         }
     }
 
     // The first position at or after `from` in this list or of a binding that requires no constant for the key.
+    #[inline]
     fn next_candidate(&self, keyed: &[u32], from: u32) -> Option<u32>
         requires free { IsNonDecreasing self.now.free }
         requires keyed { IsNonDecreasing keyed.now }
@@ -208,8 +213,10 @@ impl Plan {
     /// The least position at or after `from` whose own guard and imposed guards all hold of these arguments; `None`
     /// exactly where there is none. The guards are those over which the plan was compiled.
     ///
-    /// It takes no memory. It asks the guards of candidates alone, each candidate's in their order, its own guard
-    /// first, until one doesn't hold. A candidate requires no constant for the key, or requires the key's value.
+    /// It takes no memory, and looks into the index only where a binding is left. It asks the guards of candidates
+    /// alone, each candidate's in their order, its own guard first, until one doesn't hold. A candidate requires no
+    /// constant for the key, or requires the key's value.
+    #[inline]
     pub fn next<C: Guards, L: Ledger>(
         &self,
         from: u32,
@@ -230,6 +237,9 @@ impl Plan {
             ≤ steps.old + sum_by guards_in
             (candidates (C.tests guards.now) self.now.key args.now self.now.bindings from result) }
     {
+        if from >= self.len() {
+            return None;
+        }
         let keyed = self.keyed_at(args);
         let mut at = from;
         'candidates: while let Some(candidate) = self.next_candidate(keyed, at) {

@@ -2,10 +2,12 @@
 
 ghost use Rattle.std.specs.Prelude.{◌≡◌, if◌then◌else◌, Some, None};
 ghost use Rattle.std.specs.Option.{option_map};
+ghost use Rattle.spin_code.specs.Value.{value_of};
 ghost use Rattle.spin_plan.specs.Planned.{expr_of};
 ghost use Rattle.spin_plan.specs.Inner.Reads.{is_read};
 
-use spin_code::Expr;
+use spin_code::{Expr, argument_word, value};
+use spin_values::Args;
 
 // An argument, or a field of one: what a key may be, where an expression may be anything.
 #[derive(Clone, Copy, Debug)]
@@ -24,7 +26,19 @@ pub(crate) enum Read {
 }
 
 impl Read {
+    // Its value on these arguments.
+    #[inline]
+    pub(crate) fn value(&self, args: &Args) -> u64
+        ensures { result ≡ value_of (expr_of self.now) args.now }
+    {
+        match self {
+            Read::Arg(arg) => argument_word(args, *arg),
+            Read::Field { .. } => value(&self.expr(), args),
+        }
+    }
+
     // What is read, as an expression.
+    #[inline]
     pub(crate) fn expr(&self) -> Expr
         ensures { result ≡ expr_of self.now }
     {

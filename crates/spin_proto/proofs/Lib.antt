@@ -1,4 +1,5 @@
 pub mod WalkLemmas
+mod NotedItems
 pub mod LeastOrders
 pub mod BoundEvents
 pub mod RisingRaises

@@ -106,6 +106,11 @@ follow_on by u bs count event all up items rest a w_0 w w_1 w_2 w_3 e rise o wen
     let rises = subst Q e rise in
     up_on all (flat_map (marks_up later) rest) up.event (later up.event up.args) a w_0 w w_1 w_2 w_3 (subst P e o) went (subst R (raised_up by u bs event up.event up.args rises.0) comes) back
 
+-- a raise upwards of equal arguments
+pub came_up : (by : Runner) (u : Units) (bs : List Bound) (event : ℕ) (args args' : List Value) (o : Option Answer) (w w' : Walk)
+    → args' ≡ args → Comes o (raised by u bs 0 event args') w w' → Comes o (raised by u bs 0 event args) w w'
+came_up by u bs event args args' o w w' same h = let P : List Value → Type 0 = λ xs. Comes o (raised by u bs 0 event xs) w w' in subst P same h
+
 pub rest_rises : (count event : ℕ) (up : Upward) (items rest : List Upward) → items ≡ up ∷ rest → UpsRise count event items → UpsRise count event rest
 rest_rises count event up items rest e rise = let Q : List Upward → Type 0 = λ ups. UpsRise count event ups in (subst Q e rise).2
 

@@ -1,6 +1,6 @@
 -- Replies on the events of a sound state.
 use Rattle.std.proofs.Common.{◌≡◌, ℕ, suc, List, [], drop, sym, ap, subst, ◌∙◌}
-use Rattle.std.specs.Prelude.{Result, Ok, Err, IfOk}
+use Rattle.std.specs.Prelude.{Result, Ok, Err, IfOk, OnOk}
 use Rattle.std.specs.List.{All}
 use Rattle.spin_values.specs.declared.values.Value.{Value}
 use Rattle.spin_raise.specs.declared.bound.Runner.TheVariants as runner
@@ -24,6 +24,10 @@ use Rattle.spin_proto.proofs.JobCalls.{raised_calls, job_calls, bounds_may, jobs
 pub ok_map : {A E : Type 0} (r : Result A E) (P Q : A → Type 0) → ((x : A) → P x → Q x) → IfOk r P → IfOk r Q
 ok_map (Ok x) P Q f h = f x h
 ok_map (Err e) P Q f h = tt
+
+pub on_ok_map : {A E : Type 0} (r : Result A E) (P Q : Type 0) → (P → Q) → OnOk r P → OnOk r Q
+on_ok_map (Ok x) P Q f h = f h
+on_ok_map (Err e) P Q f h = tt
 
 module _ (d : SetupData) (s : State) (sound : IsSound d s) where
   -- a deed that isn't done

@@ -1,5 +1,6 @@
 pub mod Whole
 pub mod Replies
+pub mod Parts
 pub mod Renamings
 pub mod Inner
 pub mod Limits

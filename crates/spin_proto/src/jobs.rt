@@ -18,7 +18,7 @@ use crate::whole::raise_whole;
 use spin_code::Sincere;
 use spin_objects::{Catalogue, Outcome};
 use spin_place::Binding;
-use spin_raise::{Answer, Runner, run_handler};
+use spin_raise::{Answer, Progress, Runner, run_handler};
 use spin_table::{Setup, Version};
 use spin_values::{Args, NoMemory, Sequence};
 use std::alloc::Global;
@@ -57,15 +57,15 @@ fn follow(
     setup: &Setup,
     runner: Runner,
     event: u8,
-    given: Outcome,
+    given: &mut Outcome,
     walk: &mut Walk,
 ) -> Result<bool, NoMemory>
     requires sound { IsSound (data_of setup.now) version.now }
     requires sincere { ⟦<Catalogue as Sincere>⟧.sincere setup.now.catalogue }
-    requires rise { UpsRise (length version.now.events) event (ups_of given) }
+    requires rise { UpsRise (length version.now.events) event (ups_of given.old) }
     ensures { IfOk result (λ on. OnBounds (data_of setup.now) version.now (λ bounds.
         let later = raised_after runner (units_in (data_of setup.now)) bounds event in
-        Spends on (marks_of event later given) walk.old walk.new)) }
+        Spends on (marks_of event later given.old) walk.old walk.new)) }
 {
     let Some(ups) = note_items(alloc, walk, event, given)? else {
         return Ok(false);
@@ -74,7 +74,12 @@ fn follow(
     while let Some(up) = queue.pop_front() {
         let Upward { event: to, args } = up;
         walk.note(Step::Up(to))?;
-        match raise_event(alloc, version, setup, runner, to, args, walk)? {
+        let mut own = Progress {
+            from: 0,
+            answer: Answer::NoHandler,
+            args,
+        };
+        match raise_event(alloc, version, setup, runner, to, &mut own, given, walk)? {
             None => return Ok(false),
             Some(answer) => walk.note(Step::Back(answer))?,
         }
@@ -103,7 +108,8 @@ fn binding_job(
     let mut given = Sequence::new(alloc);
     let word = run_handler(alloc, cat, handler, number, &mut args, &mut given)?;
     let mut walk = Walk::new(alloc);
-    if !follow(alloc, version, setup, Runner::Job, event, given, &mut walk)? {
+    let runner = Runner::Job;
+    if !follow(alloc, version, setup, runner, event, &mut given, &mut walk)? {
         return Ok(Reply::Spent);
     }
     let Walk { trace, jobs, .. } = walk;

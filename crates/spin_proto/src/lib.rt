@@ -9,6 +9,7 @@
 mod deed;
 mod jobs;
 mod law;
+mod lent;
 mod limits;
 mod reply;
 mod rising;
@@ -18,6 +19,7 @@ mod whole;
 pub use deed::{Job, JobCall, JobCalls, Jobs};
 pub use jobs::job_path;
 pub use law::renamed_states_reply_alike;
+pub use lent::{ReplyBuffer, path_into};
 pub use limits::limits_are_stated;
 pub use reply::{MAX_RUNS, Reply, Step, Trace};
 pub use spin_word::Deed;

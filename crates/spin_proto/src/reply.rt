@@ -1,5 +1,8 @@
 //! What a deed or a job comes to.
 
+ghost use Rattle.std.specs.Prelude.{◌≡◌};
+ghost use Rattle.spin_proto.specs.Parts.{answer_in, trace_in, jobs_in};
+
 use crate::deed::{JobCall, JobCalls};
 use spin_headers::HeaderFault;
 use spin_raise::Answer;
@@ -65,4 +68,36 @@ pub enum Reply {
     WrongArgs,
     /// More than [`MAX_RUNS`] handlers would start. Nothing of what was done is left.
     Spent,
+}
+
+impl Reply {
+    /// The answer; `None` exactly where it isn't [`Reply::Ran`].
+    pub fn answer(&self) -> Option<Answer>
+        ensures { result ≡ answer_in self.now }
+    {
+        match self {
+            Reply::Ran { answer, .. } => Some(*answer),
+            _ => None,
+        }
+    }
+
+    /// The steps, of which there are none where it isn't [`Reply::Ran`].
+    pub fn trace(&self) -> &[Step]
+        ensures { result.now ≡ trace_in self.now }
+    {
+        match self {
+            Reply::Ran { trace, .. } => trace.as_slice(),
+            _ => &[],
+        }
+    }
+
+    /// The calls of jobs, of which there are none where it isn't [`Reply::Ran`].
+    pub fn jobs(&self) -> &[JobCall]
+        ensures { result.now ≡ jobs_in self.now }
+    {
+        match self {
+            Reply::Ran { jobs, .. } => jobs.as_slice(),
+            _ => &[],
+        }
+    }
 }

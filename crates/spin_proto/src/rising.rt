@@ -1,6 +1,6 @@
 //! A raise with its raises upwards, depth first.
 
-ghost use Rattle.std.specs.Prelude.{◌≡◌, ◌+◌, ◌<◌, ◌++◌, [], ◌∷◌, length, OnOk, IfOk, Some};
+ghost use Rattle.std.specs.Prelude.{◌≡◌, ◌+◌, ◌<◌, ◌++◌, [], ◌∷◌, length, reverse, OnOk, IfOk, Some};
 ghost use Rattle.std.specs.List.{flat_map};
 ghost use Rattle.spin_table.specs.SetupOf.{data_of};
 ghost use Rattle.spin_table.specs.Soundness.{IsSound};
@@ -9,7 +9,7 @@ ghost use Rattle.spin_proto.specs.Whole.{marks_at, marks_of, up_of, ups_of, rais
 ghost use Rattle.spin_proto.specs.Inner.Walks.{OnBounds, Spends, Comes, Notes, UpsRise};
 
 use crate::reply::Step;
-use crate::walk::{Upward, Walk};
+use crate::walk::{Upward, Walk, clear};
 use spin_code::Sincere;
 use spin_objects::{Catalogue, Item, Outcome};
 use spin_raise::{Answer, Bound, Progress, Runner, Stepped, step};
@@ -17,8 +17,10 @@ use spin_table::{Setup, Version};
 use spin_values::{Args, NoMemory, Sequence};
 use std::alloc::Global;
 use std::collections::VecDeque;
+use std::mem;
 
 // Notes one item, and keeps a raise upwards for later. False where too many handlers start.
+#[inline]
 fn note_item(
     walk: &mut Walk,
     event: u8,
@@ -50,26 +52,40 @@ fn note_item(
     }
 }
 
-// Notes what a firing gave, and answers its raises upwards. `None` where too many handlers start.
+// Takes the items out of the list, the last one first, so that each is taken by `pop` in its turn.
+#[inline]
+fn turned(alloc: Global, list: &mut Outcome) -> Vec<Item>
+    ensures { reverse result.items ≡ list.old }
+{
+    let mut items = mem::replace(list, Sequence::new(alloc)).into_vec();
+    items.reverse();
+    items
+}
+
+// Notes what a firing gave, which it takes out of the list, and answers its raises upwards. `None` where too many
+// handlers start.
+#[inline]
 pub(crate) fn note_items(
     alloc: Global,
     walk: &mut Walk,
     event: u8,
-    given: Outcome,
+    given: &mut Outcome,
 ) -> Result<Option<Sequence<Upward>>, NoMemory>
-    ensures { IfOk result (λ ups. Notes ups event given walk.old walk.new) }
+    ensures { IfOk result (λ ups. Notes ups event given.old walk.old walk.new) }
 {
     let mut ups = Sequence::new(alloc);
-    let mut queue = VecDeque::from(given.into_vec());
-    while let Some(item) = queue.pop_front() {
+    let mut items = turned(alloc, given);
+    while let Some(item) = items.pop() {
         if !note_item(walk, event, item, &mut ups)? {
             return Ok(None);
         }
     }
+    *given = Sequence::from_vec(items);
     Ok(Some(ups))
 }
 
-// Does a raise of an event that is there, with its raises upwards. `None` where too many handlers start.
+// Does a raise of an event that is there, with its raises upwards. `None` where too many handlers start. What the
+// raise under way and the list hold afterwards counts for nothing: they are lent for their room.
 //
 // It calls itself, and no other function does with it: functions that call one another in a ring may not be lent
 // boxed objects. So the raises upwards of a firing are done here, and for a job once more in `jobs`.
@@ -79,14 +95,17 @@ pub(crate) fn raise_event(
     setup: &Setup,
     runner: Runner,
     event: u8,
-    args: Args,
+    progress: &mut Progress,
+    given: &mut Outcome,
     walk: &mut Walk,
 ) -> Result<Option<Answer>, NoMemory>
     requires sound { IsSound (data_of setup.now) version.now }
     requires sincere { ⟦<Catalogue as Sincere>⟧.sincere setup.now.catalogue }
     requires there { event < length version.now.events }
+    requires from { progress.old.from ≡ 0 }
+    requires answer { progress.old.answer ≡ Answer.NoHandler }
     ensures { IfOk result (λ answer. OnBounds (data_of setup.now) version.now (λ bounds.
-        let all = raised runner (units_in (data_of setup.now)) bounds 0 event args in
+        let all = raised runner (units_in (data_of setup.now)) bounds 0 event progress.old.args in
         Comes answer all walk.old walk.new)) }
 {
     let cat = setup.catalogue();
@@ -98,11 +117,10 @@ pub(crate) fn raise_event(
         merge: &def.merge,
         default,
     };
-    let mut progress = Progress::start(args);
     'turns: loop {
         let room = walk.left > 0;
-        let mut given = Sequence::new(alloc);
-        match step(alloc, cat, &bound, runner, room, &mut progress, &mut given)? {
+        clear(alloc, given);
+        match step(alloc, cat, &bound, runner, room, progress, given)? {
             Stepped::End => return Ok(Some(progress.answer)),
             Stepped::Full => return Ok(None),
             Stepped::Ran => {
@@ -113,7 +131,12 @@ pub(crate) fn raise_event(
                 while let Some(up) = queue.pop_front() {
                     let Upward { event: to, args } = up;
                     walk.note(Step::Up(to))?;
-                    match raise_event(alloc, version, setup, runner, to, args, walk)? {
+                    let mut own = Progress {
+                        from: 0,
+                        answer: Answer::NoHandler,
+                        args,
+                    };
+                    match raise_event(alloc, version, setup, runner, to, &mut own, given, walk)? {
                         None => return Ok(None),
                         Some(answer) => walk.note(Step::Back(answer))?,
                     }

@@ -8,6 +8,20 @@ use crate::deed::{JobCall, JobCalls};
 use crate::reply::{MAX_RUNS, Step, Trace};
 use spin_values::{Args, NoMemory, Sequence};
 use std::alloc::Global;
+use std::mem;
+
+// Takes all items out. The list keeps its room.
+#[inline]
+pub(crate) fn clear<T: Drop>(alloc: Global, list: &mut Sequence<T>)
+    ensures { list.new ≡ [] }
+{
+    if list.is_empty() {
+        return;
+    }
+    let mut items = mem::replace(list, Sequence::new(alloc)).into_vec();
+    items.clear();
+    *list = Sequence::from_vec(items);
+}
 
 // A raise upwards that is still to be done.
 #[derive(Drop, Debug)]
@@ -38,7 +52,20 @@ impl Walk {
         }
     }
 
+    // Takes out what was noted before, so that no step is there. The lists keep their room.
+    #[inline]
+    pub(crate) fn restart(&mut self, alloc: Global)
+        ensures trace { self.new.trace ≡ [] }
+        ensures jobs { self.new.jobs ≡ [] }
+        ensures left { self.new.left ≡ MAX_RUNS }
+    {
+        clear(alloc, &mut self.trace);
+        clear(alloc, &mut self.jobs);
+        self.left = MAX_RUNS;
+    }
+
     // Adds a step that starts nothing.
+    #[inline]
     pub(crate) fn note(&mut self, step: Step) -> Result<(), NoMemory>
         requires { is_start (Plain step) ≡ false }
         ensures { OnOk result (Gained (Plain step ∷ []) self.old self.new) }
@@ -47,6 +74,7 @@ impl Walk {
     }
 
     // Starts a handler. False where none may start.
+    #[inline]
     pub(crate) fn start(&mut self, event: u8, number: u16) -> Result<bool, NoMemory>
         ensures { IfOk result
             (λ on. Spends on (Plain (Step.Run event number) ∷ []) self.old self.new) }

@@ -15,9 +15,9 @@ use crate::rising::raise_event;
 use crate::walk::Walk;
 use spin_code::Sincere;
 use spin_objects::Catalogue;
-use spin_raise::Runner;
+use spin_raise::{Answer, Progress, Runner};
 use spin_table::{Setup, Version};
-use spin_values::{Args, NoMemory, fits};
+use spin_values::{Args, NoMemory, Sequence, fits};
 use spin_word::Deed;
 use std::alloc::Global;
 
@@ -37,8 +37,23 @@ pub(crate) fn raise_whole(
         let all = raised runner (units_in (data_of setup.now)) bounds 0 event args in
         reply ≡ reply_of MAX_RUNS all)) }
 {
+    let mut progress = Progress {
+        from: 0,
+        answer: Answer::NoHandler,
+        args,
+    };
+    let mut given = Sequence::new(alloc);
     let mut walk = Walk::new(alloc);
-    match raise_event(alloc, version, setup, runner, event, args, &mut walk)? {
+    match raise_event(
+        alloc,
+        version,
+        setup,
+        runner,
+        event,
+        &mut progress,
+        &mut given,
+        &mut walk,
+    )? {
         None => Ok(Reply::Spent),
         Some(answer) => {
             let Walk { trace, jobs, .. } = walk;
@@ -52,7 +67,8 @@ pub(crate) fn raise_whole(
 }
 
 // Why a deed isn't done, if it isn't.
-fn refusal(setup: &Setup, event: u8, args: &Args) -> Option<Reply>
+#[inline]
+pub(crate) fn refusal(setup: &Setup, event: u8, args: &Args) -> Option<Reply>
     ensures { MatchOption result
         (IsFit (data_of setup.now) event args.now)
         (IsUnfit (data_of setup.now) event args.now) }

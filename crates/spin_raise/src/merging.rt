@@ -12,6 +12,7 @@ use spin_values::{Args, NoMemory, Value};
 use std::alloc::Global;
 
 /// The last result among the items, which is that of the act that gave them.
+#[inline]
 pub fn last_of(items: &[Item]) -> Option<u64>
     ensures { result ≡ last_result items.now }
 {
@@ -25,6 +26,7 @@ pub fn last_of(items: &[Item]) -> Option<u64>
 }
 
 // The merge of the results so far and the next one.
+#[inline]
 fn combined(alloc: Global, merge: &Merge, so_far: u64, next: u64) -> Result<u64, NoMemory>
     ensures { IfOk result (λ n. n ≡ combine merge.now so_far next) }
 {
@@ -40,6 +42,7 @@ fn combined(alloc: Global, merge: &Merge, so_far: u64, next: u64) -> Result<u64,
 }
 
 // The answer so far after a handler that ran with no result to merge.
+#[inline]
 pub(crate) fn after_run(answer: Answer) -> Answer
     ensures { result ≡ ran answer }
 {
@@ -52,6 +55,7 @@ pub(crate) fn after_run(answer: Answer) -> Answer
 }
 
 // The answer so far after a handler whose result, if it gave one, is merged.
+#[inline]
 pub(crate) fn after_result(
     alloc: Global,
     merge: &Merge,
@@ -72,6 +76,7 @@ pub(crate) fn after_result(
 }
 
 // The number of the default that runs next: none where a handler ran.
+#[inline]
 pub(crate) fn default_next(answer: Answer, default: u16) -> u16
     ensures { result ≡ default_now answer default }
 {

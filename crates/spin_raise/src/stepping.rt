@@ -49,6 +49,7 @@ pub enum Stepped {
 
 impl Progress {
     /// Nothing has fired yet, and these are the arguments.
+    #[inline]
     pub fn start(args: Args) -> Progress
         ensures from { result.from ≡ 0 }
         ensures answer { result.answer ≡ Answer.NoHandler }
@@ -64,6 +65,7 @@ impl Progress {
 
 /// Does a handler's act under the number of a binding, 0 being the default: appends the number and then what the act
 /// gives, changes the arguments, and answers the act's result. It is linear in the act and what it gives.
+#[inline]
 pub fn run_handler(
     alloc: Global,
     cat: &Catalogue,
@@ -88,6 +90,7 @@ pub fn run_handler(
 }
 
 // The next position whose binding fires, with this counter.
+#[inline]
 fn next_counted<L: Ledger>(
     cat: &Catalogue,
     plan: &Plan,
@@ -111,6 +114,7 @@ fn next_counted<L: Ledger>(
 }
 
 // The next position, from this one on, whose binding fires on these arguments.
+#[inline]
 fn next_firing(cat: &Catalogue, plan: &Plan, from: u32, args: &Args) -> Option<u32>
     requires own { All (λ b. IsGuard (length (tests_of cat.now)) b.own_guard) plan.now.bindings }
     requires imposed { All (λ b. All (IsGuard (length (tests_of cat.now))) b.imposed) plan.now.bindings }
@@ -123,6 +127,7 @@ fn next_firing(cat: &Catalogue, plan: &Plan, from: u32, args: &Args) -> Option<u
     next_counted::<Brand>(cat, plan, from, args, Blank::new(1))
 }
 
+#[inline]
 fn is_async(mode: Mode) -> bool
     ensures { result ≡ firing.is_async mode }
 {
@@ -131,6 +136,7 @@ fn is_async(mode: Mode) -> bool
 
 // Does the act of a binding that fires, and answers the result that is merged, if there is one. An asynchronous one
 // is left to a job with a copy of the arguments, or is done in place where the raise is itself a job.
+#[inline]
 fn fire(
     alloc: Global,
     cat: &Catalogue,
@@ -168,6 +174,7 @@ fn fire(
 /// default where no binding ran. Where there is no room, nothing is run and nothing changes.
 ///
 /// Beside the guards that it tests, it is linear in the act and what it gives.
+#[inline]
 pub fn step(
     alloc: Global,
     cat: &Catalogue,

@@ -16,7 +16,7 @@ use spin_values::{NoMemory, Octets};
 use spin_word::Deed;
 
 // So many bytes most lines have at most: with room for them a line is allocated once.
-const USUAL_LENGTH: usize = 56;
+const USUAL_LENGTH: usize = 248;
 
 /// What became of a capture.
 #[derive(Clone, Copy, PartialEq, Eq, Debug)]

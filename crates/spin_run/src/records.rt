@@ -49,6 +49,28 @@ fn next_record<S: Source>(
     }
 }
 
+// Goes past the next record. Without a capture it is the end.
+fn pass_record<S: Source>(
+    alloc: Global,
+    capture: &mut Option<Reader>,
+    source: &mut S,
+) -> Result<Next, RunEnd>
+    ensures answer { (frame : List ℕ)
+        × Reads capture.old (S.seen source.old) capture.new (S.seen source.new) result
+        (GivesNext capture.old (S.seen source.old) capture.new (S.seen source.new) frame result) }
+    ensures counted { result ≡ Ok Next.Packet → CountsOn capture.old capture.new }
+    ensures keep { (S.seen source.new).keep ≡ (S.seen source.old).keep }
+    ensures cause { ReadsByCount (S.seen source.old).faults (S.seen source.new).faults result }
+{
+    let Some(reader) = capture else {
+        return Ok(Next::End);
+    };
+    match reader.pass(alloc, source) {
+        Ok(next) => Ok(next),
+        Err(fault) => Err(stop_at(reader.taken() + 1, fault)),
+    }
+}
+
 // Reads so many records, or all that are left where there are fewer.
 pub(crate) fn read_records<S: Source>(
     alloc: Global,
@@ -87,9 +109,8 @@ pub(crate) fn read_rest<S: Source>(
     ensures keep { (S.seen source.new).keep ≡ (S.seen source.old).keep }
     ensures cause { ReadsByCount (S.seen source.old).faults (S.seen source.new).faults result }
 {
-    let mut frame = Octets::new(alloc);
-    loop {
-        match next_record(capture, source, &mut frame) {
+    'records: loop {
+        match pass_record(alloc, capture, source) {
             Ok(Next::Packet) => {}
             Ok(Next::End) => return Ok(0),
             Ok(Next::Cut(count)) => return Ok(count),

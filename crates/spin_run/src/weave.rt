@@ -1,6 +1,6 @@
 //! The entries and jobs of all lanes, as one list of each.
 
-ghost use Rattle.std.specs.Prelude.{◌≡◌, [], map, All, IfOk, OnOk};
+ghost use Rattle.std.specs.Prelude.{◌≡◌, ◌++◌, [], map, All, IfOk, OnOk};
 ghost use Rattle.std.specs.List.{flat_map};
 ghost use Rattle.spin_report.specs.Segments.{IsInOrder};
 ghost use Rattle.spin_run.specs.Inner.Weaves as weaves;
@@ -12,6 +12,7 @@ use spin_proto::{Job, Jobs};
 use spin_report::Entries;
 use spin_values::NoMemory;
 use std::alloc::Global;
+use std::mem;
 
 impl Lanes {
     // Takes the entries and the jobs out of all lanes, and puts each in the order of the history: by place; at one
@@ -41,8 +42,7 @@ impl Lanes {
         Ok((Entries::from_vec(entries), Jobs::from_vec(jobs)))
     }
 
-    // The entries of all lanes, lane after lane, and so their jobs. The lanes' own lists of entries, the longest that a
-    // run has, give their room back.
+    // The entries of all lanes, lane after lane, and so their jobs.
     fn gather(&mut self, alloc: Global) -> Result<(Entries, Jobs), NoMemory>
         ensures entries { IfOk result (λ all. all.0 ≡ flat_map (λ trail. trail) (trails_of self.old)) }
         ensures jobs { IfOk result (λ all. all.1 ≡ flat_map (λ jobs. jobs) (jobs_by_lane self.old)) }
@@ -53,12 +53,25 @@ impl Lanes {
         let mut entries = Entries::new(alloc);
         let mut jobs = Jobs::new(alloc);
         for lane in self.items.iter_mut() {
-            entries.append(&mut lane.trail)?;
-            lane.trail.shrink_to_fit();
+            take_over(&mut entries, &mut lane.trail)?;
             jobs.append(&mut lane.jobs)?;
         }
         Ok((entries, jobs))
     }
+}
+
+// Moves all entries of a trail behind those that are there, and gives its room back. Where none is there the trail's
+// own list is taken, so that of a lone lane is never held twice.
+fn take_over(entries: &mut Entries, trail: &mut Entries) -> Result<(), NoMemory>
+    ensures { OnOk result ((entries.new ≡ entries.old ++ trail.old) × (trail.new ≡ [])) }
+{
+    if entries.is_empty() {
+        mem::swap(entries, trail);
+        return Ok(());
+    }
+    entries.append(trail)?;
+    trail.shrink_to_fit();
+    Ok(())
 }
 
 // Where a job stands among those of its segment.

@@ -12,6 +12,7 @@
 mod answer;
 mod hub;
 mod law;
+mod lent;
 mod next;
 mod seat;
 mod seats;

@@ -169,6 +169,7 @@ impl Seat {
     /// that of its whole front. The pen stays, and after want of memory the seat is as before.
     ///
     /// The last clause tells what is so of every pen, as [`Pen::front`](spin_log::Pen::front) does.
+    #[inline]
     pub fn apply(&mut self, alloc: Global, hub: &Hub) -> Result<(), NoMemory>
         requires sincere { ⟦<Catalogue as Sincere>⟧.sincere hub.now.setup.catalogue }
         requires seat { IsSeat (data_of hub.now.setup) self.old }
@@ -187,6 +188,7 @@ impl Seat {
     }
 
     // Reads the next row, and keeps it; or adds a pin where there is none.
+    #[inline]
     fn read(&mut self, hub: &Hub) -> Look
         requires log { self.old.pen.log ≡ hub.now.log.id }
         requires seat { IsSeat (data_of hub.now.setup) self.old }
@@ -208,6 +210,7 @@ impl Seat {
 
     // Reads on until there is no next row, which is a pin. It counts its turns: one for each row that it reads, and at
     // most one more.
+    #[inline]
     fn pin<L: Ledger>(
         &mut self,
         alloc: Global,
@@ -233,7 +236,8 @@ impl Seat {
     }
 
     // The same with a count of its own.
-    fn pin_counted<L: Ledger>(
+    #[inline]
+    pub(crate) fn pin_counted<L: Ledger>(
         &mut self,
         alloc: Global,
         hub: &Hub,

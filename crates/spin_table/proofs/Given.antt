@@ -1,11 +1,11 @@
 -- Constraints name numbers that were given.
-use Rattle.std.proofs.Common.{◌≡◌, ℕ, zero, suc, ◌+◌, ◌<◌, ◌≤◌, ◌==◌, ◌⊎◌, Bool, true, false, not, ◌&&◌, ◌||◌, cond}
-use Rattle.std.proofs.Common.{List, [], ◌∷◌, ◌++◌, length, get_or, map, refl, sym, ap, subst, ◌∙◌, inl, inr, arith}
-use Rattle.std.specs.Prelude.{Option, None, Some, MatchOption, slice_get, slice_set, filter, find, is_some, if◌then◌else◌}
+use Rattle.std.proofs.Common.{◌≡◌, ℕ, zero, suc, ◌+◌, ◌<◌, ◌≤◌, ◌==◌, Bool, true, false, not, ◌&&◌, ◌||◌, cond}
+use Rattle.std.proofs.Common.{List, [], ◌∷◌, length, get_or, refl, sym, ap, subst, ◌∙◌, inl, inr, arith}
+use Rattle.std.specs.Prelude.{Option, None, Some, MatchOption, slice_get, slice_set, find, is_some, if◌then◌else◌}
 use Rattle.std.specs.List.{All, Contains, list_any}
-use Rattle.std.proofs.lemmas.Bool.{cases_eq, cases_Bool, eqb-true}
-use Rattle.std.proofs.lemmas.List.{length-set, get_or-set_same, get_or-set_other, get_or_default, length-map}
-use Rattle.std.proofs.lemmas.List.Elements.{All-head, All-tail, All-map, All-filter, All-push, All-contains}
+use Rattle.std.proofs.lemmas.Bool.{cases_eq, eqb-true}
+use Rattle.std.proofs.lemmas.List.{length-set, get_or-set_same, get_or-set_other}
+use Rattle.std.proofs.lemmas.List.Elements.{All-map, All-filter, All-push, All-contains}
 use Rattle.std.proofs.lemmas.Option.{slice_get_within, get_or_from_slice_get}
 use Rattle.spin_word.specs.declared.command.Op.{Op}
 use Rattle.spin_word.specs.declared.command.Op.TheVariants as op
@@ -25,10 +25,10 @@ use Rattle.spin_table.specs.declared.refusal.Refusal.TheVariants as refusal
 use Rattle.spin_table.specs.declared.refusal.Verdicted.{Verdicted}
 use Rattle.spin_table.specs.declared.refusal.Verdicted.TheVariants as verdicted
 use Rattle.spin_table.specs.Setups.{SetupData, rules_of, tests_in}
-use Rattle.spin_table.specs.States.{State, EventState, binding_of, is_live, first_state, start_of}
+use Rattle.spin_table.specs.States.{State, EventState, is_live, first_state, start_of}
 use Rattle.spin_table.specs.Verdicts.{answer_to}
 use Rattle.spin_table.specs.Refusals.{names_unknown, refusals_at, refusal_of}
-use Rattle.spin_table.specs.Steps.{no_numbers, numbers_under, installed, replaced_at, replaced, bindings_after, event_after, events_after, state_after, ChangesTo, IsStep}
+use Rattle.spin_table.specs.Steps.{no_numbers, numbers_under, installed, replaced_at, replaced, bindings_after, event_after, state_after, ChangesTo}
 use Rattle.spin_table.specs.Soundness.{IsSound}
 use Rattle.spin_table.specs.Renewals.{IsGiven, NamesGiven, NameGiven, NamesStayGiven}
 use Rattle.spin_table.proofs.PassingCommands.{none_hold}

@@ -22,3 +22,5 @@ pub mod RenamedSound
 pub mod Given
 pub mod Renewing
 pub mod RenewalRows
+pub mod RenewalTables
+pub mod RenewedSlots

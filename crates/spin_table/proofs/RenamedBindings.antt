@@ -1,9 +1,9 @@
 -- Bindings under other numbers are found, counted and judged alike.
-use Rattle.std.proofs.Common.{◌≡◌, ℕ, suc, ◌+◌, ◌<◌, ◌==◌, ◌⊎◌, Bool, true, false, not, ◌||◌, ◌&&◌, cond, eqb, List, [], ◌∷◌, length, map, count_by, refl, sym, ap, ◌∙◌, inl, inr, arith}
-use Rattle.std.specs.Prelude.{Option, None, Some, is_some, All, if◌then◌else◌, nat_le}
+use Rattle.std.proofs.Common.{◌≡◌, ℕ, ◌+◌, ◌<◌, ◌==◌, ◌⊎◌, Bool, true, false, not, ◌||◌, ◌&&◌, cond, eqb, List, [], ◌∷◌, length, map, refl, sym, ap, ◌∙◌, inl, inr, arith}
+use Rattle.std.specs.Prelude.{Option, None, Some, is_some, if◌then◌else◌, nat_le}
 use Rattle.std.specs.List.{list_any}
 use Rattle.std.specs.Option.{option_map, option_map_or}
-use Rattle.std.proofs.lemmas.Bool.{cases_eq, eq-eqb, ne_eqb}
+use Rattle.std.proofs.lemmas.Bool.{eq-eqb, ne_eqb}
 use Rattle.std.proofs.lemmas.List.Elements.{All-head, All-tail}
 use Rattle.std.proofs.lemmas.List.Sums.{sum_by-cons}
 use Rattle.spin_word.specs.declared.command.Op.{Op}
@@ -27,7 +27,7 @@ use Rattle.spin_table.specs.Setups.{SetupData, rules_of}
 use Rattle.spin_table.specs.States.{binding_of, is_live, live_of}
 use Rattle.spin_table.specs.Units.{has_wrong_mode, sets_argument}
 use Rattle.spin_table.specs.Verdicts.{request_of, answer_to, is_denied, named_rule}
-use Rattle.spin_table.specs.Refusals.{names_unknown, lacks_handler, lacks_guard, lacks_binding, has_wrong_type, goes_down, mode_of, of_handler, has_mode_fault, refusals_at}
+use Rattle.spin_table.specs.Refusals.{names_unknown, lacks_handler, lacks_guard, lacks_binding, has_wrong_type, goes_down, mode_of, of_handler, refusals_at}
 use Rattle.spin_table.specs.Renamings.{Rises, renamed_or_none, renamed_command, StayNamed, IsRenamedBinding, AreRenamed}
 use Rattle.spin_table.proofs.RenamedNumbers.{at_least, same_test, renamed_some, renamed_none}
 

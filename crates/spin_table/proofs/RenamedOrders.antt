@@ -1,5 +1,5 @@
 -- Bindings under other numbers have the same orders and cycles, under the other numbers.
-use Rattle.std.proofs.Common.{◌≡◌, ℕ, zero, suc, ◌+◌, ◌<◌, ◌≤◌, ◌⊎◌, Bool, true, false, not, ◌||◌, ◌&&◌, cond, eqb, List, [], ◌∷◌, length, get_or, map, refl, sym, ap, subst, ◌∙◌, inl, inr, arith}
+use Rattle.std.proofs.Common.{◌≡◌, ℕ, zero, suc, ◌+◌, ◌<◌, ◌≤◌, ◌⊎◌, Bool, not, ◌||◌, ◌&&◌, eqb, List, [], ◌∷◌, length, get_or, map, refl, sym, ap, subst, ◌∙◌, inl, inr, arith}
 use Rattle.std.specs.Prelude.{IsTrue, slice_index}
 use Rattle.std.specs.List.{All, AllPairs}
 use Rattle.std.specs.List.Sorted.{IsPermutation}
@@ -10,7 +10,7 @@ use Rattle.std.proofs.lemmas.List.Sorted.{IsPermutation-map, All-permutation}
 use Rattle.spin_word.specs.declared.command.Place.{Place}
 use Rattle.spin_word.specs.Commands.{no_number}
 use Rattle.spin_place.specs.declared.binding.Binding.{Binding}
-use Rattle.spin_place.specs.Orders.{AreDistinct, IsLess, Leads, IsRing}
+use Rattle.spin_place.specs.Orders.{IsLess, Leads, IsRing}
 use Rattle.spin_place.specs.Precedence.{is_first, is_last, names, must_precede, numbers_of, MustPrecede, IsLawful, IsTheOrder, IsCycle, HasLawfulOrder}
 use Rattle.spin_place.proofs.NumberLists.{times, times-cons, times-permutation, one_if, IsPermutation-from_times}
 use Rattle.spin_table.specs.Renamings.{Rises, IsRenamedBinding, AreRenamed}

@@ -1,7 +1,7 @@
 -- Where a state is sound, so is one that differs from it in its numbers alone.
-use Rattle.std.proofs.Common.{◌≡◌, ℕ, zero, suc, ◌+◌, ◌-◌, ◌<◌, ◌≤◌, Bool, true, false, List, [], ◌∷◌, length, get_or, map, refl, sym, ap, subst, ◌∙◌, inl, inr, arith}
-use Rattle.std.specs.Prelude.{Option, None, Some, slice_get, IsTrue, IsSomeAnd}
-use Rattle.std.specs.List.{All, Contains}
+use Rattle.std.proofs.Common.{◌≡◌, ℕ, ◌+◌, ◌-◌, ◌<◌, ◌≤◌, List, length, get_or, refl, sym, ap, subst, ◌∙◌, inl, inr, arith}
+use Rattle.std.specs.Prelude.{Some, slice_get, IsTrue}
+use Rattle.std.specs.List.{All}
 use Rattle.std.specs.List.Sorted.{IsStrictlyIncreasing}
 use Rattle.std.proofs.lemmas.Bool.{cases_lt}
 use Rattle.std.proofs.lemmas.List.{length-map, get_or-map, get_or_default}
@@ -14,7 +14,7 @@ use Rattle.spin_table.specs.Setups.{SetupData}
 use Rattle.spin_table.specs.States.{State, EventState}
 use Rattle.spin_table.specs.Units.{is_fit_default}
 use Rattle.spin_table.specs.Soundness.{is_fit_binding, IsSoundEvent, IsNumberAt, IsSound}
-use Rattle.spin_table.specs.Renamings.{Rises, IsRenamedBinding, AreRenamed, IsRenamedEvent, IsRenamed}
+use Rattle.spin_table.specs.Renamings.{Rises, IsRenamedEvent, IsRenamed}
 use Rattle.spin_table.proofs.RenamedNumbers.{less_back}
 use Rattle.spin_table.proofs.RenamedBindings.{numbers_renamed, length_renamed, same_rest}
 use Rattle.spin_table.proofs.RenamedOrders.{at_both, orderly_back}

@@ -25,7 +25,7 @@ use Rattle.spin_table.specs.States.{State, EventState}
 use Rattle.spin_table.specs.Verdicts.{answer_to}
 use Rattle.spin_table.specs.Refusals.{refusals_at, refusal_on, refusal_of}
 use Rattle.spin_table.specs.Steps.{no_numbers, numbers_under, installed, replaced, replaced_at, bindings_after, default_after}
-use Rattle.spin_table.specs.Steps.{event_after, state_after, bindings_at, IsOrderly, IsConflict, ChangesTo, IsStep}
+use Rattle.spin_table.specs.Steps.{event_after, state_after, bindings_at, IsOrderly, IsConflict, ChangesTo}
 use Rattle.spin_table.specs.Renamings.{Rises, renamed_or_none, renamed_command, StayNamed, renamed_refusal, renamed_verdict}
 use Rattle.spin_table.specs.Renamings.{NameAlike, IsRenamedBinding, AreRenamed, IsRenamedEvent, IsRenamed, StepsAreRenamed}
 use Rattle.spin_table.proofs.RenamedNumbers.{same_test, names_renamed}

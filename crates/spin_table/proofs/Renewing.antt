@@ -1,23 +1,21 @@
 -- The state before a renewal is the renewed one under the numbers before.
-use Rattle.std.proofs.Common.{◌≡◌, ℕ, zero, suc, ◌+◌, ◌-◌, ◌<◌, ◌≤◌, ◌==◌, Bool, true, false, cond, eqb, List, [], ◌∷◌, length, get_or, map, refl, sym, ap, subst, ◌∙◌, inl, inr, arith}
-use Rattle.std.specs.Prelude.{Option, None, Some, is_some, find, slice_get}
-use Rattle.std.specs.List.{All, Contains, list_any, range_with_len}
+use Rattle.std.proofs.Common.{◌≡◌, ℕ, zero, suc, ◌+◌, ◌<◌, ◌≤◌, ◌==◌, Bool, true, false, cond, eqb, List, [], ◌∷◌, length, get_or, map, refl, sym, ap, subst, ◌∙◌, arith}
+use Rattle.std.specs.Prelude.{Option, Some, is_some, find, slice_get}
+use Rattle.std.specs.List.{All, Contains, range_with_len}
 use Rattle.std.specs.Option.{option_map}
 use Rattle.std.proofs.lemmas.Bool.{eq-eqb}
-use Rattle.std.proofs.lemmas.List.{length-map, get_or-map, get_or_default}
-use Rattle.std.proofs.lemmas.List.Elements.{All-head, All-tail, All-map, All-contains, Contains-get_or}
+use Rattle.std.proofs.lemmas.List.{length-map, get_or-map}
+use Rattle.std.proofs.lemmas.List.Elements.{All-head, All-tail, All-map}
 use Rattle.std.proofs.lemmas.List.Folds.{list_any_at}
 use Rattle.std.proofs.lemmas.List.FromFn.{length-range_with_len}
 use Rattle.spin_table.proofs.BindingSoundness.{length-filter-le}
 use Rattle.std.proofs.lemmas.Option.{slice_get-map, slice_get_within, get_or_from_slice_get, same_Some}
 use Rattle.spin_word.specs.Commands.{no_number}
 use Rattle.spin_place.specs.declared.binding.Binding.{Binding}
-use Rattle.spin_place.specs.Precedence.{numbers_of}
-use Rattle.spin_table.specs.declared.event.EventDef.{EventDef}
 use Rattle.spin_table.specs.Setups.{SetupData}
 use Rattle.spin_table.specs.States.{State, EventState, is_live}
 use Rattle.spin_table.specs.Soundness.{IsSound}
-use Rattle.spin_table.specs.Renamings.{Rises, IsRenamedBinding, AreRenamed, IsRenamedEvent, IsRenamed}
+use Rattle.spin_table.specs.Renamings.{IsRenamedBinding, AreRenamed, IsRenamedEvent, IsRenamed}
 use Rattle.spin_table.specs.Renewals.{is_live_in, live_numbers, new_number, old_number, renewed_binding, renewed_event, renewed, IsGiven, NamesGiven, NameGiven, RenewalsAreRenamings, RenewalsAreSound}
 use Rattle.spin_table.proofs.CommandSteps.{event_there}
 use Rattle.spin_table.proofs.RenamedSound.{sound_back}

@@ -12,4 +12,5 @@ pub mod Orders
 pub mod Laws
 pub mod Renamings
 pub mod Renewals
+pub mod Inner
 pub mod Limits

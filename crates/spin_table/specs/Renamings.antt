@@ -1,5 +1,5 @@
 -- Bindings, commands and states under other numbers.
-use Rattle.std.specs.Prelude.{◌≡◌, ℕ, ◌+◌, ◌-◌, ◌<◌, ◌⊎◌, ◌==◌, ⊤, if◌then◌else◌, List, [], ◌∷◌}
+use Rattle.std.specs.Prelude.{◌≡◌, ℕ, ◌+◌, ◌<◌, ◌⊎◌, ◌==◌, ⊤, if◌then◌else◌, List, [], ◌∷◌}
 use Rattle.std.specs.Prelude.{All, map, length, slice_get, Some}
 use Rattle.spin_word.specs.declared.command.Command.{Command}
 use Rattle.spin_word.specs.Commands.{no_number}

@@ -6,7 +6,7 @@
 //!   (which handlers and guards an event can have) and `live` (its live bindings);
 //! - `changes` makes the bindings of an event after a command, and `lists` their plan over the guards of `guarding`;
 //! - a [`Version`] is a state that never changes, of which a command makes the next; [`steps_are_one`] says that it
-//!   makes but one.
+//!   makes but one. `renewal` makes the version whose live bindings are numbered anew.
 #![tactic(auto)]
 
 mod build;
@@ -20,6 +20,7 @@ mod limits;
 mod lists;
 mod live;
 mod refusal;
+mod renewal;
 mod setup;
 mod units;
 mod version;

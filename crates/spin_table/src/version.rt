@@ -40,8 +40,8 @@ use std::sync::ledger::{Blank, Ledger};
 // The lists of one event, shared with the versions in which they are the same, and its default.
 #[derive(Drop)]
 pub(crate) struct EventSlot {
-    default: u16,
-    lists: Arc<EventLists>,
+    pub(crate) default: u16,
+    pub(crate) lists: Arc<EventLists>,
 }
 
 impl Model for EventSlot {
@@ -61,8 +61,8 @@ impl Model for EventSlot {
 /// The place, and the bindings and the default of each event. Contracts see the state.
 #[derive(Drop)]
 pub struct Version {
-    place: u16,
-    events: Sequence<EventSlot>,
+    pub(crate) place: u16,
+    pub(crate) events: Sequence<EventSlot>,
 }
 
 impl Model for Version {
@@ -180,8 +180,15 @@ impl EventSlot {
         }
     }
 
+    // The live bindings.
+    pub(crate) fn bindings(&self) -> &[Binding]
+        ensures { result.now ≡ self.now.bindings }
+    {
+        self.lists.bindings()
+    }
+
     // One more owner of the lists, with this default.
-    fn with_default(&self, default: u16) -> Result<EventSlot, NoMemory>
+    pub(crate) fn with_default(&self, default: u16) -> Result<EventSlot, NoMemory>
         ensures { IfOk result
             (λ slot.
             slot
@@ -260,7 +267,8 @@ impl Version {
         Ok(Version { place: 0, events })
     }
 
-    /// The number of commands that were accepted.
+    /// The number of commands that were accepted since the start; since a renewal, that and the number of bindings that
+    /// were live then.
     pub fn place(&self) -> u16
         ensures { result ≡ self.now.place }
     {

@@ -8,10 +8,14 @@ use itoa::Buffer;
 use spin_values::{NoMemory, Octets};
 
 /// Appends a number in decimal digits, without leading zeros. After want of memory `out` is unchanged.
+#[tactic(auto, using(std::proofs::lemmas::Fmt::decimal_digit))]
 pub fn put_decimal(out: &mut Octets, number: u64) -> Result<(), NoMemory>
     ensures ok { OnOk result (out.new ≡ out.old ++ decimal number) }
     ensures err { OnErr result (out.new ≡ out.old) }
 {
+    if number < 10 {
+        return out.push(b'0' + number as u8);
+    }
     let mut buffer = Buffer::new();
     out.extend_from_slice(buffer.format(number).as_bytes())
 }

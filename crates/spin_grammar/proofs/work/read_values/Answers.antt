@@ -41,7 +41,7 @@ returns-in_default c = rw c.shrink_to_fit.ensures (ended (8 - c.loop.counter) _ 
 
 pub returns-in_err-value : goal.returns-in_err-value
 returns-in_err-value c =
-    let p = err_from_is_err_and c.from_residual.result c.from_residual.ensures.1 in
+    let p = err_from_is_err_and c.from_residual-in_err-value.result c.from_residual-in_err-value.ensures.1 in
     rw (p.1, p.2) (failed (8 - c.loop.counter) (8 - (c.loop.counter + 1)) _ _ _ _ _ _ (omega arith) c.in-Some.ensures c.in_err-value.ensures c.loop.invariant)
 
 pub loop-preserved : goal.loop-preserved

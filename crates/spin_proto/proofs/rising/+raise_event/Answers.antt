@@ -1,4 +1,4 @@
-use Rattle.std.proofs.Common.{length, Some, None, true, [], sym, subst, ◌∙◌}
+use Rattle.std.proofs.Common.{length, Some, None, true, [], refl, sym, subst, ◌∙◌}
 use Rattle.spin_objects.specs.Units.{tests_of}
 use Rattle.spin_plan.specs.Planned.{IsOver}
 use Rattle.spin_raise.specs.Firing.{units_of, bound_of, IsThere}
@@ -21,10 +21,10 @@ turns-init g t c =
     let b = bound_of c.plan-plan.result.now.bindings e.merge c.default_of-default.result in
     let serving =
     served d s a.event e c.plan-plan.result.now.bindings c.default_of-default.result c.requires.sound c.event-def.ensures c.default_of-default.ensures c.plan-plan.ensures.order a.setup.now.sound in
-    let from =
-    begins (length s.events) a.event a.runner (units_in d) b c.start-progress.result a.args serving c.start-progress.ensures.from c.start-progress.ensures.answer c.start-progress.ensures.args in (
+    let p = a.progress.now in
+    let from = begins (length s.events) a.event a.runner (units_in d) b p p.args serving c.requires.from c.requires.answer refl in (
       (λ bounds are. begins_owing (marks_of a.event (raised_after a.runner (units_in d) bounds a.event)) a.runner
-          (units_in d) b c.start-progress.result a.args a.walk.now c.start-progress.ensures.from c.start-progress.ensures.answer c.start-progress.ensures.args),
+          (units_in d) b p p.args a.walk.now c.requires.from c.requires.answer refl),
       from.0,
       from.1,
     )
@@ -54,7 +54,7 @@ returns-in-End g t c = λ bounds are.
     let here = bound_here d a.version.now a.event e c.plan-plan.result.now.bindings c.default_of-default.result
     c.requires.sound c.event-def.ensures c.default_of-default.ensures c.plan-plan.ensures.order bounds are in
     let stepped = rw c.catalogue-cat.ensures at c.in_ok-step.ensures in
-    comes_at a.runner (units_in d) bounds b a.event a.args (Some c.step.new.progress.answer) a.walk.now c.turns.walk here
+    comes_at a.runner (units_in d) bounds b a.event a.progress.now.args (Some c.step.new.progress.answer) a.walk.now c.turns.walk here
     (turn_end e.merge true _ _ (marks_of a.event (raised_after a.runner (units_in d) bounds a.event)) _ [] _ _ _ _ a.walk.now c.turns.walk
     (rw c.in-End.is at stepped) (c.turns.invariant.0 bounds are) c.turns.invariant.1)
 
@@ -67,7 +67,7 @@ returns-in-Full g t c = λ bounds are.
     let here = bound_here d a.version.now a.event e c.plan-plan.result.now.bindings c.default_of-default.result
     c.requires.sound c.event-def.ensures c.default_of-default.ensures c.plan-plan.ensures.order bounds are in
     let stepped = rw c.catalogue-cat.ensures at c.in_ok-step.ensures in
-    comes_at a.runner (units_in d) bounds b a.event a.args None a.walk.now c.turns.walk here
+    comes_at a.runner (units_in d) bounds b a.event a.progress.now.args None a.walk.now c.turns.walk here
     (turn_full a.event (raised_after a.runner (units_in d) bounds a.event) e.merge _ _ _ _ _ _ _ a.walk.now c.turns.walk (rw c.in-Full.is at stepped) (c.turns.invariant.0 bounds are))
 
 pub returns-in_default : goal.returns-in_default
@@ -78,17 +78,17 @@ returns-in_default g t c = λ bounds are.
     let b = bound_of c.plan-plan.result.now.bindings e.merge c.default_of-default.result in
     let here = bound_here d a.version.now a.event e c.plan-plan.result.now.bindings c.default_of-default.result
     c.requires.sound c.event-def.ensures c.default_of-default.ensures c.plan-plan.ensures.order bounds are in
-    let empty = from_empty _ _ _ _ _ _ _ _ _ c.new-given.ensures (rw c.catalogue-cat.ensures at c.in_ok-step.ensures) in
+    let empty = from_empty _ _ _ _ _ _ _ _ _ c.clear.ensures (rw c.catalogue-cat.ensures at c.in_ok-step.ensures) in
     let stepped = rw c.in-Ran.is at empty in
     let short = rw c.in_default.is at c.in_ok-ups-in-Ran.ensures in
-    comes_at a.runner (units_in d) bounds b a.event a.args None a.walk.now c.note_items.new.walk here
+    comes_at a.runner (units_in d) bounds b a.event a.progress.now.args None a.walk.now c.note_items.new.walk here
     (turn_unnoted a.event (raised_after a.runner (units_in d) bounds a.event) _ _ _ _ _ _ _ _ a.walk.now c.turns.walk stepped (c.turns.invariant.0 bounds are) short)
 
 pub loop-up-init : goal.loop-up-init
 loop-up-init g t c =
     let a = c.args in
     let d = data_of a.setup.now in
-    let empty = from_empty _ _ _ _ _ _ _ _ _ c.new-given.ensures (rw c.catalogue-cat.ensures at c.in_ok-step.ensures) in
+    let empty = from_empty _ _ _ _ _ _ _ _ _ c.clear.ensures (rw c.catalogue-cat.ensures at c.in_ok-step.ensures) in
     let stepped = rw c.in-Ran.is at empty in
     let notes = rw c.in-Some.is at c.in_ok-ups-in-Ran.ensures in
     let waiting = c.from-queue.ensures.0 ∙ c.into_vec.ensures in
@@ -102,14 +102,14 @@ returns-in-None g t c = λ bounds are.
     let b = bound_of c.plan-plan.result.now.bindings e.merge c.default_of-default.result in
     let here = bound_here d a.version.now a.event e c.plan-plan.result.now.bindings c.default_of-default.result
     c.requires.sound c.event-def.ensures c.default_of-default.ensures c.plan-plan.ensures.order bounds are in
-    let empty = from_empty _ _ _ _ _ _ _ _ _ c.new-given.ensures (rw c.catalogue-cat.ensures at c.in_ok-step.ensures) in
+    let empty = from_empty _ _ _ _ _ _ _ _ _ c.clear.ensures (rw c.catalogue-cat.ensures at c.in_ok-step.ensures) in
     let stepped = rw c.in-Ran.is at empty in
     let notes = rw c.in-Some.is at c.in_ok-ups-in-Ran.ensures in
     let waiting = c.from-queue.ensures.0 ∙ c.into_vec.ensures in
     let came = rw c.in-None.is at c.in_ok-raise_event-in-Ran.ensures in
     let short = follow_spent a.runner (units_in d) bounds (length a.version.now.events) a.event _ c.in-Some-pop_front.up _ c.pop_front.new.self.items
     _ _ _ c.raise_event.new.walk c.in-Some-pop_front.ensures.items c.loop-up.invariant.1 (c.loop-up.invariant.0 bounds are) c.in_ok-note-in-Ran.ensures (came bounds are) in
-    comes_at a.runner (units_in d) bounds b a.event a.args None a.walk.now c.raise_event.new.walk here
+    comes_at a.runner (units_in d) bounds b a.event a.progress.now.args None a.walk.now c.raise_event.new.walk here
     (turn_short a.event (raised_after a.runner (units_in d) bounds a.event) _ _ _ _ _ _ _ _ _ _ a.walk.now c.turns.walk c.note_items.new.walk stepped
     (c.turns.invariant.0 bounds are) waiting notes short)
 
@@ -125,7 +125,7 @@ loop-up-preserved g t c =
 
 pub turns-smaller : goal.turns-smaller
 turns-smaller g t c =
-    let empty = from_empty _ _ _ _ _ _ _ _ _ c.new-given.ensures (rw c.catalogue-cat.ensures at c.in_ok-step.ensures) in
+    let empty = from_empty _ _ _ _ _ _ _ _ _ c.clear.ensures (rw c.catalogue-cat.ensures at c.in_ok-step.ensures) in
     let stepped = rw c.in-Ran.is at empty in
     turn_shorter _ _ _ _ _ _ _ _ stepped
 
@@ -133,7 +133,7 @@ pub turns-preserved : goal.turns-preserved
 turns-preserved g t c =
     let a = c.args in
     let d = data_of a.setup.now in
-    let empty = from_empty _ _ _ _ _ _ _ _ _ c.new-given.ensures (rw c.catalogue-cat.ensures at c.in_ok-step.ensures) in
+    let empty = from_empty _ _ _ _ _ _ _ _ _ c.clear.ensures (rw c.catalogue-cat.ensures at c.in_ok-step.ensures) in
     let stepped = rw c.in-Ran.is at empty in
     let notes = rw c.in-Some.is at c.in_ok-ups-in-Ran.ensures in
     let waiting = c.from-queue.ensures.0 ∙ c.into_vec.ensures in (

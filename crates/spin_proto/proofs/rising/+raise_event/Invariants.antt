@@ -18,7 +18,7 @@ invariant-turns g l =
     let u = units_in (data_of l.setup) in
     let b = as_found l.bound in
     let rest = to_come l.runner u b l.progress in
-    let all = fired l.runner u b l.fn.args in
+    let all = fired l.runner u b l.fn.progress.args in
     OnBounds (data_of l.setup) l.version (λ bounds.
     Owes (flat_map (λ f. marks_of l.event (raised_after l.runner u bounds l.event) (items_by f)) all)
     (flat_map (λ f. marks_of l.event (raised_after l.runner u bounds l.event) (items_by f)) rest) l.fn.walk l.walk)

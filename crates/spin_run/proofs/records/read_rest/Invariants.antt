@@ -4,8 +4,8 @@ use Rattle.spin_run.specs.Inner.Reading.{given_by}
 use Rattle.spin_run.proofs.ReaderCalls.{HasReadTo}
 use Rattle.spin_run.proofs.records.read_rest.Given as goal
 
-abbrev pub invariant-loop-frame : goal.invariant-loop-frame
-invariant-loop-frame g l =
+abbrev pub invariant-records : goal.invariant-records
+invariant-records g l =
     let seen = g.S.Source.seen in
     record {
       read : (taken : List (List ℕ)) × HasReadTo l.fn.capture (seen l.fn.source) l.capture (seen l.source) taken;
@@ -13,5 +13,5 @@ invariant-loop-frame g l =
       stood : (seen l.source).faults ≡ (seen l.fn.source).faults;
     }
 
-abbrev pub decreases-loop-frame : goal.decreases-loop-frame
-decreases-loop-frame g l = MAX_RECORDS - given_by l.capture
+abbrev pub decreases-records : goal.decreases-records
+decreases-records g l = MAX_RECORDS - given_by l.capture

@@ -119,3 +119,6 @@ returns-clause-steps g c =
     let next = found_next tests args p c.candidates.at c.keyed_at-keyed.result.now _ c.requires.over c.keyed_at-keyed.ensures (sym c.in_default.is ∙ c.next_candidate.ensures.least) in
     let rest = asked_rest tests p.key args p.bindings c.args.from c.candidates.at c.candidates.invariant.0 next in
     omega (arith, c.candidates.invariant.2, rest)
+
+pub returns-then-from-len-clause-next : goal.returns-then-from-len-clause-next
+returns-then-from-len-clause-next g c = λ k low high. absurd (omega (arith, low, high, c.len.ensures, c.if-from-len.true))

@@ -1,10 +1,14 @@
 use Rattle.std.proofs.Common.{ℕ, length, ◌≤◌, ap, subst, ◌∙◌}
 use Rattle.std.specs.Prelude.{All}
+use Rattle.std.proofs.lemmas.List.{nil_from_length}
 use Rattle.spin_word.specs.declared.command.TheConstants.{MAX_PLACE}
 use Rattle.spin_log.specs.Rows.{IsCommandBelow}
 use Rattle.spin_log.specs.Pens.{LogValue, StandsIn}
 use Rattle.spin_log.proofs.PenNotes.{stands_in, rows_below, history_of}
-use Rattle.spin_log.proofs.log.Log.close.Goals as goal
+use Rattle.spin_log.proofs.log.Log.close_into.Goals as goal
+
+pub read_rows-requires-clause-empty : goal.read_rows-requires-clause-empty
+read_rows-requires-clause-empty c = nil_from_length c.args.room.rows.items c.args.room.empty
 
 pub returns-clause-pens : goal.returns-clause-pens
 returns-clause-pens c =

@@ -1,0 +1,34 @@
+//! Bytes that are copied into a buffer of C.
+
+ghost use Rattle.spin_c.specs.Tellings.{AreCopied, AreHandedTo};
+
+use crate::ask::Outcome;
+use crate::told::code_of;
+
+// Copies bytes to the front of a buffer, where it has room for them.
+fn copy_to(bytes: &[u8], buffer: &mut [u8]) -> u32
+    ensures { AreCopied bytes.now buffer.old result buffer.new }
+{
+    let count = bytes.len();
+    if count > buffer.len() {
+        return 11;
+    }
+    buffer[..count].copy_from_slice(bytes);
+    0
+}
+
+// Copies the bytes that are handed out, and tells how many they are.
+pub(crate) fn hand_to(outcome: &Outcome, buffer: &mut [u8], wanted: &mut u64) -> u32
+    ensures { AreHandedTo outcome.now buffer.old result buffer.new wanted.new }
+{
+    match outcome {
+        Outcome::Bytes(bytes) => {
+            *wanted = bytes.len() as u64;
+            copy_to(bytes.as_slice(), buffer)
+        }
+        _ => {
+            *wanted = 0;
+            code_of(outcome)
+        }
+    }
+}
