@@ -98,7 +98,7 @@ impl Seat {
     }
 
     // The place of the front's end.
-    fn place(&self) -> u16
+    pub(crate) fn place(&self) -> u16
         requires fits { self.now.first.place ≤ MAX_PLACE }
         ensures { result ≡ place_past self.now.first.place (length self.now.pen.front) }
     {
