@@ -55,7 +55,7 @@ reply_more d old new entry version trail gives seat whole is adds =
     let place : length new.seat.pen.front ≤ entry.place = omega (arith, gives.place) in
     let replay : IsReplay d (take entry.place new.seat.pen.front) version =
     subst (λ (x : List Row × State). IsReplay d x.0 x.1) (λ i. (sym (take_all entry.place new.seat.pen.front place) i, sym is i)) (all_applied d new.seat seat whole) in
-    entry_more d old new entry trail gives (λ j. jobs_more d new.seat.pen old.trail entry version old.jobs new.jobs j adds replay (subst (IsSound d) (sym is) seat.sound))
+    entry_more d old new entry trail gives (λ j. jobs_more d new.seat.pen old.trail entry version old.jobs new.jobs j adds replay (subst (IsSound d) (sym is) seat.0.sound))
 
 -- a command's verdict, which leaves no job
 pub verdict_more : (d : SetupData) (old new : Lane) (entry : Entry) → answer_calls entry.what ≡ [] → new.trail ≡ old.trail ++ entry ∷ []
@@ -145,8 +145,8 @@ nothing_answered d lane trail jobs = record {
 
 -- why a command has no verdict
 pub command_ends : (d : SetupData) (old new : Lane) (asked : List Numbered) (f : SeatFault) → new.trail ≡ old.trail → new.jobs ≡ old.jobs
-    → ReadsOn old.seat.pen new.seat.pen → IsFaultAt (length new.seat.pen.front) f → BeginsWithCommand asked → Comes d asked old (Err f) new
-command_ends d old new asked fault.Full trail jobs reads full next = ends_full d old new asked trail jobs reads full next
+    → ReadsOn old.seat.pen new.seat.pen → IsFaultAt 0 (length new.seat.pen.front) f → BeginsWithCommand asked → Comes d asked old (Err f) new
+command_ends d old new asked fault.Full trail jobs reads full next = ends_full d old new asked trail jobs reads (omega (arith, full.0, full.1)) next
 command_ends d old new asked fault.NoMemory trail jobs reads full next = tt
 
 -- a fault that was passed on

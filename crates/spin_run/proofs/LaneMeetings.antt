@@ -104,6 +104,26 @@ which {T} i k first second other = go (i == 0) refl (i == k) refl
 in_second : {X : Type 0} (xs ys : List X) (i j : ℕ) (d : X) → i ≡ length xs + j → get_or (xs ++ ys) i d ≡ get_or ys j d
 in_second xs ys i j d e = ap (λ n. get_or (xs ++ ys) n d) e ∙ get_or-append-add xs ys j d
 
+-- the first lane and lane k are the first items of these two lists
+first_left : (lanes left right : List Lane) (l x : Lane) → lanes ≡ left ++ right → 0 < length left → lane_at lanes 0 l ≡ get_or left 0 x
+first_left lanes left right l x parts some = ap (λ ls. get_or ls 0 l) parts ∙ get_or_append_left left right l 0 some ∙ get_or_default left 0 l x some
+
+first_right : (lanes left right : List Lane) (k : ℕ) (l y : Lane) → lanes ≡ left ++ right → length left ≡ k → 0 < length right → lane_at lanes k l ≡ get_or right 0 y
+first_right lanes left right k l y parts size some =
+    ap (λ ls. get_or ls k l) parts ∙ in_second left right k 0 l (omega (arith, size)) ∙ get_or_default right 0 l y some
+
+-- so their seats are of the hub
+pub both_of_hub : (d : SetupData) (log : TableId) (lanes left right : List Lane) (k : ℕ) (x y : Lane) → lanes ≡ left ++ right → length left ≡ k → 0 < k → 0 < length right
+    → All (IsOfHub d log) lanes → IsOfHub d log (get_or left 0 x) × IsOfHub d log (get_or right 0 y)
+both_of_hub d log lanes left right k x y parts size pos some own =
+    let first : 0 < length left = omega (arith, size, pos) in
+    let all = ap length parts ∙ length-append left right in
+    let low : 0 < length lanes = omega (arith, first, all) in
+    let inside : k < length lanes = omega (arith, some, size, all) in (
+      subst (IsOfHub d log) (first_left lanes left right x x parts first) (own 0 x low),
+      subst (IsOfHub d log) (first_right lanes left right k y y parts size some) (own k y inside),
+    )
+
 -- the first of these lanes with another seat
 abbrev pub seated : List Lane → Lane → SeatValue → Lane
 seated lanes lane seat = record {
@@ -170,10 +190,10 @@ meets d lanes left right k x y sa sb (Ok done) parts size pos some seat_a seat_b
     }
 
     old_first : (l : Lane) → lane_at lanes 0 l ≡ a
-    old_first l = ap (λ ls. get_or ls 0 l) parts ∙ get_or_append_left left right l 0 first_is ∙ get_or_default left 0 l x first_is
+    old_first l = first_left lanes left right l x parts first_is
 
     old_second : (l : Lane) → lane_at lanes k l ≡ b
-    old_second l = ap (λ ls. get_or ls k l) parts ∙ in_second left right k 0 l (omega (arith, size)) ∙ get_or_default right 0 l y some
+    old_second l = first_right lanes left right k l y parts size some
 
     new_first : (l : Lane) → lane_at after 0 l ≡ a'
     new_first l = get_or_append_left (set left 0 a') (set right 0 b') l 0 (omega (arith, first_is, length-set left 0 a')) ∙ get_or-set_same left 0 a' l first_is

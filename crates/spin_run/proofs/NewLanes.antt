@@ -11,7 +11,7 @@ use Rattle.spin_log.specs.Rule.{new_hand, new_hands}
 use Rattle.spin_log.specs.Pens.{PenValue, IsPen, pen_value, new_pens}
 use Rattle.spin_table.specs.Setups.{SetupData}
 use Rattle.spin_table.specs.States.{State, start_of}
-use Rattle.spin_seat.specs.Replay.{IsReplay}
+use Rattle.spin_seat.specs.Replay.{IsReplayFrom, IsReplay}
 use Rattle.spin_seat.specs.Seats.{SeatValue, IsSeatOf, AreOfLanes, kept_rows}
 use Rattle.spin_seat.proofs.SeatInvariants.{all_unmap, new_count, new_lanes}
 use Rattle.spin_run.specs.declared.lane.Lane.{Lane}
@@ -54,7 +54,8 @@ at_start d [] (Some row) state e r = absurd (cc (e))
 at_start d (x ∷ applied) kept state e r = absurd (cc (e))
 
 new_seat : (d : SetupData) (seat : SeatValue) → IsSeatOf d seat → seat.pen.front ≡ [] → (seat.kept ≡ None) × (seat.state ≡ start_of d)
-new_seat d seat h none = at_start d h.applied seat.kept seat.state (sym none ∙ h.front) h.replay
+new_seat d seat h none =
+    at_start d h.0.applied seat.kept seat.state (sym none ∙ h.0.front) (subst (λ (first : State). IsReplayFrom d first h.0.applied seat.state) h.1 h.0.replay)
 
 -- what is so of new lanes
 pub record AreNew (d : SetupData) (id : TableId) (n : ℕ) (lanes : List Lane) : Type 0 where

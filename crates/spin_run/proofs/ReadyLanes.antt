@@ -11,7 +11,7 @@ use Rattle.spin_table.specs.Setups.{SetupData}
 use Rattle.spin_seat.specs.Replay.{IsClean}
 use Rattle.spin_seat.specs.Seats.{SeatValue, AreOfLanes}
 use Rattle.spin_seat.proofs.RowReplays.{clean_place}
-use Rattle.spin_seat.proofs.SeatInvariants.{all_applied, of_lanes_at}
+use Rattle.spin_seat.proofs.SeatInvariants.{all_applied, start_clean, of_lanes_at}
 use Rattle.spin_run.specs.declared.lane.Lane.{Lane}
 use Rattle.spin_run.specs.Segments.{front_of, state_of, IsReady, AreReady}
 
@@ -43,7 +43,7 @@ clean_front d log count (first ∷ lanes) ready front row rest e =
     let under : k < count = subst (λ (r : Row). lane_of r < count) found (rows_below d log count all ready (length front) row inside).1 in
     let lt : k < length all = omega (arith, under, ready.all) in
     let its : IsReady d log count (front_of all) (get_or all k first) = ready.each k first lt in
-    its.seat.clean front row rest (its.front_is ∙ e) (sym (lane_is all k first ready.order lt))
+    start_clean d (get_or all k first).seat its.seat front row rest (its.front_is ∙ e) (sym (lane_is all k first ready.order lt))
 
 -- so its length is the place of the state
 pub place_is_front : (d : SetupData) (log : TableId) (count : ℕ) (lanes : List Lane) → AreReady d log count lanes → (state_of d lanes).place ≡ length (front_of lanes)

@@ -27,7 +27,7 @@ use Rattle.spin_seat.specs.Seats.{SeatValue, IsSeatOf, AreOfLanes}
 use Rattle.spin_seat.specs.Answers as seat
 use Rattle.spin_seat.proofs.LaneCounts.{by_lane}
 use Rattle.spin_seat.proofs.RowReplays.{IsReplay-one, IsReplay-take}
-use Rattle.spin_seat.proofs.SeatInvariants.{all_applied, all_unmap, clean_by_lanes, of_lanes_at, are_of_lanes}
+use Rattle.spin_seat.proofs.SeatInvariants.{all_applied, start_clean, all_unmap, clean_by_lanes, of_lanes_at, are_of_lanes}
 use Rattle.spin_script.specs.declared.script.Line.{Line}
 use Rattle.spin_script.specs.Segments.{IsOnLane}
 use Rattle.spin_script.specs.Soundness.{commands_in}
@@ -175,7 +175,7 @@ module _ (d : SetupData) (log : TableId) (count : ℕ) (lines : List Line) (reco
         let m = lane_met k lt in
         let own = m.settled.pen.own ∙ ap (rows_of (get_or met k l).seat.pen.lane) m.front_is in
         record { front = ([], sym (append-nil (get_or met k l).seat.pen.front ∙ m.front_is)); own = own; reached = m.settled.pen.own })
-        (λ k lt. (lane_met k lt).read.seat.clean)
+        (λ k lt. start_clean d (get_or met k l).seat (lane_met k lt).read.seat)
 
     all_ran : AllRan d (length before) asked pen_before pen_ran trail_at jobs_at stop_at (front_of before) grown.0
     all_ran = record {

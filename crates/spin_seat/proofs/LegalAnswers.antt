@@ -7,7 +7,7 @@ use Rattle.std.proofs.lemmas.Bool.{ne_eqb, eq-eqb, ltb-true, ltb-false, and_from
 use Rattle.std.proofs.lemmas.List.Elements.{All-head, All-tail, All-weaker}
 use Rattle.spin_table.specs.Setups.{SetupData}
 use Rattle.spin_table.specs.States.{State}
-use Rattle.spin_seat.specs.Answers.{Answer, is_accepted, rows_before, LeadsTo, AreLegalAnswers}
+use Rattle.spin_seat.specs.Answers.{Answer, is_accepted, place_before, LeadsTo, AreLegalAnswers}
 use Rattle.spin_seat.specs.Weaves.{rank}
 use Rattle.spin_seat.proofs.LaneCounts.{count-cons, count_none}
 use Rattle.spin_seat.proofs.SeatAnswers.{below}
@@ -68,7 +68,7 @@ rank_place p e le = go (is_accepted e.said) refl
     go false a = let is : cond {A = ℕ} (is_accepted e.said) 0 1 ≡ 1 = ap (λ t. cond {A = ℕ} t 0 1) a in omega (arith, is, le)
 
 pub walk : (d : SetupData) (at : ℕ → State) (b : ℕ) (es : List Answer) (p : ℕ) → p ≤ b → IsNonDecreasingBy rank es → All (λ e. (p ≤ e.place) × (e.place ≤ b)) es
-    → All (λ e. IsTurn d (at (rows_before e)) e (at e.place)) es → ((q : ℕ) → p < q → q ≤ b → count_by (is_accepted_at q) es ≡ 1) → ((q : ℕ) → q ≤ p → count_by (is_accepted_at q) es ≡ 0)
+    → All (λ e. IsTurn d (at (place_before e)) e (at e.place)) es → ((q : ℕ) → p < q → q ≤ b → count_by (is_accepted_at q) es ≡ 1) → ((q : ℕ) → q ≤ p → count_by (is_accepted_at q) es ≡ 0)
     → AreLegalAnswers d (at p) es (at b)
 walk d at b [] p le up within fit some none = go (ltb p b) refl
   where
@@ -76,7 +76,7 @@ walk d at b [] p le up within fit some none = go (ltb p b) refl
     go true e = let lt = ltb-true p b e in let one = some b lt (omega arith) in absurd (omega (arith, one))
     go false e = let le' = ltb-false p b e in ap at (omega arith)
 walk d at b (e ∷ es) p le up within fit some none =
-    go (is_accepted e.said) refl (λ p' le' within' some' none'. walk d at b es p' le' (tail_rises e es up) within' (All-tail (λ e. IsTurn d (at (rows_before e)) e (at e.place)) e es fit) some' none')
+    go (is_accepted e.said) refl (λ p' le' within' some' none'. walk d at b es p' le' (tail_rises e es up) within' (All-tail (λ e. IsTurn d (at (place_before e)) e (at e.place)) e es fit) some' none')
   where
     above : All (λ y. rank e ≤ rank y) es
     above = head_least e es up
@@ -87,8 +87,8 @@ walk d at b (e ∷ es) p le up within fit some none =
     after : All (λ e. (p ≤ e.place) × (e.place ≤ b)) es
     after = All-tail (λ e. (p ≤ e.place) × (e.place ≤ b)) e es within
 
-    step : IsTurn d (at (rows_before e)) e (at e.place)
-    step = All-head (λ e. IsTurn d (at (rows_before e)) e (at e.place)) e es fit
+    step : IsTurn d (at (place_before e)) e (at e.place)
+    step = All-head (λ e. IsTurn d (at (place_before e)) e (at e.place)) e es fit
 
     go : (a : Bool) → is_accepted e.said ≡ a
         → ((p' : ℕ) → p' ≤ b → All (λ e. (p' ≤ e.place) × (e.place ≤ b)) es → ((q : ℕ) → p' < q → q ≤ b → count_by (is_accepted_at q) es ≡ 1)
@@ -105,7 +105,7 @@ walk d at b (e ∷ es) p le up within fit some none =
         let other : cond {A = ℕ} (is_accepted_at (p + 1) e) 1 0 ≡ 0 = ap (λ t. cond {A = ℕ} t 1 0) (not_at (p + 1) e (λ _ same. absurd (omega arith))) in
         let zero_there = none_above (p + 1) (rank e) es (omega arith) above in
         omega (arith, one, c, other, zero_there)) in
-        let from : rows_before e ≡ p = ap (λ t. cond {A = ℕ} t (e.place - 1) e.place) a ∙ omega arith in
+        let from : place_before e ≡ p = ap (λ t. cond {A = ℕ} t (e.place - 1) e.place) a ∙ omega arith in
         let step' : IsTurn d (at p) e (at (p + 1)) = subst (λ (x : ℕ × ℕ). IsTurn d (at x.0) e (at x.1)) (λ i. (from i, next i)) step in (
           at (p + 1),
           step'.0,
@@ -136,7 +136,7 @@ walk d at b (e ∷ es) p le up within fit some none =
         let o = other (p + 1) in
         let zero_there = none_above (p + 1) (rank e) es (omega arith) above in
         omega (arith, one, c, o, zero_there)) in
-        let from : rows_before e ≡ p = ap (λ t. cond {A = ℕ} t (e.place - 1) e.place) a ∙ here' in
+        let from : place_before e ≡ p = ap (λ t. cond {A = ℕ} t (e.place - 1) e.place) a ∙ here' in
         let step' : IsTurn d (at p) e (at p) = subst (λ (x : ℕ × ℕ). IsTurn d (at x.0) e (at x.1)) (λ i. (from i, here' i)) step in (
           at p,
           step'.0,

@@ -1,3 +1,4 @@
+pub mod PastPlaces
 pub mod RowReplays
 pub mod SeatInvariants
 pub mod SeatCalls
@@ -5,3 +6,4 @@ pub mod LaneCounts
 pub mod SeatAnswers
 pub mod LegalAnswers
 pub mod WovenAnswers
+pub mod RenewedAnswers

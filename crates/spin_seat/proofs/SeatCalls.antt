@@ -11,14 +11,16 @@ use Rattle.spin_table.specs.States.{State}
 use Rattle.spin_word.specs.declared.work.Deed.{Deed}
 use Rattle.spin_proto.specs.declared.reply.Reply.{Reply}
 use Rattle.spin_proto.specs.Replies.{IsDeedReply}
-use Rattle.spin_seat.specs.Replay.{IsReplay}
-use Rattle.spin_seat.specs.Seats.{SeatValue, IsSeatOf}
+use Rattle.spin_seat.specs.Replay.{IsReplayFrom}
+use Rattle.spin_seat.specs.Places.{place_past}
+use Rattle.spin_seat.specs.Seats.{SeatValue, IsSeat}
 use Rattle.spin_seat.specs.Answers.{Answer, row_published, LeadsTo}
-use Rattle.spin_seat.specs.Calls.{ReadsOn, ReadsToPin, Gives, pen_after, reply_answer, verdict_answer}
+use Rattle.spin_seat.specs.Calls.{ReadsOn, ReadsToPin, GivesFrom, pen_after, reply_answer, verdict_answer, IsFaultAt}
 use Rattle.spin_seat.specs.Inner.Tries.{Judges}
 use Rattle.spin_seat.specs.declared.answer.Judged.{Judged}
+use Rattle.spin_seat.specs.declared.answer.SeatFault.{SeatFault}
 use Rattle.spin_word.specs.declared.command.Command.{Command}
-use Rattle.spin_seat.proofs.SeatInvariants.{all_applied}
+use Rattle.spin_seat.proofs.SeatInvariants.{whole_applied}
 
 -- rows are read on, and then further rows
 pub reads_further : (old middle new : PenValue) → ReadsOn old middle → ReadsOn middle new → ReadsOn old new
@@ -30,8 +32,9 @@ reads_further old middle new h k =
     )
 
 -- an answer that is given after rows that were read on
-pub gives_later : (d : SetupData) (old middle new : PenValue) (answer : Answer) → ReadsOn old middle → Gives d middle answer new → Gives d old answer new
-gives_later d old middle new answer h g =
+pub gives_later : (d : SetupData) (first : State) (old middle new : PenValue) (answer : Answer)
+    → ReadsOn old middle → GivesFrom d first middle answer new → GivesFrom d first old answer new
+gives_later d first old middle new answer h g =
     let lane : middle.lane ≡ old.lane = ap (λ (p : PenValue). p.lane) h.1 in
     let further = reads_further old middle (with_front middle (middle.front ++ g.more)) h (g.more, refl, g.others) in
     record {
@@ -43,15 +46,16 @@ gives_later d old middle new answer h g =
       row = subst (λ n. IfSome (row_published answer.said) (λ row. lane_of row ≡ n)) lane g.row;
       lane = g.lane ∙ lane;
       place = g.place;
-      replay_before = subst (λ rows. IsReplay d rows g.before) (ap (λ (p : PenValue). p.front) further.1) g.replay_before;
+      replay_before = subst (λ rows. IsReplayFrom d first rows g.before) (ap (λ (p : PenValue). p.front) further.1) g.replay_before;
       replay_after = g.replay_after;
       leads = g.leads;
     }
 
 -- an answer that is given at the front
-pub gives_here : (d : SetupData) (old : SeatValue) (new : PenValue) (answer : Answer) (after : State) → IsSeatOf d old
-    → old.kept ≡ None → LeadsTo d old.state answer.said after → answer.lane ≡ old.pen.lane → answer.place ≡ length new.front
-    → new ≡ pen_after (row_published answer.said) old.pen → IfSome (row_published answer.said) (λ row. lane_of row ≡ old.pen.lane) → IsReplay d new.front after → Gives d old.pen answer new
+pub gives_here : (d : SetupData) (old : SeatValue) (new : PenValue) (answer : Answer) (after : State) → IsSeat d old
+    → old.kept ≡ None → LeadsTo d old.state answer.said after → answer.lane ≡ old.pen.lane → answer.place ≡ place_past old.first.place (length new.front)
+    → new ≡ pen_after (row_published answer.said) old.pen → IfSome (row_published answer.said) (λ row. lane_of row ≡ old.pen.lane)
+    → IsReplayFrom d old.first new.front after → GivesFrom d old.first old.pen answer new
 gives_here d old new answer after h none leads lane place is row replay =
     let nil = append-nil old.pen.front in
     record {
@@ -63,17 +67,17 @@ gives_here d old new answer after h none leads lane place is row replay =
       row = row;
       lane = lane;
       place = place;
-      replay_before = subst (λ rows. IsReplay d rows old.state) (sym nil) (all_applied d old h none);
+      replay_before = subst (λ rows. IsReplayFrom d old.first rows old.state) (sym nil) (whole_applied d old h none);
       replay_after = replay;
       leads = leads;
     }
 
 -- a reply that is given at a pin
 pub gives_reply : (d : SetupData) (old : PenValue) (seat : SeatValue) (asked : Deed) (place : ℕ) (reply : Reply)
-    → ReadsToPin old seat.pen → IsSeatOf d seat → seat.kept ≡ None → place ≡ length seat.pen.front → IsDeedReply d seat.state asked reply
-    → Gives d old (reply_answer old.lane asked place reply) seat.pen
+    → ReadsToPin old seat.pen → IsSeat d seat → seat.kept ≡ None → place ≡ place_past seat.first.place (length seat.pen.front) → IsDeedReply d seat.state asked reply
+    → GivesFrom d seat.first old (reply_answer old.lane asked place reply) seat.pen
 gives_reply d old seat asked place reply h k none at is =
-    let whole = all_applied d seat k none in
+    let whole = whole_applied d seat k none in
     record {
       more = h.0;
       before = seat.state;
@@ -83,18 +87,23 @@ gives_reply d old seat asked place reply h k none at is =
       row = tt;
       lane = refl;
       place = at;
-      replay_before = subst (λ rows. IsReplay d rows seat.state) (ap (λ (p : PenValue). p.front) h.1) whole;
+      replay_before = subst (λ rows. IsReplayFrom d seat.first rows seat.state) (ap (λ (p : PenValue). p.front) h.1) whole;
       replay_after = whole;
       leads = (is, refl);
     }
 
 -- a verdict that is given after rows that were read on
-pub judges_later : (d : SetupData) (old middle new : SeatValue) (c : Command) (judged : Judged) → ReadsOn old.pen middle.pen → Judges d middle c judged new → Judges d old c judged new
-judges_later d old middle new c judged h j =
+pub judges_later : (d : SetupData) (old middle new : SeatValue) (c : Command) (judged : Judged)
+    → ReadsOn old.pen middle.pen → middle.first ≡ old.first → Judges d middle c judged new → Judges d old c judged new
+judges_later d old middle new c judged h first j =
     let lane : middle.pen.lane ≡ old.pen.lane = ap (λ (p : PenValue). p.lane) h.1 in
     record {
-      gives = subst (λ n. Gives d old.pen (verdict_answer n c judged.place judged.verdict) new.pen) lane
-          (gives_later d old.pen middle.pen new.pen (verdict_answer middle.pen.lane c judged.place judged.verdict) h j.gives);
+      gives = subst (λ (x : State × ℕ). GivesFrom d x.0 old.pen (verdict_answer x.1 c judged.place judged.verdict) new.pen) (λ i. (first i, lane i))
+          (gives_later d middle.first old.pen middle.pen new.pen (verdict_answer middle.pen.lane c judged.place judged.verdict) h j.gives);
       room = j.room;
       whole = j.whole;
     }
+
+-- a fault at the front that another value of the seat has
+pub fault_is : (place other : ℕ) (old new : PenValue) (f : SeatFault) → place ≡ other → old ≡ new → IsFaultAt place (length old.front) f → IsFaultAt other (length new.front) f
+fault_is place other old new f same is h = subst (λ (x : ℕ × PenValue). IsFaultAt x.0 (length x.1.front) f) (λ i. (same i, is i)) h

@@ -11,6 +11,7 @@ use Rattle.std.proofs.Math.Seq.{get_or-append_seam}
 use Rattle.spin_word.specs.declared.command.Command.{Command}
 use Rattle.spin_word.specs.declared.row.Row.{Row}
 use Rattle.spin_word.specs.Rows.{StandsFor, IsCommand, row_of, lane_of}
+use Rattle.spin_word.specs.Commands.{no_number}
 use Rattle.spin_log.specs.Rows.{rows_of, IsCommandBelow, IsPrefix}
 use Rattle.spin_log.specs.Pens.{PenValue, pen_value, StandsIn, with_front, read, written, pinned_at_front}
 use Rattle.atomic_table.specs.Seated.{TableId}
@@ -22,14 +23,17 @@ use Rattle.spin_table.specs.declared.refusal.Verdicted.TheVariants as verdicted
 use Rattle.spin_table.specs.Setups.{SetupData}
 use Rattle.spin_table.specs.States.{State, start_of}
 use Rattle.spin_table.specs.Soundness.{IsSound}
+use Rattle.spin_table.specs.Renewals.{NameGiven}
+use Rattle.spin_word.specs.declared.command.TheConstants.{MAX_PLACE}
 use Rattle.spin_table.specs.Steps.{IsStep, IsAnswer}
-use Rattle.spin_seat.specs.Replay.{IsReplay, IsAcceptedAfter, IsClean, IsCleanFor}
+use Rattle.spin_seat.specs.Replay.{IsReplayFrom, IsReplay, IsAcceptedFrom, IsCleanFrom, IsClean, IsLaneCleanFrom, IsCleanFor}
 use Rattle.spin_table.specs.declared.refusal.Refusal.{Refusal}
 use Rattle.spin_table.specs.declared.refusal.StepFault.{StepFault}
 use Rattle.spin_table.specs.declared.refusal.StepFault.TheVariants as fault
-use Rattle.spin_seat.specs.Seats.{SeatValue, IsSeatOf, AreOfLanes, kept_rows}
+use Rattle.spin_seat.specs.Seats.{SeatValue, IsSeat, IsSeatFrom, IsSeatOf, AreOfLanes, kept_rows}
 use Rattle.spin_seat.specs.Calls.{ReadsOn}
-use Rattle.spin_seat.proofs.RowReplays.{IsReplay-push, IsReplay-place}
+use Rattle.spin_table.proofs.Given.{names_stay_given}
+use Rattle.spin_seat.proofs.RowReplays.{IsReplayFrom-push, IsReplayFrom-place}
 
 -- a row of the lane stands in the part that has all of its rows
 pub within : (lane : ℕ) (front more f : List Row) (x : Row) (r : List Row) → front ++ more ≡ f ++ x ∷ r → rows_of lane more ≡ [] → lane_of x ≡ lane → (rest : List Row) × (front ≡ f ++ x ∷ rest)
@@ -46,13 +50,14 @@ within lane (y ∷ front) more (z ∷ f) x r e none is =
     let same : y ≡ z = cc (e) in
     (t.0, λ i. same i ∷ t.1 i)
 
-pub clean_none : (d : SetupData) (lane : ℕ) → IsCleanFor d lane []
-clean_none d lane [] row rest e is = absurd (cc (e))
-clean_none d lane (x ∷ front) row rest e is = absurd (cc (e))
+pub clean_none : (d : SetupData) (first : State) (lane : ℕ) → IsLaneCleanFrom d first lane []
+clean_none d first lane [] row rest e is = absurd (cc (e))
+clean_none d first lane (x ∷ front) row rest e is = absurd (cc (e))
 
 -- rows of other lanes are added
-pub clean_longer : (d : SetupData) (lane : ℕ) (front more : List Row) → IsCleanFor d lane front → rows_of lane more ≡ [] → IsCleanFor d lane (front ++ more)
-clean_longer d lane front more clean none f x r e is = let t = within lane front more f x r e none is in clean f x t.0 t.1 is
+pub clean_longer : (d : SetupData) (first : State) (lane : ℕ) (front more : List Row)
+    → IsLaneCleanFrom d first lane front → rows_of lane more ≡ [] → IsLaneCleanFrom d first lane (front ++ more)
+clean_longer d first lane front more clean none f x r e is = let t = within lane front more f x r e none is in clean f x t.0 t.1 is
 
 -- where a row was added, each row but the last stood before
 pushed : (front : List Row) (word : Row) (f : List Row) (x : Row) (r : List Row) → front ++ word ∷ [] ≡ f ++ x ∷ r → ((front ≡ f) × (word ≡ x)) ⊎ ((rest : List Row) × (front ≡ f ++ x ∷ rest))
@@ -65,79 +70,92 @@ pushed (y ∷ front) word (z ∷ f) x r e =
     ⊎_elim (λ (t : (front ≡ f) × (word ≡ x)). inl ((λ i. same i ∷ t.0 i), t.1)) (λ (t : (rest : List Row) × (front ≡ f ++ x ∷ rest)). inr (t.0, λ i. same i ∷ t.1 i))
     (pushed front word f x r (cc (e)))
 
-pub clean_own : (d : SetupData) (lane : ℕ) (front : List Row) (row : Row) → IsCleanFor d lane front → IsAcceptedAfter d front row → IsCleanFor d lane (front ++ row ∷ [])
-clean_own d lane front row clean accepted f x r e is =
-    ⊎_elim (λ (t : (front ≡ f) × (row ≡ x)). subst (λ (p : List Row × Row). IsAcceptedAfter d p.0 p.1) (λ i. (t.0 i, t.1 i)) accepted)
+pub clean_own : (d : SetupData) (first : State) (lane : ℕ) (front : List Row) (row : Row)
+    → IsLaneCleanFrom d first lane front → IsAcceptedFrom d first front row → IsLaneCleanFrom d first lane (front ++ row ∷ [])
+clean_own d first lane front row clean accepted f x r e is =
+    ⊎_elim (λ (t : (front ≡ f) × (row ≡ x)). subst (λ (p : List Row × Row). IsAcceptedFrom d first p.0 p.1) (λ i. (t.0 i, t.1 i)) accepted)
     (λ (t : (rest : List Row) × (front ≡ f ++ x ∷ rest)). clean f x t.0 t.1 is) (pushed front row f x r e)
 
 -- a seat that keeps no row has applied its whole front
-pub all_applied : (d : SetupData) (seat : SeatValue) → IsSeatOf d seat → seat.kept ≡ None → IsReplay d seat.pen.front seat.state
-all_applied d seat h none =
+pub whole_applied : (d : SetupData) (seat : SeatValue) → IsSeat d seat → seat.kept ≡ None → IsReplayFrom d seat.first seat.pen.front seat.state
+whole_applied d seat h none =
     let is : seat.pen.front ≡ h.applied = h.front ∙ (ap (λ k. h.applied ++ kept_rows k) none ∙ append-nil h.applied) in
-    subst (λ (rows : List Row). IsReplay d rows seat.state) (sym is) h.replay
+    subst (λ (rows : List Row). IsReplayFrom d seat.first rows seat.state) (sym is) h.replay
 
--- there is room for a version more
-pub place_fits : (d : SetupData) (seat : SeatValue) → IsSeatOf d seat → seat.state.place ≤ length seat.pen.front
+-- the same of a seat whose log begins at the start, and what else is so of it
+pub all_applied : (d : SetupData) (seat : SeatValue) → IsSeatOf d seat → seat.kept ≡ None → IsReplay d seat.pen.front seat.state
+all_applied d seat h none = subst (λ (s : State). IsReplayFrom d s seat.pen.front seat.state) h.1 (whole_applied d seat h.0 none)
+
+pub start_clean : (d : SetupData) (seat : SeatValue) → IsSeatOf d seat → IsCleanFor d seat.pen.lane seat.pen.front
+start_clean d seat h = subst (λ (s : State). IsLaneCleanFrom d s seat.pen.lane seat.pen.front) h.1 h.0.clean
+
+-- the place of the state is at most the number of rows past the first one
+pub place_fits : (d : SetupData) (seat : SeatValue) → IsSeat d seat → seat.state.place ≤ seat.first.place + length seat.pen.front
 place_fits d seat h =
-    let le = IsReplay-place d h.applied seat.state h.replay in
+    let le = IsReplayFrom-place d h.applied seat.first seat.state h.replay in
     omega (arith, ap length h.front, length-append h.applied (kept_rows seat.kept))
 
-pub place_fits_kept : (d : SetupData) (seat : SeatValue) (row : Row) → IsSeatOf d seat → seat.kept ≡ Some row → seat.state.place < length seat.pen.front
-place_fits_kept d seat row h some' =
-    let le = IsReplay-place d h.applied seat.state h.replay in
-    let one : length (kept_rows seat.kept) ≡ 1 = ap (λ k. length (kept_rows k)) some' in
-    omega (arith, ap length h.front, length-append h.applied (kept_rows seat.kept))
+-- so there is a number for one more binding
+pub next_room : (place first rows at : ℕ) → place ≤ first + rows → first ≤ MAX_PLACE → rows ≤ MAX_PLACE → at ≡ place → at + 1 < no_number
+next_room place first rows at fits low few is = omega (arith, fits, low, few, is)
 
 -- a seat that has read a row of another lane, and keeps it
-pub keeps : (d : SetupData) (seat : SeatValue) (new : PenValue) (row : Row) → IsSeatOf d seat → seat.kept ≡ None → new ≡ read seat.pen row → lane_of row ≢ seat.pen.lane
-    → IsSeatOf d (record { pen = new; state = seat.state; kept = Some row })
+pub keeps : (d : SetupData) (seat : SeatValue) (new : PenValue) (row : Row) → IsSeat d seat → seat.kept ≡ None → new ≡ read seat.pen row → lane_of row ≢ seat.pen.lane
+    → IsSeat d (record { pen = new; first = seat.first; state = seat.state; kept = Some row })
 keeps d seat new row h none is other =
-    subst (λ (p : PenValue). IsSeatOf d (record { pen = p; state = seat.state; kept = Some row })) (sym is)
+    subst (λ (p : PenValue). IsSeat d (record { pen = p; first = seat.first; state = seat.state; kept = Some row })) (sym is)
     (record {
+      fits = h.fits;
       applied = seat.pen.front;
-      replay = all_applied d seat h none;
+      replay = whole_applied d seat h none;
       front = refl;
       sound = h.sound;
-      clean = clean_longer d seat.pen.lane seat.pen.front (row ∷ []) h.clean (rows_of_other seat.pen.lane row other);
+      given = h.given;
+      clean = clean_longer d seat.first seat.pen.lane seat.pen.front (row ∷ []) h.clean (rows_of_other seat.pen.lane row other);
     })
 
 -- a seat that has a pin more
-pub pins : (d : SetupData) (seat : SeatValue) (new : PenValue) → IsSeatOf d seat → new ≡ pinned_at_front seat.pen → IsSeatOf d (record { pen = new; state = seat.state; kept = seat.kept })
+pub pins : (d : SetupData) (seat : SeatValue) (new : PenValue) → IsSeat d seat → new ≡ pinned_at_front seat.pen
+    → IsSeat d (record { pen = new; first = seat.first; state = seat.state; kept = seat.kept })
 pins d seat new h is =
-    subst (λ (p : PenValue). IsSeatOf d (record { pen = p; state = seat.state; kept = seat.kept })) (sym is)
-    (record { applied = h.applied; replay = h.replay; front = h.front; sound = h.sound; clean = h.clean })
+    subst (λ (p : PenValue). IsSeat d (record { pen = p; first = seat.first; state = seat.state; kept = seat.kept })) (sym is)
+    (record { fits = h.fits; applied = h.applied; replay = h.replay; front = h.front; sound = h.sound; given = h.given; clean = h.clean })
 
 -- a seat that has applied the row that it kept
 pub applies : (d : SetupData) (seat : SeatValue) (row : Row) (c : Command) (v : Verdicted) (next : State)
-    → IsSeatOf d seat → seat.kept ≡ Some row → StandsFor row c → IsStep d seat.state c v next → IsSound d next
-    → IsSeatOf d (record { pen = seat.pen; state = next; kept = None })
+    → IsSeat d seat → seat.kept ≡ Some row → StandsFor row c → IsStep d seat.state c v next → IsSound d next
+    → IsSeat d (record { pen = seat.pen; first = seat.first; state = next; kept = None })
 applies d seat row c v next h kept stands step sound =
     let is : seat.pen.front ≡ h.applied ++ row ∷ [] = h.front ∙ ap (λ k. h.applied ++ kept_rows k) kept in
     record {
+      fits = h.fits;
       applied = h.applied ++ row ∷ [];
-      replay = IsReplay-push d h.applied row seat.state next v h.replay (c, stands, step);
+      replay = IsReplayFrom-push d seat.first h.applied row seat.state next v h.replay (c, stands, step);
       front = is ∙ sym (append-nil (h.applied ++ row ∷ []));
       sound = sound;
+      given = (names_stay_given d).1 seat.state c v next h.sound h.given step;
       clean = h.clean;
     }
 
 -- a seat that has published an accepted command
-pub publishes : (d : SetupData) (seat : SeatValue) (new : PenValue) (c : Command) (next : State) → IsSeatOf d seat → seat.kept ≡ None
+pub publishes : (d : SetupData) (seat : SeatValue) (new : PenValue) (c : Command) (next : State) → IsSeat d seat → seat.kept ≡ None
     → new ≡ written seat.pen (row_of c) → StandsFor (row_of c) c → IsStep d seat.state c verdicted.Accepted next → IsSound d next
-    → IsSeatOf d (record { pen = new; state = next; kept = None })
+    → IsSeat d (record { pen = new; first = seat.first; state = next; kept = None })
 publishes d seat new c next h none is stands step sound =
-    let whole = all_applied d seat h none in
-    subst (λ (p : PenValue). IsSeatOf d (record { pen = p; state = next; kept = None })) (sym is)
+    let whole = whole_applied d seat h none in
+    subst (λ (p : PenValue). IsSeat d (record { pen = p; first = seat.first; state = next; kept = None })) (sym is)
     (record {
+      fits = h.fits;
       applied = seat.pen.front ++ row_of c ∷ [];
-      replay = IsReplay-push d seat.pen.front (row_of c) seat.state next verdicted.Accepted whole (c, stands, step);
+      replay = IsReplayFrom-push d seat.first seat.pen.front (row_of c) seat.state next verdicted.Accepted whole (c, stands, step);
       front = sym (append-nil (seat.pen.front ++ row_of c ∷ []));
       sound = sound;
-      clean = clean_own d seat.pen.lane seat.pen.front (row_of c) h.clean (seat.state, whole, (next, (c, stands, step)));
+      given = (names_stay_given d).1 seat.state c verdicted.Accepted next h.sound h.given step;
+      clean = clean_own d seat.first seat.pen.lane seat.pen.front (row_of c) h.clean (seat.state, whole, (next, (c, stands, step)));
     })
 
 -- the row that a seat keeps is a command's
-pub kept_is_command : (d : SetupData) (seat : SeatValue) (row : Row) (lanes : ℕ) → IsSeatOf d seat → seat.kept ≡ Some row → All (IsCommandBelow lanes) seat.pen.front → IsCommand row
+pub kept_is_command : (d : SetupData) (seat : SeatValue) (row : Row) (lanes : ℕ) → IsSeat d seat → seat.kept ≡ Some row → All (IsCommandBelow lanes) seat.pen.front → IsCommand row
 kept_is_command d seat row lanes h kept all =
     let is : seat.pen.front ≡ h.applied ++ row ∷ [] = h.front ∙ ap (λ k. h.applied ++ kept_rows k) kept in
     let inside : length h.applied < length seat.pen.front = omega (arith, ap length is, length-append h.applied (row ∷ [])) in
@@ -180,36 +198,46 @@ pub reads_nothing : (pen new : PenValue) → new ≡ pen → ReadsOn pen new
 reads_nothing pen new is = ([], is ∙ ap (with_front pen) (sym (append-nil pen.front)), refl)
 
 -- a seat that has learnt a front no shorter, and has its version
-pub learns : (d : SetupData) (seat other : SeatValue) (new : PenValue) → IsSeatOf d seat → IsSeatOf d other
+pub learns : (d : SetupData) (seat other : SeatValue) (new : PenValue) → IsSeat d seat → IsSeat d other → other.first ≡ seat.first
     → other.kept ≡ None → AreOfOne seat.pen.front other.pen.front → length seat.pen.front ≤ length other.pen.front
     → new ≡ with_front seat.pen (longer seat.pen.front other.pen.front) → seat.pen.own ≡ rows_of seat.pen.lane seat.pen.front
-    → new.own ≡ rows_of new.lane new.front → IsSeatOf d (record { pen = new; state = other.state; kept = None })
-learns d seat other new h k none one short is own own' =
+    → new.own ≡ rows_of new.lane new.front → IsSeat d (record { pen = new; first = seat.first; state = other.state; kept = None })
+learns d seat other new h k first none one short is own own' =
     let front = other.pen.front in
     let is' : new ≡ with_front seat.pen front = is ∙ ap (with_front seat.pen) (longer_is seat.pen.front front one short) in
     let p : IsPrefix seat.pen.front front = begins seat.pen.front front one short in
     let has : seat.pen.own ≡ rows_of seat.pen.lane front = subst (λ (q : PenValue). q.own ≡ rows_of q.lane q.front) is' own' in
-    subst (λ (q : PenValue). IsSeatOf d (record { pen = q; state = other.state; kept = None })) (sym is')
+    subst (λ (q : PenValue). IsSeat d (record { pen = q; first = seat.first; state = other.state; kept = None })) (sym is')
     (record {
+      fits = h.fits;
       applied = front;
-      replay = all_applied d other k none;
+      replay = subst (λ (s : State). IsReplayFrom d s front other.state) first (whole_applied d other k none);
       front = sym (append-nil front);
       sound = k.sound;
-      clean = subst (IsCleanFor d seat.pen.lane) (sym p.1) (clean_longer d seat.pen.lane seat.pen.front p.0 h.clean (none_added seat.pen.lane seat.pen.front p.0 front p.1 (sym own ∙ has)));
+      given = k.given;
+      clean = subst (IsLaneCleanFrom d seat.first seat.pen.lane) (sym p.1)
+          (clean_longer d seat.first seat.pen.lane seat.pen.front p.0 h.clean (none_added seat.pen.lane seat.pen.front p.0 front p.1 (sym own ∙ has)));
     })
 
 -- one seat more gives its pen
-pub pens_more : (d : SetupData) (pens pens' all : List PenValue) (seat : SeatValue) (seats rest : List SeatValue)
-    → (pens ++ map (λ (s : SeatValue). s.pen) seats ≡ all) × All (IsSeatOf d) seats × All (λ (pen : PenValue). IsCleanFor d pen.lane pen.front) pens
+pub pens_more : (pens pens' all : List PenValue) (seat : SeatValue) (seats rest : List SeatValue) → pens ++ map (λ (s : SeatValue). s.pen) seats ≡ all
+    → seats ≡ seat ∷ rest → pens' ≡ pens ++ seat.pen ∷ [] → pens' ++ map (λ (s : SeatValue). s.pen) rest ≡ all
+pens_more pens pens' all seat seats rest h is more =
+    ap (λ l. l ++ map (λ (s : SeatValue). s.pen) rest) more
+    ∙ (append_assoc pens (seat.pen ∷ []) (map (λ (s : SeatValue). s.pen) rest) ∙ (ap (λ (l : List SeatValue). pens ++ map (λ (s : SeatValue). s.pen) l) (sym is) ∙ h))
+
+-- of whose front each row of its lane was accepted at its place
+pub clean_more : (d : SetupData) (first : State) (pens pens' : List PenValue) (seat : SeatValue) (seats rest : List SeatValue)
+    → All (IsSeatFrom d first) seats × All (λ (pen : PenValue). IsLaneCleanFrom d first pen.lane pen.front) pens
     → seats ≡ seat ∷ rest → pens' ≡ pens ++ seat.pen ∷ []
-    → (pens' ++ map (λ (s : SeatValue). s.pen) rest ≡ all) × All (IsSeatOf d) rest × All (λ (pen : PenValue). IsCleanFor d pen.lane pen.front) pens'
-pens_more d pens pens' all seat seats rest h is more =
-    let every : All (IsSeatOf d) (seat ∷ rest) = subst (All (IsSeatOf d)) is h.1 in (
-      ap (λ l. l ++ map (λ (s : SeatValue). s.pen) rest) more
-          ∙ (append_assoc pens (seat.pen ∷ []) (map (λ (s : SeatValue). s.pen) rest) ∙ (ap (λ (l : List SeatValue). pens ++ map (λ (s : SeatValue). s.pen) l) (sym is) ∙ h.0)),
-      All-tail (IsSeatOf d) seat rest every,
-      subst (All (λ (pen : PenValue). IsCleanFor d pen.lane pen.front)) (sym more)
-          (All-push (λ (pen : PenValue). IsCleanFor d pen.lane pen.front) pens seat.pen h.2 (All-head (IsSeatOf d) seat rest every).clean),
+    → All (IsSeatFrom d first) rest × All (λ (pen : PenValue). IsLaneCleanFrom d first pen.lane pen.front) pens'
+clean_more d first pens pens' seat seats rest h is more =
+    let every : All (IsSeatFrom d first) (seat ∷ rest) = subst (All (IsSeatFrom d first)) is h.0 in
+    let one : IsSeatFrom d first seat = All-head (IsSeatFrom d first) seat rest every in (
+      All-tail (IsSeatFrom d first) seat rest every,
+      subst (All (λ (pen : PenValue). IsLaneCleanFrom d first pen.lane pen.front)) (sym more)
+          (All-push (λ (pen : PenValue). IsLaneCleanFrom d first pen.lane pen.front) pens seat.pen h.1
+          (subst (λ (s : State). IsLaneCleanFrom d s seat.pen.lane seat.pen.front) one.1 one.0.clean)),
     )
 
 pub if_ok : {X E : Type 0} (r : Result X E) (P Q : X → Type 0) → ((x : X) → P x → Q x) → IfOk r P → IfOk r Q
@@ -231,20 +259,25 @@ pen_at (s ∷ seats) zero d = refl
 pen_at (s ∷ seats) (suc k) d = pen_at seats k d
 
 -- each row of the log was accepted at its own place, since each pen's were
-pub clean_by_lanes : (d : SetupData) (lanes : ℕ) (log : List Row) (pens : ℕ → PenValue) → All (λ row. lane_of row < lanes) log
+pub clean_from_lanes : (d : SetupData) (first : State) (lanes : ℕ) (log : List Row) (pens : ℕ → PenValue) → All (λ row. lane_of row < lanes) log
     → ((k : ℕ) → k < lanes → (pens k).lane ≡ k) → ((k : ℕ) → k < lanes → StandsIn log (pens k))
-    → ((k : ℕ) → k < lanes → IsCleanFor d (pens k).lane (pens k).front) → IsClean d log
-clean_by_lanes d lanes log pens rows lane stand clean front word rest e =
+    → ((k : ℕ) → k < lanes → IsLaneCleanFrom d first (pens k).lane (pens k).front) → IsCleanFrom d first log
+clean_from_lanes d first lanes log pens rows lane stand clean front word rest e =
     let inside : length front < length log = omega (arith, ap length e, length-append front (word ∷ rest)) in
     let found : get_or log (length front) word ≡ word = ap (λ l. get_or l (length front) word) e ∙ get_or-append_seam front word rest word in
     let under : lane_of word < lanes = subst (λ (w : Row). lane_of w < lanes) found (rows (length front) word inside) in
     let pen : PenValue = pens (lane_of word) in
     let is : pen.lane ≡ lane_of word = lane (lane_of word) under in
     let s : StandsIn log pen = stand (lane_of word) under in
-    let c : IsCleanFor d pen.lane pen.front = clean (lane_of word) under in
+    let c : IsLaneCleanFrom d first pen.lane pen.front = clean (lane_of word) under in
     let none = none_added pen.lane pen.front s.front.0 log s.front.1 (sym s.reached ∙ s.own) in
     let t = within pen.lane pen.front s.front.0 front word rest (sym s.front.1 ∙ e) none (sym is) in
     c front word t.0 t.1 (sym is)
+
+pub clean_by_lanes : (d : SetupData) (lanes : ℕ) (log : List Row) (pens : ℕ → PenValue) → All (λ row. lane_of row < lanes) log
+    → ((k : ℕ) → k < lanes → (pens k).lane ≡ k) → ((k : ℕ) → k < lanes → StandsIn log (pens k))
+    → ((k : ℕ) → k < lanes → IsCleanFor d (pens k).lane (pens k).front) → IsClean d log
+clean_by_lanes d = clean_from_lanes d (start_of d)
 
 -- new pens know nothing
 pub new_know_nothing : (id : TableId) (lanes from n : ℕ) → All (λ (p : PenValue). p.front ≡ []) (map (pen_value id) (new_hands lanes from n))
@@ -253,18 +286,26 @@ new_know_nothing id lanes from (suc n) =
     all_cons (λ (p : PenValue). p.front ≡ []) (pen_value id (new_hand lanes from)) (map (pen_value id) (new_hands lanes (from + 1) n)) refl (new_know_nothing id lanes (from + 1) n)
 
 -- one pen more gives a seat
-pub seats_more : (d : SetupData) (seats seats' : List SeatValue) (pens rest all : List PenValue) (pen : PenValue) (state : State)
-    → (map (λ (s : SeatValue). s.pen) seats ++ pens ≡ all) × All (IsSeatOf d) seats × All (λ (p : PenValue). p.front ≡ []) pens
-    → pens ≡ pen ∷ rest → seats' ≡ seats ++ record { pen = pen; state = state; kept = None } ∷ [] → state ≡ start_of d → IsSound d state
-    → (map (λ (s : SeatValue). s.pen) seats' ++ rest ≡ all) × All (IsSeatOf d) seats' × All (λ (p : PenValue). p.front ≡ []) rest
-seats_more d seats seats' pens rest all pen state h is more start sound =
+pub seats_more : (d : SetupData) (first : State) (seats seats' : List SeatValue) (pens rest all : List PenValue) (pen : PenValue) (head state : State)
+    → (map (λ (s : SeatValue). s.pen) seats ++ pens ≡ all) × All (IsSeatFrom d first) seats × All (λ (p : PenValue). p.front ≡ []) pens
+    → pens ≡ pen ∷ rest → seats' ≡ seats ++ record { pen = pen; first = head; state = state; kept = None } ∷ [] → head ≡ first → state ≡ head → first.place ≤ MAX_PLACE → IsSound d first → NameGiven first
+    → (map (λ (s : SeatValue). s.pen) seats' ++ rest ≡ all) × All (IsSeatFrom d first) seats' × All (λ (p : PenValue). p.front ≡ []) rest
+seats_more d first seats seats' pens rest all pen head state h is more same equal fits sound given =
     let every : All (λ (p : PenValue). p.front ≡ []) (pen ∷ rest) = subst (All (λ (p : PenValue). p.front ≡ [])) is h.2 in
     let nil : pen.front ≡ [] = All-head (λ (p : PenValue). p.front ≡ []) pen rest every in
-    let new : SeatValue = record { pen = pen; state = state; kept = None } in
-    let seat : IsSeatOf d new = record { applied = []; replay = start; front = nil; sound = sound; clean = subst (IsCleanFor d pen.lane) (sym nil) (clean_none d pen.lane) } in (
+    let new : SeatValue = record { pen = pen; first = head; state = state; kept = None } in
+    let seat : IsSeat d new = record {
+      fits = subst (λ (s : State). s.place ≤ MAX_PLACE) (sym same) fits;
+      applied = [];
+      replay = equal;
+      front = nil;
+      sound = subst (IsSound d) (sym (equal ∙ same)) sound;
+      given = subst NameGiven (sym (equal ∙ same)) given;
+      clean = subst (IsLaneCleanFrom d head pen.lane) (sym nil) (clean_none d head pen.lane);
+    } in (
       ap (λ l. map (λ (s : SeatValue). s.pen) l ++ rest) more ∙ (ap (λ l. l ++ rest) (map-append (λ (s : SeatValue). s.pen) seats (new ∷ []))
           ∙ (append_assoc (map (λ (s : SeatValue). s.pen) seats) (pen ∷ []) rest ∙ (ap (λ (l : List PenValue). map (λ (s : SeatValue). s.pen) seats ++ l) (sym is) ∙ h.0))),
-      subst (All (IsSeatOf d)) (sym more) (All-push (IsSeatOf d) seats new h.1 seat),
+      subst (All (IsSeatFrom d first)) (sym more) (All-push (IsSeatFrom d first) seats new h.1 (seat, same)),
       All-tail (λ (p : PenValue). p.front ≡ []) pen rest every,
     )
   where

@@ -7,12 +7,13 @@ use Rattle.spin_word.specs.Rows.{row_of}
 use Rattle.spin_table.specs.declared.refusal.Verdicted.{Verdicted}
 use Rattle.spin_table.specs.declared.refusal.Verdicted.TheVariants.{Accepted, Refused}
 use Rattle.spin_table.specs.Setups.{SetupData}
-use Rattle.spin_table.specs.States.{State}
+use Rattle.spin_table.specs.States.{State, start_of}
 use Rattle.spin_table.specs.Steps.{IsStep}
 use Rattle.spin_word.specs.declared.work.Deed.{Deed}
 use Rattle.spin_proto.specs.declared.reply.Reply.{Reply}
 use Rattle.spin_proto.specs.Replies.{IsDeedReply}
-use Rattle.spin_seat.specs.Replay.{IsReplay}
+use Rattle.spin_seat.specs.Replay.{IsReplayFrom}
+use Rattle.spin_seat.specs.Places.{place_past, rows_past}
 
 -- what was asked of a seat, with what it said: a command with its verdict, or a deed with its reply
 pub data Said : Type 0 where
@@ -40,20 +41,26 @@ abbrev pub LeadsTo : SetupData → State → Said → State → Type 0
 LeadsTo d s (command c verdict) next = IsStep d s c verdict next
 LeadsTo d s (deed asked reply) next = IsDeedReply d s asked reply × (next ≡ s)
 
--- how many rows the log has before the answer: up to its place, but for the row of an accepted
--- command
-abbrev pub rows_before : Answer → ℕ
-rows_before answer = if is_accepted answer.said then answer.place - 1 else answer.place
+-- the place before the answer: its own place, or for an accepted command the one before that
+abbrev pub place_before : Answer → ℕ
+place_before answer = if is_accepted answer.said then answer.place - 1 else answer.place
 
--- in this log the answer is that of the plain dispatcher: it leads from the replay of the rows
--- before it to that of the rows up to its place
-pub record IsAnswerIn (d : SetupData) (log : List Row) (answer : Answer) : Type 0 where
+-- in this log, which follows on that state, the answer is that of the plain dispatcher: it leads from
+-- the replay of the rows up to the place before it to that of the rows up to its own place
+pub record IsAnswerFrom (d : SetupData) (first : State) (log : List Row) (answer : Answer)
+    : Type 0 where
   pub before : State
   pub after : State
-  pub reached : answer.place ≤ length log
-  pub replay_before : IsReplay d (take (rows_before answer) log) before
-  pub replay_after : IsReplay d (take answer.place log) after
+  pub since : first.place ≤ place_before answer
+  pub reached : answer.place ≤ place_past first.place (length log)
+  pub replay_before : IsReplayFrom d first
+      (take (rows_past first.place (place_before answer)) log) before
+  pub replay_after : IsReplayFrom d first (take (rows_past first.place answer.place) log) after
   pub leads : LeadsTo d before answer.said after
+
+-- the same of a log from the start
+abbrev pub IsAnswerIn : SetupData → List Row → Answer → Type 0
+IsAnswerIn d = IsAnswerFrom d (start_of d)
 
 -- each answer follows on the state that those before it made, and has the place of the state to
 -- which it leads

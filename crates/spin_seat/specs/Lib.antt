@@ -1,8 +1,10 @@
 pub mod Replay
+pub mod Places
 pub mod Seats
 pub mod Answers
 pub mod Calls
 pub mod Runs
 pub mod Weaves
 pub mod Laws
+pub mod Renewals
 pub mod Inner

@@ -24,19 +24,30 @@ IsReplayFrom d s (row ∷ rows) last =
 abbrev pub IsReplay : SetupData → List Row → State → Type 0
 IsReplay d rows last = IsReplayFrom d (start_of d) rows last
 
--- the command of the row is accepted after these rows
-abbrev pub IsAcceptedAfter : SetupData → List Row → Row → Type 0
-IsAcceptedAfter d front row =
-    (s : State) × IsReplay d front s × ((next : State) × IsRowStep d s row verdicted.Accepted next)
+-- the command of the row is accepted after these rows, which follow on that state
+abbrev pub IsAcceptedFrom : SetupData → State → List Row → Row → Type 0
+IsAcceptedFrom d first front row =
+    (s : State) × IsReplayFrom d first front s
+    × ((next : State) × IsRowStep d s row verdicted.Accepted next)
 
 -- each row is accepted after the rows before it
-abbrev pub IsClean : SetupData → List Row → Type 0
-IsClean d log =
+abbrev pub IsCleanFrom : SetupData → State → List Row → Type 0
+IsCleanFrom d first log =
     (front : List Row) (row : Row) (rest : List Row)
-    → log ≡ front ++ row ∷ rest → IsAcceptedAfter d front row
+    → log ≡ front ++ row ∷ rest → IsAcceptedFrom d first front row
 
 -- the same of the rows of one lane
-abbrev pub IsCleanFor : SetupData → ℕ → List Row → Type 0
-IsCleanFor d lane log =
+abbrev pub IsLaneCleanFrom : SetupData → State → ℕ → List Row → Type 0
+IsLaneCleanFrom d first lane log =
     (front : List Row) (row : Row) (rest : List Row)
-    → log ≡ front ++ row ∷ rest → lane_of row ≡ lane → IsAcceptedAfter d front row
+    → log ≡ front ++ row ∷ rest → lane_of row ≡ lane → IsAcceptedFrom d first front row
+
+-- the same from the start
+abbrev pub IsAcceptedAfter : SetupData → List Row → Row → Type 0
+IsAcceptedAfter d = IsAcceptedFrom d (start_of d)
+
+abbrev pub IsClean : SetupData → List Row → Type 0
+IsClean d = IsCleanFrom d (start_of d)
+
+abbrev pub IsCleanFor : SetupData → ℕ → List Row → Type 0
+IsCleanFor d = IsLaneCleanFrom d (start_of d)

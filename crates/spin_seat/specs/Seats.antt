@@ -1,15 +1,19 @@
 -- Seats as callers see them.
-use Rattle.std.specs.Prelude.{◌≡◌, ◌+◌, ℕ, List, [], ◌∷◌, ◌++◌, Option, None, Some, ⊤}
+use Rattle.std.specs.Prelude.{◌≡◌, ◌≤◌, ◌+◌, ℕ, List, [], ◌∷◌, ◌++◌, Option, None, Some, ⊤, All}
+use Rattle.spin_word.specs.declared.command.TheConstants.{MAX_PLACE}
 use Rattle.spin_word.specs.declared.row.Row.{Row}
 use Rattle.spin_log.specs.Pens.{PenValue}
 use Rattle.spin_table.specs.Setups.{SetupData}
-use Rattle.spin_table.specs.States.{State}
+use Rattle.spin_table.specs.States.{State, start_of}
 use Rattle.spin_table.specs.Soundness.{IsSound}
-use Rattle.spin_seat.specs.Replay.{IsReplay, IsCleanFor}
+use Rattle.spin_table.specs.Renewals.{NameGiven}
+use Rattle.spin_seat.specs.Replay.{IsReplayFrom, IsLaneCleanFrom}
 
--- its pen, the state of its version, and the row that it has read and not yet applied
+-- its pen, the state on which its log follows, the state of its version, and the row that it has read and not yet
+-- applied
 pub record SeatValue : Type 0 where
   pub pen : PenValue
+  pub first : State
   pub state : State
   pub kept : Option Row
 
@@ -17,15 +21,28 @@ abbrev pub kept_rows : Option Row → List Row
 kept_rows None = []
 kept_rows (Some row) = row ∷ []
 
--- what is so of every seat of a hub with this setup: its state is sound, and is the replay of its
--- front, less the row that it keeps; and of its front each row of its own lane was accepted at its
--- place
-pub record IsSeatOf (d : SetupData) (seat : SeatValue) : Type 0 where
+-- what is so of every seat of a hub with this setup: its state is sound, and is the replay of its front from its
+-- first state, less the row that it keeps; and of its front each row of its own lane was accepted at its place
+pub record IsSeat (d : SetupData) (seat : SeatValue) : Type 0 where
+  pub fits : seat.first.place ≤ MAX_PLACE
   pub applied : List Row
-  pub replay : IsReplay d applied seat.state
+  pub replay : IsReplayFrom d seat.first applied seat.state
   pub front : seat.pen.front ≡ applied ++ kept_rows seat.kept
   pub sound : IsSound d seat.state
-  pub clean : IsCleanFor d seat.pen.lane seat.pen.front
+  pub given : NameGiven seat.state
+  pub clean : IsLaneCleanFrom d seat.first seat.pen.lane seat.pen.front
+
+-- the same of a seat whose log follows on that state
+abbrev pub IsSeatFrom : SetupData → State → SeatValue → Type 0
+IsSeatFrom d first seat = IsSeat d seat × (seat.first ≡ first)
+
+-- the same of one whose log begins at the start
+abbrev pub IsSeatOf : SetupData → SeatValue → Type 0
+IsSeatOf d = IsSeatFrom d (start_of d)
+
+-- the log of all these seats follows on that state
+abbrev pub AreFrom : State → List SeatValue → Type 0
+AreFrom first seats = All (λ (seat : SeatValue). seat.first ≡ first) seats
 
 -- the seats are those of the lanes from this one on, in order
 abbrev pub AreOfLanes : ℕ → List SeatValue → Type 0

@@ -4,10 +4,10 @@ use Rattle.core.specs.List.Sorted.{IsNonDecreasingBy}
 use Rattle.spin_word.specs.declared.row.Row.{Row}
 use Rattle.spin_table.specs.Setups.{SetupData}
 use Rattle.spin_table.specs.States.{State, start_of}
-use Rattle.spin_seat.specs.Replay.{IsReplay}
+use Rattle.spin_seat.specs.Replay.{IsReplayFrom}
 use Rattle.spin_seat.specs.Seats.{SeatValue}
 use Rattle.spin_seat.specs.Answers.{Answer, is_accepted, AreLegalAnswers}
-use Rattle.spin_seat.specs.Runs.{Ran, new_of}
+use Rattle.spin_seat.specs.Runs.{RanFrom, new_of}
 
 -- where an answer stands among others: by place, and at one place the accepted command first
 abbrev pub rank : Answer → ℕ
@@ -20,16 +20,24 @@ pub record IsWeave (lanes : ℕ) (trails : ℕ → List Answer) (woven : List An
   pub lanes_are : All (λ answer. answer.lane < lanes) woven
   pub order : IsNonDecreasingBy rank woven
 
--- these are all answers of each seat since it was new
-abbrev pub HaveAnswered : SetupData → List SeatValue → (ℕ → List Answer) → Type 0
-HaveAnswered d seats trails =
+-- these are all answers of each seat since it was new, in a log that follows on the first state
+abbrev pub HaveAnsweredFrom : SetupData → State → List SeatValue → (ℕ → List Answer) → Type 0
+HaveAnsweredFrom d first seats trails =
     (k : ℕ) (seat : SeatValue) → k < length seats
-    → Ran d (new_of (slice_index_or seats k seat).pen) (trails k) (slice_index_or seats k seat).pen
+    → RanFrom d first (new_of (slice_index_or seats k seat).pen) (trails k)
+    (slice_index_or seats k seat).pen
 
 -- All that the seats have answered, as one list in the order of places, is a history of the plain
--- dispatcher, which leads from the start to the replay of the log.
-abbrev pub AnswersAreLegal : SetupData → List SeatValue → List Row → Type 0
-AnswersAreLegal d seats log =
+-- dispatcher, which leads from the first state to the replay of the log.
+abbrev pub AnswersAreLegalFrom : SetupData → State → List SeatValue → List Row → Type 0
+AnswersAreLegalFrom d first seats log =
     (trails : ℕ → List Answer) (woven : List Answer)
-    → HaveAnswered d seats trails → IsWeave (length seats) trails woven
-    → (last : State) × IsReplay d log last × AreLegalAnswers d (start_of d) woven last
+    → HaveAnsweredFrom d first seats trails → IsWeave (length seats) trails woven
+    → (last : State) × IsReplayFrom d first log last × AreLegalAnswers d first woven last
+
+-- the same from the start
+abbrev pub HaveAnswered : SetupData → List SeatValue → (ℕ → List Answer) → Type 0
+HaveAnswered d = HaveAnsweredFrom d (start_of d)
+
+abbrev pub AnswersAreLegal : SetupData → List SeatValue → List Row → Type 0
+AnswersAreLegal d = AnswersAreLegalFrom d (start_of d)

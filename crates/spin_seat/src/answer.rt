@@ -9,8 +9,8 @@ use thiserror::Error;
 /// The reply to a deed.
 #[derive(Drop)]
 pub struct Raised {
-    /// The place of the version on which it was done: the number of rows that the log had at that
-    /// moment.
+    /// The place of the version on which it was done: that of the log's first state, which is 0 at the
+    /// start, and one more for each row that the log had at that moment.
     pub place: u16,
     /// What the deed came to.
     pub reply: Reply,
@@ -21,8 +21,10 @@ pub struct Raised {
 /// The verdict on a command.
 #[derive(PartialEq, Drop, Debug)]
 pub struct Judged {
-    /// Where it was accepted the place of its own row, counted from 1; else the number of rows that
-    /// the log had at the moment of the refusal.
+    /// Where it was accepted the place of its own row, which a binding that it installs has as its
+    /// number: one more than the place before, the first row's one more than that of the log's first
+    /// state, which is 0 at the start. Else the place of the last row that the log had at the moment of
+    /// the refusal.
     pub place: u16,
     /// What became of it.
     pub verdict: Verdicted,
@@ -31,7 +33,8 @@ pub struct Judged {
 /// Why a command has no verdict. It wasn't published then.
 #[derive(Debug, Clone, Copy, PartialEq, Eq, Error)]
 pub enum SeatFault {
-    /// The seat's front has as many rows as a log can have.
+    /// No place is left after the seat's front: places, the numbers of bindings, go up to
+    /// [`MAX_PLACE`](spin_word::MAX_PLACE).
     #[error("the log is full")]
     Full,
     /// There was no memory for the next version.

@@ -7,19 +7,21 @@ ghost use Rattle.spin_log.specs.History.{Moment};
 ghost use Rattle.spin_log.specs.Pens.{IsPen, IsSamePen, with_front, StandsIn, IsHistory, new_pens};
 ghost use Rattle.spin_log.specs.Steps.{longer};
 ghost use Rattle.spin_table.specs.SetupOf.{data_of};
-ghost use Rattle.spin_seat.specs.Replay.{IsClean};
-ghost use Rattle.spin_seat.specs.Seats.{IsSeatOf, AreOfLanes};
+ghost use Rattle.spin_table.specs.States.{State};
+ghost use Rattle.spin_seat.specs.Replay.{IsCleanFrom};
+ghost use Rattle.spin_seat.specs.Seats.{IsSeat, IsSeatOf, AreFrom, AreOfLanes};
 ghost use Rattle.spin_seat.specs.Calls.{ReadsOn};
-ghost use Rattle.spin_seat.specs.Weaves.{AnswersAreLegal};
+ghost use Rattle.spin_seat.specs.Weaves.{AnswersAreLegalFrom};
 
 use crate::seat::{Seat, Seats};
 use crate::seats::{pens_of, seats_of};
 use spin_code::Sincere;
 use spin_log::{Log, Rows};
 use spin_objects::Catalogue;
-use spin_table::Setup;
+use spin_table::{Setup, Version};
 use spin_values::NoMemory;
 use std::alloc::Global;
+use std::sync::Arc;
 
 /// The log, and the setup that never changes. Seats share it by reference.
 #[derive(Drop)]
@@ -44,7 +46,9 @@ impl Hub {
         ensures order { IfOk result (λ made. AreOfLanes 0 made.1) }
     {
         let (log, pens) = Log::new(alloc, lanes)?;
-        let seats = seats_of(alloc, &setup, pens)?;
+        let start = Version::start(alloc, &setup)?;
+        let first = Arc::new(alloc, start)?;
+        let seats = seats_of(alloc, &setup, &first, pens)?;
         Ok((Hub { log, setup }, seats))
     }
 
@@ -59,16 +63,18 @@ impl Hub {
     /// afterwards both seats have the longer one and share its version, with no row left to apply.
     /// Own rows and pins stay, so each seat has read rows of other lanes and no more.
     /// After want of memory both fronts are as before. It waits for nobody, and applies at most one
-    /// row for each seat. The seats' log is the hub's, the seats are those of the hub's setup, and
-    /// the catalogue's objects do what they were handed in with.
+    /// row for each seat. The seats' log is the hub's, the seats are those of the hub's setup with one
+    /// first state, and the catalogue's objects do what they were handed in with.
     pub fn meet(&self, alloc: Global, a: &mut Seat, b: &mut Seat) -> Result<(), NoMemory>
         requires sincere { ⟦<Catalogue as Sincere>⟧.sincere self.now.setup.catalogue }
         requires log_a { a.old.pen.log ≡ self.now.log.id }
         requires log_b { b.old.pen.log ≡ self.now.log.id }
-        requires seat_a { IsSeatOf (data_of self.now.setup) a.old }
-        requires seat_b { IsSeatOf (data_of self.now.setup) b.old }
-        ensures seat_a { IsSeatOf (data_of self.now.setup) a.new }
-        ensures seat_b { IsSeatOf (data_of self.now.setup) b.new }
+        requires seat_a { IsSeat (data_of self.now.setup) a.old }
+        requires seat_b { IsSeat (data_of self.now.setup) b.old }
+        requires first { b.old.first ≡ a.old.first }
+        ensures seat_a { IsSeat (data_of self.now.setup) a.new }
+        ensures seat_b { IsSeat (data_of self.now.setup) b.new }
+        ensures first { (a.new.first ≡ a.old.first) × (b.new.first ≡ b.old.first) }
         ensures a { let front = longer a.old.pen.front b.old.pen.front in
             MatchResult result
             (λ _. a.new.pen ≡ with_front a.old.pen front)
@@ -95,15 +101,18 @@ impl Hub {
 
     /// The whole log, from all seats of the hub, the k-th being that of lane k. It is clean: each
     /// row was accepted at its own place. And all that the seats have answered, as one list in the
-    /// order of places, is a legal history of the plain dispatcher, up to the replay of the log.
+    /// order of places, is a legal history of the plain dispatcher, from the first state of all seats
+    /// up to the replay of the log.
     /// After want of memory hub and seats are gone. It takes time linear in the log.
     pub fn close(self, alloc: Global, seats: Seats) -> Result<Rows, NoMemory>
         requires own { All (λ seat. seat.pen.log ≡ self.log.id) seats }
-        requires seats { All (IsSeatOf (data_of self.setup)) seats }
+        requires seats { All (IsSeat (data_of self.setup)) seats }
         requires all { length seats ≡ self.log.lanes }
         requires order { AreOfLanes 0 seats }
-        ensures clean { IfOk result (λ log. IsClean (data_of self.setup) log) }
-        ensures legal { IfOk result (λ log. AnswersAreLegal (data_of self.setup) seats log) }
+        ensures clean { (first : State) → AreFrom first seats
+            → IfOk result (λ log. IsCleanFrom (data_of self.setup) first log) }
+        ensures legal { (first : State) → AreFrom first seats
+            → IfOk result (λ log. AnswersAreLegalFrom (data_of self.setup) first seats log) }
         ensures each { IfOk result (λ log. All (λ seat. StandsIn log seat.pen) seats) }
         ensures history { let pens = map (λ seat. seat.pen) seats in
             IfOk result (λ log. (moments : List Moment) × IsHistory log pens moments) }

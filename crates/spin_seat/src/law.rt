@@ -1,6 +1,7 @@
 //! The laws by which the answers of all seats are one history.
 
 ghost use Rattle.spin_seat.specs.Laws.{AnswersStand, CleanByLanes, ReplayIsOne, WeavesAreLegal};
+ghost use Rattle.spin_seat.specs.Renewals.{AnswersAreRenamed, RenewalsGoOn};
 
 /// The laws of seats. Rows have one replay, so seats that know the same rows have the same state.
 /// What is right in a front is right in every log that the front begins. A log is clean where each
@@ -12,4 +13,13 @@ pub fn seats_answer_one_history()
     ensures front { AnswersStand }
     ensures clean { CleanByLanes }
     ensures weave { WeavesAreLegal }
+{}
+
+/// The laws of renewals. What is legal from a state is legal, under the other numbers, from each state
+/// that differs from it in the numbers of its bindings alone. So what was answered before a renewal and
+/// what was answered after it are together one legal history under the numbers before, as long as these
+/// stay below 65,535. It does nothing.
+pub fn renewals_go_on()
+    ensures answers { AnswersAreRenamed }
+    ensures whole { RenewalsGoOn }
 {}

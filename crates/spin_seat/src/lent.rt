@@ -5,8 +5,8 @@ ghost use Rattle.std.specs.Arc.{arc_value};
 ghost use Rattle.spin_log.specs.Pens.{IsSamePen};
 ghost use Rattle.spin_table.specs.SetupOf.{data_of};
 ghost use Rattle.spin_proto.specs.Replies.{BelongsTo, calls_left};
-ghost use Rattle.spin_seat.specs.Seats.{IsSeatOf};
-ghost use Rattle.spin_seat.specs.Calls.{AddsAtMostAPin, Gives, reply_answer};
+ghost use Rattle.spin_seat.specs.Seats.{IsSeat};
+ghost use Rattle.spin_seat.specs.Calls.{AddsAtMostAPin, GivesFrom, reply_answer};
 
 use crate::hub::Hub;
 use crate::seat::Seat;
@@ -35,18 +35,20 @@ impl Seat {
     ) -> Result<u16, NoMemory>
         requires sincere { ⟦<Catalogue as Sincere>⟧.sincere hub.now.setup.catalogue }
         requires log { self.old.pen.log ≡ hub.now.log.id }
-        requires seat { IsSeatOf (data_of hub.now.setup) self.old }
-        ensures seat { IsSeatOf (data_of hub.now.setup) self.new }
+        requires seat { IsSeat (data_of hub.now.setup) self.old }
+        ensures seat { IsSeat (data_of hub.now.setup) self.new }
+        ensures first { self.new.first ≡ self.old.first }
         ensures same { IsSamePen self.old.pen self.new.pen }
         ensures answer { let d = data_of hub.now.setup in
+            let first = self.old.first in
             let pen = self.old.pen in
-            IfOk result (λ place. Gives d pen (reply_answer pen.lane deed.now place buffer.new) self.new.pen) }
+            IfOk result (λ place. GivesFrom d first pen (reply_answer pen.lane deed.now place buffer.new) self.new.pen) }
         ensures whole { OnOk result (self.new.kept ≡ None) }
         ensures calls { OnOk result (All (BelongsTo self.new.state) (calls_left buffer.new)) }
         ensures err { OnErr result (AddsAtMostAPin self.old.pen self.new.pen) }
     {
         self.pin_counted::<Brand>(alloc, hub, Blank::new(1))?;
-        let place = self.pen.front();
+        let place = self.place();
         path_into(alloc, &self.version, &hub.setup, deed, buffer)?;
         Ok(place)
     }

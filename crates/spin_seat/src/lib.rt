@@ -19,6 +19,6 @@ mod seats;
 
 pub use answer::{Judged, Raised, SeatFault};
 pub use hub::Hub;
-pub use law::seats_answer_one_history;
+pub use law::{renewals_go_on, seats_answer_one_history};
 pub use seat::{Seat, Seats};
 pub use spin_table::Verdicted;

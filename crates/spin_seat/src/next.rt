@@ -1,9 +1,8 @@
 //! The next version, whole, before a command is published.
 
-ghost use Rattle.std.specs.Prelude.{◌≡◌, ◌<◌, IsTrue, IfOk, Err, MatchResult};
+ghost use Rattle.std.specs.Prelude.{◌≡◌, ◌+◌, ◌<◌, IsTrue, IfOk, Err, MatchResult};
 ghost use Rattle.std.specs.Arc.{arc_value};
-ghost use Rattle.spin_word.specs.declared.command.TheConstants.{MAX_PLACE};
-ghost use Rattle.spin_word.specs.Commands.{is_command};
+ghost use Rattle.spin_word.specs.Commands.{is_command, no_number};
 ghost use Rattle.spin_table.specs.SetupOf.{data_of};
 ghost use Rattle.spin_table.specs.Soundness.{IsSound};
 ghost use Rattle.spin_table.specs.Steps.{IsAnswer, IsStep};
@@ -25,7 +24,7 @@ pub(crate) fn next_version(
 ) -> Result<Arc<Version>, StepFault>
     requires sincere { ⟦<Catalogue as Sincere>⟧.sincere setup.now.catalogue }
     requires valid { IsTrue (is_command c.now) }
-    requires room { (arc_value version.now).place < MAX_PLACE }
+    requires room { (arc_value version.now).place + 1 < no_number }
     requires sound { IsSound (data_of setup.now) (arc_value version.now) }
     ensures answer { let d = data_of setup.now in
         let state = arc_value version.now in

@@ -1,6 +1,6 @@
 //! Seats.
 
-ghost use Rattle.std.specs.Prelude.{◌≡◌, ◌<◌, ◌≤◌, IsTrue, IfOk, IfErr, OnOk, OnErr};
+ghost use Rattle.std.specs.Prelude.{◌≡◌, ◌<◌, ◌≤◌, ◌-◌, IsTrue, IfOk, IfErr, OnOk, OnErr};
 ghost use Rattle.std.specs.Prelude.{Some, None, Ok, All, length, MatchResult};
 ghost use Rattle.std.specs.Arc.{arc_value};
 ghost use Rattle.spin_word.specs.declared.command.TheConstants.{MAX_LANES, MAX_PLACE};
@@ -13,9 +13,10 @@ ghost use Rattle.spin_table.specs.Steps.{IsAnswer, IsStep};
 ghost use Rattle.spin_table.specs.declared.refusal.Verdicted.TheVariants as verdicted;
 ghost use Rattle.spin_table.specs.Soundness.{IsSound};
 ghost use Rattle.spin_proto.specs.Replies.{BelongsTo, calls_left};
-ghost use Rattle.spin_seat.specs.Seats.{IsSeatOf};
-ghost use Rattle.spin_seat.specs.Answers.{rows_before};
-ghost use Rattle.spin_seat.specs.Calls.{ReadsOn, ReadsToPin, AddsAtMostAPin, Gives};
+ghost use Rattle.spin_seat.specs.Seats.{IsSeat};
+ghost use Rattle.spin_seat.specs.Answers.{place_before};
+ghost use Rattle.spin_seat.specs.Calls.{ReadsOn, ReadsToPin, AddsAtMostAPin, GivesFrom};
+ghost use Rattle.spin_seat.specs.Places.{place_past};
 ghost use Rattle.spin_seat.specs.Calls.{IsFaultAt, reply_answer, verdict_answer};
 ghost use Rattle.spin_seat.specs.Inner.Tries.{row_seen, Tries, TurnsFor};
 
@@ -37,15 +38,16 @@ use std::sync::ledger::{Blank, Ledger};
 /// Seats, in order.
 pub type Seats = Sequence<Seat>;
 
-/// A lane's pen, with its own replica of the dispatcher. Contracts see the pen, the state of its
-/// version, and the row that it has read and not yet applied.
+/// A lane's pen, with its own replica of the dispatcher. Contracts see the pen, the first state, on
+/// which the log follows, the state of its version, and the row that it has read and not yet applied.
 ///
 /// What holds of every seat of a [`Hub`], and stays so through each call, whatever it answers: the
-/// state is the replay of the pen's front, less that one row; and of the front each row of its own
-/// lane was accepted at its place.
+/// first state is the same; the state is the replay of the pen's front from there, less that one row;
+/// and of the front each row of its own lane was accepted at its place.
 #[derive(Drop)]
 pub struct Seat {
     pub(crate) pen: Pen,
+    pub(crate) first: Arc<Version>,
     pub(crate) version: Arc<Version>,
     pub(crate) kept: Option<Row>,
 }
@@ -60,7 +62,7 @@ impl Model for Seat {
 
     ghost coded = { Prim.hlevel (codes, test.the_row.coded) };
 
-    ghost view = { λ s. record { pen = s.pen; state = arc_value s.version; kept = s.kept } };
+    ghost view = { λ s. record { pen = s.pen; first = arc_value s.first; state = arc_value s.version; kept = s.kept } };
 }
 
 impl Seat {
@@ -82,15 +84,37 @@ impl Seat {
         self.pen.front()
     }
 
+    /// How many commands can still be accepted after what this seat has read, at most: other lanes may
+    /// have published more, which it hasn't read. Where the front is the whole log, as after a
+    /// [`Hub::meet`](crate::Hub::meet) of all seats, it is just that many. At 0 the seat's next command
+    /// is answered [`Full`](SeatFault::Full). It reads no log, takes no memory and waits for nobody.
+    pub fn room(&self) -> u16
+        ensures left { result ≡ MAX_PLACE - place_past self.now.first.place (length self.now.pen.front) }
+        ensures front { length self.now.pen.front ≤ MAX_PLACE }
+    {
+        MAX_PLACE
+            .saturating_sub(self.first.place())
+            .saturating_sub(self.pen.front())
+    }
+
+    // The place of the front's end.
+    pub(crate) fn place(&self) -> u16
+        requires fits { self.now.first.place ≤ MAX_PLACE }
+        ensures { result ≡ place_past self.now.first.place (length self.now.pen.front) }
+    {
+        self.first.place() + self.pen.front()
+    }
+
     // Takes the version after the command of the row that it kept.
     fn accepted(&mut self, _hub: &Hub, _row: &Row, _c: &Command, after: Arc<Version>)
-        requires seat { IsSeatOf (data_of _hub.now.setup) self.old }
+        requires seat { IsSeat (data_of _hub.now.setup) self.old }
         requires kept { self.old.kept ≡ Some _row.now }
         requires stands { StandsFor _row.now _c.now }
         requires step { let verdict = verdicted.Accepted in
             IsStep (data_of _hub.now.setup) self.old.state _c.now verdict (arc_value after) }
         requires sound { IsSound (data_of _hub.now.setup) (arc_value after) }
-        ensures seat { IsSeatOf (data_of _hub.now.setup) self.new }
+        ensures seat { IsSeat (data_of _hub.now.setup) self.new }
+        ensures first { self.new.first ≡ self.old.first }
         ensures pen { self.new.pen ≡ self.old.pen }
         ensures ok { self.new.kept ≡ None }
     {
@@ -100,12 +124,13 @@ impl Seat {
 
     // Leaves its version, since the command of the row that it kept is refused.
     fn refused(&mut self, _hub: &Hub, _row: &Row, _c: &Command, _refusal: &Refusal)
-        requires seat { IsSeatOf (data_of _hub.now.setup) self.old }
+        requires seat { IsSeat (data_of _hub.now.setup) self.old }
         requires kept { self.old.kept ≡ Some _row.now }
         requires stands { StandsFor _row.now _c.now }
         requires step { let verdict = verdicted.Refused _refusal.now in
             IsStep (data_of _hub.now.setup) self.old.state _c.now verdict self.old.state }
-        ensures seat { IsSeatOf (data_of _hub.now.setup) self.new }
+        ensures seat { IsSeat (data_of _hub.now.setup) self.new }
+        ensures first { self.new.first ≡ self.old.first }
         ensures pen { self.new.pen ≡ self.old.pen }
         ensures ok { self.new.kept ≡ None }
     {
@@ -115,9 +140,10 @@ impl Seat {
     // Applies this row, which it keeps: another lane's, whose command may be refused.
     fn step(&mut self, alloc: Global, hub: &Hub, row: Row) -> Result<(), NoMemory>
         requires sincere { ⟦<Catalogue as Sincere>⟧.sincere hub.now.setup.catalogue }
-        requires seat { IsSeatOf (data_of hub.now.setup) self.old }
+        requires seat { IsSeat (data_of hub.now.setup) self.old }
         requires kept { self.old.kept ≡ Some row }
-        ensures seat { IsSeatOf (data_of hub.now.setup) self.new }
+        ensures seat { IsSeat (data_of hub.now.setup) self.new }
+        ensures first { self.new.first ≡ self.old.first }
         ensures pen { self.new.pen ≡ self.old.pen }
         ensures ok { OnOk result (self.new.kept ≡ None) }
         ensures err { OnErr result (self.new ≡ self.old) }
@@ -146,8 +172,9 @@ impl Seat {
     #[inline]
     pub fn apply(&mut self, alloc: Global, hub: &Hub) -> Result<(), NoMemory>
         requires sincere { ⟦<Catalogue as Sincere>⟧.sincere hub.now.setup.catalogue }
-        requires seat { IsSeatOf (data_of hub.now.setup) self.old }
-        ensures seat { IsSeatOf (data_of hub.now.setup) self.new }
+        requires seat { IsSeat (data_of hub.now.setup) self.old }
+        ensures seat { IsSeat (data_of hub.now.setup) self.new }
+        ensures first { self.new.first ≡ self.old.first }
         ensures pen { self.new.pen ≡ self.old.pen }
         ensures ok { OnOk result (self.new.kept ≡ None) }
         ensures err { OnErr result (self.new ≡ self.old) }
@@ -164,12 +191,13 @@ impl Seat {
     #[inline]
     fn read(&mut self, hub: &Hub) -> Look
         requires log { self.old.pen.log ≡ hub.now.log.id }
-        requires seat { IsSeatOf (data_of hub.now.setup) self.old }
+        requires seat { IsSeat (data_of hub.now.setup) self.old }
         requires whole { self.old.kept ≡ None }
         ensures look { LooksSay self.old.pen result self.new.pen }
         ensures state { self.new.state ≡ self.old.state }
         ensures kept { self.new.kept ≡ row_seen result }
-        ensures seat { IsSeatOf (data_of hub.now.setup) self.new }
+        ensures seat { IsSeat (data_of hub.now.setup) self.new }
+        ensures first { self.new.first ≡ self.old.first }
     {
         match hub.log.look(&mut self.pen) {
             Look::Entry(row) => {
@@ -191,8 +219,9 @@ impl Seat {
     ) -> Result<(), NoMemory>
         requires sincere { ⟦<Catalogue as Sincere>⟧.sincere hub.now.setup.catalogue }
         requires log { self.old.pen.log ≡ hub.now.log.id }
-        requires seat { IsSeatOf (data_of hub.now.setup) self.old }
-        ensures seat { IsSeatOf (data_of hub.now.setup) self.new }
+        requires seat { IsSeat (data_of hub.now.setup) self.old }
+        ensures seat { IsSeat (data_of hub.now.setup) self.new }
+        ensures first { self.new.first ≡ self.old.first }
         ensures ok { OnOk result (ReadsToPin self.old.pen self.new.pen × (self.new.kept ≡ None)) }
         ensures err { OnErr result (ReadsOn self.old.pen self.new.pen) }
         ensures turns { TurnsFor self.old.pen turns.old self.new.pen turns.new }
@@ -216,11 +245,12 @@ impl Seat {
     ) -> Result<(), NoMemory>
         requires sincere { ⟦<Catalogue as Sincere>⟧.sincere hub.now.setup.catalogue }
         requires log { self.old.pen.log ≡ hub.now.log.id }
-        requires seat { IsSeatOf (data_of hub.now.setup) self.old }
+        requires seat { IsSeat (data_of hub.now.setup) self.old }
         requires name { blank.name ≡ L.name }
         requires parts { blank.parts ≡ L.parts }
         requires some { 0 < L.parts }
-        ensures seat { IsSeatOf (data_of hub.now.setup) self.new }
+        ensures seat { IsSeat (data_of hub.now.setup) self.new }
+        ensures first { self.new.first ≡ self.old.first }
         ensures ok { OnOk result (ReadsToPin self.old.pen self.new.pen × (self.new.kept ≡ None)) }
         ensures err { OnErr result (ReadsOn self.old.pen self.new.pen) }
     {
@@ -242,20 +272,22 @@ impl Seat {
     pub fn raise(&mut self, alloc: Global, hub: &Hub, deed: &Deed) -> Result<Raised, NoMemory>
         requires sincere { ⟦<Catalogue as Sincere>⟧.sincere hub.now.setup.catalogue }
         requires log { self.old.pen.log ≡ hub.now.log.id }
-        requires seat { IsSeatOf (data_of hub.now.setup) self.old }
-        ensures seat { IsSeatOf (data_of hub.now.setup) self.new }
+        requires seat { IsSeat (data_of hub.now.setup) self.old }
+        ensures seat { IsSeat (data_of hub.now.setup) self.new }
+        ensures first { self.new.first ≡ self.old.first }
         ensures same { IsSamePen self.old.pen self.new.pen }
         ensures answer { let d = data_of hub.now.setup in
+            let first = self.old.first in
             let pen = self.old.pen in
             IfOk result (λ raised.
-            Gives d pen (reply_answer pen.lane deed.now raised.place raised.reply) self.new.pen) }
+            GivesFrom d first pen (reply_answer pen.lane deed.now raised.place raised.reply) self.new.pen) }
         ensures whole { OnOk result (self.new.kept ≡ None) }
         ensures pinned { IfOk result (λ raised. arc_value raised.pinned ≡ self.new.state) }
         ensures calls { IfOk result (λ raised. All (BelongsTo self.new.state) (calls_left raised.reply)) }
         ensures err { OnErr result (AddsAtMostAPin self.old.pen self.new.pen) }
     {
         self.pin_counted::<Brand>(alloc, hub, Blank::new(1))?;
-        let place = self.pen.front();
+        let place = self.place();
         let reply = path(alloc, &self.version, &hub.setup, deed)?;
         let pinned = Arc::try_clone(&self.version)?;
         Ok(Raised {
@@ -269,17 +301,18 @@ impl Seat {
     // keeps it.
     fn publish(&mut self, hub: &Hub, c: &Command, next: Arc<Version>) -> Option<Judged>
         requires log { self.old.pen.log ≡ hub.now.log.id }
-        requires seat { IsSeatOf (data_of hub.now.setup) self.old }
+        requires seat { IsSeat (data_of hub.now.setup) self.old }
         requires whole { self.old.kept ≡ None }
-        requires room { length self.old.pen.front < MAX_PLACE }
+        requires room { place_past self.old.first.place (length self.old.pen.front) < MAX_PLACE }
         requires valid { IsTrue (is_command c.now) }
         requires lane { c.now.lane ≡ self.old.pen.lane }
         requires step { IsAnswer (data_of hub.now.setup) self.old.state c.now (Ok (arc_value next)) }
         requires sound { IsSound (data_of hub.now.setup) (arc_value next) }
-        ensures seat { IsSeatOf (data_of hub.now.setup) self.new }
+        ensures seat { IsSeat (data_of hub.now.setup) self.new }
+        ensures first { self.new.first ≡ self.old.first }
         ensures tries { Tries (data_of hub.now.setup) self.old c.now result self.new }
     {
-        let place = self.pen.front();
+        let place = self.place();
         match hub.log.publish(&mut self.pen, pack(c)) {
             Publish::Done => {
                 self.version = next;
@@ -299,15 +332,16 @@ impl Seat {
     // Refuses the command at a pin; or reads the row that came first, and keeps it.
     fn refuse(&mut self, hub: &Hub, _c: &Command, refusal: Refusal) -> Option<Judged>
         requires log { self.old.pen.log ≡ hub.now.log.id }
-        requires seat { IsSeatOf (data_of hub.now.setup) self.old }
+        requires seat { IsSeat (data_of hub.now.setup) self.old }
         requires whole { self.old.kept ≡ None }
-        requires room { length self.old.pen.front < MAX_PLACE }
+        requires room { place_past self.old.first.place (length self.old.pen.front) < MAX_PLACE }
         requires step { let verdict = verdicted.Refused refusal in
             IsStep (data_of hub.now.setup) self.old.state _c.now verdict self.old.state }
-        ensures seat { IsSeatOf (data_of hub.now.setup) self.new }
+        ensures seat { IsSeat (data_of hub.now.setup) self.new }
+        ensures first { self.new.first ≡ self.old.first }
         ensures tries { Tries (data_of hub.now.setup) self.old _c.now result self.new }
     {
-        let place = self.pen.front();
+        let place = self.place();
         match self.read(hub) {
             Look::Entry(_) => None,
             Look::Pinned => Some(Judged {
@@ -322,12 +356,13 @@ impl Seat {
     fn judge(&mut self, alloc: Global, hub: &Hub, c: &Command) -> Result<Option<Judged>, NoMemory>
         requires sincere { ⟦<Catalogue as Sincere>⟧.sincere hub.now.setup.catalogue }
         requires log { self.old.pen.log ≡ hub.now.log.id }
-        requires seat { IsSeatOf (data_of hub.now.setup) self.old }
+        requires seat { IsSeat (data_of hub.now.setup) self.old }
         requires whole { self.old.kept ≡ None }
-        requires room { length self.old.pen.front < MAX_PLACE }
+        requires room { place_past self.old.first.place (length self.old.pen.front) < MAX_PLACE }
         requires valid { IsTrue (is_command c.now) }
         requires lane { c.now.lane ≡ self.old.pen.lane }
-        ensures seat { IsSeatOf (data_of hub.now.setup) self.new }
+        ensures seat { IsSeat (data_of hub.now.setup) self.new }
+        ensures first { self.new.first ≡ self.old.first }
         ensures tries { let d = data_of hub.now.setup in
             IfOk result (λ judged. Tries d self.old c.now judged self.new) }
         ensures err { OnErr result (self.new ≡ self.old) }
@@ -350,24 +385,26 @@ impl Seat {
     ) -> Result<Judged, SeatFault>
         requires sincere { ⟦<Catalogue as Sincere>⟧.sincere hub.now.setup.catalogue }
         requires log { self.old.pen.log ≡ hub.now.log.id }
-        requires seat { IsSeatOf (data_of hub.now.setup) self.old }
+        requires seat { IsSeat (data_of hub.now.setup) self.old }
         requires valid { IsTrue (is_command c.now) }
         requires lane { c.now.lane ≡ self.old.pen.lane }
-        ensures seat { IsSeatOf (data_of hub.now.setup) self.new }
+        ensures seat { IsSeat (data_of hub.now.setup) self.new }
+        ensures first { self.new.first ≡ self.old.first }
         ensures same { IsSamePen self.old.pen self.new.pen }
         ensures answer { let d = data_of hub.now.setup in
+            let first = self.old.first in
             let pen = self.old.pen in
             IfOk result (λ judged.
-            Gives d pen (verdict_answer pen.lane c.now judged.place judged.verdict) self.new.pen) }
+            GivesFrom d first pen (verdict_answer pen.lane c.now judged.place judged.verdict) self.new.pen) }
         ensures room { let lane = self.old.pen.lane in
             IfOk result (λ judged.
-            rows_before (verdict_answer lane c.now judged.place judged.verdict) < MAX_PLACE) }
+            place_before (verdict_answer lane c.now judged.place judged.verdict) < MAX_PLACE) }
         ensures whole { OnOk result (self.new.kept ≡ None) }
         ensures read { OnErr result (ReadsOn self.old.pen self.new.pen) }
-        ensures fault { IfErr result (IsFaultAt (length self.new.pen.front)) }
+        ensures fault { IfErr result (IsFaultAt self.old.first.place (length self.new.pen.front)) }
         ensures turns { TurnsFor self.old.pen turns.old self.new.pen turns.new }
     {
-        while self.pen.front() < MAX_PLACE {
+        while self.room() > 0 {
             turns.tick();
             self.apply(alloc, hub)?;
             if let Some(judged) = self.judge(alloc, hub, c)? {
@@ -387,24 +424,26 @@ impl Seat {
     ) -> Result<Judged, SeatFault>
         requires sincere { ⟦<Catalogue as Sincere>⟧.sincere hub.now.setup.catalogue }
         requires log { self.old.pen.log ≡ hub.now.log.id }
-        requires seat { IsSeatOf (data_of hub.now.setup) self.old }
+        requires seat { IsSeat (data_of hub.now.setup) self.old }
         requires valid { IsTrue (is_command c.now) }
         requires lane { c.now.lane ≡ self.old.pen.lane }
         requires name { blank.name ≡ L.name }
         requires parts { blank.parts ≡ L.parts }
         requires some { 0 < L.parts }
-        ensures seat { IsSeatOf (data_of hub.now.setup) self.new }
+        ensures seat { IsSeat (data_of hub.now.setup) self.new }
+        ensures first { self.new.first ≡ self.old.first }
         ensures same { IsSamePen self.old.pen self.new.pen }
         ensures answer { let d = data_of hub.now.setup in
+            let first = self.old.first in
             let pen = self.old.pen in
             IfOk result (λ judged.
-            Gives d pen (verdict_answer pen.lane c.now judged.place judged.verdict) self.new.pen) }
+            GivesFrom d first pen (verdict_answer pen.lane c.now judged.place judged.verdict) self.new.pen) }
         ensures room { let lane = self.old.pen.lane in
             IfOk result (λ judged.
-            rows_before (verdict_answer lane c.now judged.place judged.verdict) < MAX_PLACE) }
+            place_before (verdict_answer lane c.now judged.place judged.verdict) < MAX_PLACE) }
         ensures whole { OnOk result (self.new.kept ≡ None) }
         ensures read { OnErr result (ReadsOn self.old.pen self.new.pen) }
-        ensures fault { IfErr result (IsFaultAt (length self.new.pen.front)) }
+        ensures fault { IfErr result (IsFaultAt self.old.first.place (length self.new.pen.front)) }
     {
         let mut turns = Steps::<L>::new(blank);
         self.command_turning(alloc, hub, c, &mut turns)
@@ -415,8 +454,8 @@ impl Seat {
     /// published can be refused for want of memory. A refusal is judged at a pin. Where another
     /// lane's row came first, the seat reads and applies that, and judges the command again.
     ///
-    /// `Full` exactly where the front has [`MAX_PLACE`] rows at the start, or comes to that by
-    /// reading another lane's row; nothing is judged there. After a fault the command wasn't
+    /// `Full` exactly where there is no [room](Seat::room) at the start, or none is left by reading
+    /// another lane's row; nothing is judged there. After a fault the command wasn't
     /// published, no pin is added, the seat may have read on, and the next call goes on from there.
     /// The command is valid and of the seat's lane; the seat's log is the hub's, the seat is one of
     /// the hub's setup, and the catalogue's objects do what they were handed in with.
@@ -427,21 +466,23 @@ impl Seat {
     pub fn command(&mut self, alloc: Global, hub: &Hub, c: &Command) -> Result<Judged, SeatFault>
         requires sincere { ⟦<Catalogue as Sincere>⟧.sincere hub.now.setup.catalogue }
         requires log { self.old.pen.log ≡ hub.now.log.id }
-        requires seat { IsSeatOf (data_of hub.now.setup) self.old }
+        requires seat { IsSeat (data_of hub.now.setup) self.old }
         requires valid { IsTrue (is_command c.now) }
         requires lane { c.now.lane ≡ self.old.pen.lane }
-        ensures seat { IsSeatOf (data_of hub.now.setup) self.new }
+        ensures seat { IsSeat (data_of hub.now.setup) self.new }
+        ensures first { self.new.first ≡ self.old.first }
         ensures same { IsSamePen self.old.pen self.new.pen }
         ensures answer { let d = data_of hub.now.setup in
+            let first = self.old.first in
             let pen = self.old.pen in
             IfOk result (λ judged.
-            Gives d pen (verdict_answer pen.lane c.now judged.place judged.verdict) self.new.pen) }
+            GivesFrom d first pen (verdict_answer pen.lane c.now judged.place judged.verdict) self.new.pen) }
         ensures room { let lane = self.old.pen.lane in
             IfOk result (λ judged.
-            rows_before (verdict_answer lane c.now judged.place judged.verdict) < MAX_PLACE) }
+            place_before (verdict_answer lane c.now judged.place judged.verdict) < MAX_PLACE) }
         ensures whole { OnOk result (self.new.kept ≡ None) }
         ensures read { OnErr result (ReadsOn self.old.pen self.new.pen) }
-        ensures fault { IfErr result (IsFaultAt (length self.new.pen.front)) }
+        ensures fault { IfErr result (IsFaultAt self.old.first.place (length self.new.pen.front)) }
     {
         self.command_counted::<Brand>(alloc, hub, c, Blank::new(1))
     }
@@ -451,11 +492,13 @@ impl Seat {
     pub(crate) fn learn(&mut self, hub: &Hub, other: &mut Seat) -> Result<(), NoMemory>
         requires log { self.old.pen.log ≡ hub.now.log.id }
         requires other_log { other.old.pen.log ≡ hub.now.log.id }
-        requires seat { IsSeatOf (data_of hub.now.setup) self.old }
-        requires other { IsSeatOf (data_of hub.now.setup) other.old }
+        requires seat { IsSeat (data_of hub.now.setup) self.old }
+        requires other { IsSeat (data_of hub.now.setup) other.old }
         requires whole { (self.old.kept ≡ None) × (other.old.kept ≡ None) }
         requires longer { length self.old.pen.front ≤ length other.old.pen.front }
-        ensures seat { IsSeatOf (data_of hub.now.setup) self.new }
+        requires one { other.old.first ≡ self.old.first }
+        ensures seat { IsSeat (data_of hub.now.setup) self.new }
+        ensures first { self.new.first ≡ self.old.first }
         ensures other { other.new ≡ other.old }
         ensures ok { let pen = with_front self.old.pen other.old.pen.front in
             OnOk result (self.new ≡ record other.old { pen = pen }) }

@@ -9,8 +9,8 @@ use Rattle.spin_log.specs.declared.log.Look.TheVariants.{Entry, Pinned}
 use Rattle.spin_table.specs.Setups.{SetupData}
 use Rattle.spin_seat.specs.declared.answer.Judged.{Judged}
 use Rattle.spin_seat.specs.Seats.{SeatValue}
-use Rattle.spin_seat.specs.Answers.{rows_before}
-use Rattle.spin_seat.specs.Calls.{ReadsOn, Gives, verdict_answer}
+use Rattle.spin_seat.specs.Answers.{place_before}
+use Rattle.spin_seat.specs.Calls.{ReadsOn, GivesFrom, verdict_answer}
 
 -- the row that was found
 abbrev pub row_seen : Look → Option Row
@@ -20,8 +20,9 @@ row_seen Pinned = None
 -- what `command` says of a verdict
 pub record Judges (d : SetupData) (old : SeatValue) (c : Command) (judged : Judged)
     (new : SeatValue) : Type 0 where
-  pub gives : Gives d old.pen (verdict_answer old.pen.lane c judged.place judged.verdict) new.pen
-  pub room : rows_before (verdict_answer old.pen.lane c judged.place judged.verdict) < MAX_PLACE
+  pub gives : GivesFrom d old.first old.pen
+      (verdict_answer old.pen.lane c judged.place judged.verdict) new.pen
+  pub room : place_before (verdict_answer old.pen.lane c judged.place judged.verdict) < MAX_PLACE
   pub whole : new.kept ≡ None
 
 -- one try of a command, by a seat that keeps no row: there is a verdict, or the seat has read one

@@ -1,13 +1,29 @@
-use Rattle.std.proofs.Common.{arith}
+use Rattle.std.proofs.Common.{◌<◌, length, arith, sym, ◌∙◌}
 use Rattle.spin_table.specs.SetupOf.{data_of}
-use Rattle.spin_run.proofs.LaneMeetings.{meets}
+use Rattle.spin_run.proofs.LaneMeetings.{both_of_hub, meets}
 use Rattle.spin_run.proofs.meeting.meet_first.Goals as goal
+
+pub meet-requires-clause-first : goal.meet-requires-clause-first
+meet-requires-clause-first g c =
+    let split = c.split_at_mut-left.ensures in
+    let inside = c.requires.inside in
+    let both =
+    both_of_hub (data_of c.args.hub.now.setup) c.args.hub.now.log.id c.args.lanes.now c.split_at_mut-left.result.0.now c.split_at_mut-left.result.1.now c.args.k
+    c.index-left-0.result c.index-right-0.result split.value split.front_len c.requires.after (omega (arith, inside, split.back_len)) c.requires.seats in
+    both.1.1.1 ∙ sym both.0.1.1
 
 pub returns : goal.returns
 returns g c =
     let split = c.split_at_mut-left.ensures in
     let after = c.requires.after in
     let inside = c.requires.inside in
-    meets (data_of c.args.hub.now.setup) c.args.lanes.now c.split_at_mut-left.result.0.now c.split_at_mut-left.result.1.now
-    c.args.k c.index-left-0.result c.index-right-0.result c.meet.new.a c.meet.new.b c.meet.result split.value split.front_len after
-    (omega (arith, inside, split.back_len)) c.meet.ensures.seat_a c.meet.ensures.seat_b c.meet.ensures.a c.meet.ensures.b c.meet.ensures.whole c.meet.ensures.reads c.meet.ensures.pens
+    let d = data_of c.args.hub.now.setup in
+    let left = c.split_at_mut-left.result.0.now in
+    let right = c.split_at_mut-left.result.1.now in
+    let x = c.index-left-0.result in
+    let y = c.index-right-0.result in
+    let some : 0 < length right = omega (arith, inside, split.back_len) in
+    let both = both_of_hub d c.args.hub.now.log.id c.args.lanes.now left right c.args.k x y split.value split.front_len after some c.requires.seats in
+    meets d c.args.lanes.now left right c.args.k x y c.meet.new.a c.meet.new.b c.meet.result split.value split.front_len after some
+    (c.meet.ensures.seat_a, c.meet.ensures.first.0 ∙ both.0.1.1) (c.meet.ensures.seat_b, c.meet.ensures.first.1 ∙ both.1.1.1)
+    c.meet.ensures.a c.meet.ensures.b c.meet.ensures.whole c.meet.ensures.reads c.meet.ensures.pens

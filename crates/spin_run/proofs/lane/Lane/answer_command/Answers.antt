@@ -1,7 +1,10 @@
-use Rattle.std.proofs.Common.{◌≡◌, [], ◌∷◌, ◌++◌, refl, sym, ap, ◌∙◌, subst}
+use Rattle.std.proofs.Common.{◌≡◌, [], ◌∷◌, ◌++◌, length, refl, sym, ap, ◌∙◌, subst}
 use Rattle.spin_table.specs.SetupOf.{data_of}
 use Rattle.spin_report.specs.declared.entry.What.TheVariants as what
 use Rattle.spin_report.specs.declared.entry.Entry.{Entry}
+use Rattle.spin_table.specs.States.{State}
+use Rattle.spin_seat.specs.Calls.{GivesFrom, IsFaultAt}
+use Rattle.spin_run.specs.Lanes.{seat_answer}
 use Rattle.spin_run.specs.declared.lane.Lane.{Lane}
 use Rattle.spin_run.specs.Inner.Answering.{Comes, asked_alone}
 use Rattle.spin_run.proofs.LaneAnswers.{verdict_more, command_ends, err_is}
@@ -16,7 +19,8 @@ returns-in_err-place-clause-comes g c =
     let asked = asked_alone old.seat.pen.lane c.args.line 0 (work.Command c.args.command.now) in
     let f = c.in_err-place.field-0.0 in
     let is = err_is c.from_residual.result f c.from_residual.ensures.1 in
-    subst (λ r. Comes d asked old r new) (sym is) (command_ends d old new asked f refl refl c.in_err-place.ensures.read c.in_err-place.ensures.fault refl)
+    subst (λ r. Comes d asked old r new) (sym is) (command_ends d old new asked f refl refl c.in_err-place.ensures.read
+    (subst (λ (first : State). IsFaultAt first.place (length new.seat.pen.front) f) c.requires.seat.1 c.in_err-place.ensures.fault) refl)
 
 pub returns-clause-comes : goal.returns-clause-comes
 returns-clause-comes g c =
@@ -24,4 +28,6 @@ returns-clause-comes g c =
     let new : Lane = record { seat = c.command.new.self; trail = c.push.new.self; jobs = old.jobs; stop = old.stop } in
     let entry : Entry = record { place = c.in_ok-place.field-0.place; lane = old.seat.pen.lane; line = c.args.line; part = 0; what = what.Command c.args.command.now c.in_ok-place.field-0.verdict } in
     let trail : new.trail ≡ old.trail ++ entry ∷ [] = c.in_ok-push.ensures.ok ∙ ap (λ n. old.trail ++ record entry { lane = n } ∷ []) c.lane-lane.ensures.lane in
-    verdict_more (data_of c.args.hub.now.setup) old new entry refl trail refl c.in_ok-place.ensures.answer c.command.ensures.seat c.in_ok-place.ensures.whole
+    let d = data_of c.args.hub.now.setup in
+    let gives = subst (λ (first : State). GivesFrom d first old.seat.pen (seat_answer entry) new.seat.pen) c.requires.seat.1 c.in_ok-place.ensures.answer in
+    verdict_more d old new entry refl trail refl gives (c.command.ensures.seat, c.command.ensures.first ∙ c.requires.seat.1) c.in_ok-place.ensures.whole

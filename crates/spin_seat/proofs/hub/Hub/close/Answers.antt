@@ -9,11 +9,10 @@ use Rattle.spin_log.specs.History.{Moment}
 use Rattle.spin_log.specs.Pens.{PenValue, StandsIn, IsHistory}
 use Rattle.spin_log.proofs.RowLists.{all_map}
 use Rattle.spin_table.specs.SetupOf.{data_of}
-use Rattle.spin_table.specs.States.{start_of}
-use Rattle.spin_seat.specs.Replay.{IsClean}
+use Rattle.spin_seat.specs.Replay.{IsCleanFrom}
 use Rattle.spin_seat.specs.Seats.{SeatValue, AreOfLanes}
-use Rattle.spin_seat.specs.Weaves.{AnswersAreLegal}
-use Rattle.spin_seat.proofs.SeatInvariants.{if_ok, if_ok_both, all_unmap, pen_at, clean_by_lanes, of_lanes_at}
+use Rattle.spin_seat.specs.Weaves.{AnswersAreLegalFrom}
+use Rattle.spin_seat.proofs.SeatInvariants.{if_ok, if_ok_both, all_unmap, pen_at, clean_from_lanes, of_lanes_at}
 use Rattle.spin_seat.proofs.WovenAnswers.{answers_are_legal}
 use Rattle.spin_seat.proofs.hub.Hub.close.Goals as goal
 
@@ -37,30 +36,30 @@ rows_below : (lanes : ℕ) (log : List Row) → All (IsCommandBelow lanes) log �
 rows_below lanes log all k d h = (all k d h).1
 
 pub returns-clause-clean : goal.returns-clause-clean
-returns-clause-clean g c =
+returns-clause-clean g c = λ first are.
     let is = c.in_ok-pens.ensures.pens in
     let d = data_of c.args.self.setup in
     let lanes : ℕ = c.args.self.log.lanes in
-    let nobody : SeatValue = record { pen = record { log = c.args.self.log.id; lanes = 0; lane = 0; front = []; own = []; pins = [] }; state = start_of d; kept = None } in
+    let nobody : SeatValue = record { pen = record { log = c.args.self.log.id; lanes = 0; lane = 0; front = []; own = []; pins = [] }; first = first; state = first; kept = None } in
     let count : length c.in_ok-pens.pens ≡ lanes = ap length is ∙ (length-map c.args.seats (λ (s : SeatValue). s.pen) ∙ c.requires.all) in
     let inside : (k : ℕ) → k < lanes → k < length c.in_ok-pens.pens = λ k h. subst (λ n. k < n) (sym count) h in
-    if_ok_both c.close.result (λ log. All (StandsIn log) c.in_ok-pens.pens) (λ log. All (IsCommandBelow lanes) log × (length log ≤ MAX_PLACE)) (λ log. IsClean d log)
-    (λ log stand words. clean_by_lanes d lanes log (λ k. get_or c.in_ok-pens.pens k nobody.pen)
+    if_ok_both c.close.result (λ log. All (StandsIn log) c.in_ok-pens.pens) (λ log. All (IsCommandBelow lanes) log × (length log ≤ MAX_PLACE)) (λ log. IsCleanFrom d first log)
+    (λ log stand words. clean_from_lanes d first lanes log (λ k. get_or c.in_ok-pens.pens k nobody.pen)
     (rows_below lanes log words.0) (lanes_of c.args.seats c.in_ok-pens.pens lanes nobody is c.requires.all c.requires.order)
-    (λ k h. stand k nobody.pen (inside k h)) (λ k h. c.in_ok-pens.ensures.clean k nobody.pen (inside k h))) c.close.ensures.pens c.close.ensures.rows
+    (λ k h. stand k nobody.pen (inside k h)) (λ k h. c.in_ok-pens.ensures.clean first are k nobody.pen (inside k h))) c.close.ensures.pens c.close.ensures.rows
 
 pub returns-clause-legal : goal.returns-clause-legal
-returns-clause-legal g c =
+returns-clause-legal g c = λ first are.
     let is = c.in_ok-pens.ensures.pens in
     let d = data_of c.args.self.setup in
     let lanes : ℕ = c.args.self.log.lanes in
-    let nobody : SeatValue = record { pen = record { log = c.args.self.log.id; lanes = 0; lane = 0; front = []; own = []; pins = [] }; state = start_of d; kept = None } in
+    let nobody : SeatValue = record { pen = record { log = c.args.self.log.id; lanes = 0; lane = 0; front = []; own = []; pins = [] }; first = first; state = first; kept = None } in
     let all = c.requires.all in
     let lane : (k : ℕ) (s : SeatValue) → k < length c.args.seats → (get_or c.args.seats k s).pen.lane ≡ k = λ k s h. lane_at c.args.seats k s c.requires.order h in
-    if_ok_both c.close.result (λ log. IsClean d log) (λ log. All (StandsIn log) c.in_ok-pens.pens × All (IsCommandBelow lanes) log) (λ log. AnswersAreLegal d c.args.seats log)
-    (λ log clean facts. answers_are_legal d c.args.seats log nobody clean (subst (λ n. All (λ row. lane_of row < n) log) (sym all) (rows_below lanes log facts.1)) lane
+    if_ok_both c.close.result (λ log. IsCleanFrom d first log) (λ log. All (StandsIn log) c.in_ok-pens.pens × All (IsCommandBelow lanes) log) (λ log. AnswersAreLegalFrom d first c.args.seats log)
+    (λ log clean facts. answers_are_legal d first c.args.seats log nobody clean (subst (λ n. All (λ row. lane_of row < n) log) (sym all) (rows_below lanes log facts.1)) lane
     (all_unmap (StandsIn log) (λ (s : SeatValue). s.pen) c.args.seats (subst (All (StandsIn log)) is facts.0)))
-    (returns-clause-clean g c)
+    (returns-clause-clean g c first are)
     (if_ok_both c.close.result (λ log. All (StandsIn log) c.in_ok-pens.pens) (λ log. All (IsCommandBelow lanes) log × (length log ≤ MAX_PLACE))
     (λ log. All (StandsIn log) c.in_ok-pens.pens × All (IsCommandBelow lanes) log) (λ log stand words. (stand, words.0)) c.close.ensures.pens c.close.ensures.rows)
 

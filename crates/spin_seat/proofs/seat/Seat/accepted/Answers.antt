@@ -5,13 +5,13 @@ use Rattle.spin_log.specs.Pens.{PenValue}
 use Rattle.spin_table.specs.declared.refusal.Verdicted.TheVariants as verdicted
 use Rattle.spin_table.specs.SetupOf.{data_of}
 use Rattle.spin_table.specs.States.{State}
-use Rattle.spin_seat.specs.Seats.{SeatValue, IsSeatOf}
+use Rattle.spin_seat.specs.Seats.{SeatValue, IsSeat}
 use Rattle.spin_seat.proofs.SeatInvariants.{applies}
 use Rattle.spin_seat.proofs.seat.Seat.accepted.Goals as goal
 
 pub returns-clause-seat : goal.returns-clause-seat
 returns-clause-seat g c =
-    let is : ◌≡◌ {A = SeatValue} (record { pen = c.self.inside.pen; state = arc_value c.self.inside.version; kept = c.self.inside.kept }) c.args.self.now = c.self.view_is in
-    subst (λ (x : PenValue × State). IsSeatOf (data_of c.args._hub.now.setup) (record { pen = x.0; state = x.1; kept = None })) (λ i. ((sym is i).pen, arc_value c.args.after))
+    let is : ◌≡◌ {A = SeatValue} (record { pen = c.self.inside.pen; first = arc_value c.self.inside.first; state = arc_value c.self.inside.version; kept = c.self.inside.kept }) c.args.self.now = c.self.view_is in
+    subst (λ (x : PenValue × State). IsSeat (data_of c.args._hub.now.setup) (record { pen = x.0; first = x.1; state = arc_value c.args.after; kept = None })) (λ i. ((sym is i).pen, (sym is i).first))
     (applies (data_of c.args._hub.now.setup) c.args.self.now c.args._row.now c.args._c.now verdicted.Accepted
     (arc_value c.args.after) c.requires.seat c.requires.kept c.requires.stands c.requires.step c.requires.sound)

@@ -1,17 +1,15 @@
 use Rattle.std.proofs.Common.{◌≡◌, sym, subst}
 use Rattle.std.specs.Prelude.{None}
 use Rattle.std.specs.Arc.{arc_value}
-use Rattle.spin_log.specs.Pens.{PenValue}
 use Rattle.spin_table.specs.declared.refusal.Verdicted.TheVariants as verdicted
 use Rattle.spin_table.specs.SetupOf.{data_of}
-use Rattle.spin_table.specs.States.{State}
-use Rattle.spin_seat.specs.Seats.{SeatValue, IsSeatOf}
+use Rattle.spin_seat.specs.Seats.{SeatValue, IsSeat}
 use Rattle.spin_seat.proofs.SeatInvariants.{applies}
 use Rattle.spin_seat.proofs.seat.Seat.refused.Goals as goal
 
 pub returns-clause-seat : goal.returns-clause-seat
 returns-clause-seat g c =
-    let is : ◌≡◌ {A = SeatValue} (record { pen = c.self.inside.pen; state = arc_value c.self.inside.version; kept = c.self.inside.kept }) c.args.self.now = c.self.view_is in
-    subst (λ (x : PenValue × State). IsSeatOf (data_of c.args._hub.now.setup) (record { pen = x.0; state = x.1; kept = None })) (λ i. ((sym is i).pen, (sym is i).state))
+    let is : ◌≡◌ {A = SeatValue} (record { pen = c.self.inside.pen; first = arc_value c.self.inside.first; state = arc_value c.self.inside.version; kept = c.self.inside.kept }) c.args.self.now = c.self.view_is in
+    subst (λ (x : SeatValue). IsSeat (data_of c.args._hub.now.setup) (record { pen = x.pen; first = x.first; state = x.state; kept = None })) (sym is)
     (applies (data_of c.args._hub.now.setup) c.args.self.now c.args._row.now c.args._c.now
     (verdicted.Refused c.args._refusal.now) c.args.self.now.state c.requires.seat c.requires.kept c.requires.stands c.requires.step c.requires.seat.sound)
