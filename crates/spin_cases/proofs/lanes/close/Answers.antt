@@ -3,7 +3,7 @@ use Rattle.std.specs.Prelude.{All}
 use Rattle.std.proofs.lemmas.List.{length-map}
 use Rattle.std.proofs.lemmas.List.Elements.{All-map}
 use Rattle.spin_table.specs.SetupOf.{data_of}
-use Rattle.spin_seat.specs.Seats.{SeatValue, IsSeatOf, AreOfLanes}
+use Rattle.spin_seat.specs.Seats.{SeatValue, IsSeat, AreOfLanes}
 use Rattle.spin_run.specs.declared.lane.Lane.{Lane}
 use Rattle.spin_cases.proofs.lanes.close.Goals as goal
 
@@ -14,8 +14,8 @@ close-requires-clause-own g c =
 
 pub close-requires-clause-seats : goal.close-requires-clause-seats
 close-requires-clause-seats g c =
-    let P = IsSeatOf (data_of c.args.hub.setup) in
-    subst (All P) (sym c.in_ok-seats.ensures) (All-map P (λ (l : Lane). l.seat) c.args.lanes (λ k e lt. (c.requires.own k e lt).1))
+    let P = IsSeat (data_of c.args.hub.setup) in
+    subst (All P) (sym c.in_ok-seats.ensures) (All-map P (λ (l : Lane). l.seat) c.args.lanes (λ k e lt. (c.requires.own k e lt).1.0))
 
 pub close-requires-clause-all : goal.close-requires-clause-all
 close-requires-clause-all g c = ap length c.in_ok-seats.ensures ∙ length-map c.args.lanes (λ (l : Lane). l.seat) ∙ c.requires.two.1 ∙ sym c.requires.two.0
