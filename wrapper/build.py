@@ -191,7 +191,7 @@ def build(tops):
     began, since = time.time(), time.monotonic()
     listed = crates_listed()
     crates = {name: listed[name] for name in stands_on(listed, tops)}
-    tell(f"{len(crates)} crates are proved and built, those of the longest chain first; this takes half an hour or more")
+    tell(f"{len(crates)} crates are proved and built, those of the longest chain first; this takes 20 minutes on four idle processors")
     if not build_all(crates):
         tell("the program could not be built; what was built stays, and the next ./spin build goes on from there")
         return NOT_RUN
