@@ -17,7 +17,7 @@ use crate::lane::Lane;
 use spin_code::Sincere;
 use spin_objects::Catalogue;
 use spin_outside::Gate;
-use spin_script::{Frames, Segment};
+use spin_script::{Frames, Line, Segment};
 use spin_seat::{Hub, Seats};
 use spin_values::NoMemory;
 use spin_word::MAX_LANES;
@@ -131,8 +131,20 @@ fn each_seat(alloc: Global, seats: Seats) -> Result<Vec<Lane>, NoMemory>
     Ok(lanes)
 }
 
-/// Runs the lanes side by side, each on a thread of its own where one can be started: of each lane there is what
-/// [`Lane::run`] says of it, and nothing more. It waits for the end of all lanes.
+// How many threads serve a segment of these lines: one where a single lane has them all, since the others have nothing
+// to do. It looks at the lines up to the first of another lane.
+fn threads_for(lines: &[Line]) -> usize
+    ensures { 0 < result }
+{
+    match lines.first() {
+        Some(first) if lines.iter().any(|line| line.lane != first.lane) => usize::from(MAX_LANES),
+        _ => 1,
+    }
+}
+
+/// Runs the lanes side by side, each on a thread of its own where one can be started; where one lane has all lines of
+/// the segment, the caller's thread runs them all. Of each lane there is what [`Lane::run`] says of it, and nothing
+/// more. It waits for the end of all lanes.
 pub fn run_lanes<R: Threads + Sync, G: Gate>(
     rt: &R,
     alloc: Global,
@@ -152,7 +164,7 @@ pub fn run_lanes<R: Threads + Sync, G: Gate>(
     thread::for_each_mut(
         rt,
         lanes.items.as_mut_slice(),
-        usize::from(MAX_LANES),
+        threads_for(segment.lines.as_slice()),
         &|_, lane: &mut Lane|
             requires sincere { IsSincereBy does asks follows hub.now.setup.catalogue.natives }
             requires ready { let d = data_of hub.now.setup in
