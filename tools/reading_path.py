@@ -6,6 +6,9 @@ A definition is named by its crate and its name. `CASES` has definitions of whic
 CALL, SOURCE = "pub fn spin<", "crates/spin_top/src/top.rt"
 # The clauses that the headline is: its condition, and what status 0 means.
 CLAUSES = ["sincere", "headline"]
+# The clauses that say the same of a script no line of which is refused, and what they rest on beside.
+BESIDE = ["accepts"]
+BESIDE_IS = "what the clause *accepts* rests on beside, which adds that no line of the script is refused, and no page has"
 
 HEADLINE = (
     "For every script, capture and interleaving of the lanes, what the program writes is one legal history of the plain "
