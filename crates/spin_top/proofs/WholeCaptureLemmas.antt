@@ -7,8 +7,7 @@ use Rattle.spin_pcap.specs.declared.fault.PcapFault.TheVariants as fault
 use Rattle.spin_pcap.specs.declared.next.Next.{Next}
 use Rattle.spin_pcap.specs.declared.next.Next.TheVariants as next
 use Rattle.spin_pcap.specs.declared.order.Order.{Order}
-use Rattle.spin_pcap.specs.declared.order.Order.TheVariants as order
-use Rattle.spin_pcap.specs.Captures.{ordered_number, ordered_number_at, is_magic, is_version, order_of, fields_of, header_of, IsBody}
+use Rattle.spin_pcap.specs.Captures.{ordered_number_at, is_version, order_of, fields_of, header_of, IsBody}
 use Rattle.spin_top.specs.Captures.{cut_of}
 use Rattle.spin_top.specs.WholeCaptures.{HasHeader, HoldsRecords}
 
@@ -17,19 +16,6 @@ use Rattle.spin_top.specs.WholeCaptures.{HasHeader, HoldsRecords}
 isnt : (b : Bool) → not b ≡ false → b ≡ true
 isnt true e = refl
 isnt false e = absurd cc
-
-same_order : (a b : Order) → Some a ≡ Some b → a ≡ b
-same_order a b e = cc
-
-magic_of : (bytes : List ℕ) (way : Order) → order_of bytes ≡ Some way → is_magic (ordered_number way 4 bytes) ≡ true
-magic_of bytes way e =
-    elim (one_of (is_magic (ordered_number order.Big 4 bytes)) (Some order.Big) (cond (is_magic (ordered_number order.Little 4 bytes)) (Some order.Little) None) (Some way) e) [
-      | inl x ↦ subst (λ (o : Order). is_magic (ordered_number o 4 bytes) ≡ true) (same_order order.Big way x.1) x.0
-      | inr x ↦ elim (one_of (is_magic (ordered_number order.Little 4 bytes)) (Some order.Little) None (Some way) x.1) [
-        | inl y ↦ subst (λ (o : Order). is_magic (ordered_number o 4 bytes) ≡ true) (same_order order.Little way y.1) y.0
-        | inr y ↦ absurd (let bad : None ≡ Some way = y.1 in cc)
-      ]
-    ]
 
 -- the order, which is that of the magic, and the fields behind it
 abbrev HasFields : List ℕ → Order → Order → Type 0
@@ -57,7 +43,7 @@ header_by : (bytes : List ℕ) (found : Order) (o : Option Order) → 24 ≤ len
 header_by bytes found None long at e = absurd (let bad : Err fault.BadMagic ≡ Ok found = e in cc)
 header_by bytes found (Some way) long at e =
     let fields = fields_are bytes way found e in
-    subst (λ (o : Order). HasHeader o bytes) fields.0 (record { long = long; magic = magic_of bytes way at; version = fields.1; link = fields.2 })
+    subst (λ (o : Order). HasHeader o bytes) fields.0 (record { long = long; magic = at; version = fields.1; link = fields.2 })
 
 pub has_header : (bytes : List ℕ) (way : Order) → header_of bytes ≡ Ok way → HasHeader way bytes
 has_header bytes way e =
