@@ -1,6 +1,6 @@
 """What `headline` starts from, and in which order: the headline and its words, the first hour, and the contracts below it.
 
-A definition is named by its crate and its name. `CASES` has definitions of which the first hour shows one case.
+A definition is named by its crate and its name.
 """
 
 CALL, SOURCE = "pub fn spin<", "crates/spin_top/src/top.rt"
@@ -42,9 +42,6 @@ WORDS = [
      ["spin_top:TellsRun"]),
     ("and the natives do what they were handed in with", "the call's one condition", ["spin_objects:IsSincere"]),
 ]
-
-# Of these the first hour shows the cases with this word alone.
-CASES = {}
 
 # The first hour: its parts in reading order, each with what it begins with.
 PARTS = [
