@@ -153,7 +153,8 @@ by_words : (n : NativeData) (number : ℕ) (ws : List (List ℕ)) (s t : ScriptS
 by_words n number [] s t p = inl (refl, p)
 by_words n number (w ∷ ws) s t p = by_first n number w ws s t (eqb (slice_index w 0) 35) (eqb s.version 0) refl refl p
 
-by_bytes : (n : NativeData) (number : ℕ) (ws : List (List ℕ)) (s t : ScriptState) (allowed : Bool) → Passes n s number (if allowed then words_head s ws else Err cause.NotAscii) t → Leads n number ws s t
+by_bytes : (n : NativeData) (number : ℕ) (ws : List (List ℕ)) (s t : ScriptState) (allowed : Bool)
+    → Passes n s number (if allowed then words_head s ws else Err cause.NotAscii) t → Leads n number ws s t
 by_bytes n number ws s t true p = by_words n number ws s t p
 by_bytes n number ws s t false p = absurd p
 
@@ -175,7 +176,8 @@ skipped number text more e = rw e refl
 told : (number : ℕ) (text : List ℕ) (more : List (List ℕ)) → is_skipped (words text) ≡ false → told_lines number (text ∷ more) ≡ (number, words text) ∷ told_lines (number + 1) more
 told number text more e = rw e refl
 
-at_end : (n : NativeData) (number : ℕ) (s : ScriptState) (script : ScriptData) (b : Bool) → ◌≡◌ {A = Outcome} (Ok script) (if b then Err (1, cause.Version) else Ok (script_in n s)) → Made n number [] s script
+at_end : (n : NativeData) (number : ℕ) (s : ScriptState) (script : ScriptData) (b : Bool)
+    → ◌≡◌ {A = Outcome} (Ok script) (if b then Err (1, cause.Version) else Ok (script_in n s)) → Made n number [] s script
 at_end n number s script true e = absurd cc
 at_end n number s script false e = record { said = []; says = tt; makes = let same : script ≡ script_in n s = cc in same ∙ none_more n s }
 
@@ -255,7 +257,8 @@ begun_skipped n number text more s t script skips same b = record {
   makes = subst (λ (u : ScriptState). script ≡ script_from n (record u { version = b.version }) b.said) same b.makes;
 }
 
-unbegun : (n : NativeData) (number : ℕ) (s : ScriptState) (script : ScriptData) (b : Bool) → b ≡ true → ◌≡◌ {A = Outcome} (Ok script) (if b then Err (1, cause.Version) else Ok (script_in n s)) → Begun n number [] s script
+unbegun : (n : NativeData) (number : ℕ) (s : ScriptState) (script : ScriptData) (b : Bool) → b ≡ true
+    → ◌≡◌ {A = Outcome} (Ok script) (if b then Err (1, cause.Version) else Ok (script_in n s)) → Begun n number [] s script
 unbegun n number s script true v e = absurd cc
 unbegun n number s script false v e = absurd cc
 
