@@ -211,11 +211,3 @@ class Names:
             if path.startswith(f"Rattle.{crate}.") and its in module.own:
                 return module.own[its]
         raise SystemExit(f"no definition {name}")
-
-    def known_at(self, key):
-        """The definition of specs/ that stands in that file at that line, or none."""
-        for module in self.known.values():
-            for its in module.own.values():
-                if its.key == key:
-                    return its
-        return None

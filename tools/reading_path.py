@@ -1,11 +1,14 @@
 """What `headline` starts from, and in which order: the headline and its words, the first hour, and the contracts below it.
 
-A definition is named by its crate and its name. `CASES` has definitions of which the first hour shows one case.
+A definition is named by its crate and its name.
 """
 
 CALL, SOURCE = "pub fn spin<", "crates/spin_top/src/top.rt"
 # The clauses that the headline is: its condition, and what status 0 means.
 CLAUSES = ["sincere", "headline"]
+# The clauses that say the same of a script no line of which is refused, and what they rest on beside.
+BESIDE = ["accepts"]
+BESIDE_IS = "what the clause *accepts* rests on beside, which adds that no line of the script is refused, and no page has"
 
 HEADLINE = (
     "For every script, capture and interleaving of the lanes, what the program writes is one legal history of the plain "
@@ -16,11 +19,11 @@ HEADLINE = (
 
 # Each part of the headline, what it means, and the definitions that say it.
 WORDS = [
-    ("For every script", "the text that was read under the script's name is that script, by the language of scripts",
-     ["spin_top:IsRunTold", "spin_script:IsScript"]),
-    ("capture", "the records are those of the capture's file by the grammar of captures, up to a rest that is empty or cut; none "
-     "where no capture is named", ["spin_top:IsCaptured", "spin_pcap:IsCapture", "spin_run:IsReadWhole"]),
-    ("and interleaving of the lanes", "the clause has no premise on the order of the lanes' steps", ["spin_top:Headline"]),
+    ("For every script", "the text that was read under the script's name says that script, line by line; that no line of it is "
+     "refused is the clause *accepts*", ["spin_top:IsRunTold", "spin_top:SaysScript"]),
+    ("capture", "the records are those of the capture's file, up to a rest that is empty or cut; none where no capture is named",
+     ["spin_top:IsCapturedWhole", "spin_top:HasHeader", "spin_top:HoldsRecords"]),
+    ("and interleaving of the lanes", "the clause has no premise on the order of the lanes' steps", ["spin_top:TellsRun"]),
     ("what the program writes", "the bytes appended to the sink are the report's text, where shelf and sink tell what they hold; "
      "standard output tells nothing, and a folder doesn't tell its files by name", ["spin_top:IsRunTold", "spin_report:report_text"]),
     ("is one legal history of the plain dispatcher", "the entries, segment after segment, are legal from the start",
@@ -36,14 +39,9 @@ WORDS = [
      "stand are those that stood and weren't retired",
      ["spin_report:IsSegmentRun", "spin_endpoint:all_received", "spin_endpoint:all_retired"]),
     ("where the status is 0 under `run`", "the words are `run NAME` or `run NAME PACKETS`, and the shelf tells its files",
-     ["spin_top:Headline", "spin_words:IsSpelled"]),
+     ["spin_top:TellsRun"]),
     ("and the natives do what they were handed in with", "the call's one condition", ["spin_objects:IsSincere"]),
 ]
-
-# Of these the first hour shows the cases with this word alone.
-CASES = {
-    "spin_words:IsSpelled": "Run",
-}
 
 # The first hour: its parts in reading order, each with what it begins with.
 PARTS = [
@@ -55,9 +53,9 @@ PARTS = [
     ("Step", "What becomes of a command at a state.", ["spin_table:IsStep"]),
     ("Reply", "What a raise, or the call of a job, comes to at a state.", ["spin_proto:IsDeedReply", "spin_proto:IsJobReply"]),
     ("Report", "The lines of a history's report.", ["spin_report:report_text"]),
-    ("Script", "What was read under the script's name, and what natives it may name.",
-     ["spin_script:ScriptData", "spin_script:natives_seen", "spin_script:NativeData"]),
-    ("Capture", "The records of the capture that is named.", ["spin_top:IsCaptured"]),
+    ("Script", "What the text under the script's name says, and what natives it may name.",
+     ["spin_top:SaysScript", "spin_script:ScriptData", "spin_script:natives_seen", "spin_script:NativeData"]),
+    ("Capture", "The records of the capture that is named.", ["spin_top:IsCapturedWhole"]),
 ]
 
 # Where the first hour stops: these, and what only they cite, come behind it.
@@ -66,11 +64,13 @@ DEEPER = [
     "spin_place:IsTheOrder", "spin_table:bindings_after",
     "spin_proto:raised", "spin_proto:raised_after", "spin_proto:job_of", "spin_proto:reply_of", "spin_proto:are_fit",
     "spin_report:entry_line", "spin_report:job_line",
-    "spin_script:IsScript", "spin_pcap:IsCapture", "spin_pcap:header_of", "spin_outside:Keep", "spin_objects:HandlerUnit", "spin_objects:GuardUnit",
+    "spin_top:script_with", "spin_script:first_word", "spin_grammar:LineMeaning", "spin_grammar:form", "spin_grammar:line_kind", "spin_grammar:signature",
+    "spin_grammar:guard_signature", "spin_grammar:number", "spin_grammar:hex_bytes", "spin_outside:Keep",
+    "spin_objects:HandlerUnit", "spin_objects:GuardUnit",
     "spin_objects:native_handlers", "spin_objects:native_guards", "spin_objects:native_authorisers",
 ]
 # Types of the sources that come behind the first hour, too: long lists of cases, and what acts and policies are made of.
-LATER_TYPES = ["Asked", "Command", "Refusal", "JobCall", "End", "RunEnd", "PcapFault", "Test", "Rule", "Act", "EventType", "Natives", "Order"]
+LATER_TYPES = ["Command", "Refusal", "JobCall", "End", "RunEnd", "Test", "Rule", "Act", "EventType", "Natives"]
 
 # The contracts that alone tie what is seen to calls, and how two values are seen: the file, and where the text begins.
 CONTRACTS = [

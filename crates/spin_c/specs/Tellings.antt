@@ -4,7 +4,7 @@ use Rattle.spin_table.specs.declared.refusal.Refusal.{Refusal}
 use Rattle.spin_table.specs.declared.refusal.Refusal.TheVariants as refusal
 use Rattle.spin_table.specs.declared.refusal.Verdicted.{Verdicted}
 use Rattle.spin_table.specs.declared.refusal.Verdicted.TheVariants as verdicted
-use Rattle.spin_report.specs.Verdicts.{refusal_number}
+use Rattle.spin_report.specs.Verdicts.{refusal_told}
 use Rattle.spin_c.specs.Given.{IsGiven, value_of}
 use Rattle.spin_c.specs.Trails.{blank}
 use Rattle.spin_c.specs.Turns.{IsCalled}
@@ -44,7 +44,7 @@ code_of (outcome.Bytes bytes) = 0
 -- the number of the refusal, and 0 where the command is accepted
 abbrev pub verdict_kind : Verdicted → ℕ
 verdict_kind verdicted.Accepted = 0
-verdict_kind (verdicted.Refused why) = refusal_number why
+verdict_kind (verdicted.Refused why) = (refusal_told why).0
 
 -- what it tells besides
 abbrev pub answer_of : Outcome → SpinAnswer

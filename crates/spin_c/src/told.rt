@@ -1,7 +1,7 @@
 //! What is told in numbers.
 
 ghost use Rattle.std.specs.Prelude.{◌≡◌};
-ghost use Rattle.spin_report.specs.Verdicts.{refusal_number};
+ghost use Rattle.spin_report.specs.Verdicts.{refusal_told};
 ghost use Rattle.spin_c.specs.Tellings.{answer_of, code_of, step_of, verdict_code, verdict_kind};
 ghost use Rattle.spin_c.specs.Verdicts.{fault_of, number_of};
 
@@ -62,7 +62,7 @@ pub struct SpinAnswer {
 
 // The number of a refusal, as reports tell it.
 fn refusal_number(refusal: &Refusal) -> u32
-    ensures { result ≡ refusal_number refusal.now }
+    ensures { result ≡ (refusal_told refusal.now).0 }
 {
     match refusal {
         Refusal::UnknownEvent => 1,

@@ -26,11 +26,11 @@ use Rattle.spin_report.specs.declared.entry.Entry.{Entry}
 use Rattle.spin_report.specs.declared.text.CaptureCounts.{CaptureCounts}
 use Rattle.spin_text.specs.Words.{Word}
 use Rattle.spin_grammar.specs.Forms.{op_word}
-use Rattle.spin_report.specs.Verdicts.{refusal_number, refusal_name, refusal_numbers, verdict_words}
+use Rattle.spin_report.specs.Verdicts.{refusal_told, refusal_numbers, verdict_words}
 use Rattle.spin_report.specs.Replies.{answer_words, fault_word, step_words, reply_words}
 use Rattle.spin_report.specs.Lines.{what_words, line_word, entry_words, entry_line, JobSeen, job_words, job_line}
-use Rattle.spin_report.specs.Histories.{Retired, SegmentSeen, HistorySeen, retire_words, retire_line, segment_words, segment_line, lost_words}
-use Rattle.spin_report.specs.Histories.{lost_line, losses, lost_lines, segment_lines, capture_words, end_words, end_line, report_lines, entries_of}
+use Rattle.spin_report.specs.Histories.{Retired, SegmentSeen, HistorySeen, retire_line, segment_line}
+use Rattle.spin_report.specs.Histories.{lost_line, losses, lost_lines, segment_lines, capture_words, end_line, report_lines, entries_of}
 use Rattle.spin_text.specs.Digits.{begins_with_digit}
 use Rattle.spin_report.proofs.PlainWords.{IsWord, AreWords, IsDigit, IsLine, each_append, each_map, each_flat_map, decimal_digits, decimal_some, decimal_word, dotted_word, words_line}
 
@@ -43,7 +43,7 @@ op_is_word op.Replace = refl
 op_is_word op.Default = refl
 op_is_word op.NoDefault = refl
 
-name_is_word : (r : Refusal) → IsWord (refusal_name r)
+name_is_word : (r : Refusal) → IsWord (refusal_told r).1
 name_is_word refusal.UnknownEvent = refl
 name_is_word refusal.UnknownModule = refl
 name_is_word refusal.UnknownHandler = refl
@@ -60,7 +60,7 @@ name_is_word (refusal.ForcedMode rule) = refl
 verdict_are_words : (v : Verdicted) → AreWords (verdict_words v)
 verdict_are_words verdicted.Accepted = (refl, tt)
 verdict_are_words (verdicted.Refused r) =
-    (refl, (decimal_word (refusal_number r), (name_is_word r, each_map IsWord decimal decimal_word (refusal_numbers r))))
+    (refl, (decimal_word (refusal_told r).0, (name_is_word r, each_map IsWord decimal decimal_word (refusal_numbers r))))
 
 answer_are_words : (a : Answer) → AreWords (answer_words a)
 answer_are_words (answer.Value value) = (refl, (decimal_word value, tt))
@@ -126,13 +126,13 @@ job_is_line : (j : JobSeen) → IsLine (job_line j)
 job_is_line j = words_line (job_words j) (job_are_words j)
 
 retire_is_line : (r : Retired) → IsLine (retire_line r)
-retire_is_line r = words_line (retire_words r) (refl, (decimal_word r.endpoint, (stood_is_word r.stood, tt)))
+retire_is_line r = words_line (codes "retire" ∷ decimal r.endpoint ∷ cond r.stood (codes "ok") (codes "unknown") ∷ []) (refl, (decimal_word r.endpoint, (stood_is_word r.stood, tt)))
 
 segment_is_line : (number start : ℕ) → IsLine (segment_line number start)
-segment_is_line number start = words_line (segment_words number start) (refl, (decimal_word number, (refl, (decimal_word start, tt))))
+segment_is_line number start = words_line (codes "segment" ∷ decimal number ∷ codes "at" ∷ decimal start ∷ []) (refl, (decimal_word number, (refl, (decimal_word start, tt))))
 
 lost_is_line : (lost : ℕ × ℕ) → IsLine (lost_line lost)
-lost_is_line lost = words_line (lost_words lost) (refl, (decimal_word lost.0, (decimal_word lost.1, tt)))
+lost_is_line lost = words_line (codes "lost" ∷ decimal lost.0 ∷ decimal lost.1 ∷ []) (refl, (decimal_word lost.0, (decimal_word lost.1, tt)))
 
 capture_are_words : (c : Option CaptureCounts) → AreWords (capture_words c)
 capture_are_words None = tt
@@ -140,7 +140,7 @@ capture_are_words (Some c) =
     (refl, (decimal_word c.records, (refl, (decimal_word c.used, (refl, (decimal_word c.cut, tt))))))
 
 end_is_line : (length : ℕ) (c : Option CaptureCounts) → IsLine (end_line length c)
-end_is_line length c = words_line (end_words length c) (refl, (decimal_word length, capture_are_words c))
+end_is_line length c = words_line (codes "end" ∷ decimal length ∷ capture_words c) (refl, (decimal_word length, capture_are_words c))
 
 segment_are_lines : (p : ℕ × SegmentSeen) → AllByRecursion IsLine (segment_lines p.0 p.1)
 segment_are_lines p =

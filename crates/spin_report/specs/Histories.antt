@@ -31,30 +31,18 @@ pub record HistorySeen : Type 0 where
 abbrev pub first_line : List ℕ
 first_line = codes "report 1"
 
--- an endpoint's number, with `ok` where one stood under its name and `unknown` where none did
-abbrev pub retire_words : Retired → List Word
-retire_words r =
-    codes "retire" ∷ decimal r.endpoint ∷ (if r.stood then codes "ok" else codes "unknown") ∷ []
-
--- the line that tells of an endpoint that is retired
+-- the line of an endpoint that is retired: its number, with `ok` where one stood under its name and `unknown` where none did
 abbrev pub retire_line : Retired → List ℕ
-retire_line r = line_of (retire_words r)
+retire_line r =
+    line_of (codes "retire" ∷ decimal r.endpoint ∷ (if r.stood then codes "ok" else codes "unknown") ∷ [])
 
--- a segment's number, and the log's length at its start
-abbrev pub segment_words : ℕ → ℕ → List Word
-segment_words number start = codes "segment" ∷ decimal number ∷ codes "at" ∷ decimal start ∷ []
-
--- the line that tells a segment's number, and the log's length at its start
+-- the line of a segment: its number, and the log's length at its start
 abbrev pub segment_line : ℕ → ℕ → List ℕ
-segment_line number start = line_of (segment_words number start)
+segment_line number start = line_of (codes "segment" ∷ decimal number ∷ codes "at" ∷ decimal start ∷ [])
 
--- an endpoint's number, and how many sends to it were lost
-abbrev pub lost_words : ℕ × ℕ → List Word
-lost_words lost = codes "lost" ∷ decimal lost.0 ∷ decimal lost.1 ∷ []
-
--- the line that tells how many sends to an endpoint were lost
+-- the line of what was lost: an endpoint's number, and how many sends to it were lost
 abbrev pub lost_line : ℕ × ℕ → List ℕ
-lost_line lost = line_of (lost_words lost)
+lost_line lost = line_of (codes "lost" ∷ decimal lost.0 ∷ decimal lost.1 ∷ [])
 
 -- the endpoints to which sends were lost, by number, each with how many
 abbrev pub losses : List ℕ → List (ℕ × ℕ)
@@ -82,13 +70,9 @@ capture_words (Some c) =
     ∷ codes "cut" ∷ decimal c.cut
     ∷ []
 
--- the log's length at the end, and what became of a capture
-abbrev pub end_words : ℕ → Option CaptureCounts → List Word
-end_words length capture = codes "end" ∷ decimal length ∷ capture_words capture
-
 -- the last line of a report: the log's length at the end, and what became of a capture
 abbrev pub end_line : ℕ → Option CaptureCounts → List ℕ
-end_line length capture = line_of (end_words length capture)
+end_line length capture = line_of (codes "end" ∷ decimal length ∷ capture_words capture)
 
 -- the lines of a report up to these segments, which are numbered from 0
 abbrev pub front_lines : List SegmentSeen → List (List ℕ)

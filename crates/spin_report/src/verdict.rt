@@ -2,14 +2,14 @@
 
 ghost use Rattle.std.specs.Prelude.{◌≡◌, ◌++◌, OnOk};
 ghost use Rattle.spin_text.specs.Words.{spaced};
-ghost use Rattle.spin_report.specs.Verdicts.{refusal_number, refusal_name, refusal_words, verdict_words};
+ghost use Rattle.spin_report.specs.Verdicts.{refusal_told, refusal_words, verdict_words};
 
 use spin_table::{Refusal, Verdicted};
 use spin_text::{put_number, put_numbers, put_word};
 use spin_values::{NoMemory, Octets};
 
 fn refusal_number(refusal: &Refusal) -> u8
-    ensures { result ≡ refusal_number refusal.now }
+    ensures { result ≡ (refusal_told refusal.now).0 }
 {
     match refusal {
         Refusal::UnknownEvent => 1,
@@ -28,7 +28,7 @@ fn refusal_number(refusal: &Refusal) -> u8
 }
 
 fn refusal_name(refusal: &Refusal) -> &'static [u8]
-    ensures { result.now ≡ refusal_name refusal.now }
+    ensures { result.now ≡ (refusal_told refusal.now).1 }
 {
     match refusal {
         Refusal::UnknownEvent => b"unknown_event",

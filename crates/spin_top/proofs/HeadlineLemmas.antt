@@ -1,5 +1,6 @@
 -- The headline, from the cause of status 0.
-use Rattle.std.proofs.Common.{◌≡◌, ℕ, Option, Some, None, List, [], refl, sym, ap, subst, arith, inl, inr}
+use Rattle.std.proofs.Common.{◌≡◌, ℕ, Option, Some, None, List, [], ◌∷◌, drop, codes, refl, sym, ap, subst, arith, inl, inr}
+use Rattle.std.specs.Option.{option_to_list}
 use Rattle.std.specs.Prelude.{Result, Ok, Err}
 use Rattle.spin_outside.specs.Files.{File}
 use Rattle.spin_outside.specs.Seen.{ShelfSeen}
@@ -12,18 +13,24 @@ use Rattle.spin_report.specs.Runs.{Captured}
 use Rattle.spin_run.specs.Ends.{IsReadWhole}
 use Rattle.spin_run.specs.declared.end.RunEnd.{RunEnd}
 use Rattle.spin_run.specs.declared.end.RunEnd.TheVariants as run
-use Rattle.spin_script.specs.States.{NativeData}
+use Rattle.spin_script.specs.Language.{IsScript}
+use Rattle.spin_script.specs.States.{NativeData, ScriptData}
 use Rattle.spin_top.specs.declared.end.End.TheVariants.{Whole}
 use Rattle.spin_words.specs.declared.words.Asked.TheVariants.{Run}
-use Rattle.spin_top.specs.Captures.{AreBytesOf, AreRecordsOf, IsCaptured, IsCaptureFile}
+use Rattle.spin_top.specs.Captures.{AreBytesOf, AreRecordsOf, IsCaptureFile, cut_of}
 use Rattle.spin_top.specs.Ends.{exit_status}
-use Rattle.spin_top.specs.Headline.{Headline, IsRunTold}
+use Rattle.spin_top.specs.Headline.{Headline, AcceptsScript, IsRunTold}
 use Rattle.spin_top.specs.Outside.{Outside}
 use Rattle.spin_top.specs.Run.{end_of, NotRunBy, Ran, RunHasCause}
 use Rattle.spin_top.specs.Statuses.{Call, CommandHasCause, Row}
+use Rattle.spin_top.specs.Texts.{SaysScript}
+use Rattle.spin_top.specs.WholeCaptures.{HasCapture, IsCapturedWhole}
+use Rattle.spin_words.specs.Words.{IsSpelled}
 use Rattle.spin_top.proofs.CheckCauses.{appends_nothing, told_nothing}
 use Rattle.spin_words.proofs.CommandForms.{one_asked}
 use Rattle.spin_top.proofs.ReadingUniqueness.{bytes_at, content_at}
+use Rattle.spin_top.proofs.SaidTexts.{says_script}
+use Rattle.spin_top.proofs.WholeCaptureLemmas.{has_header, has_records}
 
 -- some records that the capture has, and its rest
 some_records : (files : Option (List File)) (packets : Option (List ℕ)) (bytes : List ℕ) → AreBytesOf files packets bytes
@@ -33,20 +40,31 @@ some_records files (Some name) bytes capture =
     let body = each_is_capture bytes capture.order capture.header in
     (body.0, Some body.1, (body.1, refl, capture.order, body.2))
 
+has_capture : (held : List File) (name : List ℕ) (frames : List (List ℕ)) (last : Next) → IsCaptureFile held name frames (Ok last)
+    → HasCapture held name (record { frames = frames; cut = cut_of last })
+has_capture held name frames last file = record {
+  bytes = file.bytes;
+  found = file.found;
+  order = file.order;
+  header = has_header file.bytes file.order file.capture.header;
+  records = has_records file.order 0 (drop 24 file.bytes) frames last file.capture.body;
+}
+
 -- a capture that was read whole is that of its file
 whole_file : (held : List File) (name : List ℕ) (frames : List (List ℕ)) (ending : Result Next PcapFault) (captured : Option Captured)
-    → IsCaptureFile held name frames ending → IsReadWhole frames (Some ending) captured → IsCaptured (Some held) (Some name) captured
+    → IsCaptureFile held name frames ending → IsReadWhole frames (Some ending) captured → IsCapturedWhole held (Some name) captured
 whole_file held name frames (Ok next.Packet) captured file is = absurd is
-whole_file held name frames (Ok next.End) captured file is = subst (λ c. IsCaptured (Some held) (Some name) c) (sym is) (next.End, file, refl)
-whole_file held name frames (Ok (next.Cut count)) captured file is = subst (λ c. IsCaptured (Some held) (Some name) c) (sym is) (next.Cut count, file, refl)
+whole_file held name frames (Ok next.End) captured file is = subst (λ c. IsCapturedWhole held (Some name) c) (sym is) (has_capture held name frames next.End file)
+whole_file held name frames (Ok (next.Cut count)) captured file is =
+    subst (λ c. IsCapturedWhole held (Some name) c) (sym is) (has_capture held name frames (next.Cut count) file)
 whole_file held name frames (Err wrong) captured file is = absurd is
 
 captured_from : (files : Option (List File)) (held : List File) (packets : Option (List ℕ)) (bytes : List ℕ) (frames : List (List ℕ))
     (rest : Option (Result Next PcapFault)) (captured : Option Captured) → files ≡ Some held → AreBytesOf files packets bytes
-    → AreRecordsOf packets bytes frames rest → IsReadWhole frames rest captured → IsCaptured (Some held) packets captured
+    → AreRecordsOf packets bytes frames rest → IsReadWhole frames rest captured → IsCapturedWhole held packets captured
 captured_from files held None bytes frames rest captured told capture are whole =
     let none : captured ≡ None = subst (λ r. IsReadWhole frames r captured) are.1 whole in
-    subst (λ c. IsCaptured (Some held) None c) (sym none) tt
+    subst (λ c. IsCapturedWhole held None c) (sym none) tt
 captured_from files held (Some name) bytes frames rest captured told capture are whole =
     let file : IsCaptureFile held name frames are.0 = record { bytes = bytes; found = bytes_at files held name bytes told capture; order = are.2; capture = are.3 } in
     whole_file held name frames are.0 captured file (subst (λ r. IsReadWhole frames r captured) are.1 whole)
@@ -69,8 +87,12 @@ whole_of : (natives : NativeData) (before after : Outside) (name : List ℕ) (pa
 whole_of natives before after name packets (inl stop) = absurd (stop_not_whole natives before.shelf after.shelf name packets stop.0)
 whole_of natives before after name packets (inr ran) = subst (λ e. Ran natives before after name packets e) (ran_whole ran.0 ran.1) ran.2
 
+-- the script was accepted
+abbrev Accepted : NativeData → List ℕ → ScriptData → Type 0
+Accepted natives text script = IsScript natives text (Ok script)
+
 run_told : (natives : NativeData) (held : List File) (before after : Outside) (name : List ℕ) (packets : Option (List ℕ))
-    → before.shelf.files ≡ Some held → RunHasCause natives before after name packets Whole → IsRunTold natives held before after name packets
+    → before.shelf.files ≡ Some held → RunHasCause natives before after name packets Whole → IsRunTold (Accepted natives) held before after name packets
 run_told natives held before after name packets told cause =
     let ran = whole_of natives before after name packets cause in
     let over = ran.over in
@@ -90,8 +112,33 @@ run_told natives held before after name packets told cause =
       received = ended.1.ends_are;
     }
 
-pub headline_holds : (call : Call) → Row call Whole → Headline call
-headline_holds call row held name packets told spelled zero =
+-- the words of a run ask for it
+run_spelled : (words : List (List ℕ)) (name : List ℕ) (packets : Option (List ℕ)) → words ≡ codes "run" ∷ name ∷ option_to_list packets → IsSpelled words (Run name packets)
+run_spelled words name None are = are
+run_spelled words name (Some packets) are = are
+
+pub accepts_script : (call : Call) → Row call Whole → AcceptsScript call
+accepts_script call row held name packets told words zero =
     let by = row zero in
-    let same : by.0 ≡ Run name packets = one_asked call.words by.0 (Run name packets) by.1.words_are spelled in
+    let same : by.0 ≡ Run name packets = one_asked call.words by.0 (Run name packets) by.1.words_are (run_spelled call.words name packets words) in
     run_told call.natives held call.before call.after name packets told (subst (λ a. CommandHasCause call.natives call.before call.after a Whole) same by.2)
+
+-- a run that was told stays so where texts are read in another way
+told_as : (natives : NativeData) (held : List File) (before after : Outside) (name : List ℕ) (packets : Option (List ℕ))
+    → IsRunTold (Accepted natives) held before after name packets → IsRunTold (SaysScript natives) held before after name packets
+told_as natives held before after name packets told = record {
+  text = told.text;
+  found = told.found;
+  script = told.script;
+  read = says_script natives told.text told.script told.read;
+  captured = told.captured;
+  capture = told.capture;
+  history = told.history;
+  last = told.last;
+  run = told.run;
+  written = told.written;
+  received = told.received;
+}
+
+pub headline_holds : (call : Call) → Row call Whole → Headline call
+headline_holds call row held name packets told words zero = told_as call.natives held call.before call.after name packets (accepts_script call row held name packets told words zero)

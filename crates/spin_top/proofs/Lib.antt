@@ -15,8 +15,12 @@ pub mod LargeTexts
 pub mod CaptureRecords
 pub mod RunCauses
 pub mod RunKnown
+pub mod SaidScripts
+pub mod SaidTexts
+pub mod SaidWords
 pub mod ShelfLemmas
 pub mod Stages
 pub mod StandingNames
 pub mod VmCauses
 pub mod VmKnown
+pub mod WholeCaptureLemmas

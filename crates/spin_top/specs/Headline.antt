@@ -1,28 +1,28 @@
 -- The headline: what stands, and what the endpoints have received, where `run` ends with status 0.
-use Rattle.std.specs.Prelude.{◌≡◌, ℕ, Option, Some, List, Ok}
+use Rattle.std.specs.Prelude.{◌≡◌, ℕ, Option, Some, List, ◌∷◌, Ok, codes}
 use Rattle.std.specs.Io.KnownBytes.{Appends}
+use Rattle.std.specs.Option.{option_to_list}
 use Rattle.spin_outside.specs.Files.{File, content}
 use Rattle.spin_script.specs.Language.{IsScript}
-use Rattle.spin_script.specs.States.{NativeData, ScriptData}
+use Rattle.spin_script.specs.States.{ScriptData}
 use Rattle.spin_report.specs.Histories.{HistorySeen, report_text}
 use Rattle.spin_report.specs.Runs.{Captured, IsRun, Standing}
-use Rattle.spin_words.specs.declared.words.Asked.TheVariants.{Run}
-use Rattle.spin_top.specs.Captures.{IsCaptured}
 use Rattle.spin_top.specs.Outside.{Outside}
 use Rattle.spin_top.specs.Statuses.{Call}
-use Rattle.spin_words.specs.Words.{IsSpelled}
+use Rattle.spin_top.specs.Texts.{SaysScript}
+use Rattle.spin_top.specs.WholeCaptures.{IsCapturedWhole}
 
--- What the run of a script leaves that was run to its end, over a shelf with these files.
-pub record IsRunTold (natives : NativeData) (held : List File) (before after : Outside) (name : List ℕ)
-    (packets : Option (List ℕ)) : Type 0 where
+-- What the run of a script leaves that was run to its end, over a shelf with these files, given what a text is read as.
+pub record IsRunTold (IsReadAs : List ℕ → ScriptData → Type 0) (held : List File) (before after : Outside)
+    (name : List ℕ) (packets : Option (List ℕ)) : Type 0 where
   -- the text under the name is a script
   pub text : List ℕ
   pub found : content held name ≡ Some text
   pub script : ScriptData
-  pub read : IsScript natives text (Ok script)
+  pub read : IsReadAs text script
   -- and the capture, if one is named, has these records
   pub captured : Option Captured
-  pub capture : IsCaptured (Some held) packets captured
+  pub capture : IsCapturedWhole held packets captured
   -- There is a legal history that answers what the script asks, over these records,
   pub history : HistorySeen
   pub last : Standing
@@ -33,11 +33,20 @@ pub record IsRunTold (natives : NativeData) (held : List File) (before after : O
   pub received : after.ends ≡ last.ends
 
 -- Where the shelf tells its files, the words are `run NAME` or `run NAME PACKETS`, and the status is 0: what was
--- written is the report of one legal history of the script under that name, and each endpoint has received its sends.
-abbrev pub Headline : Call → Type 0
-Headline call =
+-- written is the report of one legal history of the script that the text under that name is read as, and each endpoint
+-- has received its sends.
+abbrev pub TellsRun : (List ℕ → ScriptData → Type 0) → Call → Type 0
+TellsRun IsReadAs call =
     (held : List File) (name : List ℕ) (packets : Option (List ℕ))
     → call.before.shelf.files ≡ Some held
-    → IsSpelled call.words (Run name packets)
+    → call.words ≡ codes "run" ∷ name ∷ option_to_list packets
     → call.status ≡ 0
-    → IsRunTold call.natives held call.before call.after name packets
+    → IsRunTold IsReadAs held call.before call.after name packets
+
+-- The headline: a run that ends with status 0 is told of the script that the text says.
+abbrev pub Headline : Call → Type 0
+Headline call = TellsRun (SaysScript call.natives) call
+
+-- The same of a text no line of which is refused.
+abbrev pub AcceptsScript : Call → Type 0
+AcceptsScript call = TellsRun (λ text script. IsScript call.natives text (Ok script)) call

@@ -12,4 +12,6 @@ pub mod Outside
 pub mod Run
 pub mod Shelves
 pub mod Statuses
+pub mod Texts
 pub mod Vm
+pub mod WholeCaptures

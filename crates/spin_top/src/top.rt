@@ -2,7 +2,7 @@
 
 ghost use Rattle.spin_script.specs.States.{natives_seen};
 ghost use Rattle.spin_top.specs.declared.end.End.TheVariants as end;
-ghost use Rattle.spin_top.specs.Headline.{Headline};
+ghost use Rattle.spin_top.specs.Headline.{AcceptsScript, Headline};
 ghost use Rattle.spin_top.specs.Outside.{outside};
 ghost use Rattle.spin_top.specs.Statuses.{Call, IsCommandStatus, IsStatus, Row, KeepsTable};
 
@@ -146,6 +146,15 @@ pub fn spin<R: Threads + Sync, F: Shelf, K: Sink, G: Gate>(
       status = result;
     } in
         Headline call }
+    // The same, and no line of the script is refused.
+    ensures accepts { let call : Call = record {
+      natives = natives_seen natives;
+      words = words.now;
+      before = outside (F.seen shelf.old) (K.seen out.old) (⟦<Ends as EndsSeen>⟧.all ends.old);
+      after = outside (F.seen shelf.new) (K.seen out.new) (⟦<Ends as EndsSeen>⟧.all ends.new);
+      status = result;
+    } in
+        AcceptsScript call }
     // 0: the report of a legal history that answers what the script asks, each once and in order, was written, or under
     // `gen` its summary, and each endpoint has received its sends of that history; under `check` the report that was
     // read is that of a legal history; under `vm` the output of the whole trace was written.

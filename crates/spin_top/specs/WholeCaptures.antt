@@ -1,0 +1,34 @@
+-- Captures that are read whole: a header, whole records, and a rest that is none.
+use Rattle.std.specs.Prelude.{◌≡◌, ◌⊎◌, ◌≤◌, ◌+◌, ℕ, true, List, [], ◌∷◌, Option, Some, None, length, drop, ⊤}
+use Rattle.spin_outside.specs.Files.{File, content}
+use Rattle.spin_pcap.specs.declared.order.Order.{Order}
+use Rattle.spin_pcap.specs.Captures.{ordered_number_at, order_of, is_version, IsRecord, IsCut}
+use Rattle.spin_report.specs.Runs.{Captured}
+
+-- The file begins with the header of a capture of Ethernet frames, whose numbers stand in that order.
+pub record HasHeader (way : Order) (file : List ℕ) : Type 0 where
+  pub long : 24 ≤ length file
+  pub magic : order_of file ≡ Some way
+  pub version : is_version way file ≡ true
+  pub link : ordered_number_at way 20 4 file ≡ 1
+
+-- Behind so many records stand whole records with these captured bytes, and then nothing, or so many bytes of a record
+-- that is cut.
+abbrev pub HoldsRecords : Order → ℕ → List ℕ → List (List ℕ) → (cut : ℕ) → Type 0
+HoldsRecords way given bytes [] cut = ((bytes ≡ []) × (cut ≡ 0)) ⊎ IsCut way given bytes cut
+HoldsRecords way given bytes (frame ∷ frames) cut =
+    (rest : List ℕ) × IsRecord way given bytes frame rest × HoldsRecords way (given + 1) rest frames cut
+
+-- The file of that name is a capture that has this.
+pub record HasCapture (held : List File) (name : List ℕ) (captured : Captured) : Type 0 where
+  pub bytes : List ℕ
+  pub found : content held name ≡ Some bytes
+  pub order : Order
+  pub header : HasHeader order bytes
+  pub records : HoldsRecords order 0 (drop 24 bytes) captured.frames captured.cut
+
+-- This is what the capture that is named has; where none is named there is none.
+abbrev pub IsCapturedWhole : List File → Option (List ℕ) → Option Captured → Type 0
+IsCapturedWhole held None None = ⊤
+IsCapturedWhole held (Some name) (Some captured) = HasCapture held name captured
+IsCapturedWhole held packets captured = ⊥
