@@ -20,9 +20,9 @@ HEADLINE = (
 # Each part of the headline, what it means, and the definitions that say it.
 WORDS = [
     ("For every script", "the text that was read under the script's name says that script, line by line; that no line of it is "
-     "refused is the clause *accepts*", ["spin_top:IsRunTold", "spin_top:SaysScript"]),
+     "refused is the clause *accepts*", ["spin_top:IsRunTold", "spin_stages:SaysScript"]),
     ("capture", "the records are those of the capture's file, up to a rest that is empty or cut; none where no capture is named",
-     ["spin_top:IsCapturedWhole", "spin_top:HasHeader", "spin_top:HoldsRecords"]),
+     ["spin_stages:IsCapturedWhole", "spin_stages:HasHeader", "spin_stages:HoldsRecords"]),
     ("and interleaving of the lanes", "the clause has no premise on the order of the lanes' steps", ["spin_top:TellsRun"]),
     ("what the program writes", "the bytes appended to the sink are the report's text, where shelf and sink tell what they hold; "
      "standard output tells nothing, and a folder doesn't tell its files by name", ["spin_top:IsRunTold", "spin_report:report_text"]),
@@ -54,8 +54,8 @@ PARTS = [
     ("Reply", "What a raise, or the call of a job, comes to at a state.", ["spin_proto:IsDeedReply", "spin_proto:IsJobReply"]),
     ("Report", "The lines of a history's report.", ["spin_report:report_text"]),
     ("Script", "What the text under the script's name says, and what natives it may name.",
-     ["spin_top:SaysScript", "spin_script:ScriptData", "spin_script:natives_seen", "spin_script:NativeData"]),
-    ("Capture", "The records of the capture that is named.", ["spin_top:IsCapturedWhole"]),
+     ["spin_stages:SaysScript", "spin_script:ScriptData", "spin_script:natives_seen", "spin_script:NativeData"]),
+    ("Capture", "The records of the capture that is named.", ["spin_stages:IsCapturedWhole"]),
 ]
 
 # Where the first hour stops: these, and what only they cite, come behind it.
@@ -64,7 +64,7 @@ DEEPER = [
     "spin_place:IsTheOrder", "spin_table:bindings_after",
     "spin_proto:raised", "spin_proto:raised_after", "spin_proto:job_of", "spin_proto:reply_of", "spin_proto:are_fit",
     "spin_report:entry_line", "spin_report:job_line",
-    "spin_top:script_with", "spin_script:first_word", "spin_grammar:LineMeaning", "spin_grammar:form", "spin_grammar:line_kind", "spin_grammar:signature",
+    "spin_stages:script_with", "spin_script:first_word", "spin_grammar:LineMeaning", "spin_grammar:form", "spin_grammar:line_kind", "spin_grammar:signature",
     "spin_grammar:guard_signature", "spin_grammar:number", "spin_grammar:hex_bytes", "spin_outside:Keep",
     "spin_objects:HandlerUnit", "spin_objects:GuardUnit",
     "spin_objects:native_handlers", "spin_objects:native_guards", "spin_objects:native_authorisers",

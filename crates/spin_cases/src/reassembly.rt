@@ -7,7 +7,8 @@ use crate::noting::{NEVER, Notes, Noting, fresh_notes, noted, noting_end};
 use spin_endpoint::Endpoint;
 use spin_headers::{HeaderFault, checksum, read_fragment, read_ipv4, write_ipv4};
 use spin_outside::{MemSource, NoMemory, Octets};
-use spin_reass::{EchoEnd, EchoFault, JoinFault, echo_reply, join_capture};
+use spin_pcap::BadRecord;
+use spin_reass::{EchoEnd, EchoFault, echo_reply, join_capture};
 use std::alloc::Global;
 use std::process::Abort;
 use std::test::Fail;
@@ -82,7 +83,7 @@ fn push_whole(alloc: Global, file: &mut Octets, ttl: u8) -> Result<(), NoMemory>
 }
 
 // The joined capture of these bytes, which come in pieces.
-fn join(alloc: Global, file: &Octets) -> Result<Result<Octets, JoinFault>, NoMemory> {
+fn join(alloc: Global, file: &Octets) -> Result<Result<Octets, BadRecord>, NoMemory> {
     let mut source = MemSource::new(file.copy()?);
     source.in_pieces(11);
     Ok(join_capture(alloc, &mut source))
@@ -226,7 +227,7 @@ fn a_rest_stays_as_long(rt: HostRuntime) -> Result<(), NoMemory> {
 }
 
 // Whether the capture is refused, and so.
-fn is_refused(alloc: Global, file: &Octets, refused: JoinFault) -> Result<bool, NoMemory> {
+fn is_refused(alloc: Global, file: &Octets, refused: BadRecord) -> Result<bool, NoMemory> {
     match join(alloc, file)? {
         Ok(_) => Ok(false),
         Err(fault) => Ok(fault == refused),
@@ -237,12 +238,12 @@ fn is_refused(alloc: Global, file: &Octets, refused: JoinFault) -> Result<bool, 
 fn bad_captures_are_refused(rt: HostRuntime) -> Result<(), NoMemory> {
     let mut bad = many(rt.alloc(), 2, 0)?;
     bad.extend_from_slice(&record(0, 262_145, 0))?;
-    let long = JoinFault::Capture {
+    let long = BadRecord::Capture {
         number: 4,
         fault: 6,
     };
     assert!(rt; is_refused(rt.alloc(), &bad, long)?);
-    let short = JoinFault::Capture {
+    let short = BadRecord::Capture {
         number: 0,
         fault: 5,
     };

@@ -19,11 +19,11 @@ ghost use Rattle.spin_check.specs.RunTexts.{StandAs, IsRunText, capture_of};
 ghost use Rattle.spin_check.specs.Inner.Standings.{AreFlags};
 ghost use Rattle.spin_check.specs.Inner.Remains.{AreLeft};
 
-use crate::captured::Captured;
 use crate::front::behind;
 use crate::segment::Mark;
 use spin_code::Sincere;
 use spin_objects::Catalogue;
+use spin_pcap::Captured;
 use spin_script::Script;
 use spin_table::Version;
 use spin_text::{end_line as put_end, put_number, put_word};

@@ -10,7 +10,6 @@
 #![tactic(auto)]
 
 mod answer;
-mod captured;
 mod check;
 mod deeds;
 mod flags;
@@ -21,5 +20,4 @@ mod segment;
 mod sends;
 mod told;
 
-pub use captured::Captured;
 pub use check::check_report;

@@ -13,7 +13,7 @@
 #![tactic(auto)]
 
 ghost use Rattle.spin_natives.specs.Natives as program;
-ghost use Rattle.spin_top.specs.Outside.{outside};
+ghost use Rattle.spin_stages.specs.Outside.{outside};
 ghost use Rattle.spin_top.specs.Statuses.{Call, IsStatus};
 
 use spin_endpoint::{Endpoint, Ends, EndsSeen, FileEnd};
@@ -22,7 +22,8 @@ use spin_objects::{Guard, Handler};
 use spin_outside::{FolderShelf, OpenGate, Shelf, Sink, StdSink};
 use spin_policy::Authoriser;
 use spin_reass::EchoEnd;
-use spin_top::{End, spin, stop};
+use spin_stages::{End, stop};
+use spin_top::spin;
 use spin_values::{NoMemory, Text};
 use std::alloc::Global;
 use std::io::ErrorKind;

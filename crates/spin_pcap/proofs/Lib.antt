@@ -4,3 +4,4 @@ pub mod CaptureUniqueness
 pub mod FileHeaders
 pub mod CaptureTotality
 pub mod Making
+pub mod CaptureRecords

@@ -3,3 +3,4 @@ pub mod Inner
 pub mod Laws
 pub mod Passing
 pub mod Limits
+pub mod Whole

@@ -2,6 +2,8 @@
 
 ghost use Rattle.std.specs.Prelude.{◌≡◌};
 ghost use Rattle.spin_pcap.specs.Passing as specs;
+ghost use Rattle.spin_pcap.specs.Whole.{bad_at};
+ghost use Rattle.spin_pcap.specs.declared.fault.BadRecord.TheVariants as bad;
 ghost use Rattle.spin_pcap.specs.declared.fault.PcapFault.TheVariants as faults;
 
 use spin_outside::{Failed, NoMemory};
@@ -71,5 +73,48 @@ impl From<NoMemory> for PcapFault {
 
     fn from(_: NoMemory) -> Self {
         PcapFault::NoMemory
+    }
+}
+
+/// Why a capture isn't read to its end, and at which record.
+#[derive(Clone, Copy, Debug, PartialEq, Eq, Error)]
+pub enum BadRecord {
+    /// The capture is refused at a record.
+    #[error("bad capture: record {number}, fault {fault}")]
+    Capture {
+        /// The number of the record, counted from 1; 0 where it is the header.
+        number: u32,
+        /// The number of the fault, by [`PcapFault::number`].
+        fault: u8,
+    },
+    /// A read failed, and the source's count of faults rose.
+    #[error("a read failed")]
+    ReadFault,
+    /// There was no memory.
+    #[error("out of memory")]
+    NoMemory,
+}
+
+impl BadRecord {
+    /// What a fault of the record of that number is, counted from 1; 0 is the header.
+    pub fn at(number: u32, fault: PcapFault) -> BadRecord
+        ensures { result ≡ bad_at number fault }
+    {
+        match fault {
+            PcapFault::ReadFault => BadRecord::ReadFault,
+            PcapFault::NoMemory => BadRecord::NoMemory,
+            other => BadRecord::Capture {
+                number,
+                fault: other.number(),
+            },
+        }
+    }
+}
+
+impl From<NoMemory> for BadRecord {
+    ghost from_gives = { λ _ e. e ≡ bad.NoMemory };
+
+    fn from(_: NoMemory) -> Self {
+        BadRecord::NoMemory
     }
 }

@@ -2,6 +2,7 @@
 //! from any source, in whatever pieces the source gives its bytes.
 //!
 //! - [`Reader`] gives the records, each as a [`Next`]; [`PcapFault`] says why a capture isn't read;
+//! - [`read_capture`] reads one whole, and [`BadRecord`] says at which record it stops, and why;
 //! - [`MAX_RECORDS`], [`MAX_CAPTURED`] and [`MAX_HELD`] are its limits;
 //! - [`one_reading`], [`one_answer`] and [`each_has_reading`] are laws: a file with the header of a capture is one
 //!   capture.
@@ -17,10 +18,12 @@ mod next;
 mod order;
 mod reader;
 mod state;
+mod whole;
 mod window;
 
-pub use fault::PcapFault;
+pub use fault::{BadRecord, PcapFault};
 pub use laws::{each_has_reading, one_answer, one_reading};
 pub use limits::{MAX_CAPTURED, MAX_HELD, MAX_RECORDS, limits_are_stated};
 pub use next::Next;
 pub use reader::Reader;
+pub use whole::{Captured, Frames, read_capture};

@@ -16,7 +16,8 @@ use Rattle.spin_reass.specs.Joining.{OpenDatagram, joined, joined_frames}
 use Rattle.spin_reass.specs.JoinedCaptures.{file_header, record_of, rest_of, IsJoined, IsJoinedCapture, joined_capture}
 use Rattle.spin_reass.specs.Inner.Reading.{EachIsFew, AreRecords, JoinsSome}
 use Rattle.spin_reass.proofs.CaptureLemmas.{is_record, is_header, cut_is_rest}
-use Rattle.spin_reass.proofs.JoinedRecords.{flat_push, reading, after, after_packet, packet_few}
+use Rattle.spin_pcap.proofs.CaptureRecords.{after, after_packet, reading}
+use Rattle.spin_reass.proofs.JoinedRecords.{flat_push, packet_few}
 
 each_push : (frames : List (List ℕ)) (frame : List ℕ) → EachIsFew frames → length frame ≤ MAX_CAPTURED → EachIsFew (frames ++ frame ∷ [])
 each_push [] frame each few = (few, tt)

@@ -12,23 +12,18 @@ use Rattle.spin_pcap.specs.declared.state.State.{State}
 use Rattle.spin_pcap.specs.declared.state.State.TheVariants as state
 use Rattle.spin_pcap.specs.Captures.{header_of, IsRest, IsBody}
 use Rattle.spin_pcap.specs.Passing.{ReaderState, left_for, fault_number, IsAnswer, IsGone, IfReading, UnlessFailed, given_after, state_after}
-use Rattle.spin_reass.specs.declared.fault.JoinFault.{JoinFault}
-use Rattle.spin_reass.specs.declared.fault.JoinFault.TheVariants as stop
+use Rattle.spin_pcap.specs.declared.fault.BadRecord.{BadRecord}
+use Rattle.spin_pcap.specs.declared.fault.BadRecord.TheVariants as stop
+use Rattle.spin_pcap.specs.Whole.{bad_at}
+use Rattle.spin_pcap.proofs.CaptureRecords.{after, after_packet, at_told, reading}
 use Rattle.spin_reass.specs.Joining.{OpenDatagram, joined, joined_frames}
 use Rattle.spin_reass.specs.JoinedCaptures.{file_header, record_of, rest_of, IsJoined}
-use Rattle.spin_reass.specs.Inner.Reading.{stop_of, JoinsBody}
+use Rattle.spin_reass.specs.Inner.Reading.{JoinsBody}
 
 -- what holds of what is told
 pub told_each : {X : Type 0} (P : X → Type 0) (o : Option X) → ((x : X) → o ≡ Some x → P x) → IfSome o P
 told_each P None h = tt
 told_each P (Some x) h = h x refl
-
-pub at_told : {X : Type 0} (P : X → Type 0) (o : Option X) (x : X) → o ≡ Some x → IfSome o P → P x
-at_told P o x e h = subst (λ t. IfSome t P) e h
-
-pub told_more : {X : Type 0} (P Q : X → Type 0) (o : Option X) → IfSome o P → ((x : X) → P x → Q x) → IfSome o Q
-told_more P Q None p h = tt
-told_more P Q (Some x) p h = h x p
 
 pub flat_push : (f : List ℕ → List ℕ) (xs : List (List ℕ)) (y : List ℕ) → flat_map f (xs ++ y ∷ []) ≡ flat_map f xs ++ f y
 flat_push f [] y = append-nil (f y)
@@ -98,7 +93,7 @@ refused way bytes before given left datagrams out wrong at h n answer =
 
 stops : (way : Order) (bytes before : List ℕ) (given : ℕ) (left : Option (List ℕ)) (datagrams : List OpenDatagram) (out : List ℕ) (wrong : PcapFault) (at : ℕ)
     → HasJoined way bytes before given left datagrams out → at ≡ given + 1
-    → IfSome left (λ bs. UnlessFailed wrong (IsRest way given bs (Err wrong))) → JoinsBody way bytes before out (Err (stop_of at wrong))
+    → IfSome left (λ bs. UnlessFailed wrong (IsRest way given bs (Err wrong))) → JoinsBody way bytes before out (Err (bad_at at wrong))
 stops way bytes before given left ds out fault.ReadFault at h n a = tt
 stops way bytes before given left ds out fault.BadMagic at h n a = refused way bytes before given left ds out fault.BadMagic at h n a
 stops way bytes before given left ds out fault.BadVersion at h n a = refused way bytes before given left ds out fault.BadVersion at h n a
@@ -109,16 +104,16 @@ stops way bytes before given left ds out fault.TooManyRecords at h n a = refused
 stops way bytes before given left ds out (fault.Spoilt first) at h n a = refused way bytes before given left ds out (fault.Spoilt first) at h n a
 stops way bytes before given left ds out fault.NoMemory at h n a = tt
 
-pub joins_stop : (way : Order) (bytes before : List ℕ) (given : ℕ) (left : Option (List ℕ)) (datagrams : List OpenDatagram) (out : List ℕ) (wrong : PcapFault) (at : ℕ) (answer : JoinFault)
-    → HasJoined way bytes before given left datagrams out → at ≡ given + 1 → answer ≡ stop_of at wrong
+pub joins_stop : (way : Order) (bytes before : List ℕ) (given : ℕ) (left : Option (List ℕ)) (datagrams : List OpenDatagram) (out : List ℕ) (wrong : PcapFault) (at : ℕ) (answer : BadRecord)
+    → HasJoined way bytes before given left datagrams out → at ≡ given + 1 → answer ≡ bad_at at wrong
     → IfSome left (λ bs. UnlessFailed wrong (IsRest way given bs (Err wrong))) → JoinsBody way bytes before out (Err answer)
 joins_stop way bytes before given left ds out wrong at answer h n e a =
-    subst (λ (f : JoinFault). JoinsBody way bytes before out (Err f)) (sym e) (stops way bytes before given left ds out wrong at h n a)
+    subst (λ (f : BadRecord). JoinsBody way bytes before out (Err f)) (sym e) (stops way bytes before given left ds out wrong at h n a)
 
 -- a fault of the header
-pub header_stop : (file : List ℕ) (wrong : PcapFault) (answer : JoinFault) → answer ≡ stop_of 0 wrong → UnlessFailed wrong (header_of file ≡ Err wrong) → IsJoined file (Err answer)
-header_stop file wrong answer e h = subst (λ (f : JoinFault). IsJoined file (Err f)) (sym e) (by wrong h) where
-  by : (wrong : PcapFault) → UnlessFailed wrong (header_of file ≡ Err wrong) → IsJoined file (Err (stop_of 0 wrong))
+pub header_stop : (file : List ℕ) (wrong : PcapFault) (answer : BadRecord) → answer ≡ bad_at 0 wrong → UnlessFailed wrong (header_of file ≡ Err wrong) → IsJoined file (Err answer)
+header_stop file wrong answer e h = subst (λ (f : BadRecord). IsJoined file (Err f)) (sym e) (by wrong h) where
+  by : (wrong : PcapFault) → UnlessFailed wrong (header_of file ≡ Err wrong) → IsJoined file (Err (bad_at 0 wrong))
   by fault.ReadFault h = tt
   by fault.BadMagic h = (fault.BadMagic, refl, inl (refl, h))
   by fault.BadVersion h = (fault.BadVersion, refl, inl (refl, h))
@@ -135,7 +130,7 @@ pub capture_joined : (file : List ℕ) (way : Order) (ending : Next) (header out
 capture_joined file way ending header out bytes h is b e =
     (way, b.0, ending, record { header = h; body = b.1 }, e ∙ ap (λ z. z ++ rest_of ending) (b.2 ∙ ap (λ z. z ++ flat_map record_of (joined_frames [] b.0)) is))
 
-pub capture_stopped : (file : List ℕ) (way : Order) (header out : List ℕ) (answer : JoinFault)
+pub capture_stopped : (file : List ℕ) (way : Order) (header out : List ℕ) (answer : BadRecord)
     → header_of file ≡ Ok way → JoinsBody way (drop 24 file) header out (Err answer) → IsJoined file (Err answer)
 capture_stopped file way header out (stop.Capture at reason) h b =
     (b.1, b.4, inr (way, b.0, b.3, record { header = h; body = b.2 }))
@@ -143,19 +138,6 @@ capture_stopped file way header out stop.ReadFault h b = tt
 capture_stopped file way header out stop.NoMemory h b = tt
 
 -- ---- one call of the reader
-
-pub reading : (st : State) (X Y : Type 0) → st ≡ state.Reading → IfReading st X Y → X
-reading st X Y e h = subst (λ (s : State). IfReading s X Y) e h
-
-abbrev pub after : ReaderState → ReaderState → Result Next PcapFault → ReaderState
-after reader reader' answer = record reader { held = reader'.held; given = given_after reader.given answer; state = state_after answer }
-
-pub after_packet : (reader reader' : ReaderState) (answer : Next) (B : Type 0) → reader.state ≡ state.Reading → answer ≡ next.Packet
-    → IfReading reader.state (reader' ≡ after reader reader' (Ok answer)) B → (reader'.state ≡ state.Reading) × (reader'.order ≡ reader.order) × (reader'.given ≡ reader.given + 1)
-after_packet reader reader' answer B r e h =
-    let is : reader' ≡ after reader reader' (Ok next.Packet) =
-    subst (λ (x : Next). reader' ≡ after reader reader' (Ok x)) e (reading reader.state (reader' ≡ after reader reader' (Ok answer)) B r h) in
-    (ap (λ (x : ReaderState). x.state) is, ap (λ (x : ReaderState). x.order) is, ap (λ (x : ReaderState). x.given) is)
 
 -- the bytes of a record are few
 pub packet_few : (way : Order) (answer : Next) (gone frame : List ℕ) → answer ≡ next.Packet → IsGone way (Ok answer) gone frame → length frame ≤ MAX_CAPTURED
@@ -203,10 +185,10 @@ cuts_joined way bytes before reader answer count left left'' ds out frame A r w 
     joins_all way bytes before reader.given (left_for reader.held left) ds out (next.Cut count) h
     (rest_given way reader (Ok answer) (Ok (next.Cut count)) left left'' frame A r w (ap (λ (x : Next). Ok x) e) a)
 
-pub stops_joined : (way : Order) (bytes before : List ℕ) (reader reader' : ReaderState) (wrong : PcapFault) (at taken : ℕ) (answer : JoinFault)
+pub stops_joined : (way : Order) (bytes before : List ℕ) (reader reader' : ReaderState) (wrong : PcapFault) (at taken : ℕ) (answer : BadRecord)
     (left left'' : Option (List ℕ)) (ds : List OpenDatagram) (out frame : List ℕ) (A B : Type 0) → reader.state ≡ state.Reading → reader.order ≡ way
     → IfReading reader.state (IfSome (left_for reader.held left) (λ bs. IsAnswer reader.order reader.given bs (Err wrong) frame left'')) A
-    → IfReading reader.state (reader' ≡ after reader reader' (Err wrong)) B → taken ≡ reader'.given → at ≡ taken + 1 → answer ≡ stop_of at wrong
+    → IfReading reader.state (reader' ≡ after reader reader' (Err wrong)) B → taken ≡ reader'.given → at ≡ taken + 1 → answer ≡ bad_at at wrong
     → HasJoined way bytes before reader.given (left_for reader.held left) ds out → JoinsBody way bytes before out (Err answer)
 stops_joined way bytes before reader reader' wrong at taken answer left left'' ds out frame A B r w a b t n e h =
     let is : reader' ≡ after reader reader' (Err wrong) = reading reader.state (reader' ≡ after reader reader' (Err wrong)) B r b in

@@ -1,5 +1,6 @@
 //! How a run ends.
 
+use spin_pcap::BadRecord;
 use spin_values::NoMemory;
 
 /// How a run of a script ends.
@@ -32,5 +33,20 @@ impl From<NoMemory> for RunEnd {
 
     fn from(_: NoMemory) -> RunEnd {
         RunEnd::NoMemory
+    }
+}
+
+impl From<BadRecord> for RunEnd {
+    ghost use Rattle.std.specs.Prelude.{◌≡◌};
+    ghost use Rattle.spin_run.specs.Inner.Reading.{ended_by};
+
+    ghost from_gives = { λ bad e. e ≡ ended_by bad };
+
+    fn from(bad: BadRecord) -> RunEnd {
+        match bad {
+            BadRecord::Capture { number, fault } => RunEnd::Capture { number, fault },
+            BadRecord::ReadFault => RunEnd::ReadFault,
+            BadRecord::NoMemory => RunEnd::NoMemory,
+        }
     }
 }

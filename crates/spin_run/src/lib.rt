@@ -43,5 +43,5 @@ pub use law::{place_is_front, records_are_one};
 pub use limits::limits_are_stated;
 pub use script::run_script;
 pub use segment::{WORKERS, Woven, run_segment};
-pub use spin_script::Frames;
+pub use spin_pcap::Frames;
 pub use summary::run_summary;

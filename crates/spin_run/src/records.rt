@@ -7,8 +7,7 @@ ghost use Rattle.spin_run.specs.Records.{HasRecords};
 
 use crate::end::RunEnd;
 use spin_outside::Source;
-use spin_pcap::{Next, PcapFault, Reader};
-use spin_script::Frames;
+use spin_pcap::{BadRecord, Frames, Next, PcapFault, Reader};
 use spin_values::Octets;
 use std::alloc::Global;
 
@@ -16,14 +15,7 @@ use std::alloc::Global;
 fn stop_at(number: u32, fault: PcapFault) -> RunEnd
     ensures { result ≡ stop_of number fault }
 {
-    match fault {
-        PcapFault::ReadFault => RunEnd::ReadFault,
-        PcapFault::NoMemory => RunEnd::NoMemory,
-        other => RunEnd::Capture {
-            number,
-            fault: other.number(),
-        },
-    }
+    RunEnd::from(BadRecord::at(number, fault))
 }
 
 // Replaces the frame by the bytes of the next record. Without a capture it is the end.

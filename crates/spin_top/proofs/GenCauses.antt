@@ -23,18 +23,19 @@ use Rattle.spin_run.specs.declared.end.RunEnd.TheVariants as run
 use Rattle.spin_run.specs.Ends.{RunSeen, seen, CountsBy}
 use Rattle.spin_run.specs.Records.{AreRecords, IsTakenPast, room_of}
 use Rattle.spin_run.specs.Summaries.{SumsUpBy, untold}
-use Rattle.spin_top.specs.declared.end.End.{End}
-use Rattle.spin_top.specs.declared.end.End.TheVariants.{Capture, NoMemory}
-use Rattle.spin_top.specs.Ends as ends
-use Rattle.spin_top.specs.Ends.{Tells, stop_line}
+use Rattle.spin_stages.specs.declared.end.End.{End}
+use Rattle.spin_stages.specs.declared.end.End.TheVariants.{Capture, NoMemory}
+use Rattle.spin_stages.specs.Ends as ends
+use Rattle.spin_stages.specs.Ends.{Tells, stop_line}
 use Rattle.spin_top.specs.Gen.{GenHasCause, GenKnows, RanMade}
-use Rattle.spin_top.specs.Held.{held_seen}
-use Rattle.spin_top.specs.Inner.Holding.{HeaderRefuses, IsBehind}
+use Rattle.spin_stages.specs.Held.{held_seen}
+use Rattle.spin_stages.specs.Holding.{HeaderRefuses, IsBehind}
 use Rattle.spin_top.specs.Inner.Making.{RunsMade}
-use Rattle.spin_top.specs.Outside.{OnlyStops, Outside}
+use Rattle.spin_stages.specs.Outside.{OnlyStops, Outside}
 use Rattle.spin_top.specs.Run.{end_of}
 use Rattle.spin_top.proofs.MemoryCaptures.{good_not_bad, never, records_left}
-use Rattle.spin_top.proofs.RunCauses.{ends_moved, none_taken, tells_nothing}
+use Rattle.spin_stages.proofs.ShelfLemmas.{tells_nothing}
+use Rattle.spin_top.proofs.RunCauses.{ends_moved, none_taken}
 
 -- ---- what is made
 

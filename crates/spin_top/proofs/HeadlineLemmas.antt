@@ -15,22 +15,23 @@ use Rattle.spin_run.specs.declared.end.RunEnd.{RunEnd}
 use Rattle.spin_run.specs.declared.end.RunEnd.TheVariants as run
 use Rattle.spin_script.specs.Language.{IsScript}
 use Rattle.spin_script.specs.States.{NativeData, ScriptData}
-use Rattle.spin_top.specs.declared.end.End.TheVariants.{Whole}
+use Rattle.spin_stages.specs.declared.end.End.TheVariants.{Whole}
 use Rattle.spin_words.specs.declared.words.Asked.TheVariants.{Run}
-use Rattle.spin_top.specs.Captures.{AreBytesOf, AreRecordsOf, IsCaptureFile, cut_of}
-use Rattle.spin_top.specs.Ends.{exit_status}
+use Rattle.spin_pcap.specs.Whole.{cut_of}
+use Rattle.spin_stages.specs.Captures.{AreBytesOf, AreRecordsOf, IsCaptureFile}
+use Rattle.spin_stages.specs.Ends.{exit_status}
 use Rattle.spin_top.specs.Headline.{Headline, AcceptsScript, IsRunTold}
-use Rattle.spin_top.specs.Outside.{Outside}
+use Rattle.spin_stages.specs.Outside.{Outside}
 use Rattle.spin_top.specs.Run.{end_of, NotRunBy, Ran, RunHasCause}
 use Rattle.spin_top.specs.Statuses.{Call, CommandHasCause, Row}
-use Rattle.spin_top.specs.Texts.{SaysScript}
-use Rattle.spin_top.specs.WholeCaptures.{HasCapture, IsCapturedWhole}
+use Rattle.spin_stages.specs.Texts.{SaysScript}
+use Rattle.spin_stages.specs.WholeCaptures.{HasCapture, IsCapturedWhole}
 use Rattle.spin_words.specs.Words.{IsSpelled}
-use Rattle.spin_top.proofs.CheckCauses.{appends_nothing, told_nothing}
+use Rattle.spin_offline.proofs.CheckCauses.{appends_nothing, told_nothing}
 use Rattle.spin_words.proofs.CommandForms.{one_asked}
-use Rattle.spin_top.proofs.ReadingUniqueness.{bytes_at, content_at}
-use Rattle.spin_top.proofs.SaidTexts.{says_script}
-use Rattle.spin_top.proofs.WholeCaptureLemmas.{has_header, has_records}
+use Rattle.spin_stages.proofs.ReadingUniqueness.{bytes_at, content_at}
+use Rattle.spin_stages.proofs.SaidTexts.{says_script}
+use Rattle.spin_stages.proofs.WholeCaptureLemmas.{has_header, has_records}
 
 -- some records that the capture has, and its rest
 some_records : (files : Option (List File)) (packets : Option (List ℕ)) (bytes : List ℕ) → AreBytesOf files packets bytes

@@ -18,22 +18,22 @@ use Rattle.spin_run.specs.declared.end.RunEnd.{RunEnd}
 use Rattle.spin_run.specs.declared.end.RunEnd.TheVariants as run
 use Rattle.spin_run.specs.Ends.{seen, EndsBy, CountsBy}
 use Rattle.spin_run.specs.Records.{AreRecords, room_of}
-use Rattle.spin_top.specs.declared.end.End.{End}
-use Rattle.spin_top.specs.declared.end.End.TheVariants.{Capture, NoMemory}
-use Rattle.spin_top.specs.Captures.{NoWholeBy}
-use Rattle.spin_top.specs.Ends.{Tells, stop_line}
-use Rattle.spin_top.specs.Held.{held_seen}
-use Rattle.spin_top.specs.Inner.Holding.{HeaderRefuses, IsBehind}
+use Rattle.spin_stages.specs.declared.end.End.{End}
+use Rattle.spin_stages.specs.declared.end.End.TheVariants.{Capture, NoMemory}
+use Rattle.spin_stages.specs.Captures.{NoWholeBy}
+use Rattle.spin_stages.specs.Ends.{Tells, stop_line}
+use Rattle.spin_stages.specs.Held.{held_seen}
+use Rattle.spin_stages.specs.Holding.{HeaderRefuses, IsBehind}
 use Rattle.spin_top.specs.Inner.Joining.{RunsJoined}
 use Rattle.spin_top.specs.Join.{IsJoinedBy, IsJoinedFile, JoinHasCause, RanJoined}
-use Rattle.spin_top.specs.Loading.{IsLoaded, NoScriptBy}
-use Rattle.spin_top.specs.Outside.{OnlyStops, Outside}
+use Rattle.spin_stages.specs.Loading.{IsLoaded, NoScriptBy}
+use Rattle.spin_stages.specs.Outside.{OnlyStops, Outside}
 use Rattle.spin_top.specs.Run.{end_of}
-use Rattle.spin_top.specs.Shelves.{ShelfStood}
+use Rattle.spin_stages.specs.Shelves.{ShelfStood}
 use Rattle.spin_top.proofs.MemoryCaptures.{good_not_bad, records_left}
 use Rattle.spin_top.proofs.RunCauses.{ends_moved, none_taken}
-use Rattle.spin_top.proofs.ShelfLemmas.{stood_stood}
-use Rattle.spin_top.proofs.Stages.{whole_behind}
+use Rattle.spin_stages.proofs.ShelfLemmas.{stood_stood}
+use Rattle.spin_stages.proofs.Stages.{whole_behind}
 
 -- ---- stops before the run
 

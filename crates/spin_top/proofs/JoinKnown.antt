@@ -6,18 +6,18 @@ use Rattle.spin_pcap.specs.declared.next.Next.{Next}
 use Rattle.spin_script.specs.States.{NativeData}
 use Rattle.spin_run.specs.declared.end.RunEnd.{RunEnd}
 use Rattle.spin_run.specs.declared.end.RunEnd.TheVariants as run
-use Rattle.spin_top.specs.declared.end.End.{End}
-use Rattle.spin_top.specs.Captures.{IsBadCapture, IsCaptureFile}
-use Rattle.spin_top.specs.Ends.{exit_status}
-use Rattle.spin_top.specs.Join.{IsJoinedFile, JoinHasCause, JoinKnows, KnowsBadCapture, RanJoined}
-use Rattle.spin_top.specs.Outside.{Outside}
-use Rattle.spin_top.specs.Run.{end_of, IsComplete, KnowsNoCapture}
-use Rattle.spin_top.proofs.BadCaptures.{good_bad}
+use Rattle.spin_stages.specs.declared.end.End.{End}
+use Rattle.spin_stages.specs.Captures.{IsBadCapture, IsCaptureFile, KnowsBadCapture, KnowsNoCapture}
+use Rattle.spin_stages.specs.Ends.{exit_status}
+use Rattle.spin_top.specs.Join.{IsJoinedFile, JoinHasCause, JoinKnows, RanJoined}
+use Rattle.spin_stages.specs.Outside.{Outside}
+use Rattle.spin_top.specs.Run.{end_of, IsComplete}
+use Rattle.spin_stages.proofs.BadCaptures.{good_bad}
 use Rattle.spin_top.proofs.MemoryCaptures.{never}
 use Rattle.spin_top.proofs.JoinCauses.{not_bad}
-use Rattle.spin_top.proofs.ReadingUniqueness.{some_is, some_not_none}
+use Rattle.spin_stages.proofs.ReadingUniqueness.{some_is, some_not_none}
 use Rattle.spin_top.proofs.RunKnown.{endpoint_rose, sink_rose}
-use Rattle.spin_top.proofs.Stages.{ScriptFirst, both_bad, both_first, both_lost, both_memory, knows_no_script, knows_refused}
+use Rattle.spin_stages.proofs.Stages.{ScriptFirst, both_bad, both_first, both_lost, both_memory, knows_no_script, knows_refused}
 
 file_at : (natives : NativeData) (before after : Outside) (held : List File) (name packets : List ℕ) (ended : RunEnd)
     → before.shelf.files ≡ Some held → (ran : RanJoined natives before after name packets ended) → IsJoinedFile held packets ran.bytes

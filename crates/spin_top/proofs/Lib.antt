@@ -1,7 +1,4 @@
 pub mod ScriptBytes
-pub mod BadCaptures
-pub mod CheckCauses
-pub mod CheckKnown
 pub mod StatusCauses
 pub mod GenCauses
 pub mod HeadlineLemmas
@@ -9,18 +6,5 @@ pub mod MemoryCaptures
 pub mod JoinCauses
 pub mod JoinKnown
 pub mod NotUsage
-pub mod ReadingUniqueness
-pub mod OpenedCaptures
-pub mod LargeTexts
-pub mod CaptureRecords
 pub mod RunCauses
 pub mod RunKnown
-pub mod SaidScripts
-pub mod SaidTexts
-pub mod SaidWords
-pub mod ShelfLemmas
-pub mod Stages
-pub mod StandingNames
-pub mod VmCauses
-pub mod VmKnown
-pub mod WholeCaptureLemmas

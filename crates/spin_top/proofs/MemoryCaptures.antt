@@ -8,9 +8,9 @@ use Rattle.spin_pcap.specs.declared.fault.PcapFault.{PcapFault}
 use Rattle.spin_pcap.specs.declared.next.Next.{Next}
 use Rattle.spin_pcap.specs.declared.order.Order.{Order}
 use Rattle.spin_run.specs.Records.{AreLeftBy, AreRecords}
-use Rattle.spin_top.specs.Held.{held_seen}
-use Rattle.spin_top.specs.Inner.Holding.{IsBehind}
-use Rattle.spin_top.specs.Captures.{AreRecordsIn}
+use Rattle.spin_stages.specs.Held.{held_seen}
+use Rattle.spin_stages.specs.Holding.{IsBehind}
+use Rattle.spin_stages.specs.Captures.{AreRecordsIn}
 
 pub good_not_bad : (x : Order) (wrong : PcapFault) (r : Result Order PcapFault) → r ≡ Ok x → r ≡ Err wrong → ⊥
 good_not_bad x wrong r good bad = cc

@@ -7,14 +7,15 @@ use Rattle.spin_run.specs.declared.end.RunEnd.{RunEnd}
 use Rattle.spin_run.specs.declared.end.RunEnd.TheVariants as run
 use Rattle.spin_vm.specs.declared.end.VmEnd.{VmEnd}
 use Rattle.spin_vm.specs.declared.end.VmEnd.TheVariants as vm
-use Rattle.spin_top.specs.declared.end.End.TheVariants.{Usage, WriteFault, NoMemory}
-use Rattle.spin_top.specs.Check.{CheckHasCause, NotJudgedBy, answer_end}
-use Rattle.spin_top.specs.Ends.{exit_status}
+use Rattle.spin_stages.specs.declared.end.End.TheVariants.{Usage, WriteFault, NoMemory}
+use Rattle.spin_offline.specs.Check.{CheckHasCause, NotJudgedBy, answer_end}
+use Rattle.spin_stages.specs.Ends.{exit_status}
 use Rattle.spin_top.specs.Gen.{GenHasCause, RanMade}
-use Rattle.spin_top.specs.Join.{JoinHasCause, NotBothBy}
-use Rattle.spin_top.specs.Outside.{OnlyStops, Outside}
+use Rattle.spin_stages.specs.Captures.{NotBothBy}
+use Rattle.spin_top.specs.Join.{JoinHasCause}
+use Rattle.spin_stages.specs.Outside.{OnlyStops, Outside}
 use Rattle.spin_top.specs.Run.{NotRunBy, RunHasCause, end_of}
-use Rattle.spin_top.specs.Vm.{NoSuitedTraceBy, NotTracedBy, VmHasCause, vm_end}
+use Rattle.spin_offline.specs.Vm.{NoSuitedTraceBy, NotTracedBy, VmHasCause, vm_end}
 
 -- no run, and no trace, ends as a call does whose words ask for nothing
 run_not_usage : (ended : RunEnd) → Usage ≡ end_of ended → ⊥

@@ -17,21 +17,21 @@ use Rattle.spin_run.specs.declared.end.RunEnd.{RunEnd}
 use Rattle.spin_run.specs.declared.end.RunEnd.TheVariants as run
 use Rattle.spin_run.specs.Ends.{RunSeen, seen, EndsBy, CountsBy}
 use Rattle.spin_run.specs.Records.{AreBytesLeft, AreLeftBy, AreRecords, HasRecords, IsTakenPast, room_of}
-use Rattle.spin_top.specs.declared.end.End.{End}
-use Rattle.spin_top.specs.Captures.{AreBytesOf, AreOpened, AreRecordsOf, IsBehindHeader, IsOpened, IsTakenUnder, NoCaptureBy}
-use Rattle.spin_top.specs.Ends.{Tells, stop_line}
+use Rattle.spin_stages.specs.declared.end.End.{End}
+use Rattle.spin_stages.specs.Captures.{AreBytesOf, AreOpened, AreRecordsOf, IsBehindHeader, IsOpened, IsTakenUnder, NoCaptureBy}
+use Rattle.spin_stages.specs.Ends.{Tells, stop_line}
 use Rattle.spin_top.specs.Inner.Running.{RunsOver}
-use Rattle.spin_top.specs.Loading.{IsLoaded, NoScriptBy}
-use Rattle.spin_top.specs.Shelves.{ReadsOnly, ShelfStood}
-use Rattle.spin_top.specs.Outside.{OnlyStops, Outside, outside}
+use Rattle.spin_stages.specs.Loading.{IsLoaded, NoScriptBy}
+use Rattle.spin_stages.specs.Shelves.{ReadsOnly, ShelfStood}
+use Rattle.spin_stages.specs.Outside.{OnlyStops, Outside, outside}
 use Rattle.spin_top.specs.Run.{RunHasCause, ShelfBy, end_of}
 use Rattle.spin_pcap.proofs.Making.{some_file}
 use Rattle.spin_pcap.proofs.SourceBytes.{more_none, more_twice}
 use Rattle.spin_pcap.proofs.CaptureUniqueness.{one_reading}
 use Rattle.spin_top.proofs.ScriptBytes.{script_no_capture}
-use Rattle.spin_top.proofs.OpenedCaptures.{still_named}
-use Rattle.spin_top.proofs.ShelfLemmas.{stood_failed, stood_stood}
-use Rattle.spin_top.proofs.Stages.{opened_behind}
+use Rattle.spin_stages.proofs.OpenedCaptures.{still_named}
+use Rattle.spin_stages.proofs.ShelfLemmas.{stood_failed, stood_stood}
+use Rattle.spin_stages.proofs.Stages.{opened_behind}
 
 -- ---- stops before the run
 
@@ -97,11 +97,6 @@ fresh_known before after None file None opened = tt
 fresh_known before after None file (Some reader) opened = absurd opened
 fresh_known before after (Some name) file None opened = absurd opened
 fresh_known before after (Some name) file (Some reader) opened = opened.fresh
-
--- nothing was to be written
-pub tells_nothing : (a b : SinkSeen) → Tells a b [] → b.faults ≡ a.faults
-tells_nothing a b (inl w) = w.0
-tells_nothing a b (inr w) = absurd (omega (arith, w.1))
 
 shelf_stood : (mid after : ShelfSeen) (file file' ref ref' : ℕ) → (file_seen after file' ref').keep ≡ (file_seen mid file ref).keep → after.faults ≡ mid.faults → ShelfStood mid after
 shelf_stood mid after file file' ref ref' kept faults = record { files = ap (λ k. k.files) kept; faults = faults; absences = ap (λ k. k.absences) kept }

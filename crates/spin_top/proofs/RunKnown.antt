@@ -9,15 +9,15 @@ use Rattle.spin_pcap.specs.declared.next.Next.{Next}
 use Rattle.spin_script.specs.States.{NativeData}
 use Rattle.spin_run.specs.declared.end.RunEnd.{RunEnd}
 use Rattle.spin_run.specs.declared.end.RunEnd.TheVariants as run
-use Rattle.spin_top.specs.declared.end.End.{End}
-use Rattle.spin_top.specs.Captures.{AreBytesOf, IsBadCapture}
-use Rattle.spin_top.specs.Ends.{exit_status}
-use Rattle.spin_top.specs.Loading.{HoldsText}
-use Rattle.spin_top.specs.Outside.{NoneRose, Outside}
-use Rattle.spin_top.specs.Run.{end_of, IsComplete, KnowsCapture, KnowsNoCapture, NotRunBy, Ran, RanOver, RunHasCause, RunKnows}
-use Rattle.spin_top.proofs.ReadingUniqueness.{good_records, header_at, header_lacks, headers_differ, records_at}
-use Rattle.spin_top.proofs.RunCauses.{tells_nothing}
-use Rattle.spin_top.proofs.Stages.{ScriptFirst, knows_no_script, knows_refused, opened_bad, opened_lost, opened_memory, script_memory}
+use Rattle.spin_stages.specs.declared.end.End.{End}
+use Rattle.spin_stages.specs.Captures.{AreBytesOf, IsBadCapture, KnowsNoCapture}
+use Rattle.spin_stages.specs.Ends.{exit_status}
+use Rattle.spin_stages.specs.Loading.{HoldsText}
+use Rattle.spin_stages.specs.Outside.{Outside}
+use Rattle.spin_top.specs.Run.{end_of, IsComplete, KnowsCapture, NoneRose, NotRunBy, Ran, RanOver, RunHasCause, RunKnows}
+use Rattle.spin_stages.proofs.ReadingUniqueness.{good_records, header_at, header_lacks, headers_differ, records_at}
+use Rattle.spin_stages.proofs.ShelfLemmas.{tells_nothing}
+use Rattle.spin_stages.proofs.Stages.{ScriptFirst, knows_no_script, knows_refused, opened_bad, opened_lost, opened_memory, script_memory}
 
 -- an endpoint that failed has a count that rose
 pub endpoint_rose : (natives : NativeData) (before after : Outside) (name : List ℕ) (Has : List (List ℕ) → Option (Result Next PcapFault) → Type 0) (from to : SourceSeen) (endpoint : ℕ)

@@ -1,24 +1,24 @@
 -- Which status comes, from the causes of all commands.
 use Rattle.std.proofs.Common.{◌≡◌, ℕ, zero, suc, List, refl, sym, subst, ◌∙◌, inl, inr}
 use Rattle.spin_script.specs.States.{NativeData}
-use Rattle.spin_top.specs.declared.end.End.{End}
-use Rattle.spin_top.specs.declared.end.End.TheVariants.{Whole, Usage, Refused, Capture, Unread, WriteFault, Absent, NoMemory, Endpoint, NoHistory, LongReport, Trace, Unsuited}
-use Rattle.spin_top.specs.declared.end.Input.{Input}
+use Rattle.spin_stages.specs.declared.end.End.{End}
+use Rattle.spin_stages.specs.declared.end.End.TheVariants.{Whole, Usage, Refused, Capture, Unread, WriteFault, Absent, NoMemory, Endpoint, NoHistory, LongReport, Trace, Unsuited}
+use Rattle.spin_stages.specs.declared.end.Input.{Input}
 use Rattle.spin_words.specs.declared.words.Asked.{Asked}
 use Rattle.spin_words.specs.declared.words.Asked.TheVariants.{Run, Gen, Check, Join, Vm}
 use Rattle.spin_words.specs.Words.{IsAsked}
-use Rattle.spin_top.specs.Ends.{exit_status}
-use Rattle.spin_top.specs.Outside.{OnlyStops, Outside}
+use Rattle.spin_stages.specs.Ends.{exit_status}
+use Rattle.spin_stages.specs.Outside.{OnlyStops, Outside}
 use Rattle.spin_top.specs.Statuses.{AsksNothing, ByCommand, Call, CommandHasCause, CommandKnows, HasCause, IsCommandStatus, IsStatus, KeepsTable, KnowsCommand, KnowsUsage, Row}
-use Rattle.spin_top.specs.Vm.{IsVmStatus}
-use Rattle.spin_top.proofs.CheckKnown.{check_known}
+use Rattle.spin_offline.specs.Vm.{IsVmStatus}
+use Rattle.spin_offline.proofs.CheckKnown.{check_known}
 use Rattle.spin_words.proofs.CommandForms.{one_asked}
 use Rattle.spin_top.proofs.GenCauses.{gen_known}
 use Rattle.spin_top.proofs.JoinKnown.{join_known}
 use Rattle.spin_top.proofs.NotUsage.{check_cause_not_usage, gen_cause_not_usage, join_cause_not_usage, run_cause_not_usage, vm_cause_not_usage}
 use Rattle.spin_top.proofs.RunKnown.{run_known}
-use Rattle.spin_top.proofs.ShelfLemmas.{same_stood}
-use Rattle.spin_top.proofs.VmKnown.{vm_known}
+use Rattle.spin_stages.proofs.ShelfLemmas.{same_stood}
+use Rattle.spin_offline.proofs.VmKnown.{vm_known}
 
 -- ---- each command
 

@@ -12,12 +12,12 @@ use Rattle.spin_gen.specs.Texts.{script_of, packets_of}
 use Rattle.spin_run.specs.declared.end.RunEnd.{RunEnd}
 use Rattle.spin_run.specs.Ends.{seen, CountsBy, faults_at}
 use Rattle.spin_run.specs.Summaries.{SumsUpBy}
-use Rattle.spin_top.specs.declared.end.End.{End}
-use Rattle.spin_top.specs.declared.end.End.TheVariants.{NoMemory}
-use Rattle.spin_top.specs.Ends as ends
-use Rattle.spin_top.specs.Ends.{stop_line, Tells}
-use Rattle.spin_top.specs.Held.{held_seen}
-use Rattle.spin_top.specs.Outside.{Outside, OnlyStops}
+use Rattle.spin_stages.specs.declared.end.End.{End}
+use Rattle.spin_stages.specs.declared.end.End.TheVariants.{NoMemory}
+use Rattle.spin_stages.specs.Ends as ends
+use Rattle.spin_stages.specs.Ends.{stop_line, Tells}
+use Rattle.spin_stages.specs.Held.{held_seen}
+use Rattle.spin_stages.specs.Outside.{Outside, OnlyStops}
 use Rattle.spin_top.specs.Run.{end_of}
 
 -- ---- why

@@ -7,10 +7,10 @@ use Rattle.spin_script.specs.Language.{IsScript}
 use Rattle.spin_script.specs.States.{ScriptData}
 use Rattle.spin_report.specs.Histories.{HistorySeen, report_text}
 use Rattle.spin_report.specs.Runs.{Captured, IsRun, Standing}
-use Rattle.spin_top.specs.Outside.{Outside}
+use Rattle.spin_stages.specs.Outside.{Outside}
 use Rattle.spin_top.specs.Statuses.{Call}
-use Rattle.spin_top.specs.Texts.{SaysScript}
-use Rattle.spin_top.specs.WholeCaptures.{IsCapturedWhole}
+use Rattle.spin_stages.specs.Texts.{SaysScript}
+use Rattle.spin_stages.specs.WholeCaptures.{IsCapturedWhole}
 
 -- What the run of a script leaves that was run to its end, over a shelf with these files, given what a text is read as.
 pub record IsRunTold (IsReadAs : List ℕ → ScriptData → Type 0) (held : List File) (before after : Outside)

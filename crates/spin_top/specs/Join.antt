@@ -6,14 +6,14 @@ use Rattle.spin_pcap.specs.declared.next.Next.{Next}
 use Rattle.spin_reass.specs.JoinedCaptures.{joined_capture, IsJoinedCapture}
 use Rattle.spin_script.specs.States.{NativeData}
 use Rattle.spin_run.specs.declared.end.RunEnd.{RunEnd}
-use Rattle.spin_top.specs.declared.end.End.{End}
-use Rattle.spin_top.specs.Captures.{AreRecordsIn, IsBadCapture, IsCaptureFile, NoWholeBy}
-use Rattle.spin_top.specs.Ends.{exit_status}
-use Rattle.spin_top.specs.Held.{held_seen}
-use Rattle.spin_top.specs.Loading.{Loads, NoScriptBy, HoldsText, IsScriptText, KnowsRefused, KnowsNoScript}
-use Rattle.spin_top.specs.Outside.{Outside, OnlyStops, NoReadFailed}
-use Rattle.spin_top.specs.Run.{end_of, RanOver, KnowsNoCapture, IsComplete}
-use Rattle.spin_top.specs.Shelves.{ShelfStood}
+use Rattle.spin_stages.specs.declared.end.End.{End}
+use Rattle.spin_stages.specs.Captures.{AreRecordsIn, IsCaptureFile, NotBothBy, KnowsNoCapture, KnowsBadCapture}
+use Rattle.spin_stages.specs.Ends.{exit_status}
+use Rattle.spin_stages.specs.Held.{held_seen}
+use Rattle.spin_stages.specs.Loading.{KnowsRefused, KnowsNoScript}
+use Rattle.spin_stages.specs.Outside.{Outside, OnlyStops}
+use Rattle.spin_stages.specs.Shelves.{ShelfStood}
+use Rattle.spin_top.specs.Run.{end_of, RanOver, IsComplete}
 
 -- ---- the joined capture
 
@@ -45,12 +45,6 @@ pub record RanJoined (natives : NativeData) (before after : Outside) (name packe
   pub left' : List ℕ
   pub over : RanOver natives before after name (AreRecordsIn bytes) (held_seen left) (held_seen left') ended
 
--- Why script and capture weren't both read: the script wasn't; or it was, and the capture wasn't read whole.
-abbrev pub NotBothBy : NativeData → ShelfSeen → ShelfSeen → List ℕ → Option (List ℕ) → End → Type 0
-NotBothBy natives before after name packets end =
-    NoScriptBy natives before after name end
-    ⊎ (Loads natives before.files name × NoWholeBy before after packets end)
-
 -- Why a run of this script over the joined capture ended so, what was written, and what the endpoints received: script
 -- and capture weren't both read, and only the line of the end was written; or the run ended so. That a capture is bad
 -- is known of a shelf that tells its files.
@@ -65,13 +59,6 @@ IsJoinStatus natives before after name packets status =
     (end : End) × (status ≡ exit_status end) × JoinHasCause natives before after name packets end
 
 -- ---- what the status tells where the shelf tells its files
-
--- A bad capture beside a script is refused, unless a read failed or memory ran out.
-abbrev pub KnowsBadCapture : NativeData → Outside → Outside → List ℕ → List ℕ → ℕ → Type 0
-KnowsBadCapture natives before after name packets status =
-    (held : List File) (text : List ℕ) → HoldsText before.shelf held name text
-    → IsScriptText natives text → IsBadCapture held packets
-    → NoReadFailed before after → (status ≡ 3) ⊎ (status ≡ 7)
 
 -- Which status this command always comes to.
 pub record JoinKnows (natives : NativeData) (before after : Outside) (name packets : List ℕ)

@@ -1,17 +1,6 @@
-pub mod Captures
-pub mod Check
-pub mod Ends
 pub mod Gen
 pub mod Headline
-pub mod Held
 pub mod Inner
 pub mod Join
-pub mod Limits
-pub mod Loading
-pub mod Outside
 pub mod Run
-pub mod Shelves
 pub mod Statuses
-pub mod Texts
-pub mod Vm
-pub mod WholeCaptures

@@ -1,6 +1,7 @@
 -- The command `run`: why it ends so, and what its status tells.
-use Rattle.std.specs.Prelude.{◌≡◌, ◌+◌, ◌⊎◌, ℕ, Option, Some, None, List, Result}
-use Rattle.spin_outside.specs.Files.{File, content}
+use Rattle.std.specs.Prelude.{◌≡◌, ◌<◌, ◌+◌, ◌⊎◌, ℕ, Option, Some, None, List, length, Result}
+use Rattle.spin_outside.specs.Counts.{Rose}
+use Rattle.spin_outside.specs.Files.{File}
 use Rattle.spin_outside.specs.Seen.{ShelfSeen, SinkSeen}
 use Rattle.spin_outside.specs.Sources.{SourceSeen}
 use Rattle.spin_pcap.specs.declared.fault.PcapFault.{PcapFault}
@@ -9,15 +10,15 @@ use Rattle.spin_pcap.specs.declared.limits.TheConstants.{MAX_HELD}
 use Rattle.spin_script.specs.States.{NativeData, ScriptData}
 use Rattle.spin_run.specs.declared.end.RunEnd.{RunEnd}
 use Rattle.spin_run.specs.declared.end.RunEnd.TheVariants as run
-use Rattle.spin_run.specs.Ends.{seen, EndsBy, CountsBy}
-use Rattle.spin_top.specs.declared.end.End.{End}
-use Rattle.spin_top.specs.declared.end.End.TheVariants.{Whole, Capture, Unread, WriteFault, NoMemory, Endpoint}
-use Rattle.spin_top.specs.declared.end.Input.TheVariants.{Packets}
-use Rattle.spin_top.specs.Captures.{IsBadCapture, IsGoodCapture, AreBytesOf, AreRecordsOf, IsTakenUnder, NoCaptureBy}
-use Rattle.spin_top.specs.Ends.{exit_status, stop_line, Tells}
-use Rattle.spin_top.specs.Loading.{IsLoaded, Loads, NoScriptBy, HoldsText, IsScriptText, KnowsRefused, KnowsNoScript}
-use Rattle.spin_top.specs.Outside.{Outside, OnlyStops, NoReadFailed, NoneRose}
-use Rattle.spin_top.specs.Shelves.{ShelfStood, ShelfFailed}
+use Rattle.spin_run.specs.Ends.{seen, EndsBy, CountsBy, faults_at}
+use Rattle.spin_stages.specs.declared.end.End.{End}
+use Rattle.spin_stages.specs.declared.end.End.TheVariants.{Whole, Capture, Unread, WriteFault, NoMemory, Endpoint}
+use Rattle.spin_stages.specs.declared.end.Input.TheVariants.{Packets}
+use Rattle.spin_stages.specs.Captures.{IsBadCapture, IsGoodCapture, AreBytesOf, AreRecordsOf, IsTakenUnder, NoCaptureBy, KnowsNoCapture}
+use Rattle.spin_stages.specs.Ends.{exit_status, stop_line, Tells}
+use Rattle.spin_stages.specs.Loading.{IsLoaded, Loads, NoScriptBy, HoldsText, IsScriptText, KnowsRefused, KnowsNoScript}
+use Rattle.spin_stages.specs.Outside.{Outside, OnlyStops, NoReadFailed}
+use Rattle.spin_stages.specs.Shelves.{ShelfStood, ShelfFailed}
 
 -- ---- why
 
@@ -87,12 +88,13 @@ IsRunStatus natives before after name packets status =
 
 -- ---- what the status tells where the shelf tells its files
 
--- A capture that isn't there beside a script is told to be absent, unless a read failed or memory ran out.
-abbrev pub KnowsNoCapture : NativeData → Outside → Outside → List ℕ → Option (List ℕ) → ℕ → Type 0
-KnowsNoCapture natives before after name packets status =
-    (held : List File) (text capture : List ℕ) → HoldsText before.shelf held name text
-    → IsScriptText natives text → packets ≡ Some capture → content held capture ≡ None
-    → NoReadFailed before after → (status ≡ 6) ⊎ (status ≡ 7)
+-- No count rose.
+pub record NoneRose (before after : Outside) : Type 0 where
+  pub faults : NoReadFailed before after
+  pub absences : Rose before.shelf.absences after.shelf.absences → ⊥
+  pub sink : Rose before.sink.faults after.sink.faults → ⊥
+  pub ends : (place : ℕ) → place < length before.ends
+      → Rose (faults_at before.ends place) (faults_at after.ends place) → ⊥
 
 -- A bad capture beside a script is refused where no count rose, unless memory ran out.
 abbrev pub KnowsCapture : NativeData → Outside → Outside → List ℕ → Option (List ℕ) → ℕ → Type 0

@@ -1,19 +1,19 @@
 -- How the top call ends, and why.
 use Rattle.std.specs.Prelude.{◌≡◌, ◌⊎◌, ℕ, List}
 use Rattle.spin_script.specs.States.{NativeData}
-use Rattle.spin_top.specs.declared.end.End.{End}
-use Rattle.spin_top.specs.declared.end.End.TheVariants.{Usage, Refused, Capture, Unread, WriteFault, Absent}
-use Rattle.spin_top.specs.declared.end.End.TheVariants.{NoMemory, Endpoint, NoHistory, LongReport, Trace, Unsuited}
-use Rattle.spin_top.specs.declared.end.Input.{Input}
+use Rattle.spin_stages.specs.declared.end.End.{End}
+use Rattle.spin_stages.specs.declared.end.End.TheVariants.{Usage, Refused, Capture, Unread, WriteFault, Absent}
+use Rattle.spin_stages.specs.declared.end.End.TheVariants.{NoMemory, Endpoint, NoHistory, LongReport, Trace, Unsuited}
+use Rattle.spin_stages.specs.declared.end.Input.{Input}
 use Rattle.spin_words.specs.declared.words.Asked.{Asked}
 use Rattle.spin_words.specs.declared.words.Asked.TheVariants.{Run, Gen, Check, Join, Vm}
-use Rattle.spin_top.specs.Check.{CheckHasCause, CheckKnows}
-use Rattle.spin_top.specs.Ends.{exit_status}
+use Rattle.spin_offline.specs.Check.{CheckHasCause, CheckKnows}
+use Rattle.spin_stages.specs.Ends.{exit_status}
 use Rattle.spin_top.specs.Gen.{GenHasCause, GenKnows}
-use Rattle.spin_top.specs.Outside.{Outside, OnlyStops}
+use Rattle.spin_stages.specs.Outside.{Outside, OnlyStops}
 use Rattle.spin_top.specs.Join.{JoinHasCause, JoinKnows}
 use Rattle.spin_top.specs.Run.{RunHasCause, RunKnows}
-use Rattle.spin_top.specs.Vm.{VmHasCause, VmKnows}
+use Rattle.spin_offline.specs.Vm.{VmHasCause, VmKnows}
 use Rattle.spin_words.specs.Words.{IsAsked}
 
 -- a call: the natives and the words that are handed in, what is seen before and after it, and the status

@@ -1,7 +1,5 @@
-//! The commands, each with its own words.
+//! The commands that run a script, each with its own words.
 
-pub mod check;
 pub mod generate;
 pub mod join;
 pub mod run;
-pub mod vm;

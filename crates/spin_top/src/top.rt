@@ -1,21 +1,20 @@
 //! The top call: all that the program does.
 
 ghost use Rattle.spin_script.specs.States.{natives_seen};
-ghost use Rattle.spin_top.specs.declared.end.End.TheVariants as end;
+ghost use Rattle.spin_stages.specs.declared.end.End.TheVariants as end;
 ghost use Rattle.spin_top.specs.Headline.{AcceptsScript, Headline};
-ghost use Rattle.spin_top.specs.Outside.{outside};
+ghost use Rattle.spin_stages.specs.Outside.{outside};
 ghost use Rattle.spin_top.specs.Statuses.{Call, IsCommandStatus, IsStatus, Row, KeepsTable};
 
-use crate::commands::check::check_command;
 use crate::commands::generate::gen_command;
 use crate::commands::join::join_command;
 use crate::commands::run::run_command;
-use crate::commands::vm::vm_command;
-use crate::end::{End, stop};
 use spin_code::Sincere;
 use spin_endpoint::{Ends, EndsSeen};
 use spin_objects::Natives;
+use spin_offline::{check_command, vm_command};
 use spin_outside::{Gate, Shelf, Sink};
+use spin_stages::{End, stop};
 use spin_values::{NoMemory, Text};
 use spin_words::{Asked, read_words};
 use std::alloc::Global;

@@ -1,8 +1,9 @@
 -- What reading the records of a capture, and joining them, gives.
 use Rattle.std.specs.Prelude.{◌≡◌, ◌≢◌, ℕ, ◌+◌, ◌≤◌, List, [], ◌∷◌, ◌++◌, length, Result, Ok, Err, ⊤}
 use Rattle.std.specs.List.{flat_map}
+use Rattle.spin_pcap.specs.declared.fault.BadRecord.{BadRecord}
+use Rattle.spin_pcap.specs.declared.fault.BadRecord.TheVariants as stop
 use Rattle.spin_pcap.specs.declared.fault.PcapFault.{PcapFault}
-use Rattle.spin_pcap.specs.declared.fault.PcapFault.TheVariants as fault
 use Rattle.spin_pcap.specs.declared.limits.TheConstants.{MAX_CAPTURED, MAX_RECORDS}
 use Rattle.spin_pcap.specs.declared.next.Next.{Next}
 use Rattle.spin_pcap.specs.declared.next.Next.TheVariants as next
@@ -10,8 +11,6 @@ use Rattle.spin_pcap.specs.declared.order.Order.{Order}
 use Rattle.spin_pcap.specs.declared.state.State.TheVariants as state
 use Rattle.spin_pcap.specs.Captures.{IsBody}
 use Rattle.spin_pcap.specs.Passing.{ReaderState, fault_number, IsCutShort}
-use Rattle.spin_reass.specs.declared.fault.JoinFault.{JoinFault}
-use Rattle.spin_reass.specs.declared.fault.JoinFault.TheVariants as stop
 use Rattle.spin_reass.specs.JoinedCaptures.{record_of}
 use Rattle.spin_reass.specs.Joining.{joined_frames}
 
@@ -24,12 +23,6 @@ abbrev pub EachIsFew : List (List ℕ) → Type 0
 EachIsFew [] = ⊤
 EachIsFew (frame ∷ frames) = (length frame ≤ MAX_CAPTURED) × EachIsFew frames
 
--- why joining stops at a fault of the record of that number
-abbrev pub stop_of : ℕ → PcapFault → JoinFault
-stop_of at fault.ReadFault = stop.ReadFault
-stop_of at fault.NoMemory = stop.NoMemory
-stop_of at other = stop.Capture at (fault_number other)
-
 -- So many records may come with this rest behind them, where the captured bytes of each are few.
 abbrev pub AreRecords : List (List ℕ) → Next → Type 0
 AreRecords frames ending =
@@ -37,14 +30,14 @@ AreRecords frames ending =
     × (ending ≢ next.Packet)
 
 -- Joining some records gave this, behind the bytes before.
-abbrev pub JoinsSome : List ℕ → List ℕ → Result Next JoinFault → Type 0
+abbrev pub JoinsSome : List ℕ → List ℕ → Result Next BadRecord → Type 0
 JoinsSome before after (Ok ending) =
     (frames : List (List ℕ)) × AreRecords frames ending
     × (after ≡ before ++ flat_map record_of (joined_frames [] frames))
 JoinsSome before after (Err fault) = ⊤
 
 -- What joining the records that begin these bytes gives, behind the bytes before.
-abbrev pub JoinsBody : Order → List ℕ → List ℕ → List ℕ → Result Next JoinFault → Type 0
+abbrev pub JoinsBody : Order → List ℕ → List ℕ → List ℕ → Result Next BadRecord → Type 0
 JoinsBody way bytes before after (Ok ending) =
     (frames : List (List ℕ)) × IsBody way 0 bytes frames (Ok ending)
     × (after ≡ before ++ flat_map record_of (joined_frames [] frames))

@@ -3,14 +3,16 @@ use Rattle.std.specs.Prelude.{◌≡◌, ◌<◌, ◌≤◌, ◌+◌, ℕ, List,
 use Rattle.std.specs.Prelude.{Option, Some, None, Result, Ok, Err, ⊤, MatchResult}
 use Rattle.spin_outside.specs.Counts.{Rose}
 use Rattle.spin_outside.specs.Sources.{SourceSeen, taken_more}
+use Rattle.spin_pcap.specs.declared.fault.BadRecord.{BadRecord}
+use Rattle.spin_pcap.specs.declared.fault.BadRecord.TheVariants as bad
 use Rattle.spin_pcap.specs.declared.fault.PcapFault.{PcapFault}
-use Rattle.spin_pcap.specs.declared.fault.PcapFault.TheVariants as fault
 use Rattle.spin_pcap.specs.declared.limits.TheConstants.{MAX_RECORDS}
 use Rattle.spin_pcap.specs.declared.next.Next.{Next}
 use Rattle.spin_pcap.specs.declared.next.Next.TheVariants as next
 use Rattle.spin_pcap.specs.declared.state.State.{State}
 use Rattle.spin_pcap.specs.declared.state.State.TheVariants as state
 use Rattle.spin_pcap.specs.Passing.{ReaderState, fault_number}
+use Rattle.spin_pcap.specs.Whole.{bad_at}
 use Rattle.spin_run.specs.declared.end.RunEnd.{RunEnd}
 use Rattle.spin_run.specs.declared.end.RunEnd.TheVariants as end
 use Rattle.spin_run.specs.Records.{AreRecords, HasRecords, bytes_in, room_of, IsTakenPast}
@@ -54,11 +56,15 @@ abbrev pub CountsOn : Option ReaderState → Option ReaderState → Type 0
 CountsOn before after =
     (given_by before < MAX_RECORDS) × (given_by after ≡ given_by before + 1)
 
+-- how a run ends whose capture isn't read on
+abbrev pub ended_by : BadRecord → RunEnd
+ended_by (bad.Capture record_number reason) = end.Capture record_number reason
+ended_by bad.ReadFault = end.ReadFault
+ended_by bad.NoMemory = end.NoMemory
+
 -- why reading stops at a fault of the record of that number
 abbrev pub stop_of : ℕ → PcapFault → RunEnd
-stop_of record_number fault.ReadFault = end.ReadFault
-stop_of record_number fault.NoMemory = end.NoMemory
-stop_of record_number other = end.Capture record_number (fault_number other)
+stop_of record_number wrong = ended_by (bad_at record_number wrong)
 
 -- The capture is refused: at its record of that number, with the number of its fault.
 abbrev pub IsCaptureRefused : Option ReaderState → List (List ℕ) → Option (Result Next PcapFault)

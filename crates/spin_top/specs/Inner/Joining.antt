@@ -9,7 +9,7 @@ use Rattle.spin_script.specs.States.{ScriptData}
 use Rattle.spin_run.specs.declared.end.RunEnd.{RunEnd}
 use Rattle.spin_run.specs.Ends.{seen, EndsBy, CountsBy}
 use Rattle.spin_run.specs.Records.{AreRecords, room_of}
-use Rattle.spin_top.specs.Held.{held_seen}
+use Rattle.spin_stages.specs.Held.{held_seen}
 
 -- The run over the records that are left for the reader ended so.
 pub record RunsJoined (script : ScriptData) (left : List ℕ) (reader : ReaderState)

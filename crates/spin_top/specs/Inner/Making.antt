@@ -10,7 +10,7 @@ use Rattle.spin_run.specs.declared.end.RunEnd.{RunEnd}
 use Rattle.spin_run.specs.Ends.{seen, CountsBy}
 use Rattle.spin_run.specs.Records.{AreRecords, room_of}
 use Rattle.spin_run.specs.Summaries.{SumsUpBy}
-use Rattle.spin_top.specs.Held.{held_seen}
+use Rattle.spin_stages.specs.Held.{held_seen}
 
 -- The run over the records that are left for the reader ended so.
 pub record RunsMade (script : ScriptData) (number : ℕ) (left : List ℕ) (reader : ReaderState)

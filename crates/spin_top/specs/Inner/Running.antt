@@ -6,7 +6,7 @@ use Rattle.spin_script.specs.States.{ScriptData}
 use Rattle.spin_run.specs.declared.end.RunEnd.{RunEnd}
 use Rattle.spin_run.specs.Ends.{seen, EndsBy, CountsBy}
 use Rattle.spin_run.specs.Records.{HasRecords, room_of}
-use Rattle.spin_top.specs.Outside.{Outside}
+use Rattle.spin_stages.specs.Outside.{Outside}
 
 -- The run ended so, over a source with the records of that file of the shelf.
 pub record RunsOver (script : ScriptData) (file : ℕ) (reader : Option ReaderState)

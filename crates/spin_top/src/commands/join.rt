@@ -7,35 +7,34 @@ ghost use Rattle.spin_script.specs.States.{natives_seen};
 ghost use Rattle.spin_script.specs.Scripts.{script_seen};
 ghost use Rattle.spin_script.specs.Segments.{IsOrderly};
 ghost use Rattle.spin_script.specs.Soundness.{AreValid, command_lines};
-ghost use Rattle.spin_top.specs.Captures.{NoWholeBy};
+ghost use Rattle.spin_stages.specs.Captures.{NoWholeBy};
 ghost use Rattle.spin_top.specs.Inner.Joining.{RunsJoined};
-ghost use Rattle.spin_reass.specs.JoinedCaptures.{IsJoined, IsJoinedCapture, JoinsByCount};
+ghost use Rattle.spin_pcap.specs.Whole.{EndsByCount};
+ghost use Rattle.spin_reass.specs.JoinedCaptures.{IsJoined, IsJoinedCapture};
 ghost use Rattle.spin_top.specs.Join.{IsJoinedBy, IsJoinStatus};
-ghost use Rattle.spin_top.specs.Outside.{outside};
+ghost use Rattle.spin_stages.specs.Outside.{outside};
 
-use crate::capture::find_packets;
 use crate::commands::run::end_of;
-use crate::end::{End, Input, stop};
-use crate::held::{HeldCapture, behind_header};
-use crate::load::script_of;
 use spin_code::Sincere;
 use spin_endpoint::{Ends, EndsSeen};
 use spin_objects::{Catalogue, Natives};
 use spin_outside::{Gate, Shelf, ShelfSource, Sink};
-use spin_reass::{JoinFault, join_capture};
+use spin_pcap::BadRecord;
+use spin_reass::join_capture;
 use spin_run::{RunEnd, run_script};
 use spin_script::Script;
+use spin_stages::{End, HeldCapture, behind_header, end_at, find_packets, script_of, stop};
 use spin_values::{Octets, Text};
 use std::alloc::Global;
 use std::thread::Threads;
 
 // The joined capture of the file of that number, which is read to its end.
-fn join_file<F: Shelf>(alloc: Global, shelf: &mut F, file: u32) -> Result<Octets, JoinFault>
+fn join_file<F: Shelf>(alloc: Global, shelf: &mut F, file: u32) -> Result<Octets, BadRecord>
     ensures joined { IfSome ((F.seen shelf.old).left file) (λ text. IsJoined text result) }
     ensures good { IfOk result IsJoinedCapture }
     ensures files { (F.seen shelf.new).files ≡ (F.seen shelf.old).files }
     ensures absences { (F.seen shelf.new).absences ≡ (F.seen shelf.old).absences }
-    ensures cause { JoinsByCount (F.seen shelf.old).faults (F.seen shelf.new).faults result }
+    ensures cause { EndsByCount (F.seen shelf.old).faults (F.seen shelf.new).faults result }
 {
     let mut source = ShelfSource { shelf, file };
     join_capture(alloc, &mut source)
@@ -50,9 +49,7 @@ fn joined_of<F: Shelf>(alloc: Global, shelf: &mut F, name: &Text) -> Result<Octe
     let file = find_packets(shelf, name)?;
     match join_file(alloc, shelf, file) {
         Ok(bytes) => Ok(bytes),
-        Err(JoinFault::Capture { number, fault }) => Err(End::Capture { number, fault }),
-        Err(JoinFault::ReadFault) => Err(End::Unread(Input::Packets)),
-        Err(JoinFault::NoMemory) => Err(End::NoMemory),
+        Err(bad) => Err(end_at(bad)),
     }
 }
 

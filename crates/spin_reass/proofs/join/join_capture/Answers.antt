@@ -4,7 +4,8 @@ use Rattle.spin_pcap.specs.Passing.{left_for, IsStart}
 use Rattle.spin_reass.specs.Inner.Reading.{JoinsBody}
 use Rattle.spin_reass.specs.JoinedCaptures.{file_header, rest_of}
 use Rattle.spin_reass.proofs.GivenRecords.{some_capture}
-use Rattle.spin_reass.proofs.JoinedRecords.{told_each, at_told, capture_stopped}
+use Rattle.spin_pcap.proofs.CaptureRecords.{at_told}
+use Rattle.spin_reass.proofs.JoinedRecords.{told_each, capture_stopped}
 use Rattle.spin_reass.proofs.join.join_capture.Goals as goal
 
 pub returns-in_err-rest-clause-joined : goal.returns-in_err-rest-clause-joined

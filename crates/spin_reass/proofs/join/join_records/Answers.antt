@@ -1,7 +1,8 @@
 use Rattle.std.proofs.Common.{◌≡◌, Ok, length, rules, ap, refl, ◌∙◌, arith}
 use Rattle.spin_pcap.specs.Passing.{left_for}
 use Rattle.spin_reass.proofs.GivenRecords.{given_none, given_packet, given_end, given_cut}
-use Rattle.spin_reass.proofs.JoinedRecords.{told_each, told_more, joined_none, after_packet, packet_few, next_packet, ends_joined, cuts_joined, stops_joined}
+use Rattle.spin_pcap.proofs.CaptureRecords.{after_packet, told_more}
+use Rattle.spin_reass.proofs.JoinedRecords.{told_each, joined_none, packet_few, next_packet, ends_joined, cuts_joined, stops_joined}
 use Rattle.spin_reass.proofs.join.join_records.Goals as goal
 
 pub records-init : goal.records-init

@@ -3,8 +3,8 @@ use Rattle.spin_gen.specs.Laws.{IsReadAsScript}
 use Rattle.spin_script.specs.Language.{IsScript}
 use Rattle.spin_script.specs.Scripts.{script_seen}
 use Rattle.spin_script.specs.States.{natives_seen}
-use Rattle.spin_top.specs.declared.end.End.TheVariants.{NoMemory}
-use Rattle.spin_top.specs.Ends.{exit_status}
+use Rattle.spin_stages.specs.declared.end.End.TheVariants.{NoMemory}
+use Rattle.spin_stages.specs.Ends.{exit_status}
 use Rattle.spin_top.specs.Run.{end_of}
 use Rattle.spin_top.proofs.GenCauses.{not_behind, was_made}
 use Rattle.spin_top.proofs.commands.generate.gen_command.Goals as goal

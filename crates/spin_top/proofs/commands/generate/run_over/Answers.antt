@@ -2,7 +2,7 @@ use Rattle.std.proofs.Common.{Some, map, refl, rules}
 use Rattle.spin_endpoint.specs.Inner.View.{view_of}
 use Rattle.spin_script.specs.Scripts.{script_seen}
 use Rattle.spin_run.proofs.Told.{told_all}
-use Rattle.spin_top.specs.Held.{held_seen}
+use Rattle.spin_stages.specs.Held.{held_seen}
 use Rattle.spin_top.proofs.GenCauses.{over_known}
 use Rattle.spin_top.proofs.commands.generate.run_over.Goals as goal
 

@@ -1,6 +1,6 @@
 use Rattle.std.proofs.Common.{◌∙◌, refl, ap}
 use Rattle.spin_script.specs.Scripts.{script_seen}
-use Rattle.spin_top.specs.Ends.{exit_status}
+use Rattle.spin_stages.specs.Ends.{exit_status}
 use Rattle.spin_top.specs.Run.{end_of}
 use Rattle.spin_top.proofs.JoinCauses.{not_behind, not_joined, not_loaded, was_joined}
 use Rattle.spin_top.proofs.commands.join.join_command.Goals as goal

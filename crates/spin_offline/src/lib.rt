@@ -1,0 +1,13 @@
+//! The commands that run no lanes and deliver nothing: `check`, which judges a report, and `vm`, which runs a trace.
+//!
+//! - [`check_command`] and [`vm_command`] do them, and answer the status;
+//! - [`limits_are_stated`] states the limits in numbers.
+#![tactic(auto)]
+
+mod check;
+mod limits;
+mod vm;
+
+pub use check::check_command;
+pub use limits::limits_are_stated;
+pub use vm::vm_command;

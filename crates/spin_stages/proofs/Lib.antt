@@ -1,0 +1,11 @@
+pub mod BadCaptures
+pub mod CaptureStops
+pub mod LargeTexts
+pub mod OpenedCaptures
+pub mod ReadingUniqueness
+pub mod SaidScripts
+pub mod SaidTexts
+pub mod SaidWords
+pub mod ShelfLemmas
+pub mod Stages
+pub mod WholeCaptureLemmas

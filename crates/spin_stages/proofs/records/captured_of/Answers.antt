@@ -1,0 +1,14 @@
+use Rattle.std.proofs.Common.{ap, rules}
+use Rattle.spin_stages.specs.Captures.{NoWholeBy}
+use Rattle.spin_stages.proofs.CaptureStops.{whole_stops}
+use Rattle.spin_stages.proofs.records.captured_of.Goals as goal
+
+pub returns-in-Err-clause-refused : goal.returns-in-Err-clause-refused
+returns-in-Err-clause-refused g c =
+    let seen = g.F.Shelf.seen in
+    let found = c.in_ok-file.ensures in
+    let kept = c.in-Err.ensures.keep in
+    let stop : NoWholeBy (seen c.args.shelf.now) (seen c.read_capture.new.source.shelf.now) c.args.packets.now c.end_at.result =
+    rw (c.in-Some.is, c.end_at.ensures) (whole_stops (seen c.args.shelf.now) (seen c.find_packets.new.shelf) (seen c.read_capture.new.source.shelf.now) c.in-Some.name _
+    c.in-Err.bad found.stood found.found (ap (λ k. k.files) kept) (ap (λ k. k.absences) kept) c.in-Err.ensures.read c.in-Err.ensures.cause) in
+    search (rules, stop)

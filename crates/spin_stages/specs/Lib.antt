@@ -1,0 +1,9 @@
+pub mod Captures
+pub mod Ends
+pub mod Held
+pub mod Holding
+pub mod Loading
+pub mod Outside
+pub mod Shelves
+pub mod Texts
+pub mod WholeCaptures
