@@ -1,5 +1,6 @@
 -- The sum as it is made, word by word, and the one sum of all words.
-use Rattle.std.proofs.Common.{◌≡◌, ℕ, zero, suc, ◌+◌, ◌-◌, ◌*◌, ◌%◌, ◌<◌, ◌≤◌, List, [], ◌∷◌, ◌++◌, length, get_or, drop, refl, sym, ap, ◌∙◌, arith}
+use Rattle.std.proofs.Common.{◌≡◌, ℕ, zero, suc, ◌+◌, ◌-◌, ◌*◌, ◌%◌, ◌<◌, ◌≤◌, List, [], ◌∷◌, ◌++◌, length, get_or, drop, refl, sym, ap, ◌∙◌, inl, inr, arith}
+use Rattle.std.proofs.lemmas.Bool.{cases_lt}
 use Rattle.std.proofs.lemmas.Bool.Decides.{nat_tests}
 use Rattle.std.proofs.lemmas.List.Sums.{sum_by-cons}
 use Rattle.spin_headers.specs.Sums.{sum_words, word_total, folded, word_sum}
@@ -88,3 +89,45 @@ sum_joined xs ys first both h f b =
     ∙ ap (λ n. folded (n + word_total ys)) f
     ∙ folded_again (0 + word_total xs) (word_total ys)
     ∙ ap folded (let t = total-append xs ys h in omega arith)
+
+-- sums that are congruent are folded to one number, unless one alone is 0
+pub folded_same : (n m : ℕ) → n % 65535 ≡ m % 65535 → (0 < n → 0 < m) → (0 < m → 0 < n) → folded n ≡ folded m
+folded_same zero m same forth back =
+    elim (cases_lt 0 m) [
+      | inl p ↦ absurd (omega (arith, back p))
+      | inr none ↦ let e : 0 ≡ m = omega arith in ap folded e
+    ]
+folded_same (suc n) m same forth back =
+    let k = folded_keeps m (folded m) refl in
+    let p : 0 < folded m = k.3 (forth (omega arith)) in
+    folded_only (suc n) (folded m) (omega arith) (omega arith) (omega arith) (λ h. p)
+
+four_bytes : (a b c d : ℕ) → a * 16777216 + (b * 65536 + (c * 256 + (d * 1 + 0))) ≡ 65536 * (256 * a + b) + (256 * c + d)
+four_bytes a b c d = omega arith
+
+-- two words from the front
+first_pair : (bytes : List ℕ) → 4 ≤ length bytes
+    → (high : ℕ) × (low : ℕ) × (word_total bytes ≡ high + low + word_total (drop 4 bytes)) × (big_number 4 bytes ≡ 65536 * high + low)
+first_pair [] h = absurd (omega arith)
+first_pair (a ∷ []) h = absurd (omega arith)
+first_pair (a ∷ (b ∷ [])) h = absurd (omega arith)
+first_pair (a ∷ (b ∷ (c ∷ []))) h = absurd (omega arith)
+first_pair (a ∷ (b ∷ (c ∷ (d ∷ rest)))) h =
+    let one = sum_by-cons (λ x. x) (256 * a + b) (sum_words (c ∷ (d ∷ rest))) in
+    let two = sum_by-cons (λ x. x) (256 * c + d) (sum_words rest) in
+    (256 * a + b, 256 * c + d, omega arith, four_bytes a b c d)
+
+-- two words more
+pub pair_step : (total next all : ℕ) (bytes after : List ℕ) → 4 ≤ length bytes → next % 65535 ≡ (total + big_number 4 bytes) % 65535 → (0 < total + big_number 4 bytes → 0 < next) → next ≤ total + big_number 4 bytes
+    → folded (total + word_total bytes) ≡ all → after ≡ drop 4 bytes → folded (next + word_total after) ≡ all
+pair_step total next all bytes after h same some few known is =
+    let pair = first_pair bytes h in
+    let words = pair.2 in
+    let number = pair.3 in
+    let back : 0 < total + word_total bytes → 0 < next + word_total (drop 4 bytes) = λ p. elim (cases_lt 0 (total + big_number 4 bytes)) [
+      | inl q ↦ omega (arith, some q)
+      | inr none ↦ omega arith
+    ] in
+    ap (λ bs. folded (next + word_total bs)) is
+    ∙ folded_same (next + word_total (drop 4 bytes)) (total + word_total bytes) (omega arith) (λ p. omega arith) back
+    ∙ known

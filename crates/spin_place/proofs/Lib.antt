@@ -4,4 +4,5 @@ pub mod Rings
 pub mod Precedences
 pub mod PrecedenceWalks
 pub mod BindingPlacing
+pub mod UnplacedBindings
 pub mod OrderLaws

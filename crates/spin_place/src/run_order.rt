@@ -8,6 +8,7 @@ ghost use Rattle.spin_place.specs.Precedence.{numbers_of, IsLawful, IsTheOrder, 
 use crate::binding::Binding;
 use crate::candidate::{candidates, least_ready, release};
 use crate::cycle::cycle_among;
+use crate::unplaced::are_unplaced;
 use spin_values::{NoMemory, Numbers};
 use std::alloc::Global;
 use thiserror::Error;
@@ -43,18 +44,32 @@ fn with_room(alloc: Global, room: usize) -> Result<Numbers, NoMemory>
     Ok(Numbers::from_vec(Vec::with_capacity(alloc, room)?))
 }
 
+// The numbers of the bindings, as they stand.
+fn numbers_in_place(alloc: Global, bindings: &[Binding]) -> Result<Numbers, NoMemory>
+    ensures { IfOk result (λ numbers. numbers ≡ numbers_of bindings.now) }
+{
+    let mut numbers = with_room(alloc, bindings.len())?;
+    for binding in bindings {
+        numbers.push(binding.number)?;
+    }
+    Ok(numbers)
+}
+
 /// The numbers of the bindings in the order in which they run: of all orders in which nothing stands after a
 /// binding that it must precede, the one that has the smaller number where it first differs from another.
 /// `Conflict` comes exactly where there is no such order.
 ///
 /// It compares each two of the bindings at most three times, and takes memory for the answer and for one list beside
-/// it.
+/// it. Where no binding asks for a place and their numbers rise, it compares none, and takes time linear in them.
 pub fn order(alloc: Global, bindings: &[Binding]) -> Result<Numbers, OrderFault>
     requires { AreDistinct (numbers_of bindings.now) }
     ensures order { IfOk result (λ ns. IsTheOrder bindings.now ns) }
     ensures cycle { IfConflict result (λ ns. IsCycle bindings.now ns) }
     ensures unlawful { IfConflict result (λ _. (ns : List ℕ) → IsLawful bindings.now ns → ⊥) }
 {
+    if are_unplaced(bindings) {
+        return Ok(numbers_in_place(alloc, bindings)?);
+    }
     let mut rest = candidates(alloc, bindings)?;
     let mut placed = with_room(alloc, bindings.len())?;
     while !rest.is_empty() {

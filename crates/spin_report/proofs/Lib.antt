@@ -1,3 +1,4 @@
+pub mod Kept
 pub mod PlainWords
 pub mod ReportLines
 pub mod EntryLines

@@ -3,7 +3,7 @@
 //! - `entry` is an entry of a history: where it stands, what was asked, and what it answered;
 //! - `records` are those of a capture that a line takes;
 //! - `verdict` writes what became of a command, and `reply` what a deed or a job came to;
-//! - `text` appends whole lines;
+//! - `words` appends words, and `text` whole lines;
 //! - `law` says that a report tells one history from all others.
 #![tactic(auto)]
 
@@ -13,6 +13,7 @@ mod records;
 mod reply;
 mod text;
 mod verdict;
+mod words;
 
 pub use entry::{Entries, Entry, Moment, What};
 pub use law::{one_history, report_tells};

@@ -1,31 +1,33 @@
 //! The words of what a deed or a job came to.
 
-ghost use Rattle.std.specs.Prelude.{◌≡◌, ◌++◌, ◌∷◌, [], decimal, codes, OnOk, OnErr};
+ghost use Rattle.std.specs.Prelude.{◌≡◌, ◌++◌, ◌∷◌, [], decimal, take, length, OnOk, OnErr};
 ghost use Rattle.std.specs.List.{flat_map};
 ghost use Rattle.spin_text.specs.Words.{spaced};
 ghost use Rattle.spin_report.specs.Replies.{answer_words, fault_word, step_words, reply_words};
 
+use crate::words::{add_number, add_word};
 use spin_headers::HeaderFault;
 use spin_proto::{Reply, Step};
 use spin_raise::Answer;
-use spin_text::{put_number, put_word};
 use spin_values::{NoMemory, Octets};
 
+#[tactic(auto, using(crate::proofs::Kept::kept_same, crate::proofs::Kept::kept_more, crate::proofs::Kept::kept_on))]
 fn put_answer(out: &mut Octets, answer: Answer) -> Result<(), NoMemory>
-    ensures { OnOk result (out.new ≡ out.old ++ spaced (answer_words answer)) }
+    ensures ok { OnOk result (out.new ≡ out.old ++ spaced (answer_words answer)) }
+    ensures err { OnErr result (take (length out.old) out.new ≡ out.old) }
 {
     match answer {
         Answer::Value(value) => {
-            put_word(out, b"value")?;
-            put_number(out, value)
+            out.extend_from_slice(b" value")?;
+            add_number(out, value)
         }
-        Answer::Done => put_word(out, b"done"),
-        Answer::Default(None) => put_word(out, b"default"),
+        Answer::Done => out.extend_from_slice(b" done"),
+        Answer::Default(None) => out.extend_from_slice(b" default"),
         Answer::Default(Some(value)) => {
-            put_word(out, b"default")?;
-            put_number(out, value)
+            out.extend_from_slice(b" default")?;
+            add_number(out, value)
         }
-        Answer::NoHandler => put_word(out, b"nohandler"),
+        Answer::NoHandler => out.extend_from_slice(b" nohandler"),
     }
 }
 
@@ -44,45 +46,51 @@ fn fault_word(fault: HeaderFault) -> &'static [u8]
 }
 
 // Appends a word and two numbers.
+#[tactic(auto, using(crate::proofs::Kept::kept_same, crate::proofs::Kept::kept_more, crate::proofs::Kept::kept_on))]
 fn put_pair(out: &mut Octets, word: &[u8], first: u64, second: u64) -> Result<(), NoMemory>
-    ensures { let words = word.now ∷ decimal first ∷ decimal second ∷ [] in
+    ensures ok { let words = word.now ∷ decimal first ∷ decimal second ∷ [] in
         OnOk result (out.new ≡ out.old ++ spaced words) }
+    ensures err { OnErr result (take (length out.old) out.new ≡ out.old) }
 {
-    put_word(out, word)?;
-    put_number(out, first)?;
-    put_number(out, second)
+    add_word(out, word)?;
+    add_number(out, first)?;
+    add_number(out, second)
 }
 
+#[tactic(auto, using(crate::proofs::Kept::kept_same, crate::proofs::Kept::kept_more, crate::proofs::Kept::kept_on))]
 fn put_step(out: &mut Octets, step: &Step) -> Result<(), NoMemory>
-    ensures { OnOk result (out.new ≡ out.old ++ spaced (step_words step.now)) }
+    ensures ok { OnOk result (out.new ≡ out.old ++ spaced (step_words step.now)) }
+    ensures err { OnErr result (take (length out.old) out.new ≡ out.old) }
 {
     match step {
         Step::Run { event, number } => put_pair(out, b"run", u64::from(*event), u64::from(*number)),
         Step::Result(value) => {
-            put_word(out, b"result")?;
-            put_number(out, *value)
+            out.extend_from_slice(b" result")?;
+            add_number(out, *value)
         }
         Step::Send { endpoint, bytes } => {
             put_pair(out, b"send", u64::from(*endpoint), bytes.len() as u64)
         }
         Step::Up(event) => {
-            put_word(out, b"up")?;
-            put_number(out, u64::from(*event))
+            out.extend_from_slice(b" up")?;
+            add_number(out, u64::from(*event))
         }
         Step::Back(answer) => {
-            put_word(out, b"back")?;
+            out.extend_from_slice(b" back")?;
             put_answer(out, *answer)
         }
         Step::Dropped(fault) => {
-            put_word(out, b"drop")?;
-            put_word(out, fault_word(*fault))
+            out.extend_from_slice(b" drop")?;
+            add_word(out, fault_word(*fault))
         }
         Step::Job { event, number } => put_pair(out, b"job", u64::from(*event), u64::from(*number)),
     }
 }
 
+#[tactic(auto, using(crate::proofs::Kept::kept_same, crate::proofs::Kept::kept_more, crate::proofs::Kept::kept_on))]
 fn put_trace(out: &mut Octets, trace: &[Step]) -> Result<(), NoMemory>
-    ensures { OnOk result (out.new ≡ out.old ++ spaced (flat_map step_words trace.now)) }
+    ensures ok { OnOk result (out.new ≡ out.old ++ spaced (flat_map step_words trace.now)) }
+    ensures err { OnErr result (take (length out.old) out.new ≡ out.old) }
 {
     for step in trace {
         put_step(out, step)?;
@@ -90,30 +98,22 @@ fn put_trace(out: &mut Octets, trace: &[Step]) -> Result<(), NoMemory>
     Ok(())
 }
 
-// Appends a refusal of a deed: its number and its name.
-fn put_refused(out: &mut Octets, number: &[u8], name: &[u8]) -> Result<(), NoMemory>
-    ensures { let words = codes "refused" ∷ number.now ∷ name.now ∷ [] in
-        OnOk result (out.new ≡ out.old ++ spaced words) }
-{
-    put_word(out, b"refused")?;
-    put_word(out, number)?;
-    put_word(out, name)
-}
-
 // Appends what a deed or a job came to.
+#[tactic(auto, using(crate::proofs::Kept::kept_same, crate::proofs::Kept::kept_more, crate::proofs::Kept::kept_on))]
 pub(crate) fn put_reply(out: &mut Octets, reply: &Reply) -> Result<(), NoMemory>
-    ensures { OnOk result (out.new ≡ out.old ++ spaced (reply_words reply.now)) }
+    ensures ok { OnOk result (out.new ≡ out.old ++ spaced (reply_words reply.now)) }
+    ensures err { OnErr result (take (length out.old) out.new ≡ out.old) }
 {
     match reply {
         Reply::Ran { answer, trace, .. } => {
             put_trace(out, trace.as_slice())?;
-            put_word(out, b"=")?;
+            out.extend_from_slice(b" =")?;
             put_answer(out, *answer)
         }
-        Reply::Queued(_) => put_word(out, b"queued"),
-        Reply::UnknownEvent => put_refused(out, b"1", b"unknown_event"),
-        Reply::WrongArgs => put_refused(out, b"2", b"wrong_args"),
-        Reply::Spent => put_refused(out, b"3", b"spent"),
+        Reply::Queued(_) => out.extend_from_slice(b" queued"),
+        Reply::UnknownEvent => out.extend_from_slice(b" refused 1 unknown_event"),
+        Reply::WrongArgs => out.extend_from_slice(b" refused 2 wrong_args"),
+        Reply::Spent => out.extend_from_slice(b" refused 3 spent"),
     }
 }
 

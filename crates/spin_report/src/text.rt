@@ -1,6 +1,6 @@
 //! Whole lines.
 
-ghost use Rattle.std.specs.Prelude.{◌≡◌, ◌++◌, ◌∷◌, [], OnOk, OnErr};
+ghost use Rattle.std.specs.Prelude.{◌≡◌, ◌≤◌, ◌++◌, ◌∷◌, [], take, length, OnOk, OnErr};
 ghost use Rattle.spin_text.specs.Words.{spaced, line_of, ended};
 ghost use Rattle.spin_report.specs.Lines.{line_word, what_words, entry_words};
 ghost use Rattle.spin_report.specs.Lines.{job_words, entry_line, job_line, job_seen};
@@ -9,14 +9,13 @@ ghost use Rattle.spin_report.specs.Histories.{retire_line, segment_line, lost_li
 use crate::entry::{Entry, What};
 use crate::reply::put_reply;
 use crate::verdict::put_verdict;
+use crate::words::{add_number, add_word};
 use spin_proto::{Job, Reply};
 use spin_script::op_word;
 use spin_text::{put_decimal, put_line, put_number, put_word};
 use spin_values::{NoMemory, Octets};
 use spin_word::Deed;
-
-// So many bytes most lines have at most: with room for them a line is allocated once.
-const USUAL_LENGTH: usize = 248;
+use std::mem;
 
 /// What became of a capture.
 #[derive(Clone, Copy, PartialEq, Eq, Debug)]
@@ -29,11 +28,24 @@ pub struct CaptureCounts {
     pub cut: u32,
 }
 
-// Appends the number of a line, and of its part where it is a line of packets.
-fn put_line_word(out: &mut Octets, line: u32, part: u32) -> Result<(), NoMemory>
-    ensures { OnOk result (out.new ≡ out.old ++ spaced (line_word line part ∷ [])) }
+// Keeps the first so many bytes alone.
+fn cut_back(out: &mut Octets, kept: usize)
+    requires { kept ≤ length out.old }
+    ensures { out.new ≡ take kept out.old }
 {
-    put_number(out, u64::from(line))?;
+    let empty = Octets::new(out.allocator());
+    let mut bytes = mem::replace(out, empty).into_vec();
+    bytes.truncate(kept);
+    *out = Octets::from_vec(bytes);
+}
+
+// Appends the number of a line, and of its part where it is a line of packets.
+#[tactic(auto, using(crate::proofs::Kept::kept_same, crate::proofs::Kept::kept_more, crate::proofs::Kept::kept_on))]
+fn put_line_word(out: &mut Octets, line: u32, part: u32) -> Result<(), NoMemory>
+    ensures ok { OnOk result (out.new ≡ out.old ++ spaced (line_word line part ∷ [])) }
+    ensures err { OnErr result (take (length out.old) out.new ≡ out.old) }
+{
+    add_number(out, u64::from(line))?;
     if part != 0 {
         out.push(b'.')?;
         put_decimal(out, u64::from(part))?;
@@ -41,47 +53,73 @@ fn put_line_word(out: &mut Octets, line: u32, part: u32) -> Result<(), NoMemory>
     Ok(())
 }
 
+#[tactic(auto, using(crate::proofs::Kept::kept_same, crate::proofs::Kept::kept_more, crate::proofs::Kept::kept_on))]
 fn put_what(out: &mut Octets, part: u32, what: &What) -> Result<(), NoMemory>
-    ensures { OnOk result (out.new ≡ out.old ++ spaced (what_words part what.now)) }
+    ensures ok { OnOk result (out.new ≡ out.old ++ spaced (what_words part what.now)) }
+    ensures err { OnErr result (take (length out.old) out.new ≡ out.old) }
 {
     match what {
         What::Command(command, verdict) => {
-            put_word(out, op_word(command.op))?;
+            add_word(out, op_word(command.op))?;
             put_verdict(out, verdict)
         }
         What::Deed(Deed::Later { .. }, reply) => {
-            put_word(out, b"later")?;
+            out.extend_from_slice(b" later")?;
             put_reply(out, reply)
         }
         What::Deed(Deed::Raise { .. }, reply) => {
             if part == 0 {
-                put_word(out, b"raise")?;
+                out.extend_from_slice(b" raise")?;
             } else {
-                put_word(out, b"packet")?;
+                out.extend_from_slice(b" packet")?;
             }
             put_reply(out, reply)
         }
     }
 }
 
+#[tactic(auto, using(crate::proofs::Kept::kept_same, crate::proofs::Kept::kept_more, crate::proofs::Kept::kept_on))]
 fn put_entry(out: &mut Octets, entry: &Entry) -> Result<(), NoMemory>
-    ensures { OnOk result (out.new ≡ out.old ++ entry_line entry.now) }
+    ensures ok { OnOk result (out.new ≡ out.old ++ entry_line entry.now) }
+    ensures err { OnErr result (take (length out.old) out.new ≡ out.old) }
 {
     put_decimal(out, u64::from(entry.place))?;
-    put_number(out, u64::from(entry.lane))?;
+    add_number(out, u64::from(entry.lane))?;
     put_line_word(out, entry.line, entry.part)?;
     put_what(out, entry.part, &entry.what)
 }
 
+// Appends the line of an entry, with its end.
+#[tactic(auto, using(crate::proofs::Kept::kept_same, crate::proofs::Kept::kept_more, crate::proofs::Kept::kept_on))]
+fn put_entry_line(out: &mut Octets, entry: &Entry) -> Result<(), NoMemory>
+    ensures ok { OnOk result (out.new ≡ out.old ++ ended (entry_line entry.now)) }
+    ensures err { OnErr result (take (length out.old) out.new ≡ out.old) }
+{
+    put_entry(out, entry)?;
+    out.push(b'\n')
+}
+
+#[tactic(auto, using(crate::proofs::Kept::kept_same, crate::proofs::Kept::kept_more, crate::proofs::Kept::kept_on))]
 fn put_job(out: &mut Octets, job: &Job, reply: &Reply) -> Result<(), NoMemory>
-    ensures { OnOk result (out.new ≡ out.old ++ job_line (job_seen job.now reply.now)) }
+    ensures ok { OnOk result (out.new ≡ out.old ++ job_line (job_seen job.now reply.now)) }
+    ensures err { OnErr result (take (length out.old) out.new ≡ out.old) }
 {
     out.extend_from_slice(b"job")?;
-    put_number(out, u64::from(job.place))?;
-    put_number(out, u64::from(job.lane))?;
+    add_number(out, u64::from(job.place))?;
+    add_number(out, u64::from(job.lane))?;
     put_line_word(out, job.line, job.part)?;
-    put_number(out, u64::from(job.index))?;
+    add_number(out, u64::from(job.index))?;
     put_reply(out, reply)
+}
+
+// Appends the line of a job, with its end.
+#[tactic(auto, using(crate::proofs::Kept::kept_same, crate::proofs::Kept::kept_more, crate::proofs::Kept::kept_on))]
+fn put_job_line(out: &mut Octets, job: &Job, reply: &Reply) -> Result<(), NoMemory>
+    ensures ok { OnOk result (out.new ≡ out.old ++ ended (job_line (job_seen job.now reply.now))) }
+    ensures err { OnErr result (take (length out.old) out.new ≡ out.old) }
+{
+    put_job(out, job, reply)?;
+    out.push(b'\n')
 }
 
 fn put_retire(out: &mut Octets, number: u16, stood: bool) -> Result<(), NoMemory>
@@ -192,10 +230,12 @@ pub fn entry_text(entry: &Entry, out: &mut Octets) -> Result<(), NoMemory>
     ensures ok { OnOk result (out.new ≡ out.old ++ ended (entry_line entry.now)) }
     ensures err { OnErr result (out.new ≡ out.old) }
 {
-    let mut line = Octets::new(out.allocator());
-    line.reserve(USUAL_LENGTH)?;
-    put_entry(&mut line, entry)?;
-    put_line(out, line)
+    let before = out.len();
+    let put = put_entry_line(out, entry);
+    if put.is_err() {
+        cut_back(out, before);
+    }
+    put
 }
 
 /// Appends the line of a job with its reply: the place, the lane and the line of the entry that left it, which of the
@@ -205,8 +245,10 @@ pub fn job_text(job: &Job, reply: &Reply, out: &mut Octets) -> Result<(), NoMemo
     ensures ok { OnOk result (out.new ≡ out.old ++ ended (job_line (job_seen job.now reply.now))) }
     ensures err { OnErr result (out.new ≡ out.old) }
 {
-    let mut line = Octets::new(out.allocator());
-    line.reserve(USUAL_LENGTH)?;
-    put_job(&mut line, job, reply)?;
-    put_line(out, line)
+    let before = out.len();
+    let put = put_job_line(out, job, reply);
+    if put.is_err() {
+        cut_back(out, before);
+    }
+    put
 }

@@ -6,10 +6,14 @@ use Rattle.std.proofs.lemmas.Bool.{eqb-true}
 use Rattle.spin_place.specs.declared.candidate.Candidate.{Candidate}
 use Rattle.spin_place.specs.Inner.Candidates.{bindings_of, released, EachWaits, IsLeastReady}
 use Rattle.spin_place.specs.Orders.{IsCycleOf}
-use Rattle.spin_place.specs.Precedence.{must_precede, MustPrecede, IsCycle}
+use Rattle.spin_place.specs.Precedence.{must_precede, MustPrecede, IsCycle, IsTheOrder}
 use Rattle.spin_place.proofs.BindingPlacing.{IsPlacing, IsPlacing-nil, IsPlacing-more, IsPlacing-done, EachWaits-from_counted, IsCycle-from_rest, IsCycle-unlawful, waits_for}
 use Rattle.spin_place.proofs.run_order.order.Goals as goal
 use Rattle.spin_place.proofs.run_order.order.Goals.{After-drop-rest-in_default}
+
+pub returns-then-are_unplaced-clause-order : goal.returns-then-are_unplaced-clause-order
+returns-then-are_unplaced-clause-order c =
+    subst (λ ns. IsTheOrder c.args.bindings.now ns) (sym c.in_ok-numbers_in_place.ensures) (c.are_unplaced.ensures.order c.if-are_unplaced.true)
 
 pub loop-rest-init : goal.loop-rest-init
 loop-rest-init c =
