@@ -1,10 +1,11 @@
 #!/usr/bin/env python3
 """erase.py TARGET: writes the crates of this repository as a cargo workspace, their clauses and ghost items left out.
 
-A file is rewritten line by line: what stands in line 7 of `lanes.rt` stands in line 7 of `lanes.rs`, so what the compiler
-says of the one is true of the other. Left out are ghost items, `requires` and `ensures`, `#[tactic(..)]`, the texts of
-errors, and derives that Rust doesn't have; DIFFERENCES lists the calls that Rust's library has in another form. All else
-stays as it is. A file in which one of these isn't as expected is named with its line, and nothing is built.
+A file is rewritten line by line: what stands in line 7 of `lanes.rt` stands in line 7 of `lanes.rs`, so what the
+compiler says of the one is true of the other. Left out are ghost items, `requires` and `ensures`, `#[tactic(..)]`,
+`#[cycle(..)]`, the texts of errors, and derives that Rust doesn't have; DIFFERENCES lists the calls that Rust's library
+has in another form. All else stays as it is. A file in which one of these isn't as expected is named with its line, and
+nothing is built.
 """
 
 import re
@@ -144,7 +145,7 @@ class Source:
         begin = at + (self.token(at + 1) == "!")
         end = self.behind_pair(begin + 1, "[]")
         name = self.token(begin + 2)
-        if name in ("tactic", "error"):
+        if name in ("tactic", "error", "cycle"):
             return self.leave_out(at, end)
         kept = "".join(self.tokens[at:end])
         if name == "derive":

@@ -86,6 +86,7 @@ fn field(bytes: &[u8], offset: u16, width: u8) -> u64
 }
 
 // The value of an expression, node by node.
+#[cycle(value)]
 fn tree_value(e: &Expr, args: &Args) -> u64
     ensures { result ≡ value_of e.now args.now }
 {
@@ -93,9 +94,9 @@ fn tree_value(e: &Expr, args: &Args) -> u64
         Expr::Const(number) => *number,
         Expr::Arg(arg) => argument_word(args, *arg),
         Expr::Field { arg, offset, width } => field(argument_bytes(args, *arg), *offset, *width),
-        Expr::Plus(a, b) => tree_value(a, args).wrapping_add(tree_value(b, args)),
-        Expr::And(a, b) => tree_value(a, args) & tree_value(b, args),
-        Expr::Or(a, b) => tree_value(a, args) | tree_value(b, args),
+        Expr::Plus(a, b) => value(a, args).wrapping_add(value(b, args)),
+        Expr::And(a, b) => value(a, args) & value(b, args),
+        Expr::Or(a, b) => value(a, args) | value(b, args),
     }
 }
 
@@ -105,6 +106,7 @@ fn tree_value(e: &Expr, args: &Args) -> u64
 /// bytes are wanted. A field that reaches past the end of its bytes is 0, and so is one whose width isn't 1, 2, 4
 /// or 8. It takes time linear in the expression's nodes, and no call where it is a number or an argument.
 #[inline]
+#[cycle(value)]
 pub fn value(e: &Expr, args: &Args) -> u64
     ensures { result ≡ value_of e.now args.now }
 {

@@ -1,5 +1,6 @@
 pub mod WalkLemmas
 mod NotedItems
+mod TurnedLists
 pub mod LeastOrders
 pub mod BoundEvents
 pub mod RisingRaises

@@ -1,12 +1,13 @@
 -- Items that are noted one after another, each taken from the end of the list that was turned round.
-use Rattle.std.proofs.Common.{◌≡◌, ℕ, ◌<◌, List, [], ◌∷◌, ◌++◌, reverse, length, take, ◌-◌, Some, refl, sym, ap, subst, ◌∙◌, append_assoc, arith}
+use Rattle.std.proofs.Common.{◌≡◌, ℕ, ◌<◌, List, [], ◌∷◌, ◌++◌, reverse, true, sym, ap, subst, ◌∙◌, append_assoc}
 use Rattle.std.specs.List.{flat_map}
-use Rattle.std.proofs.lemmas.List.{append-nil, reverse-append, length-take}
+use Rattle.std.proofs.lemmas.List.{append-nil}
 use Rattle.spin_objects.specs.declared.item.Item.{Item}
 use Rattle.spin_proto.specs.declared.walk.Upward.{Upward}
 use Rattle.spin_proto.specs.declared.walk.Walk.{Walk}
 use Rattle.spin_proto.specs.Whole.{marks_at, up_of, ups_of, starts}
 use Rattle.spin_proto.specs.Inner.Walks.{Gained, Notes}
+use Rattle.spin_proto.proofs.TurnedLists.{taken, turned_back}
 use Rattle.spin_proto.proofs.WalkLemmas.{Owes, owes_all, owes_on, owes_spent, owes_none}
 
 -- so many items are noted, and these are left
@@ -14,16 +15,14 @@ pub record Noting (event : ℕ) (given rest : List Item) (ups : List Upward) (w_
   pub noted : Owes (flat_map (marks_at event) given) (flat_map (marks_at event) rest) w_0 w
   pub kept : ups ++ ups_of rest ≡ ups_of given
 
-taken : (items rest : List Item) (item : Item) → items ≡ rest ++ item ∷ [] → reverse items ≡ item ∷ reverse rest
-taken items rest item is = ap (λ (xs : List Item). reverse xs) is ∙ reverse-append rest (item ∷ [])
-
 pub noting_starts : (event : ℕ) (given items : List Item) (ups : List Upward) (w : Walk)
-    → reverse items ≡ given → ups ≡ [] → Noting event given (reverse items) ups w w
+    → items ≡ reverse given → ups ≡ [] → Noting event given (reverse items) ups w w
 noting_starts event given items ups w is none =
     let P : List Item → Type 0 = λ xs. Owes (flat_map (marks_at event) given) (flat_map (marks_at event) xs) w w in
+    let back : reverse items ≡ given = turned_back given items is in
     record {
-      noted = subst P (sym is) (owes_all (flat_map (marks_at event) given) w);
-      kept = ap (λ (us : List Upward). us ++ ups_of (reverse items)) none ∙ ap (λ (xs : List Item). ups_of xs) is;
+      noted = subst P (sym back) (owes_all (flat_map (marks_at event) given) w);
+      kept = ap (λ (us : List Upward). us ++ ups_of (reverse items)) none ∙ ap (λ (xs : List Item). ups_of xs) back;
     }
 
 pub noting_on : (event : ℕ) (given items rest : List Item) (item : Item) (ups ups' : List Upward) (w_0 w w' : Walk) → Noting event given (reverse items) ups w_0 w
@@ -44,12 +43,8 @@ noting_short event given items rest item ups w_0 w n is short =
     owes_spent (flat_map (marks_at event) given) (marks_at event item) (flat_map (marks_at event) (reverse rest)) w_0 w here.noted short
 
 pub noting_ends : (event : ℕ) (given items : List Item) (ups : List Upward) (w_0 w : Walk)
-    → Noting event given (reverse items) ups w_0 w → items ≡ [] → Notes (Some ups) event given w_0 w
+    → Noting event given (reverse items) ups w_0 w → items ≡ [] → Notes true ups event given w_0 w
 noting_ends event given items ups w_0 w n none =
     let P : List Item → Type 0 = λ xs. Noting event given (reverse xs) ups w_0 w in
     let here = subst P none n in
     (sym (append-nil ups) ∙ here.kept, owes_none (flat_map (marks_at event) given) w_0 w here.noted)
-
-pub nothing_left : (items rest : List Item) (n : ℕ) → n ≡ length items → items ≡ rest ++ [] → rest ≡ take (n - 1) items → items ≡ []
-nothing_left [] rest n long is left = refl
-nothing_left (x ∷ xs) rest n long is left = absurd (omega (arith, long, ap length (is ∙ append-nil rest), ap length left, length-take (n - 1) (x ∷ xs)))

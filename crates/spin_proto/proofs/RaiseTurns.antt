@@ -1,6 +1,6 @@
 -- Turns of the loops of a raise, by what is done and what is to come.
 use Rattle.std.proofs.Common.{◌≡◌, ℕ, zero, suc, ◌+◌, ◌<◌, ◌≤◌, ◌==◌, Bool, true, false, cond, List, [], ◌∷◌, ◌++◌, drop, length}
-use Rattle.std.proofs.Common.{fold, refl, sym, ap, subst, ◌∙◌, append_assoc, arith, Option, Some, None, unwrap_or, nat_lt}
+use Rattle.std.proofs.Common.{fold, sym, ap, subst, ◌∙◌, append_assoc, arith, Option, Some, None, unwrap_or, nat_lt}
 use Rattle.std.specs.Prelude.{slice_get}
 use Rattle.std.specs.List.{flat_map}
 use Rattle.std.proofs.lemmas.Bool.Decides.{nat_tests}
@@ -127,7 +127,7 @@ follow_spent by u bs count event all up items rest w_0 w w_1 w_2 e rise o went c
 
 -- what a firing gave was noted, and then its raises upwards were done
 noted : (event : ℕ) (raise : ℕ → List Value → Raised) (given : List Item) (ups : List Upward) (w_0 w : Walk)
-    → Notes (Some ups) event given w_0 w → Owes (marks_of event raise given) (flat_map (marks_up raise) ups ++ []) w_0 w
+    → Notes true ups event given w_0 w → Owes (marks_of event raise given) (flat_map (marks_up raise) ups ++ []) w_0 w
 noted event raise given ups w_0 w (e, g) =
     let all = marks_of event raise given in
     let P : List Upward → Type 0 = λ us. Owes all (flat_map (marks_up raise) us) w_0 w in
@@ -135,14 +135,25 @@ noted event raise given ups w_0 w (e, g) =
     subst Q (sym (append-nil (flat_map (marks_up raise) ups)))
     (subst P (sym e) (owes_on all (flat_map (marks_at event) given) (flat_map (marks_up raise) (ups_of given)) w_0 w_0 w (owes_all all w_0) g))
 
+pub follow_waits : (event : ℕ) (raise : ℕ → List Value → Raised) (given : List Item) (items ups : List Upward) (w_0 w : Walk)
+    → items ≡ ups → Notes true ups event given w_0 w → Owes (marks_of event raise given) (flat_map (marks_up raise) items) w_0 w
+follow_waits event raise given items ups w_0 w e n =
+    let all = marks_of event raise given in
+    let P : List Upward → Type 0 = λ us. Owes all (flat_map (marks_up raise) us) w_0 w in
+    let Q : List Mark → Type 0 = λ ms. Owes all ms w_0 w in
+    subst P (sym e) (subst Q (append-nil (flat_map (marks_up raise) ups)) (noted event raise given ups w_0 w n))
+
+pub follow_rises : (count event : ℕ) (given : List Item) (items ups : List Upward) → items ≡ ups → ups ≡ ups_of given → UpsRise count event (ups_of given) → UpsRise count event items
+follow_rises count event given items ups e e' rise = let P : List Upward → Type 0 = λ us. UpsRise count event us in subst P (sym (e ∙ e')) rise
+
 pub follow_done : (event : ℕ) (raise : ℕ → List Value → Raised) (given : List Item) (ups : List Upward) (w_0 w w' : Walk)
-    → Notes (Some ups) event given w_0 w → Owes (flat_map (marks_up raise) ups) [] w w' → Gained (marks_of event raise given) w_0 w'
+    → Notes true ups event given w_0 w → Owes (flat_map (marks_up raise) ups) [] w w' → Gained (marks_of event raise given) w_0 w'
 follow_done event raise given ups w_0 w w' n o =
     let all = marks_of event raise given in
     owes_none all w_0 w' (owes_on all (flat_map (marks_up raise) ups) [] w_0 w w' (noted event raise given ups w_0 w n) (owes_none (flat_map (marks_up raise) ups) w w' o))
 
 pub follow_short : (event : ℕ) (raise : ℕ → List Value → Raised) (given : List Item) (ups : List Upward) (w_0 w : Walk)
-    → Notes (Some ups) event given w_0 w → w.left < starts (flat_map (marks_up raise) ups) → w_0.left < starts (marks_of event raise given)
+    → Notes true ups event given w_0 w → w.left < starts (flat_map (marks_up raise) ups) → w_0.left < starts (marks_of event raise given)
 follow_short event raise given ups w_0 w n h = owes_spent (marks_of event raise given) (flat_map (marks_up raise) ups) [] w_0 w (noted event raise given ups w_0 w n) h
 
 pub notes_short : (event : ℕ) (raise : ℕ → List Value → Raised) (given : List Item) (left : ℕ) → left < starts (flat_map (marks_at event) given) → left < starts (marks_of event raise given)
@@ -190,10 +201,6 @@ turn_waits count event m room rest rest' p p' out items ups s h e e' =
     let P : List Upward → Type 0 = λ us. UpsRise count event us in
     subst P (sym (e ∙ e')) (turn_ups count event m room rest rest' p p' out s h)
 
-pub nothing_waits : (items rest : List Upward) → items ≡ rest → rest ≡ drop 1 items → items ≡ []
-nothing_waits [] rest e f = refl
-nothing_waits (x ∷ xs) rest e f = absurd (omega (arith, ap length (e ∙ f)))
-
 -- one firing, whose items have more starts than were left
 pub turn_unnoted : (event : ℕ) (raise : ℕ → List Value → Raised) (m : Merge) (room : Bool) (all : List Mark) (rest rest' : List Firing) (p p' : Progress) (out : List Item) (w_0 w : Walk)
     → IsStep m room stepped.Ran rest rest' p p' [] out → Owes all (flat_map (λ f. marks_of event raise (items_by f)) rest) w_0 w
@@ -204,13 +211,13 @@ turn_unnoted event raise m room all rest rest' p p' out w_0 w s o h =
 -- one firing, whose raises upwards have
 pub turn_short : (event : ℕ) (raise : ℕ → List Value → Raised) (m : Merge) (room : Bool) (all : List Mark) (rest rest' : List Firing) (p p' : Progress) (out : List Item)
     (items ups : List Upward) (w_0 w w_1 : Walk) → IsStep m room stepped.Ran rest rest' p p' [] out → Owes all (flat_map (λ f. marks_of event raise (items_by f)) rest) w_0 w
-    → items ≡ ups → Notes (Some ups) event out w w_1 → w_1.left < starts (flat_map (marks_up raise) items) → w_0.left < starts all
+    → items ≡ ups → Notes true ups event out w w_1 → w_1.left < starts (flat_map (marks_up raise) items) → w_0.left < starts all
 turn_short event raise m room all rest rest' p p' out items ups w_0 w w_1 s o e n h =
     turn_spent (marks_of event raise) m room all rest rest' p p' out w_0 w s o (follow_short event raise out items w w_1 (e ∙ n.0, n.1) h)
 
 -- one firing, whose raises upwards were done
 pub turn_over : (event : ℕ) (raise : ℕ → List Value → Raised) (m : Merge) (room : Bool) (all : List Mark) (rest rest' : List Firing) (p p' : Progress) (out : List Item) (items ups left : List Upward)
-    (w_0 w w_1 w_2 : Walk) → IsStep m room stepped.Ran rest rest' p p' [] out → Owes all (flat_map (λ f. marks_of event raise (items_by f)) rest) w_0 w → items ≡ ups → Notes (Some ups) event out w w_1
+    (w_0 w w_1 w_2 : Walk) → IsStep m room stepped.Ran rest rest' p p' [] out → Owes all (flat_map (λ f. marks_of event raise (items_by f)) rest) w_0 w → items ≡ ups → Notes true ups event out w w_1
     → left ≡ [] → Owes (flat_map (marks_up raise) items) (flat_map (marks_up raise) left) w_1 w_2 → Owes all (flat_map (λ f. marks_of event raise (items_by f)) rest') w_0 w_2
 turn_over event raise m room all rest rest' p p' out items ups left w_0 w w_1 w_2 s o e n none done =
     let P : List Upward → Type 0 = λ us. Owes (flat_map (marks_up raise) items) (flat_map (marks_up raise) us) w_1 w_2 in

@@ -67,9 +67,10 @@ fn follow(
         let later = raised_after runner (units_in (data_of setup.now)) bounds event in
         Spends on (marks_of event later given.old) walk.old walk.new)) }
 {
-    let Some(ups) = note_items(alloc, walk, event, given)? else {
+    let mut ups = Sequence::new(alloc);
+    if !note_items(walk, event, given, &mut ups)? {
         return Ok(false);
-    };
+    }
     let mut queue = VecDeque::from(ups.into_vec());
     while let Some(up) = queue.pop_front() {
         let Upward { event: to, args } = up;

@@ -15,7 +15,7 @@ ghost use Rattle.spin_proto.specs.Inner.Walks.{OnBounds};
 use crate::deed::JobCall;
 use crate::reply::{Reply, Step};
 use crate::rising::raise_event;
-use crate::walk::{Walk, clear};
+use crate::walk::Walk;
 use crate::whole::{path, refusal};
 use spin_code::Sincere;
 use spin_objects::{Catalogue, Outcome};
@@ -25,7 +25,6 @@ use spin_values::{Args, NoMemory, Value};
 use spin_word::Deed;
 use std::alloc::Global;
 use std::marker::Model;
-use std::mem;
 
 // How a deed ended.
 #[derive(Drop)]
@@ -117,20 +116,20 @@ impl ReplyBuffer {
 
 // Starts a raise on equal arguments, in the room of those that are there.
 #[inline]
-fn start_over(alloc: Global, progress: &mut Progress, args: &Args) -> Result<(), NoMemory>
+fn start_over(progress: &mut Progress, args: &Args) -> Result<(), NoMemory>
     ensures from { OnOk result (progress.new.from ≡ 0) }
     ensures answer { OnOk result (progress.new.answer ≡ Answer.NoHandler) }
     ensures args { OnOk result (progress.new.args ≡ args.now) }
 {
-    let mut items = mem::replace(&mut progress.args, Args::new(alloc)).into_vec();
-    items.clear();
+    progress.args.clear();
     for value in args.as_slice() {
         match value {
-            Value::Word(word) => items.push(Value::Word(*word))?,
-            Value::Bytes(bytes) => items.push(Value::Bytes(bytes.copy()?))?,
+            Value::Word(word) => progress.args.push(Value::Word(*word))?,
+            Value::Bytes(bytes) => progress.args.push(Value::Bytes(bytes.copy()?))?,
         }
     }
-    *progress = Progress::start(Args::from_vec(items));
+    progress.from = 0;
+    progress.answer = Answer::NoHandler;
     Ok(())
 }
 
@@ -151,8 +150,8 @@ fn raise_into(
         let all = raised runner.Raiser (units_in (data_of setup.now)) bounds 0 event args.now in
         buffer.new ≡ reply_of MAX_RUNS all)) }
 {
-    start_over(alloc, &mut buffer.progress, args)?;
-    buffer.walk.restart(alloc);
+    start_over(&mut buffer.progress, args)?;
+    buffer.walk.restart();
     let (progress, given, walk) = (&mut buffer.progress, &mut buffer.given, &mut buffer.walk);
     let runner = Runner::Raiser;
     match raise_event(alloc, version, setup, runner, event, progress, given, walk)? {

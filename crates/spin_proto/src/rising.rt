@@ -1,6 +1,6 @@
 //! A raise with its raises upwards, depth first.
 
-ghost use Rattle.std.specs.Prelude.{◌≡◌, ◌+◌, ◌<◌, ◌++◌, [], ◌∷◌, length, reverse, OnOk, IfOk, Some};
+ghost use Rattle.std.specs.Prelude.{◌≡◌, ◌+◌, ◌<◌, ◌++◌, [], ◌∷◌, length, OnOk, IfOk, Some};
 ghost use Rattle.std.specs.List.{flat_map};
 ghost use Rattle.spin_table.specs.SetupOf.{data_of};
 ghost use Rattle.spin_table.specs.Soundness.{IsSound};
@@ -9,15 +9,13 @@ ghost use Rattle.spin_proto.specs.Whole.{marks_at, marks_of, up_of, ups_of, rais
 ghost use Rattle.spin_proto.specs.Inner.Walks.{OnBounds, Spends, Comes, Notes, UpsRise};
 
 use crate::reply::Step;
-use crate::walk::{Upward, Walk, clear};
+use crate::walk::{Upward, Walk};
 use spin_code::Sincere;
 use spin_objects::{Catalogue, Item, Outcome};
 use spin_raise::{Answer, Bound, Progress, Runner, Stepped, step};
 use spin_table::{Setup, Version};
 use spin_values::{Args, NoMemory, Sequence};
 use std::alloc::Global;
-use std::collections::VecDeque;
-use std::mem;
 
 // Notes one item, and keeps a raise upwards for later. False where too many handlers start.
 #[inline]
@@ -52,36 +50,26 @@ fn note_item(
     }
 }
 
-// Takes the items out of the list, the last one first, so that each is taken by `pop` in its turn.
-#[inline]
-fn turned(alloc: Global, list: &mut Outcome) -> Vec<Item>
-    ensures { reverse result.items ≡ list.old }
-{
-    let mut items = mem::replace(list, Sequence::new(alloc)).into_vec();
-    items.reverse();
-    items
-}
-
-// Notes what a firing gave, which it takes out of the list, and answers its raises upwards. `None` where too many
-// handlers start.
+// Notes what a firing gave, which it takes out of the list, and puts its raises upwards into another, in place of what
+// that held. False where too many handlers start.
 #[inline]
 pub(crate) fn note_items(
-    alloc: Global,
     walk: &mut Walk,
     event: u8,
     given: &mut Outcome,
-) -> Result<Option<Sequence<Upward>>, NoMemory>
-    ensures { IfOk result (λ ups. Notes ups event given.old walk.old walk.new) }
+    ups: &mut Sequence<Upward>,
+) -> Result<bool, NoMemory>
+    ensures { IfOk result (λ on. Notes on ups.new event given.old walk.old walk.new) }
 {
-    let mut ups = Sequence::new(alloc);
-    let mut items = turned(alloc, given);
-    while let Some(item) = items.pop() {
-        if !note_item(walk, event, item, &mut ups)? {
-            return Ok(None);
+    ups.clear();
+    // turned round, so that each item is taken by `pop` in its turn
+    given.reverse();
+    while let Some(item) = given.pop() {
+        if !note_item(walk, event, item, ups)? {
+            return Ok(false);
         }
     }
-    *given = Sequence::from_vec(items);
-    Ok(Some(ups))
+    Ok(true)
 }
 
 // Does a raise of an event that is there, with its raises upwards. `None` where too many handlers start. What the
@@ -117,18 +105,19 @@ pub(crate) fn raise_event(
         merge: &def.merge,
         default,
     };
+    let mut ups = Sequence::new(alloc);
     'turns: loop {
         let room = walk.left > 0;
-        clear(alloc, given);
+        given.clear();
         match step(alloc, cat, &bound, runner, room, progress, given)? {
             Stepped::End => return Ok(Some(progress.answer)),
             Stepped::Full => return Ok(None),
             Stepped::Ran => {
-                let Some(ups) = note_items(alloc, walk, event, given)? else {
+                if !note_items(walk, event, given, &mut ups)? {
                     return Ok(None);
-                };
-                let mut queue = VecDeque::from(ups.into_vec());
-                while let Some(up) = queue.pop_front() {
+                }
+                ups.reverse();
+                while let Some(up) = ups.pop() {
                     let Upward { event: to, args } = up;
                     walk.note(Step::Up(to))?;
                     let mut own = Progress {

@@ -8,20 +8,6 @@ use crate::deed::{JobCall, JobCalls};
 use crate::reply::{MAX_RUNS, Step, Trace};
 use spin_values::{Args, NoMemory, Sequence};
 use std::alloc::Global;
-use std::mem;
-
-// Takes all items out. The list keeps its room.
-#[inline]
-pub(crate) fn clear<T: Drop>(alloc: Global, list: &mut Sequence<T>)
-    ensures { list.new ≡ [] }
-{
-    if list.is_empty() {
-        return;
-    }
-    let mut items = mem::replace(list, Sequence::new(alloc)).into_vec();
-    items.clear();
-    *list = Sequence::from_vec(items);
-}
 
 // A raise upwards that is still to be done.
 #[derive(Drop, Debug)]
@@ -54,13 +40,13 @@ impl Walk {
 
     // Takes out what was noted before, so that no step is there. The lists keep their room.
     #[inline]
-    pub(crate) fn restart(&mut self, alloc: Global)
+    pub(crate) fn restart(&mut self)
         ensures trace { self.new.trace ≡ [] }
         ensures jobs { self.new.jobs ≡ [] }
         ensures left { self.new.left ≡ MAX_RUNS }
     {
-        clear(alloc, &mut self.trace);
-        clear(alloc, &mut self.jobs);
+        self.trace.clear();
+        self.jobs.clear();
         self.left = MAX_RUNS;
     }
 

@@ -1,7 +1,7 @@
 //! The list that every list type of the project is made of.
 
 ghost use Rattle.std.specs.Prelude.{◌≡◌, ◌==◌, ◌<◌, ◌^◌, ◌++◌, [], ◌∷◌, length, slice_get};
-ghost use Rattle.std.specs.Prelude.{slice_set, Some, OnOk, OnErr, IfOk, MatchOption};
+ghost use Rattle.std.specs.Prelude.{slice_set, reverse, Some, OnOk, OnErr, IfOk, MatchOption};
 ghost use Rattle.std.specs.Iterator.Adapters.{IterYieldsInOrder, IterYieldsInReverse};
 ghost use Rattle.std.specs.Iterator.Runs.{EveryRun, ItemsMapTo, ItemsAre};
 ghost use Rattle.std.specs.Slice.Iter.{iter_rest, iter_steps};
@@ -195,12 +195,44 @@ impl<T: Drop> Sequence<T> {
         self.items[at] = item;
     }
 
+    /// Turns the list round: the last item becomes the first one.
+    #[inline]
+    pub fn reverse(&mut self)
+        ensures { self.new ≡ reverse self.old }
+    {
+        self.items.reverse();
+    }
+
+    /// Takes the last item out; `None` exactly where the list is empty. It takes no memory, and the list keeps its
+    /// room.
+    #[inline]
+    pub fn pop(&mut self) -> Option<T>
+        ensures { MatchOption result
+            ((self.old ≡ []) × (self.new ≡ []))
+            (λ last. self.old ≡ self.new ++ last ∷ []) }
+    {
+        if self.items.is_empty() {
+            return None;
+        }
+        self.items.pop()
+    }
+
+    /// Takes all items out. The list keeps its room.
+    #[inline]
+    pub fn clear(&mut self)
+        ensures { self.new ≡ [] }
+    {
+        self.items.clear();
+    }
+
     /// Adds the item at the end. After want of memory the list is unchanged, and the item is dropped.
+    #[inline(always)]
     pub fn push(&mut self, item: T) -> Result<(), NoMemory>
         ensures ok { OnOk result (self.new ≡ self.old ++ item ∷ []) }
         ensures err { OnErr result (self.new ≡ self.old) }
     {
-        self.items.push(item)?;
+        self.items.reserve(1)?;
+        self.items.push_reserved(item);
         Ok(())
     }
 

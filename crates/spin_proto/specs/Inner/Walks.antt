@@ -33,9 +33,9 @@ Comes None r w w' = w.left < starts r.marks
 Comes (Some a) r w w' = (a ≡ r.answer) × Gained r.marks w w'
 
 -- the items were noted and their raises upwards kept, or they have more starts than were left
-abbrev pub Notes : Option (List Upward) → ℕ → List Item → Walk → Walk → Type 0
-Notes None event given w w' = w.left < starts (flat_map (marks_at event) given)
-Notes (Some ups) event given w w' =
+abbrev pub Notes : Bool → List Upward → ℕ → List Item → Walk → Walk → Type 0
+Notes false ups event given w w' = w.left < starts (flat_map (marks_at event) given)
+Notes true ups event given w w' =
     (ups ≡ ups_of given) × Gained (flat_map (marks_at event) given) w w'
 
 -- these raises upwards go to events after this one, of so many

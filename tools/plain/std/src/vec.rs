@@ -67,10 +67,19 @@ impl<T> Vec<T> {
         }
     }
 
-    /// Adds an element where there is room for it.
+    /// Adds an element where there is room for it: one write.
+    #[inline(always)]
     pub fn push_reserved(&mut self, value: T) {
-        assert!(self.0.len() < self.0.capacity());
-        self.0.push(value);
+        let count = self.0.len();
+        if count >= self.0.capacity() {
+            std::mem::forget(value);
+            panic!("there is no room for one more");
+        }
+        // SAFETY: there is room behind the last element, and it is written before it counts.
+        unsafe {
+            self.0.as_mut_ptr().add(count).write(value);
+            self.0.set_len(count + 1);
+        }
     }
 
     pub fn pop(&mut self) -> Option<T> {

@@ -1,4 +1,4 @@
-use Rattle.std.proofs.Common.{length, Some, None, true, [], refl, sym, subst, ◌∙◌}
+use Rattle.std.proofs.Common.{length, reverse, Some, None, true, [], refl, sym, subst}
 use Rattle.spin_objects.specs.Units.{tests_of}
 use Rattle.spin_plan.specs.Planned.{IsOver}
 use Rattle.spin_raise.specs.Firing.{units_of, bound_of, IsThere}
@@ -8,8 +8,9 @@ use Rattle.spin_proto.specs.Whole.{raised_after, marks_of}
 use Rattle.spin_proto.proofs.BoundEvents.{over_here}
 use Rattle.spin_proto.proofs.WalkLemmas.{owes_all}
 use Rattle.spin_proto.proofs.RaiseTurns.{follow_on, follow_spent, rest_rises, begins_owing, turn_unnoted, turn_short, turn_over, turn_answer}
-use Rattle.spin_proto.proofs.RaiseTurns.{turn_rises, turn_waits, nothing_waits, turn_full, turn_end, turn_shorter, from_empty, begins, comes_at}
+use Rattle.spin_proto.proofs.RaiseTurns.{turn_rises, turn_waits, turn_full, turn_end, turn_shorter, from_empty, begins, comes_at}
 use Rattle.spin_proto.proofs.RaiseLemmas.{served, bound_here}
+use Rattle.spin_proto.proofs.TurnedLists.{taken, turned_back, nothing_turned}
 use Rattle.spin_proto.proofs.rising.+raise_event.Goals as goal
 
 pub turns-init : goal.turns-init
@@ -70,8 +71,8 @@ returns-in-Full g t c = λ bounds are.
     comes_at a.runner (units_in d) bounds b a.event a.progress.now.args None a.walk.now c.turns.walk here
     (turn_full a.event (raised_after a.runner (units_in d) bounds a.event) e.merge _ _ _ _ _ _ _ a.walk.now c.turns.walk (rw c.in-Full.is at stepped) (c.turns.invariant.0 bounds are))
 
-pub returns-in_default : goal.returns-in_default
-returns-in_default g t c = λ bounds are.
+pub returns-then-not-branch : goal.returns-then-not-branch
+returns-then-not-branch g t c = λ bounds are.
     let a = c.args in
     let d = data_of a.setup.now in
     let e = c.event-def.result.now in
@@ -80,7 +81,7 @@ returns-in_default g t c = λ bounds are.
     c.requires.sound c.event-def.ensures c.default_of-default.ensures c.plan-plan.ensures.order bounds are in
     let empty = from_empty _ _ _ _ _ _ _ _ _ c.clear.ensures (rw c.catalogue-cat.ensures at c.in_ok-step.ensures) in
     let stepped = rw c.in-Ran.is at empty in
-    let short = rw c.in_default.is at c.in_ok-ups-in-Ran.ensures in
+    let short = rw c.if-not-branch.true at c.in_ok-note_items-in-Ran.ensures in
     comes_at a.runner (units_in d) bounds b a.event a.progress.now.args None a.walk.now c.note_items.new.walk here
     (turn_unnoted a.event (raised_after a.runner (units_in d) bounds a.event) _ _ _ _ _ _ _ _ a.walk.now c.turns.walk stepped (c.turns.invariant.0 bounds are) short)
 
@@ -90,8 +91,8 @@ loop-up-init g t c =
     let d = data_of a.setup.now in
     let empty = from_empty _ _ _ _ _ _ _ _ _ c.clear.ensures (rw c.catalogue-cat.ensures at c.in_ok-step.ensures) in
     let stepped = rw c.in-Ran.is at empty in
-    let notes = rw c.in-Some.is at c.in_ok-ups-in-Ran.ensures in
-    let waiting = c.from-queue.ensures.0 ∙ c.into_vec.ensures in
+    let notes = rw c.if-not-branch.false at c.in_ok-note_items-in-Ran.ensures in
+    let waiting = (turned_back _ _ c.reverse.ensures) in
     ((λ bounds are. owes_all _ _), turn_waits (length a.version.now.events) a.event _ _ _ _ _ _ _ _ _ stepped c.turns.invariant.2 waiting notes.0)
 
 pub returns-in-None : goal.returns-in-None
@@ -104,11 +105,11 @@ returns-in-None g t c = λ bounds are.
     c.requires.sound c.event-def.ensures c.default_of-default.ensures c.plan-plan.ensures.order bounds are in
     let empty = from_empty _ _ _ _ _ _ _ _ _ c.clear.ensures (rw c.catalogue-cat.ensures at c.in_ok-step.ensures) in
     let stepped = rw c.in-Ran.is at empty in
-    let notes = rw c.in-Some.is at c.in_ok-ups-in-Ran.ensures in
-    let waiting = c.from-queue.ensures.0 ∙ c.into_vec.ensures in
+    let notes = rw c.if-not-branch.false at c.in_ok-note_items-in-Ran.ensures in
+    let waiting = (turned_back _ _ c.reverse.ensures) in
     let came = rw c.in-None.is at c.in_ok-raise_event-in-Ran.ensures in
-    let short = follow_spent a.runner (units_in d) bounds (length a.version.now.events) a.event _ c.in-Some-pop_front.up _ c.pop_front.new.self.items
-    _ _ _ c.raise_event.new.walk c.in-Some-pop_front.ensures.items c.loop-up.invariant.1 (c.loop-up.invariant.0 bounds are) c.in_ok-note-in-Ran.ensures (came bounds are) in
+    let short = follow_spent a.runner (units_in d) bounds (length a.version.now.events) a.event _ c.in-Some.up _ (reverse c.pop.new.self)
+    _ _ _ c.raise_event.new.walk (taken _ c.pop.new.self c.in-Some.up c.in-Some.ensures) c.loop-up.invariant.1 (c.loop-up.invariant.0 bounds are) c.in_ok-note-in-Ran.ensures (came bounds are) in
     comes_at a.runner (units_in d) bounds b a.event a.progress.now.args None a.walk.now c.raise_event.new.walk here
     (turn_short a.event (raised_after a.runner (units_in d) bounds a.event) _ _ _ _ _ _ _ _ _ _ a.walk.now c.turns.walk c.note_items.new.walk stepped
     (c.turns.invariant.0 bounds are) waiting notes short)
@@ -118,9 +119,10 @@ loop-up-preserved g t c =
     let a = c.args in
     let came = rw c.in-Some-2.is at c.in_ok-raise_event-in-Ran.ensures in (
       (λ bounds are.
-          follow_on a.runner (units_in (data_of a.setup.now)) bounds (length a.version.now.events) a.event _ c.in-Some-pop_front.up _ c.pop_front.new.self.items c.in-Some-2.answer _ _ _ _ _
-          c.in-Some-pop_front.ensures.items c.loop-up.invariant.1 (c.loop-up.invariant.0 bounds are) c.in_ok-note-in-Ran.ensures (came bounds are) c.in_ok-note-in-Some-2.ensures),
-      rest_rises (length a.version.now.events) a.event c.in-Some-pop_front.up _ c.pop_front.new.self.items c.in-Some-pop_front.ensures.items c.loop-up.invariant.1,
+          follow_on a.runner (units_in (data_of a.setup.now)) bounds (length a.version.now.events) a.event _ c.in-Some.up _ (reverse c.pop.new.self) c.in-Some-2.answer _ _ _ _ _
+          (taken _ c.pop.new.self c.in-Some.up c.in-Some.ensures) c.loop-up.invariant.1 (c.loop-up.invariant.0 bounds are) c.in_ok-note-in-Ran.ensures
+          (came bounds are) c.in_ok-note-in-Some-2.ensures),
+      rest_rises (length a.version.now.events) a.event c.in-Some.up _ (reverse c.pop.new.self) (taken _ c.pop.new.self c.in-Some.up c.in-Some.ensures) c.loop-up.invariant.1,
     )
 
 pub turns-smaller : goal.turns-smaller
@@ -135,11 +137,11 @@ turns-preserved g t c =
     let d = data_of a.setup.now in
     let empty = from_empty _ _ _ _ _ _ _ _ _ c.clear.ensures (rw c.catalogue-cat.ensures at c.in_ok-step.ensures) in
     let stepped = rw c.in-Ran.is at empty in
-    let notes = rw c.in-Some.is at c.in_ok-ups-in-Ran.ensures in
-    let waiting = c.from-queue.ensures.0 ∙ c.into_vec.ensures in (
+    let notes = rw c.if-not-branch.false at c.in_ok-note_items-in-Ran.ensures in
+    let waiting = (turned_back _ _ c.reverse.ensures) in (
       (λ bounds are. turn_over a.event (raised_after a.runner (units_in d) bounds a.event) _ _ _ _ _ _ _ _ _ _ _ a.walk.now c.turns.walk c.note_items.new.walk c.loop-up.walk stepped
           (c.turns.invariant.0 bounds are) waiting notes
-          (nothing_waits c.loop-up.queue.items _ c.in_default-pop_front.ensures.items c.in_default-pop_front.ensures.rest) (c.loop-up.invariant.0 bounds are)),
+          (nothing_turned c.loop-up.ups c.in_default.ensures.0) (c.loop-up.invariant.0 bounds are)),
       turn_answer _ _ _ _ _ _ _ _ _ stepped c.turns.invariant.1,
       turn_rises (length a.version.now.events) a.event _ _ _ _ _ _ _ _ stepped c.turns.invariant.2,
     )

@@ -1,4 +1,4 @@
-use Rattle.std.proofs.Common.{◌≡◌, ◌-◌, length, fold}
+use Rattle.std.proofs.Common.{◌≡◌, ◌-◌, length, fold, reverse}
 use Rattle.std.specs.List.{flat_map}
 use Rattle.spin_raise.specs.Firing.{as_found, fired, items_by, answer_of}
 use Rattle.spin_raise.specs.Progress.{to_come, answer_after}
@@ -32,8 +32,9 @@ abbrev pub invariant-loop-up : goal.invariant-loop-up
 invariant-loop-up g l =
     let u = units_in (data_of l.setup) in
     OnBounds (data_of l.setup) l.version (λ bounds.
-    Owes (flat_map (marks_up (raised_after l.runner u bounds l.event)) l.initial.queue.items) (flat_map (marks_up (raised_after l.runner u bounds l.event)) l.queue.items) l.initial.walk l.walk)
-    × UpsRise (length l.version.events) l.event l.queue.items
+    Owes (flat_map (marks_up (raised_after l.runner u bounds l.event)) (reverse l.initial.ups)) (flat_map (marks_up (raised_after l.runner u bounds l.event)) (reverse l.ups))
+    l.initial.walk l.walk)
+    × UpsRise (length l.version.events) l.event (reverse l.ups)
 
 abbrev pub decreases-loop-up : goal.decreases-loop-up
-decreases-loop-up g l = length l.queue.items
+decreases-loop-up g l = length l.ups

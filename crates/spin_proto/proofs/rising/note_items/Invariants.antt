@@ -3,7 +3,7 @@ use Rattle.spin_proto.proofs.NotedItems.{Noting}
 use Rattle.spin_proto.proofs.rising.note_items.Given as goal
 
 abbrev pub invariant-loop-item : goal.invariant-loop-item
-invariant-loop-item l = Noting l.event l.fn.given (reverse l.items.items) l.ups l.initial.walk l.walk
+invariant-loop-item l = Noting l.event l.fn.given (reverse l.given) l.ups l.initial.walk l.walk
 
 abbrev pub decreases-loop-item : goal.decreases-loop-item
-decreases-loop-item l = length l.items.items
+decreases-loop-item l = length l.given
