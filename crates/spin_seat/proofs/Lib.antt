@@ -7,3 +7,6 @@ pub mod SeatAnswers
 pub mod LegalAnswers
 pub mod WovenAnswers
 pub mod RenewedAnswers
+pub mod ClosedLogs
+pub mod SeatRenewals
+pub mod SeatPairs

@@ -1,2 +1,3 @@
 -- What the contracts of private functions cite alone.
 pub mod Tries
+pub mod Gathering

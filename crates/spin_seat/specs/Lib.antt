@@ -7,4 +7,5 @@ pub mod Runs
 pub mod Weaves
 pub mod Laws
 pub mod Renewals
+pub mod RenewedHubs
 pub mod Inner

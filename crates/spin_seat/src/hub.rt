@@ -118,7 +118,8 @@ impl Hub {
             IfOk result (λ log. (moments : List Moment) × IsHistory log pens moments) }
         ensures rows { IfOk result (λ log. All (IsCommandBelow self.log.lanes) log × (length log ≤ MAX_PLACE)) }
     {
-        let pens = pens_of(&self, alloc, seats)?;
+        let room = Vec::with_capacity(alloc, seats.len())?;
+        let pens = pens_of(room, seats);
         let Hub { log, setup: _setup } = self;
         log.close(alloc, pens)
     }

@@ -1,18 +1,15 @@
 //! Seats from new pens, and the pens of seats.
 
-ghost use Rattle.std.specs.Prelude.{◌≡◌, ◌≤◌, [], All, IfOk, map};
+ghost use Rattle.std.specs.Prelude.{◌≡◌, ◌≤◌, [], All, IfOk, map, length, vec_capacity};
 ghost use Rattle.std.specs.Arc.{arc_value};
 ghost use Rattle.spin_word.specs.declared.command.TheConstants.{MAX_PLACE};
 ghost use Rattle.spin_table.specs.SetupOf.{data_of};
-ghost use Rattle.spin_table.specs.States.{State};
 ghost use Rattle.spin_table.specs.Soundness.{IsSound};
 ghost use Rattle.spin_table.specs.Renewals.{NameGiven};
-ghost use Rattle.spin_seat.specs.Replay.{IsLaneCleanFrom};
-ghost use Rattle.spin_seat.specs.Seats.{IsSeat, IsSeatFrom, AreFrom};
+ghost use Rattle.spin_seat.specs.Seats.{IsSeatFrom};
 
-use crate::hub::Hub;
 use crate::seat::{Seat, Seats};
-use spin_log::Pens;
+use spin_log::{Pen, Pens};
 use spin_table::{Setup, Version};
 use spin_values::NoMemory;
 use std::alloc::Global;
@@ -48,16 +45,14 @@ pub(crate) fn seats_of(
     Ok(seats)
 }
 
-// The pens of the seats, in order.
-pub(crate) fn pens_of(_hub: &Hub, alloc: Global, seats: Seats) -> Result<Pens, NoMemory>
-    requires { All (IsSeat (data_of _hub.now.setup)) seats }
-    ensures pens { IfOk result (λ pens. pens ≡ map (λ seat. seat.pen) seats) }
-    ensures clean { let d = data_of _hub.now.setup in
-        (first : State) → AreFrom first seats
-        → IfOk result (λ pens. All (λ pen. IsLaneCleanFrom d first pen.lane pen.front) pens) }
+// The pens of the seats, in order, put into this empty list, which has room for them.
+pub(crate) fn pens_of(room: Vec<Pen>, seats: Seats) -> Pens
+    requires empty { room.items ≡ [] }
+    requires room { length seats ≤ vec_capacity room }
+    ensures { result ≡ map (λ seat. seat.pen) seats }
 {
+    let mut pens = room;
     let mut seats = seats;
-    let mut pens = Pens::new(alloc);
     while let Some(seat) = seats.take_first() {
         let Seat {
             pen,
@@ -65,7 +60,7 @@ pub(crate) fn pens_of(_hub: &Hub, alloc: Global, seats: Seats) -> Result<Pens, N
             version: _version,
             kept: _,
         } = seat;
-        pens.push(pen)?;
+        pens.push_reserved(pen);
     }
-    Ok(pens)
+    Pens::from_vec(pens)
 }

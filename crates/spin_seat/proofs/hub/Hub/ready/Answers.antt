@@ -1,0 +1,38 @@
+use Rattle.std.proofs.Common.{◌≡◌, ◌∙◌, List, [], sym, ap, subst, length, arith}
+use Rattle.std.specs.Arc.{arc_value}
+use Rattle.std.specs.Prelude.{All}
+use Rattle.spin_log.specs.Pens.{PenValue}
+use Rattle.spin_table.specs.SetupOf.{data_of}
+use Rattle.spin_table.specs.States.{State}
+use Rattle.spin_table.specs.Renewals.{NameGiven, renewed}
+use Rattle.spin_seat.specs.Seats.{SeatValue, IsSeatFrom}
+use Rattle.spin_seat.proofs.SeatInvariants.{place_fits, next_room, new_know_nothing}
+use Rattle.spin_seat.proofs.hub.Hub.ready.Goals as goal
+
+pub renewed-requires-clause-given : goal.renewed-requires-clause-given
+renewed-requires-clause-given g c =
+    let is : ◌≡◌ {A = SeatValue} (record { pen = c.seat.inside.pen; first = arc_value c.seat.inside.first; state = arc_value c.seat.inside.version; kept = c.seat.inside.kept }) c.args.seat.now = c.seat.view_is in
+    let state : c.deref.result.now ≡ c.args.seat.now.state = c.deref.ensures ∙ ap (λ (s : SeatValue). s.state) is in
+    subst NameGiven (sym state) c.requires.seat.given
+
+pub renewed-requires-clause-room : goal.renewed-requires-clause-room
+renewed-requires-clause-room g c =
+    let is : ◌≡◌ {A = SeatValue} (record { pen = c.seat.inside.pen; first = arc_value c.seat.inside.first; state = arc_value c.seat.inside.version; kept = c.seat.inside.kept }) c.args.seat.now = c.seat.view_is in
+    let state : c.deref.result.now ≡ c.args.seat.now.state = c.deref.ensures ∙ ap (λ (s : SeatValue). s.state) is in
+    let old = c.args.seat.now in
+    let fits = place_fits (data_of c.args.self.now.setup) old c.requires.seat in
+    let past = next_room old.state.place old.first.place (length old.pen.front) c.deref.result.now.place fits c.requires.seat.fits c.front-front.ensures.room (ap (λ (s : State). s.place) state) in
+    omega (arith, past)
+
+pub seats_of-requires-clause-new : goal.seats_of-requires-clause-new
+seats_of-requires-clause-new g c = subst (λ (pens : List PenValue). All (λ (p : PenValue). p.front ≡ []) pens) (sym c.in_ok-log.ensures.pens) (new_know_nothing c.in_ok-log.log.id c.args.lanes 0 c.args.lanes)
+
+pub seats_of-requires-clause-given : goal.seats_of-requires-clause-given
+seats_of-requires-clause-given g c = subst NameGiven (sym c.in_ok-first.ensures.ok) c.in_ok-renewed.ensures.given
+
+pub returns-clause-seats : goal.returns-clause-seats
+returns-clause-seats g c =
+    let seat : ◌≡◌ {A = SeatValue} (record { pen = c.seat.inside.pen; first = arc_value c.seat.inside.first; state = arc_value c.seat.inside.version; kept = c.seat.inside.kept }) c.args.seat.now = c.seat.view_is in
+    let state : c.deref.result.now ≡ c.args.seat.now.state = c.deref.ensures ∙ ap (λ (s : SeatValue). s.state) seat in
+    let is : arc_value c.in_ok-first.first ≡ renewed c.args.seat.now.state = c.in_ok-first.ensures.ok ∙ (c.in_ok-renewed.ensures.renewed ∙ ap renewed state) in
+    subst (λ (s : State). All (IsSeatFrom (data_of c.args.self.now.setup) s) c.in_ok-seats.seats) is c.in_ok-seats.ensures.seats
