@@ -7,7 +7,8 @@
 //!
 //! - of plain data: [`values`], [`rows`], [`expressions`], [`headers`], and [`plans`] of bindings;
 //! - of scripts and reports: [`scripts`], [`setups`], [`reports`], [`entries`], [`generated`];
-//! - of logs, seats and lanes: [`logs`], [`seats`], [`lanes`];
+//! - of logs, seats and lanes: [`logs`], [`seats`], [`lanes`]; of versions that are renewed: [`renewals`];
+//! - of one raise of one event: [`raises`];
 //! - of jobs and tasks, and of whole runs that are held up: [`jobs`], [`executor`], [`runs`];
 //! - of the outside: [`outside`], [`adapters`], [`captures`], [`reassembly`], [`endpoints`], [`natives`];
 //! - of runs over it: [`filter`], [`faults`], [`top`];
@@ -51,7 +52,11 @@ mod outside;
 #[cfg(test)]
 mod plans;
 #[cfg(test)]
+mod raises;
+#[cfg(test)]
 mod reassembly;
+#[cfg(test)]
+mod renewals;
 #[cfg(test)]
 mod reports;
 #[cfg(test)]

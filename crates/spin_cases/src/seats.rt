@@ -12,7 +12,7 @@ use spin_code::{Act, ActStep, Expr, Merge, Sincere, Steplist};
 use spin_log::Rows;
 use spin_objects::{Body, Catalogue, Natives};
 use spin_policy::Policy;
-use spin_proto::{Deed, Reply};
+use spin_proto::{Deed, Reply, ReplyBuffer, Step};
 use spin_raise::Answer;
 use spin_seat::{Hub, Judged, Seat, SeatFault, Seats, Verdicted};
 use spin_table::{Authority, EventDef, EventList, Refusal, Setup};
@@ -56,14 +56,14 @@ fn remove_of(lane: u8, target: u16) -> Command
     }
 }
 
-fn raise_of(alloc: Global, word: u64) -> Result<Deed, NoMemory> {
+fn raise_of(alloc: Global, event: u8, word: u64) -> Result<Deed, NoMemory> {
     let mut args = Args::new(alloc);
     args.push(Value::Word(word))?;
-    Ok(Deed::Raise { event: 0, args })
+    Ok(Deed::Raise { event, args })
 }
 
 // The type of an event or a handler of a word that gives a word.
-fn word_to_word(alloc: Global) -> Result<EventType, NoMemory> {
+pub(crate) fn word_to_word(alloc: Global) -> Result<EventType, NoMemory> {
     let mut params = Params::new(alloc);
     params.push(Param {
         kind: Kind::Word,
@@ -76,7 +76,7 @@ fn word_to_word(alloc: Global) -> Result<EventType, NoMemory> {
 }
 
 // One handler, which gives 5.
-fn five(alloc: Global) -> Result<Catalogue, Fail>
+pub(crate) fn five(alloc: Global) -> Result<Catalogue, Fail>
     ensures { IfOk result (λ catalogue. ⟦<Catalogue as Sincere>⟧.sincere catalogue) }
 {
     let mut steps = Steplist::new(alloc);
@@ -173,7 +173,7 @@ fn raise_with(
     ensures same { IsSamePen seat.old.pen seat.new.pen }
     ensures seat { IsSeatOf (data_of hub.now.setup) seat.new }
 {
-    let deed = raise_of(alloc, word)?;
+    let deed = raise_of(alloc, 0, word)?;
     let raised = seat.raise(alloc, hub, &deed)?;
     Ok((raised.place, value_of(&raised.reply)))
 }
@@ -233,6 +233,92 @@ fn two_seats_take_turns(rt: HostRuntime) -> Result<(), Fail> {
     let rows = close_both(alloc, hub, a, b)?;
     let wanted = [pack(&install_of(0)), pack(&remove_of(1, 1))];
     assert_eq!(rt; rows.as_slice(), wanted.as_slice());
+    Ok(())
+}
+
+// The place of a raise of this event with this word, whose reply is put into the buffer.
+fn raise_lent(
+    alloc: Global,
+    hub: &Hub,
+    seat: &mut Seat,
+    event: u8,
+    word: u64,
+    buffer: &mut ReplyBuffer,
+) -> Result<u16, NoMemory>
+    requires sincere { ⟦<Catalogue as Sincere>⟧.sincere hub.now.setup.catalogue }
+    requires log { seat.old.pen.log ≡ hub.now.log.id }
+    requires seat { IsSeatOf (data_of hub.now.setup) seat.old }
+    ensures same { IsSamePen seat.old.pen seat.new.pen }
+    ensures seat { IsSeatOf (data_of hub.now.setup) seat.new }
+{
+    let deed = raise_of(alloc, event, word)?;
+    seat.raise_into(alloc, hub, &deed, buffer)
+}
+
+// A raise into the buffer comes to this answer at this place, with so many steps, and so does the version's place.
+fn is_lent<R: Abort>(
+    rt: &R,
+    alloc: Global,
+    hub: &Hub,
+    seat: &mut Seat,
+    buffer: &mut ReplyBuffer,
+    wanted: (u16, Answer, usize),
+) -> Result<(), Fail>
+    requires sincere { ⟦<Catalogue as Sincere>⟧.sincere hub.now.setup.catalogue }
+    requires log { seat.old.pen.log ≡ hub.now.log.id }
+    requires seat { IsSeatOf (data_of hub.now.setup) seat.old }
+    ensures same { IsSamePen seat.old.pen seat.new.pen }
+    ensures seat { IsSeatOf (data_of hub.now.setup) seat.new }
+{
+    let (place, answer, steps) = wanted;
+    assert_eq!(rt; raise_lent(alloc, hub, seat, 0, 9, buffer)?, place);
+    assert_eq!(rt; buffer.answer(), Some(answer));
+    assert_eq!(rt; buffer.trace().len(), steps);
+    assert_eq!(rt; seat.version()?.place(), place);
+    Ok(())
+}
+
+// Raises into one buffer, while a binding comes and goes.
+fn raise_into_one_buffer<R: Abort>(
+    rt: &R,
+    alloc: Global,
+    hub: &Hub,
+    seat: &mut Seat,
+    buffer: &mut ReplyBuffer,
+) -> Result<(), Fail>
+    requires sincere { ⟦<Catalogue as Sincere>⟧.sincere hub.now.setup.catalogue }
+    requires log { seat.old.pen.log ≡ hub.now.log.id }
+    requires seat { IsSeatOf (data_of hub.now.setup) seat.old }
+    requires lane { seat.old.pen.lane ≡ 0 }
+    ensures same { IsSamePen seat.old.pen seat.new.pen }
+    ensures seat { IsSeatOf (data_of hub.now.setup) seat.new }
+{
+    is_lent(rt, alloc, hub, seat, buffer, (0, Answer::NoHandler, 0))?;
+    assert!(rt; is_judged(alloc, hub, seat, &install_of(0), &accepted(1))?);
+    is_lent(rt, alloc, hub, seat, buffer, (1, Answer::Value(5), 2))?;
+    assert_eq!(rt;
+        buffer.trace(),
+        [
+            Step::Run {
+                event: 0,
+                number: 1
+            },
+            Step::Result(5)
+        ]
+        .as_slice()
+    );
+    assert!(rt; is_judged(alloc, hub, seat, &remove_of(0, 1), &accepted(2))?);
+    is_lent(rt, alloc, hub, seat, buffer, (2, Answer::NoHandler, 0))
+}
+
+#[test]
+fn raises_share_a_buffer(rt: HostRuntime) -> Result<(), Fail> {
+    let alloc = rt.alloc();
+    let (hub, mut a, _b) = two_seats(alloc)?;
+    let mut buffer = ReplyBuffer::new(alloc);
+    raise_into_one_buffer(&rt, alloc, &hub, &mut a, &mut buffer)?;
+    let place = raise_lent(alloc, &hub, &mut a, 1, 9, &mut buffer)?;
+    assert_eq!(rt; (place, buffer.into_reply()), (2, Reply::UnknownEvent));
     Ok(())
 }
 
@@ -315,7 +401,7 @@ fn play(alloc: Global, hub: &Hub, seat: &mut Seat) -> Result<(), SeatFault>
 {
     let lane = seat.lane();
     let install = install_of(lane);
-    let raise = raise_of(alloc, 9)?;
+    let raise = raise_of(alloc, 0, 9)?;
     for _ in 0..TURNS {
         seat.command(alloc, hub, &install)?;
         seat.raise(alloc, hub, &raise)?;
