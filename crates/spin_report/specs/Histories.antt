@@ -31,7 +31,7 @@ pub record HistorySeen : Type 0 where
 abbrev pub first_line : List ℕ
 first_line = codes "report 1"
 
--- the line of an endpoint that is retired: its number, with `ok` where one stood under its name and `unknown` where none did
+-- the line of an endpoint that is retired: its number, with `ok` where one stood under its name, else `unknown`
 abbrev pub retire_line : Retired → List ℕ
 retire_line r =
     line_of (codes "retire" ∷ decimal r.endpoint ∷ (if r.stood then codes "ok" else codes "unknown") ∷ [])
