@@ -6,10 +6,12 @@ use Rattle.std.specs.Option.{option_to_list}
 use Rattle.std.proofs.lemmas.List.{take_more}
 use Rattle.std.proofs.lemmas.List.Elements.{filter_map-append}
 use Rattle.std.proofs.lemmas.Option.{same_Some}
-use Rattle.std.proofs.lemmas.List.Elements.{All-cons, All-contains}
+use Rattle.std.proofs.lemmas.List.Elements.{All-cons, All-contains, All-head, All-tail}
+use Rattle.std.proofs.lemmas.Bool.{eq-eqb, ne_eqb}
+use Rattle.spin_place.specs.Orders.{AreDistinct}
 use Rattle.spin_place.specs.declared.binding.Binding.{Binding}
 use Rattle.spin_place.specs.Precedence.{IsTheOrder}
-use Rattle.spin_place.proofs.NumberLists.{Contains-there}
+use Rattle.spin_place.proofs.NumberLists.{Contains-there, AllPairs-head, AllPairs-tail}
 use Rattle.spin_place.specs.Precedence.{numbers_of}
 use Rattle.std.proofs.lemmas.List.{length-map}
 use Rattle.std.proofs.lemmas.List.Sorted.{length_permutation}
@@ -70,3 +72,18 @@ arranged-more bs ns at n inside read =
 pub length-order : (bs : List Binding) (ns : List ℕ) → IsTheOrder bs ns → length (arranged bs ns) ≤ length bs
 length-order bs ns order =
     omega (arith, length-arranged bs ns, length_permutation (numbers_of bs) ns order.0.0, length-map bs (λ (b : Binding). b.number))
+
+-- a binding whose number is none of these isn't among those of these numbers
+skip_first : (b : Binding) (bs : List Binding) (ns : List ℕ) → All (λ n. b.number ≡ n → ⊥) ns → arranged (b ∷ bs) ns ≡ arranged bs ns
+skip_first b bs [] h = refl
+skip_first b bs (n ∷ ns) h =
+    let one : binding_of (b ∷ bs) n ≡ binding_of bs n = ap (λ t. cond t (Some b) (binding_of bs n)) (ne_eqb b.number n (All-head (λ m. b.number ≡ m → ⊥) n ns h)) in
+    ap (λ o. cons_option o (arranged (b ∷ bs) ns)) one ∙ ap (cons_option (binding_of bs n)) (skip_first b bs ns (All-tail (λ m. b.number ≡ m → ⊥) n ns h))
+
+-- the bindings of all numbers in their order are the bindings
+pub arranged-in_place : (bs : List Binding) → AreDistinct (numbers_of bs) → arranged bs (numbers_of bs) ≡ bs
+arranged-in_place [] distinct = refl
+arranged-in_place (b ∷ bs) distinct =
+    ap (λ t. cons_option (cond t (Some b) (binding_of bs b.number)) (arranged (b ∷ bs) (numbers_of bs))) (eq-eqb b.number b.number refl)
+    ∙ ap (λ l. b ∷ l) (skip_first b bs (numbers_of bs) (AllPairs-head (λ m n. m ≡ n → ⊥) b.number (numbers_of bs) distinct)
+    ∙ arranged-in_place bs (AllPairs-tail (λ m n. m ≡ n → ⊥) b.number (numbers_of bs) distinct))

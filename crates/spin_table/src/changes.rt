@@ -93,10 +93,11 @@ pub(crate) fn replaced(
     })
 }
 
+// Equal bindings, with room for one more.
 fn copy_bindings(alloc: Global, bindings: &[Binding]) -> Result<Bindings, NoMemory>
     ensures { IfOk result (λ copy. copy ≡ bindings.now) }
 {
-    let mut copy = Sequence::new(alloc);
+    let mut copy = Sequence::with_capacity(alloc, bindings.len() + 1)?;
     for binding in bindings {
         copy.push(binding.copy()?)?;
     }
@@ -106,7 +107,7 @@ fn copy_bindings(alloc: Global, bindings: &[Binding]) -> Result<Bindings, NoMemo
 fn copy_without(alloc: Global, bindings: &[Binding], target: u16) -> Result<Bindings, NoMemory>
     ensures { IfOk result (λ copy. copy ≡ filter (λ b. not (b.number == target)) bindings.now) }
 {
-    let mut copy = Sequence::new(alloc);
+    let mut copy = Sequence::with_capacity(alloc, bindings.len())?;
     for binding in bindings {
         if binding.number != target {
             copy.push(binding.copy()?)?;
@@ -142,7 +143,7 @@ fn copy_replaced(
     ensures { IfOk result
         (λ copy. copy ≡ map (specs.replaced_at rules.now verdict c.now) bindings.now) }
 {
-    let mut copy = Sequence::new(alloc);
+    let mut copy = Sequence::with_capacity(alloc, bindings.len())?;
     for binding in bindings {
         copy.push(replaced_if(alloc, rules, verdict, c, binding)?)?;
     }

@@ -18,7 +18,7 @@ use crate::guarding::{Tests, share_tests};
 use crate::live::find_binding;
 use crate::refusal::{Refusal, StepFault};
 use crate::setup::Setup;
-use spin_place::{Binding, OrderFault, order};
+use spin_place::{Binding, OrderFault, are_unplaced, order};
 use spin_plan::Plan;
 use spin_values::{NoMemory, Numbers, Sequence, Steps};
 use std::alloc::Global;
@@ -68,7 +68,7 @@ fn push_found(list: &mut Bindings, found: Option<&Binding>) -> Result<(), NoMemo
 fn arrange(alloc: Global, bindings: &[Binding], numbers: &[u16]) -> Result<Bindings, NoMemory>
     ensures { IfOk result (λ list. list ≡ arranged bindings.now numbers.now) }
 {
-    let mut list = Sequence::new(alloc);
+    let mut list = Sequence::with_capacity(alloc, numbers.len())?;
     for number in numbers {
         push_found(&mut list, find_binding(bindings, *number))?;
     }
@@ -85,6 +85,57 @@ fn order_of(alloc: Global, bindings: &[Binding]) -> Result<Numbers, StepFault>
         Err(OrderFault::Conflict(cycle)) => Err(StepFault::Refused(Refusal::Conflict(cycle))),
         Err(OrderFault::NoMemory) => Err(StepFault::NoMemory),
     }
+}
+
+// The plan of the bindings as they stand.
+fn compiled<L: Ledger>(
+    alloc: Global,
+    setup: &Setup,
+    ordered: &[Binding],
+    steps: &mut Steps<L>,
+) -> Result<Plan, NoMemory>
+    requires few { length ordered.now ≤ MAX_LIVE }
+    requires own { All (λ b. IsGuard (length (guards_of setup.now.catalogue)) b.own_guard)
+        ordered.now }
+    requires imposed { All (λ b. All (IsGuard (length (guards_of setup.now.catalogue))) b.imposed)
+        ordered.now }
+    ensures plan { IfOk result (λ plan. plan.bindings ≡ ordered.now) }
+    ensures over { IfOk result (λ plan. IsOver (tests_of setup.now.catalogue) plan) }
+    ensures ticks { steps.new ≤ steps.old + length ordered.now }
+{
+    Plan::compile(alloc, ordered, setup.catalogue(), steps)
+}
+
+// The plan of the bindings in their order, or a cycle where no order of them is lawful.
+fn plan_of<L: Ledger>(
+    alloc: Global,
+    setup: &Setup,
+    bindings: &[Binding],
+    steps: &mut Steps<L>,
+) -> Result<Plan, StepFault>
+    requires distinct { AreDistinct (numbers_of bindings.now) }
+    requires few { length bindings.now ≤ MAX_LIVE }
+    requires own { All (λ b. IsGuard (length (guards_of setup.now.catalogue)) b.own_guard)
+        bindings.now }
+    requires imposed { All (λ b. All (IsGuard (length (guards_of setup.now.catalogue))) b.imposed)
+        bindings.now }
+    ensures order { MatchResult result
+        (λ plan. (ns : List ℕ) × IsTheOrder bindings.now ns
+        × (plan.bindings ≡ arranged bindings.now ns))
+        (IsOrderFault bindings.now) }
+    ensures over { IfOk result (λ plan. IsOver (tests_of setup.now.catalogue) plan) }
+    ensures ticks { steps.new ≤ steps.old + length bindings.now }
+    ensures refused { OnRefused result (steps.new ≡ steps.old) }
+{
+    if are_unplaced(bindings) {
+        return Ok(compiled(alloc, setup, bindings, steps)?);
+    }
+    let numbers = match order_of(alloc, bindings) {
+        Ok(numbers) => numbers,
+        Err(fault) => return Err(fault),
+    };
+    let list = arrange(alloc, bindings, numbers.as_slice())?;
+    Ok(compiled(alloc, setup, list.as_slice(), steps)?)
 }
 
 impl EventLists {
@@ -112,12 +163,10 @@ impl EventLists {
         ensures refused { OnRefused result (steps.new ≡ steps.old) }
     {
         let tests = share_tests(tests)?;
-        let numbers = match order_of(alloc, bindings.as_slice()) {
-            Ok(numbers) => numbers,
+        let plan = match plan_of(alloc, setup, bindings.as_slice(), steps) {
+            Ok(plan) => plan,
             Err(fault) => return Err(fault),
         };
-        let list = arrange(alloc, bindings.as_slice(), numbers.as_slice())?;
-        let plan = Plan::compile(alloc, list.as_slice(), setup.catalogue(), steps)?;
         Ok(EventLists {
             bindings,
             plan,

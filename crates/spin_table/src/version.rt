@@ -206,7 +206,7 @@ impl EventSlot {
 fn share(alloc: Global, slots: &[EventSlot]) -> Result<Sequence<EventSlot>, NoMemory>
     ensures { IfOk result (λ shared. shared ≡ slots.now) }
 {
-    let mut shared = Sequence::new(alloc);
+    let mut shared = Sequence::with_capacity(alloc, slots.len())?;
     for slot in slots {
         shared.push(slot.with_default(slot.default)?)?;
     }
