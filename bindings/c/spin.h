@@ -7,8 +7,9 @@
  * Left to C is what no call can test:
  * - a pointer that isn't null leads to memory that is as long as its length says, and that nothing else writes
  *   meanwhile; what a call writes to overlaps nothing else that it is handed;
- * - a handle begins as {NULL}; one that is open isn't copied, and is given to one call at a time, on the thread that
- *   opened it;
+ * - a handle begins as {NULL}; one that is open isn't copied, and is given to one call at a time. It may go to another
+ *   thread, which is ordered by that thread's start or join, or by a lock. Handles of one hub may be used at once, each
+ *   on a thread of its own;
  * - the calls are made on the stack of a thread, and not from a signal handler;
  * - malloc, realloc and free are those of one allocator.
  */
@@ -29,14 +30,17 @@ enum spin_error {
     SPIN_NO_HISTORY = 3,   /* the report isn't that of a history of the script */
     SPIN_CLOSED = 4,       /* the handle is closed */
     SPIN_OPEN = 5,         /* the handle is open already */
-    SPIN_NO_COMMAND = 6,   /* the row stands for no command of lane 0 */
+    SPIN_NO_COMMAND = 6,   /* the row stands for no command of the handle's lane */
     SPIN_FULL = 7,         /* the log has as many commands as it holds */
     SPIN_REFUSED = 8,      /* the command is refused: its place, and the number of the refusal, are told */
     SPIN_NO_REPLY = 9,     /* no reply is kept: nothing was raised yet, or a command was done since */
     SPIN_NO_STEP = 10,     /* the reply has no step of that index */
     SPIN_TOO_SMALL = 11,   /* the bytes don't fit the buffer; how many they are is told */
     SPIN_NO_ARGUMENT = 12, /* an argument is neither a word nor a range within the bytes: nothing is done */
-    SPIN_NULL = 100        /* a pointer is null that may not be */
+    SPIN_NO_LANE = 13,     /* no hub has so many lanes; or the handle has no such lane to hand out */
+    SPIN_TAKEN = 14,       /* the seat of the lane is handed out already */
+    SPIN_NULL = 100,       /* a pointer is null that may not be */
+    SPIN_SAME = 101        /* one handle is handed in as two */
 };
 
 /* Where a text is no script, and why; zeros where nothing is told. */
@@ -45,7 +49,8 @@ struct spin_fault {
     uint32_t cause; /* the number of the cause, as docs/FORMATS.md has them */
 };
 
-/* A handle: a hub over a script, and its one seat; closed where it is {NULL}. */
+/* A handle: a seat of a hub over a script; closed where it is {NULL}. A hub has a seat for each lane, and each seat is
+ * one handle's; the last handle that is closed frees the hub. */
 struct spin_lane {
     void *at;
 };
@@ -104,6 +109,9 @@ uint32_t spin_check(const uint8_t *text, size_t text_length, const uint8_t *repo
                     const uint8_t *standing, size_t standing_length, struct spin_fault *fault);
 
 uint32_t spin_open(const uint8_t *text, size_t text_length, struct spin_lane *lane, struct spin_answer *answer);
+uint32_t spin_open_lanes(const uint8_t *text, size_t text_length, uint8_t lanes, struct spin_lane *lane,
+                         struct spin_answer *answer);
+uint32_t spin_seat(struct spin_lane *lane, uint8_t number, struct spin_lane *seat);
 uint32_t spin_raise_words(struct spin_lane *lane, uint8_t event, const uint64_t *words, size_t count,
                           struct spin_answer *answer);
 uint32_t spin_raise(struct spin_lane *lane, uint8_t event, const uint8_t *bytes, size_t length,
@@ -138,6 +146,26 @@ static inline uint32_t spin_lane_open(struct spin_lane *lane, const void *text, 
         return SPIN_NULL;
     }
     return spin_open(bytes, length, lane, answer);
+}
+
+/* Opens a closed handle over a script with a hub of so many lanes, 1 to 8. The handle is that of lane 0, and the seats
+ * of the others wait at it for spin_lane_seat. */
+static inline uint32_t spin_lane_open_hub(struct spin_lane *lane, uint8_t lanes, const void *text, size_t length,
+                                          struct spin_answer *answer) {
+    const uint8_t *bytes = spin_bytes(text, length);
+    if (bytes == NULL || lane == NULL || answer == NULL) {
+        return SPIN_NULL;
+    }
+    return spin_open_lanes(bytes, length, lanes, lane, answer);
+}
+
+/* Hands the seat of another lane out, which waits at the handle with which its hub was opened, to a closed handle. Each
+ * lane has one seat. */
+static inline uint32_t spin_lane_seat(struct spin_lane *lane, uint8_t number, struct spin_lane *seat) {
+    if (lane == NULL || seat == NULL) {
+        return SPIN_NULL;
+    }
+    return lane == seat ? (uint32_t)SPIN_SAME : spin_seat(lane, number, seat);
 }
 
 /* Raises an event with words as its arguments. */
@@ -207,13 +235,15 @@ enum spin_op { SPIN_INSTALL = 1, SPIN_REMOVE = 2, SPIN_REPLACE = 3, SPIN_SET_DEF
 enum spin_place { SPIN_FREE = 0, SPIN_FIRST = 1, SPIN_LAST = 2 };
 enum spin_mode { SPIN_PLAIN = 0, SPIN_FILTER = 1, SPIN_ASYNC = 2 };
 
-/* A command. What its op doesn't use is 0. `before` and `after` name up to four bindings each, rising, and then 0. */
+/* A command, of the lane of its handle. What its op doesn't use is 0. `before` and `after` name up to four bindings
+ * each, rising, and then 0. */
 struct spin_command_words {
     enum spin_op op;
     uint16_t event, requester, handler, guard, target;
     enum spin_place place;
     enum spin_mode mode;
     uint16_t before[4], after[4];
+    uint8_t lane;
 };
 
 /* Four numbers of bindings as one word, 65535 standing for none. */
@@ -225,17 +255,17 @@ static inline uint64_t spin_quarters(const uint16_t numbers[4]) {
     return word;
 }
 
-/* The row of a command of lane 0; where a number has no room in it, a row that stands for none. */
+/* The row of a command; where a number has no room in it, a row that stands for none. */
 static inline struct spin_row spin_row_of(const struct spin_command_words *command) {
     const struct spin_command_words c = *command;
     const struct spin_row none = {UINT64_MAX, UINT64_MAX, UINT64_MAX, UINT64_MAX};
     if ((unsigned)c.op >> 3 || c.event >> 6 || c.requester >> 8 || c.handler >> 10 || c.guard >> 10 ||
-        c.target >> 13 || (unsigned)c.place >> 3 || (unsigned)c.mode >> 2) {
+        c.target >> 13 || (unsigned)c.place >> 3 || (unsigned)c.mode >> 2 || c.lane >> 4) {
         return none;
     }
     struct spin_row row = {(uint64_t)c.mode | (uint64_t)c.place << 2 | (uint64_t)c.guard << 15 |
                                (uint64_t)c.handler << 25 | (uint64_t)c.requester << 35 | (uint64_t)c.event << 43 |
-                               (uint64_t)c.op << 53,
+                               (uint64_t)c.lane << 49 | (uint64_t)c.op << 53,
                            c.target, spin_quarters(c.before), spin_quarters(c.after)};
     return row;
 }
@@ -275,7 +305,10 @@ static inline const char *spin_error_name(uint32_t error) {
     case SPIN_NO_STEP: return "no such step";
     case SPIN_TOO_SMALL: return "the buffer is too small";
     case SPIN_NO_ARGUMENT: return "no argument";
+    case SPIN_NO_LANE: return "no such lane";
+    case SPIN_TAKEN: return "the seat is taken";
     case SPIN_NULL: return "null";
+    case SPIN_SAME: return "one handle twice";
     default: return "unknown";
     }
 }

@@ -162,8 +162,45 @@ static void expect_replies(void) {
     expect("a close", spin_lane_close(&lane, &answer), SPIN_OK);
 }
 
+/* What handles of one hub answer. */
+static void expect_seats(void) {
+    static const char script[] = "spin 1\nevent 0 0 w:w last\nhandler 1 w:w result + a0 1\n";
+    const size_t length = sizeof script - 1;
+    const uint64_t words[1] = {41};
+    struct spin_lane first = {NULL}, second = {NULL}, third = {NULL};
+    struct spin_answer answer;
+    struct spin_command_words install = {.op = SPIN_INSTALL, .handler = 1, .lane = 1};
+    expect("a seat of a closed handle", spin_lane_seat(&first, 1, &second), SPIN_CLOSED);
+    expect("no lanes", spin_lane_open_hub(&first, 0, script, length, &answer), SPIN_NO_LANE);
+    expect("9 lanes", spin_lane_open_hub(&first, 9, script, length, &answer), SPIN_NO_LANE);
+    expect("a closed handle", spin_lane_close(&first, &answer), SPIN_CLOSED);
+    expect("8 lanes", spin_lane_open_hub(&first, 8, script, length, &answer), SPIN_OK);
+    expect("lanes of an open handle", spin_lane_open_hub(&first, 0, script, length, &answer), SPIN_OPEN);
+    expect("a lane that isn't there", spin_lane_seat(&first, 8, &second), SPIN_NO_LANE);
+    expect("its own lane", spin_lane_seat(&first, 0, &second), SPIN_TAKEN);
+    expect("a null seat", spin_lane_seat(&first, 1, NULL), SPIN_NULL);
+    expect("one handle twice", spin_lane_seat(&first, 1, &first), SPIN_SAME);
+    expect("a seat", spin_lane_seat(&first, 1, &second), SPIN_OK);
+    expect("a seat to an open handle", spin_lane_seat(&first, 2, &second), SPIN_OPEN);
+    expect("a seat a second time", spin_lane_seat(&first, 1, &third), SPIN_TAKEN);
+    expect("a seat of a seat", spin_lane_seat(&second, 2, &third), SPIN_NO_LANE);
+    expect("a command of another lane", spin_lane_command(&first, &install, &answer), SPIN_NO_COMMAND);
+    expect("a command of the lane", spin_lane_command(&second, &install, &answer), SPIN_OK);
+    expect("another seat", spin_lane_seat(&first, 7, &third), SPIN_OK);
+    expect("a close of the first", spin_lane_close(&first, &answer), SPIN_OK);
+    expect("a raise on the third", spin_lane_raise(&third, 0, words, 1, &answer), SPIN_OK);
+    if (answer.place != 1 || answer.kind != SPIN_VALUE || answer.value != 42) {
+        puts("the third handle doesn't know what the second did");
+        wrong = 1;
+    }
+    expect("a close of the third", spin_lane_close(&third, &answer), SPIN_OK);
+    expect("a second close", spin_lane_close(&third, &answer), SPIN_CLOSED);
+    expect("a close of the last", spin_lane_close(&second, &answer), SPIN_OK);
+}
+
 int main(void) {
     expect_lanes();
+    expect_seats();
     expect_steps();
     expect_replies();
     static const char script[] =

@@ -22,6 +22,7 @@ __all__ = [
 # The numbers that the calls answer, as bindings/c/spin.h has them.
 _OK, _NO_MEMORY, _BAD_SCRIPT, _NO_HISTORY, _CLOSED, _OPEN, _NO_COMMAND, _FULL, _REFUSED = range(9)
 _NO_REPLY, _NO_STEP = 9, 10
+_NO_LANE, _TAKEN = 13, 14
 
 # The kinds of replies to a raise, by number.
 KINDS = (
@@ -43,6 +44,7 @@ _SAID = {
     **{_CLOSED: "the lane is closed", _OPEN: "the lane is open"},
     **{_NO_COMMAND: "that is no command", _FULL: "the log is full"},
     **{_NO_REPLY: "no reply is kept", _NO_STEP: "the reply has no such step"},
+    **{_NO_LANE: "there is no such lane", _TAKEN: "the seat is taken"},
 }
 
 
@@ -165,12 +167,19 @@ class Step:
 
 
 class Lane:
-    """A hub over a script, with its one seat: what the script declares, and the bindings that commands made. It is
-    closed where a `with` ends."""
+    """A seat of a hub over a script: what the script declares, and the bindings that commands of all its seats made. It
+    is closed where a `with` ends. Seats of one hub may be used at once, each by one thread at a time."""
 
-    def __init__(self, calls: ctypes.CDLL, script: bytes) -> None:
-        self._calls, self._lane = calls, _SpinLane(None)
-        self._ask(self._calls.spin_open, bytes(script), len(script), ctypes.byref(self._lane))
+    def __init__(self, calls: ctypes.CDLL, script: bytes, lanes: int = 1) -> None:
+        self._calls, self._lane, self.number = calls, _SpinLane(None), 0
+        self._ask(calls.spin_open_lanes, bytes(script), len(script), lanes, ctypes.byref(self._lane))
+
+    def _seat(self, number: int) -> "Lane":
+        """The seat of another lane, which waits at this one."""
+        seat = Lane.__new__(Lane)
+        seat._calls, seat._lane, seat.number = self._calls, _SpinLane(None), number
+        self._tell(self._calls.spin_seat(ctypes.byref(self._lane), number, ctypes.byref(seat._lane)), _SpinAnswer())
+        return seat
 
     def __enter__(self) -> "Lane":
         return self
@@ -240,7 +249,7 @@ class Lane:
         rooms = ((event, 64), (op, 8), (requester, 256), (handler, 1024), (guard, 1024), (target, 8192))
         if not all(0 <= number < room for number, room in rooms):
             raise Fault(_SAID[_NO_COMMAND])
-        first = guard << 15 | handler << 25 | requester << 35 | event << 43 | op << 53
+        first = guard << 15 | handler << 25 | requester << 35 | event << 43 | self.number << 49 | op << 53
         row = (ctypes.c_uint64 * 4)(first, target, 2**64 - 1, 2**64 - 1)
         return self._ask(self._calls.spin_command, ctypes.byref(self._lane), row).place
 
@@ -263,13 +272,14 @@ class Library:
         told = [ctypes.POINTER(_SpinAnswer)]
         words = ctypes.POINTER(ctypes.c_uint64)
         for call, given in (
-            (calls.spin_open, [*text, *one]),
+            (calls.spin_open_lanes, [*text, ctypes.c_uint8, *one]),
             (calls.spin_raise_words, [*one, ctypes.c_uint8, words, ctypes.c_size_t]),
             (calls.spin_raise, [*one, ctypes.c_uint8, *text, ctypes.POINTER(_SpinArg), ctypes.c_size_t]),
             (calls.spin_command, [*one, words]),
             (calls.spin_close, one),
         ):
             call.argtypes, call.restype = [*given, *told], ctypes.c_uint32
+        calls.spin_seat.argtypes, calls.spin_seat.restype = [*one, ctypes.c_uint8, *one], ctypes.c_uint32
         index, length = ctypes.c_uint64, ctypes.POINTER(ctypes.c_uint64)
         calls.spin_step.argtypes = [*one, index, ctypes.POINTER(_SpinStep)]
         calls.spin_step_bytes.argtypes = [*one, index, *text, length]
@@ -277,8 +287,16 @@ class Library:
         self._calls = calls
 
     def open(self, script: bytes) -> "Lane":
-        """A lane over the script: what it declares, with nothing bound. Its lane lines aren't done."""
+        """The seat of a hub with one lane over the script: what it declares, with nothing bound. Its lane lines aren't
+        done."""
         return Lane(self._calls, script)
+
+    def open_lanes(self, script: bytes, lanes: int) -> list[Lane]:
+        """All seats of a hub of 1 to 8 lanes over the script, the k-th being that of lane k."""
+        if not 0 <= lanes < 2**8:
+            raise Fault(_SAID[_NO_LANE])
+        first = Lane(self._calls, script, lanes)
+        return [first, *(first._seat(number) for number in range(1, lanes))]
 
     def version(self) -> int:
         """The version of the calls. It grows where one of them is changed."""

@@ -2,6 +2,7 @@
 Run by `python3 -m unittest` in this folder."""
 
 import os
+import threading
 import unittest
 from pathlib import Path
 
@@ -147,6 +148,33 @@ class Lanes(unittest.TestCase):
             for data in (b"", b"x", bytes(range(256)) * 200):
                 lane.raise_event(0, data, 1)
                 self.assertEqual(lane.step(1).data, data[1:])
+
+    def test_seats_of_one_hub_on_threads(self):
+        seats = self.library.open_lanes(self.SCRIPT, 8)
+        self.assertEqual([seat.number for seat in seats], list(range(8)))
+        places, raised = [[] for _ in seats], [[] for _ in seats]
+
+        def take_part(seat):
+            for turn in range(100):
+                handler = 1 + (turn + seat.number) % 2
+                places[seat.number].append((seat.command(0, 4, handler=handler), handler))
+                raised[seat.number].append(seat.raise_event(0, 10))
+            seat.close()
+
+        threads = [threading.Thread(target=take_part, args=(seat,)) for seat in seats]
+        for thread in threads:
+            thread.start()
+        for thread in threads:
+            thread.join()
+        handlers = dict(place for each in places for place in each)
+        self.assertEqual(sorted(handlers), list(range(1, 801)))
+        for reply in (reply for each in raised for reply in each):
+            self.assertEqual((reply.kind, reply.value), ("default value", 10 + handlers[reply.place]))
+
+    def test_no_hub_has_no_lanes_or_9(self):
+        for lanes in (-1, 0, 9, 256):
+            with self.assertRaisesRegex(spin.Fault, "no such lane"):
+                self.library.open_lanes(self.SCRIPT, lanes)
 
     def test_a_closed_lane(self):
         lane = self.library.open(self.SCRIPT)

@@ -25,6 +25,14 @@ unsafe extern "C" {
         fault: *mut SpinFault,
     ) -> u32;
     fn spin_open(text: *const u8, text_length: usize, lane: *mut SpinLane, answer: *mut SpinAnswer) -> u32;
+    fn spin_open_lanes(
+        text: *const u8,
+        text_length: usize,
+        lanes: u8,
+        lane: *mut SpinLane,
+        answer: *mut SpinAnswer,
+    ) -> u32;
+    fn spin_seat(lane: *mut SpinLane, number: u8, seat: *mut SpinLane) -> u32;
     fn spin_raise_words(
         lane: *mut SpinLane,
         event: u8,
@@ -122,10 +130,14 @@ struct SpinLane {
     at: *mut c_void,
 }
 
-/// A handle that is open. It stays on its thread, since the pointer does.
+/// A handle that is open.
 pub(crate) struct Held {
     lane: SpinLane,
 }
+
+// SAFETY: what a handle holds may be used from any thread, one call at a time, which `&mut` sees to: that is proved of
+// the library's own type. Handles of one hub share it, and may be used at once.
+unsafe impl Send for Held {}
 
 /// The fault that a number tells, where it isn't one of those that the call is asked for.
 fn fault_of(number: u32, answer: &SpinAnswer) -> Fault {
@@ -136,6 +148,8 @@ fn fault_of(number: u32, answer: &SpinAnswer) -> Fault {
         7 => Fault::Full,
         9 => Fault::NoReply,
         10 => Fault::NoStep,
+        13 => Fault::NoLane,
+        14 => Fault::Taken,
         other => Fault::Unknown(other),
     }
 }
@@ -147,6 +161,24 @@ impl Held {
         match unsafe { spin_open(text.as_ptr(), text.len(), &mut lane, &mut answer) } {
             0 => Ok(Held { lane }),
             number => Err(fault_of(number, &answer)),
+        }
+    }
+
+    pub(crate) fn open_lanes(text: &[u8], lanes: u8) -> Result<Held, Fault> {
+        let (mut lane, mut answer) = (SpinLane { at: null_mut() }, SpinAnswer::default());
+        // SAFETY: a slice with its length, and two values of this function.
+        match unsafe { spin_open_lanes(text.as_ptr(), text.len(), lanes, &mut lane, &mut answer) } {
+            0 => Ok(Held { lane }),
+            number => Err(fault_of(number, &answer)),
+        }
+    }
+
+    pub(crate) fn seat(&mut self, number: u8) -> Result<Held, Fault> {
+        let mut lane = SpinLane { at: null_mut() };
+        // SAFETY: the handle is this value's own, and the other is one of this function, which is closed.
+        match unsafe { spin_seat(&mut self.lane, number, &mut lane) } {
+            0 => Ok(Held { lane }),
+            number => Err(fault_of(number, &SpinAnswer::default())),
         }
     }
 

@@ -24,6 +24,10 @@ pub enum Fault {
     NoReply,
     /// The reply has no step of that index.
     NoStep,
+    /// No hub has so many lanes, or the hub has no such lane.
+    NoLane,
+    /// The seat of the lane is taken already.
+    Taken,
     /// The library answered a number that this crate doesn't know.
     Unknown(u32),
 }
@@ -38,6 +42,8 @@ impl Display for Fault {
             Fault::Full => write!(out, "the log is full"),
             Fault::NoReply => write!(out, "no reply is kept"),
             Fault::NoStep => write!(out, "the reply has no such step"),
+            Fault::NoLane => write!(out, "there is no such lane"),
+            Fault::Taken => write!(out, "the seat is taken"),
             Fault::Unknown(number) => write!(out, "the library answered {number}"),
         }
     }

@@ -1,4 +1,4 @@
-//! A hub over a script, with its one seat.
+//! Hubs over scripts, and their seats.
 
 use crate::calls::{Held, SpinAnswer, SpinArg};
 use crate::fault::Fault;
@@ -117,8 +117,8 @@ fn quarters(number: Option<u16>) -> u64 {
 }
 
 impl Command {
-    /// The row that stands for it; where a number has no room in it, one that stands for none.
-    fn row(&self) -> [u64; 4] {
+    /// The row that stands for it as one of this lane; where a number has no room in it, one that stands for none.
+    fn row(&self, lane: u8) -> [u64; 4] {
         let (op, handler, guard, target, place, mode) = match self.op {
             Op::Install { handler, guard, place, mode } => (1, handler, guard, 0, place, mode as u64),
             Op::Remove(target) => (2, 0, 0, target, Place::Free, 0),
@@ -143,20 +143,69 @@ impl Command {
             | u64::from(handler) << 25
             | u64::from(self.requester) << 35
             | u64::from(self.event) << 43
+            | u64::from(lane) << 49
             | op << 53;
         [first, u64::from(target), quarters(before), quarters(after)]
     }
 }
 
-/// A hub over a script, with its one seat: what the script declares, and the bindings that commands made.
+/// A seat of a hub over a script: what the script declares, and the bindings that commands of all its seats made. It may
+/// go to another thread. Each answer has a place, and is what the commands that were accepted up to there make of it.
 pub struct Lane {
     held: Held,
+    number: u8,
+}
+
+/// A new hub over a script, of which the seats of its lanes are taken one by one. The hub lives as long as one of its
+/// seats does.
+///
+/// ```
+/// use spin::{Answer, Command, Hub, Mode, Op, Place};
+///
+/// let mut hub = Hub::open(b"spin 1\nevent 0 0 -:w last\nhandler 1 -:w result 7\n", 2)?;
+/// let mut other = hub.seat(1)?;
+/// let mut first = hub.into_first();
+/// let op = Op::Install { handler: 1, guard: 0, place: Place::Free, mode: Mode::Plain };
+/// std::thread::spawn(move || other.command(&Command { event: 0, requester: 0, op })).join().unwrap()?.unwrap();
+/// assert_eq!(first.raise(0, &[])?.answer, Answer::Value(7));
+/// # Ok::<(), spin::Fault>(())
+/// ```
+pub struct Hub {
+    first: Lane,
+}
+
+impl Hub {
+    /// A hub of 1 to 8 lanes over the script: what it declares, with nothing bound. Its lane lines aren't done.
+    pub fn open(script: &[u8], lanes: u8) -> Result<Hub, Fault> {
+        Ok(Hub { first: Lane { held: Held::open_lanes(script, lanes)?, number: 0 } })
+    }
+
+    /// The seat of a lane, each but the first's once.
+    pub fn seat(&mut self, lane: u8) -> Result<Lane, Fault> {
+        Ok(Lane { held: self.first.held.seat(lane)?, number: lane })
+    }
+
+    /// The seat of lane 0. The seats that weren't taken can't be any more.
+    pub fn into_first(self) -> Lane {
+        self.first
+    }
+
+    /// All seats, the k-th being that of lane k, where the hub has so many and none of them was taken.
+    pub fn into_seats(mut self, lanes: u8) -> Result<Vec<Lane>, Fault> {
+        let others = (1..lanes).map(|lane| self.seat(lane)).collect::<Result<Vec<Lane>, Fault>>()?;
+        Ok(std::iter::once(self.first).chain(others).collect())
+    }
 }
 
 impl Lane {
-    /// A lane over the script: what it declares, with nothing bound. Its lane lines aren't done.
+    /// The seat of a hub with one lane over the script: what it declares, with nothing bound. Its lane lines aren't done.
     pub fn open(script: &[u8]) -> Result<Lane, Fault> {
-        Ok(Lane { held: Held::open(script)? })
+        Ok(Lane { held: Held::open(script)?, number: 0 })
+    }
+
+    /// The number of its lane.
+    pub fn number(&self) -> u8 {
+        self.number
     }
 
     /// Raises the event with these words as its arguments.
@@ -203,7 +252,7 @@ impl Lane {
     /// Does the command. Where it is accepted the place of its own is answered, which is also the number of the binding
     /// that it installs.
     pub fn command(&mut self, command: &Command) -> Result<Result<u32, Refusal>, Fault> {
-        let (is_accepted, answer) = self.held.command(command.row())?;
+        let (is_accepted, answer) = self.held.command(command.row(self.number))?;
         let SpinAnswer { place, kind: number, .. } = answer;
         Ok(if is_accepted { Ok(place) } else { Err(Refusal { number, place }) })
     }

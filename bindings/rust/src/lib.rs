@@ -16,8 +16,11 @@ mod lane;
 mod reply;
 
 pub use fault::Fault;
-pub use lane::{Arg, Command, Lane, Mode, Op, Place, Refusal};
+pub use lane::{Arg, Command, Hub, Lane, Mode, Op, Place, Refusal};
 pub use reply::{Answer, Reply, Step};
+
+/// A seat of a hub, which is what a lane has.
+pub type Seat = Lane;
 
 /// The version of the proved calls. It grows where one of them is changed.
 pub fn version() -> u32 {

@@ -82,6 +82,43 @@ module _ (P Q : RattleType) where
         rewrite t 0 (λ (ws : List Val). ‵ (Q.own_val y ws)) g₂.1 refl $ rewrite t 1 (λ (ws : List Val). ‵ (P.own_val x ws)) g₁.1 refl $ move t (2 ∷ []) $ drop t $ move t (1 ∷ 0 ∷ []) $
         k g₁.0 g₂.0 g₁.2 g₂.2 (mathlib.Core.Path.◌∙◌ e (λ n. vstruct (of_list (g₁.1 n ++ (g₂.1 n ++ []))) ∷ []))))))
 
+-- a struct of three fields, by value
+abbrev pub three : Val → Val → Val → Val
+three u v w = vstruct (vcons u (vcons v (vcons w vnil)))
+
+pub three_tt : (x y z : Bool) → T x → T y → T z → T (x && (y && (z && true)))
+three_tt true true true r s t = tt
+three_tt true true false r s t = absurd t
+three_tt true false z r s t = absurd s
+three_tt false y z r s t = absurd r
+
+module _ (P Q S : RattleType) where
+  abbrev pub Three : RattleType
+  Three = Struct (record { name = []; args = []; types = []; fields = P ∷ Q ∷ S ∷ [] })
+
+  module _ {M : Type 1} {𝓤 : Ura M} {𝓛 : Logic 𝓤} {K : Type 0} {Γ : List (Item 𝓤)} {G : Goal 𝓤 𝓛.H} (x : P.Denot) (y : Q.Denot) (z : S.Denot) where
+    pub three_in : K → (u v w : Val)
+        → Step K 𝓛 (‵ (Three.own_val (x, (y, (z, tt))) (three u v w ∷ [])) ∷ Γ) G (‵ (P.own_val x (u ∷ [])) ∷ ‵ (Q.own_val y (v ∷ [])) ∷ ‵ (S.own_val z (w ∷ [])) ∷ Γ) G
+    three_in t u v w = step (λ s. nothing t $ move t (3 ∷ 0 ∷ []) $ fjoin t $ move t (2 ∷ 0 ∷ []) $ fjoin t $ move t (1 ∷ 0 ∷ []) $ fjoin t $
+        feq_i t (List Val) (three u v w ∷ []) (three u v w ∷ []) refl $ fjoin t $
+        fpack t (Valss (P ∷ Q ∷ S ∷ [])) (within (record { name = []; args = []; types = []; fields = P ∷ Q ∷ S ∷ [] }) (x, (y, (z, tt))) (three u v w ∷ [])) (u ∷ [], (v ∷ [], (w ∷ [], tt))) $ s)
+
+    pub three_out : K → P.mir ≡ layout P ∷ [] → Q.mir ≡ layout Q ∷ [] → S.mir ≡ layout S ∷ [] → Lawful 𝓛 P → Lawful 𝓛 Q → Lawful 𝓛 S → (us : List Val)
+        → ((u v w : Val) → Good (layout P) u → Good (layout Q) v → Good (layout S) w → us ≡ three u v w ∷ []
+        → Seq K 𝓛 (‵ (P.own_val x (u ∷ [])) ∷ ‵ (Q.own_val y (v ∷ [])) ∷ ‵ (S.own_val z (w ∷ [])) ∷ Γ) G)
+        → Seq K 𝓛 (‵ (Three.own_val (x, (y, (z, tt))) us) ∷ Γ) G
+    three_out t eP eQ eS LP LQ LS us k =
+        fpick t (λ vss. fsplit t $ feq_l t (λ e. fsplit3 t $ move t (2 ∷ []) $ fsplit t $
+        -- [the third; nothing; the first; the second]
+        peeks t S (Is S) (shows 𝓛 S) z vss.1.1.0 (λ l. move t (2 ∷ []) $ peeks t P (Is P) (shows 𝓛 P) x vss.0 (λ i. move t (3 ∷ []) $ peeks t Q (Is Q) (shows 𝓛 Q) y vss.1.0 (λ j.
+        let g₁ = one (layout P) vss.0 (subst (λ (ρs : List mir.Syntax.Ty). Typed ρs vss.0) eP (LP.typed x vss.0 i)) in
+        let g₂ = one (layout Q) vss.1.0 (subst (λ (ρs : List mir.Syntax.Ty). Typed ρs vss.1.0) eQ (LQ.typed y vss.1.0 j)) in
+        let g₃ = one (layout S) vss.1.1.0 (subst (λ (ρs : List mir.Syntax.Ty). Typed ρs vss.1.1.0) eS (LS.typed z vss.1.1.0 l)) in
+        -- [the second; the first; the third; nothing]
+        rewrite t 0 (λ (ws : List Val). ‵ (Q.own_val y ws)) g₂.1 refl $ rewrite t 1 (λ (ws : List Val). ‵ (P.own_val x ws)) g₁.1 refl $
+        rewrite t 2 (λ (ws : List Val). ‵ (S.own_val z ws)) g₃.1 refl $ move t (3 ∷ []) $ drop t $ move t (1 ∷ 0 ∷ []) $
+        k g₁.0 g₂.0 g₃.0 g₁.2 g₂.2 g₃.2 (mathlib.Core.Path.◌∙◌ e (λ n. vstruct (of_list (g₁.1 n ++ (g₂.1 n ++ (g₃.1 n ++ [])))) ∷ [])))))))
+
 module _ (P Q : RattleType) {M : Type 1} {𝓤 : Ura M} {𝓛 : Logic 𝓤} {K : Type 0} {Γ : List (Item 𝓤)} {G : Goal 𝓤 𝓛.H} where
   pub pair_in : K → (x : P.Denot) (y : Q.Denot) (v w : Val) → Step K 𝓛 (‵ ((Tuple (P ∷ Q ∷ [])).own_val (x, y) (both v w ∷ [])) ∷ Γ) G (‵ (P.own_val x (v ∷ [])) ∷ ‵ (Q.own_val y (w ∷ [])) ∷ Γ) G
   pair_in t x y v w = two_in P Q x y t v w

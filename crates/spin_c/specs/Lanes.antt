@@ -13,7 +13,7 @@ use Rattle.spin_c.specs.contracts.turn.turn_maybe.dyn-1 as first
 use Rattle.spin_c.specs.contracts.turn.turn_maybe.dyn-2 as second
 use Rattle.spin_c.specs.contracts.turn.turn_maybe.dyn-3 as third
 use Rattle.spin_c.specs.Owned.{maybe_owns}
-use Rattle.spin_c.specs.Turns.{IsWell}
+use Rattle.spin_c.specs.Waiting.{IsWell}
 
 -- the types of objects that there are: none
 abbrev pub no_first : first.Ghosts
@@ -32,7 +32,7 @@ row_at = the_row (first.Any no_first).2 (second.Any no_second).2 (third.Any no_t
 abbrev pub LaneAt : Type 0
 LaneAt = row_at.Denot
 
--- the pointer is null, or it owns a lane whose seat is one of its hub
+-- the pointer is null, or it owns a lane whose seat, and those that wait at it, are seats of its hub
 abbrev pub handle_owns : Global → Ptr → Option LaneAt → Fml
 handle_owns a p kept = fsep (maybe_owns row_at a p kept) (fex (IsWell kept) (λ _. ftrue))
 

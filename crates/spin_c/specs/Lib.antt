@@ -1,7 +1,9 @@
 pub mod Given
 pub mod Lanes
 pub mod Owned
+pub mod Shares
 pub mod Tellings
 pub mod Trails
 pub mod Turns
 pub mod Verdicts
+pub mod Waiting

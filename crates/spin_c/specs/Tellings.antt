@@ -7,6 +7,7 @@ use Rattle.spin_table.specs.declared.refusal.Verdicted.TheVariants as verdicted
 use Rattle.spin_report.specs.Verdicts.{refusal_told}
 use Rattle.spin_c.specs.Given.{IsGiven, value_of}
 use Rattle.spin_c.specs.Trails.{blank}
+use Rattle.spin_c.specs.Shares.{Shares}
 use Rattle.spin_c.specs.Turns.{IsCalled}
 use Rattle.spin_c.specs.declared.ask.Ask.{Ask}
 use Rattle.spin_c.specs.declared.ask.Ask.TheVariants as asked
@@ -37,6 +38,8 @@ code_of (outcome.Judged judged) = verdict_code judged.verdict
 code_of outcome.NoReply = 9
 code_of outcome.NoStep = 10
 code_of outcome.NoArgument = 12
+code_of outcome.NoLane = 13
+code_of outcome.Taken = 14
 code_of (outcome.Raised place told) = 0
 code_of (outcome.Step found) = 0
 code_of (outcome.Bytes bytes) = 0
@@ -71,6 +74,16 @@ TellsOfArgs kept event bytes given after number answer =
     (All (IsGiven bytes) given × TellsOf kept (asked.Raise event (map (value_of bytes) given)) after number answer)
     ⊎ ((All (IsGiven bytes) given → ⊥) × (after ≡ kept)
     × (number ≡ code_of outcome.NoArgument) × (answer ≡ answer_of outcome.NoArgument))
+
+-- ---- other lanes
+
+-- The call hands a seat out so, or says why not by this number.
+pub record TellsShare {A C E : Type 0} {B : A → Type 0} {D : C → Type 0}
+    {F : E → Type 0} (kept other : Option (Lane A C E B D F))
+    (lane : ℕ) (after share : Option (Lane A C E B D F)) (number : ℕ) : Type 0 where
+  pub told : Outcome
+  pub shares : Shares kept other lane after share told
+  pub number_is : number ≡ code_of told
 
 -- ---- steps
 

@@ -1,7 +1,8 @@
 -- What a call does to what a handle holds, and what it comes to.
-use Rattle.std.specs.Prelude.{◌≡◌, ◌≢◌, ◌⊎◌, ℕ, List, [], Option, None, Some, IfSome, Result, Ok, Err, length, ⊤}
+use Rattle.std.specs.Prelude.{◌≡◌, ◌≢◌, ◌<◌, ◌⊎◌, ℕ, List, Option, None, Some, Result, Ok, Err, length, ⊤}
+use Rattle.std.specs.Arc.{arc_value}
 use Rattle.spin_word.specs.declared.command.Command.{Command}
-use Rattle.spin_word.specs.declared.command.TheConstants.{MAX_PLACE}
+use Rattle.spin_word.specs.declared.command.TheConstants.{MAX_LANES, MAX_PLACE}
 use Rattle.spin_word.specs.declared.row.Row.{Row}
 use Rattle.spin_word.specs.declared.work.Deed.TheVariants as deed
 use Rattle.spin_word.specs.Rows.{StandsFor, StandsForNone, lane_of}
@@ -13,9 +14,9 @@ use Rattle.spin_script.specs.Scripts.{IsBad}
 use Rattle.spin_script.specs.States.{NativeData, ScriptData}
 use Rattle.spin_script.specs.declared.script.ScriptFault.TheVariants as fault
 use Rattle.spin_seat.specs.Calls.{Gives, AddsAtMostAPin, ReadsOn, reply_answer, verdict_answer}
-use Rattle.spin_seat.specs.Seats.{IsSeatOf}
 use Rattle.spin_c.specs.Trails.{IsHanded, IsTold, step_at, told_of}
 use Rattle.spin_c.specs.Verdicts.{no_natives}
+use Rattle.spin_c.specs.Waiting.{IsStarted, KeepsHub}
 use Rattle.spin_c.specs.declared.lane.Lane.{Lane}
 use Rattle.spin_c.specs.declared.ask.Ask.{Ask}
 use Rattle.spin_c.specs.declared.ask.Ask.TheVariants as ask
@@ -25,45 +26,34 @@ use Rattle.spin_c.specs.declared.ask.Outcome.TheVariants as outcome
 
 -- Below, A and B, C and D, E and F are the kinds of the boxed handlers, guards and authorisers.
 
--- ---- what holds of every lane
-
--- its seat is one of its hub, and writes in the hub's log
-abbrev pub IsWellLane : {A C E : Type 0} {B : A → Type 0} {D : C → Type 0} {F : E → Type 0} → Lane A C E B D F → Type 0
-IsWellLane l = (l.seat.pen.log ≡ l.hub.log.id) × IsSeatOf (data_of l.hub.setup) l.seat
-
--- so it is of what a handle holds
-abbrev pub IsWell : {A C E : Type 0} {B : A → Type 0} {D : C → Type 0} {F : E → Type 0}
-    → Option (Lane A C E B D F) → Type 0
-IsWell kept = IfSome kept (λ l. IsWellLane l)
-
 -- ---- opening
 
--- The lane is over the setup of the script, at its start.
+-- The lane is the first of so many over the setup of the script, at its start.
 pub record IsOpened {A C E : Type 0} {B : A → Type 0} {D : C → Type 0}
-    {F : E → Type 0} (natives : NativeData) (text : List ℕ)
+    {F : E → Type 0} (natives : NativeData) (text : List ℕ) (lanes : ℕ)
     (l : Lane A C E B D F) : Type 0 where
   pub script : ScriptData
   pub read : IsScript natives text (Ok script)
-  pub setup : data_of l.hub.setup ≡ script.setup
-  pub front : l.seat.pen.front ≡ []
-  pub reply : l.reply ≡ None
+  pub setup : data_of (arc_value l.hub).setup ≡ script.setup
+  pub started : IsStarted lanes l
 
--- why there is no lane over this text: it is no script, or there was no memory
-abbrev pub NotOpened : NativeData → List ℕ → Outcome → Type 0
-NotOpened natives text (outcome.Bad line cause) = IsBad natives text (fault.Bad line cause)
-NotOpened natives text outcome.NoMemory = ⊤
-NotOpened natives text other = ⊥
+-- why there is no lane over this text: no hub has so many lanes, it is no script, or there was no memory
+abbrev pub NotOpened : NativeData → List ℕ → ℕ → Outcome → Type 0
+NotOpened natives text lanes outcome.NoLane = (lanes ≡ 0) ⊎ (MAX_LANES < lanes)
+NotOpened natives text lanes (outcome.Bad line cause) = IsBad natives text (fault.Bad line cause)
+NotOpened natives text lanes outcome.NoMemory = ⊤
+NotOpened natives text lanes other = ⊥
 
 abbrev pub Opens : {A C E : Type 0} {B : A → Type 0} {D : C → Type 0} {F : E → Type 0}
-    → NativeData → List ℕ → Result (Lane A C E B D F) Outcome → Type 0
-Opens natives text (Ok l) = IsOpened natives text l
-Opens natives text (Err why) = NotOpened natives text why
+    → NativeData → List ℕ → ℕ → Result (Lane A C E B D F) Outcome → Type 0
+Opens natives text lanes (Ok l) = IsOpened natives text lanes l
+Opens natives text lanes (Err why) = NotOpened natives text lanes why
 
 -- what a closed handle holds afterwards, and what is answered
 abbrev pub OpensTo : {A C E : Type 0} {B : A → Type 0} {D : C → Type 0} {F : E → Type 0}
-    → NativeData → List ℕ → Option (Lane A C E B D F) → Outcome → Type 0
-OpensTo natives text (Some l) told = IsOpened natives text l × (told ≡ outcome.Done)
-OpensTo natives text None told = NotOpened natives text told
+    → NativeData → List ℕ → ℕ → Option (Lane A C E B D F) → Outcome → Type 0
+OpensTo natives text lanes (Some l) told = IsOpened natives text lanes l × (told ≡ outcome.Done)
+OpensTo natives text lanes None told = NotOpened natives text lanes told
 
 -- ---- raising
 
@@ -73,16 +63,16 @@ pub record IsRaised {A C E : Type 0} {B : A → Type 0} {D : C → Type 0}
     (args : List Value) (after : Lane A C E B D F) (place : ℕ) (told : Told) : Type 0 where
   pub reply : Reply
   pub kept : after.reply ≡ Some reply
-  pub gives : Gives (data_of l.hub.setup) l.seat.pen
+  pub gives : Gives (data_of (arc_value l.hub).setup) l.seat.pen
       (reply_answer l.seat.pen.lane (deed.Raise event args) place reply) after.seat.pen
   pub told_is : told ≡ told_of reply
 
 -- what a raise comes to
 abbrev pub Raises : {A C E : Type 0} {B : A → Type 0} {D : C → Type 0} {F : E → Type 0}
     → Lane A C E B D F → ℕ → List Value → Lane A C E B D F → Outcome → Type 0
-Raises l event args after (outcome.Raised place told) = (after.hub ≡ l.hub) × IsRaised l event args after place told
+Raises l event args after (outcome.Raised place told) = KeepsHub l after × IsRaised l event args after place told
 Raises l event args after outcome.NoMemory =
-    (after.hub ≡ l.hub) × AddsAtMostAPin l.seat.pen after.seat.pen × (after.reply ≡ None)
+    KeepsHub l after × AddsAtMostAPin l.seat.pen after.seat.pen × (after.reply ≡ None)
 Raises l event args after other = ⊥
 
 -- ---- commands
@@ -91,15 +81,15 @@ Raises l event args after other = ⊥
 abbrev pub Commands : {A C E : Type 0} {B : A → Type 0} {D : C → Type 0} {F : E → Type 0}
     → Lane A C E B D F → Row → Lane A C E B D F → Outcome → Type 0
 Commands l row after (outcome.Judged judged) =
-    (after.hub ≡ l.hub) × ((c : Command) × StandsFor row c
-    × Gives (data_of l.hub.setup) l.seat.pen
+    KeepsHub l after × ((c : Command) × StandsFor row c
+    × Gives (data_of (arc_value l.hub).setup) l.seat.pen
     (verdict_answer l.seat.pen.lane c judged.place judged.verdict) after.seat.pen) × (after.reply ≡ None)
 Commands l row after outcome.NoCommand = (after ≡ l) × (StandsForNone row ⊎ (lane_of row ≢ l.seat.pen.lane))
 Commands l row after outcome.Full =
-    (after.hub ≡ l.hub) × ReadsOn l.seat.pen after.seat.pen × (length after.seat.pen.front ≡ MAX_PLACE)
+    KeepsHub l after × ReadsOn l.seat.pen after.seat.pen × (length after.seat.pen.front ≡ MAX_PLACE)
     × (after.reply ≡ None)
 Commands l row after outcome.NoMemory =
-    (after.hub ≡ l.hub) × ReadsOn l.seat.pen after.seat.pen × (after.reply ≡ None)
+    KeepsHub l after × ReadsOn l.seat.pen after.seat.pen × (after.reply ≡ None)
 Commands l row after other = ⊥
 
 -- ---- a call
@@ -107,7 +97,7 @@ Commands l row after other = ⊥
 -- what is asked of an open lane does this, but for a close
 abbrev pub Does : {A C E : Type 0} {B : A → Type 0} {D : C → Type 0} {F : E → Type 0}
     → Lane A C E B D F → Ask → Lane A C E B D F → Outcome → Type 0
-Does l (ask.Open text) after told = (after ≡ l) × (told ≡ outcome.Open)
+Does l (ask.Open text lanes) after told = (after ≡ l) × (told ≡ outcome.Open)
 Does l (ask.Raise event args) after told = Raises l event args after told
 Does l (ask.Command row) after told = Commands l row after told
 Does l (ask.Step index) after told = (after ≡ l) × IsTold (step_at l.reply index) told
@@ -117,7 +107,7 @@ Does l ask.Close after told = (after ≡ l) × (told ≡ outcome.Done)
 -- a closed handle can only be opened
 abbrev pub DoesClosed : {A C E : Type 0} {B : A → Type 0} {D : C → Type 0} {F : E → Type 0}
     → NativeData → Ask → Option (Lane A C E B D F) → Outcome → Type 0
-DoesClosed natives (ask.Open text) after told = OpensTo natives text after told
+DoesClosed natives (ask.Open text lanes) after told = OpensTo natives text lanes after told
 DoesClosed natives other after told = (after ≡ None) × (told ≡ outcome.Closed)
 
 -- an open handle stays open until it is closed

@@ -10,7 +10,12 @@ use std::alloc::Global;
 #[derive(Drop)]
 pub enum Ask {
     /// To open it over this script.
-    Open(Octets),
+    Open {
+        /// The text of the script.
+        text: Octets,
+        /// The number of lanes.
+        lanes: u8,
+    },
     /// To raise an event.
     Raise {
         /// The number of the event.
@@ -33,6 +38,13 @@ pub enum Ask {
 pub struct Call {
     pub(crate) alloc: Global,
     pub(crate) ask: Box<Ask>,
+}
+
+/// What is asked of a handle at which other lanes wait: the seat of one of them.
+#[derive(Drop)]
+pub struct Pick {
+    pub(crate) alloc: Global,
+    pub(crate) number: u8,
 }
 
 /// What a raise is told as.
@@ -75,6 +87,10 @@ pub enum Outcome {
     NoStep,
     /// An argument is neither a word nor within the bytes.
     NoArgument,
+    /// A hub has no such lane, or not so many.
+    NoLane,
+    /// The seat of the lane is handed out already.
+    Taken,
     /// The verdict on a command.
     Judged(Judged),
     /// The reply to a raise.

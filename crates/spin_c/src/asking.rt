@@ -2,16 +2,17 @@
 
 ghost use Rattle.std.specs.Prelude.{◌≡◌, IfOk, map};
 ghost use Rattle.spin_values.specs.declared.values.Value.TheVariants as value;
+ghost use Rattle.spin_c.specs.declared.ask.Ask.TheVariants as asked;
 ghost use Rattle.spin_c.specs.Turns.{IsCalled, Turns};
 ghost use Rattle.spin_c.specs.Verdicts.{no_natives};
-ghost use Rattle.spin_c.specs.Tellings.{HandsBytes, TellsOf, TellsStep, answer_of, code_of};
+ghost use Rattle.spin_c.specs.Tellings.{HandsBytes, TellsOf, TellsShare, TellsStep, answer_of, code_of};
 
-use crate::ask::{Ask, Call, Outcome};
+use crate::ask::{Ask, Call, Outcome, Pick};
 use crate::copying::hand_to;
 use crate::handle::SpinLane;
 use crate::step::SpinStep;
 use crate::told::{SpinAnswer, answer_of, code_of, step_of};
-use spin_values::{Args, NoMemory, Value};
+use spin_values::{Args, NoMemory, Octets, Value};
 use std::alloc::Global;
 use std::mem;
 
@@ -61,6 +62,34 @@ pub(crate) fn ask_of(alloc: Global, lane: &mut SpinLane, ask: Ask, answer: &mut 
 {
     let outcome = call_on(alloc, lane, ask);
     tell(&outcome, answer)
+}
+
+// Opens a closed handle over a hub of so many lanes, and tells what it comes to.
+pub(crate) fn open_of(
+    alloc: Global,
+    lane: &mut SpinLane,
+    text: &[u8],
+    lanes: u8,
+    answer: &mut SpinAnswer,
+) -> u32
+    ensures { TellsOf lane.old.kept (asked.Open text.now lanes) lane.new.kept result answer.new }
+{
+    match Octets::from_bytes(alloc, text) {
+        Ok(text) => ask_of(alloc, lane, Ask::Open { text, lanes }, answer),
+        Err(NoMemory) => tell(&Outcome::NoMemory, answer),
+    }
+}
+
+// Hands the seat of another lane out to another handle, and tells what it comes to.
+pub(crate) fn share_of(alloc: Global, lane: &mut SpinLane, number: u8, seat: &mut SpinLane) -> u32
+    ensures { TellsShare lane.old.kept seat.old.kept number lane.new.kept seat.new.kept result }
+{
+    let first = mem::replace(lane, SpinLane::closed(alloc));
+    let second = mem::replace(seat, SpinLane::closed(alloc));
+    let (after, share, outcome) = first.hand_out(second, Pick { alloc, number });
+    *lane = after;
+    *seat = share;
+    code_of(&outcome)
 }
 
 // Tells the step at an index of the reply that is kept.

@@ -2,10 +2,12 @@
 
 ghost use Rattle.std.specs.Prelude.{◌≡◌, None, Option};
 ghost use Rattle.spin_c.specs.Lanes.{LaneAt, kept_coded, handle_owns};
+ghost use Rattle.spin_c.specs.Shares.{Shares};
 ghost use Rattle.spin_c.specs.Turns.{Turns};
 ghost use Rattle.spin_c.specs.Verdicts.{no_natives};
 
-use crate::ask::{Call, Outcome};
+use crate::ask::{Call, Outcome, Pick};
+use crate::handing::hand_out_maybe;
 use crate::lane::Lane;
 use crate::maybe::Maybe;
 use crate::turn::turn_maybe;
@@ -26,6 +28,9 @@ pub struct SpinLane {
 impl Model for SpinLane {
     ghost also_owns = { λ h. handle_owns h.alloc h.at h.kept };
 }
+
+// What it owns may be used from any thread, one after another.
+unsafe impl Send for SpinLane {}
 
 impl SpinLane {
     // A closed handle.
@@ -57,6 +62,38 @@ impl SpinLane {
             SpinLane {
                 at: at as *mut u8,
                 alloc,
+            },
+            outcome,
+        )
+    }
+
+    // Hands out the seat of a lane that waits to the other handle.
+    pub(crate) fn hand_out(self, other: SpinLane, pick: Pick) -> (SpinLane, SpinLane, Outcome)
+        ensures { Shares self.kept other.kept pick.number result.0.kept result.1.kept result.2 }
+    {
+        let SpinLane { at, alloc } = self;
+        let SpinLane { at: to, alloc: its } = other;
+        let (maybe, share, outcome) = hand_out_maybe(
+            Maybe {
+                at: at as *mut Lane,
+                alloc,
+            },
+            Maybe {
+                at: to as *mut Lane,
+                alloc: its,
+            },
+            pick,
+        );
+        let Maybe { at, alloc } = maybe;
+        let Maybe { at: to, alloc: its } = share;
+        (
+            SpinLane {
+                at: at as *mut u8,
+                alloc,
+            },
+            SpinLane {
+                at: to as *mut u8,
+                alloc: its,
             },
             outcome,
         )

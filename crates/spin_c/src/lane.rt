@@ -2,11 +2,18 @@
 
 use spin_proto::Reply;
 use spin_seat::{Hub, Seat};
+use spin_values::Sequence;
+use std::sync::Arc;
 
-/// A hub with its one seat, and the reply to the last raise where nothing was asked since but its steps.
+/// The seats of lanes, each at the index of its lane; none where it is handed out.
+pub type Waiting = Sequence<Option<Seat>>;
+
+/// A seat with its hub, which the handles of other lanes share; the reply to the last raise where nothing was asked since
+/// but its steps; and the seats that are still to be handed out.
 #[derive(Drop)]
 pub struct Lane {
-    pub(crate) hub: Hub,
+    pub(crate) hub: Arc<Hub>,
     pub(crate) seat: Seat,
     pub(crate) reply: Option<Reply>,
+    pub(crate) waiting: Waiting,
 }

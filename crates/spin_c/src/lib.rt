@@ -1,7 +1,8 @@
 //! The dispatcher for hosts that aren't Rattle: the calls that `bindings/c/spin.h` declares.
 //!
 //! - [`verdict`] has what a report is judged to be, and [`judge`] judges it;
-//! - [`lane`] is what a handle holds, a hub with its one seat, and [`handle`] the handle, over [`maybe`] and [`loose`]:
+//! - [`lane`] is what a handle holds, a seat with its hub, [`handing`] hands the seats of other lanes out, and [`handle`] is
+//!   the handle, over [`maybe`] and [`loose`]:
 //!   pointers that own a box, or may be null;
 //! - [`ask`] is what is asked of a handle and what it comes to, [`turn`] does it, and [`asking`] asks;
 //! - [`row`] is a command as it is handed in, and [`given`] the arguments of a raise;
@@ -14,13 +15,14 @@ ghost use Rattle.spin_values.specs.declared.values.Value.TheVariants as value;
 ghost use Rattle.spin_grammar.specs.Words.{words};
 ghost use Rattle.spin_c.specs.declared.verdict.Verdict.{Verdict as VerdictValue};
 ghost use Rattle.spin_c.specs.declared.ask.Ask.TheVariants as asked;
-ghost use Rattle.spin_c.specs.Tellings.{HandsBytes, TellsOf, TellsOfArgs, TellsStep, row_from};
+ghost use Rattle.spin_c.specs.Tellings.{HandsBytes, TellsOf, TellsOfArgs, TellsShare, TellsStep, row_from};
 ghost use Rattle.spin_c.specs.Verdicts.{IsVerdict, no_natives, fault_of, number_of};
 
 mod ask;
 mod asking;
 mod copying;
 mod given;
+mod handing;
 mod handle;
 mod judge;
 mod lane;
@@ -34,7 +36,7 @@ mod turn;
 mod verdict;
 
 use ask::{Ask, Outcome};
-use asking::{args_of, ask_bytes, ask_of, ask_step, tell};
+use asking::{args_of, ask_bytes, ask_of, ask_step, open_of, share_of, tell};
 pub use given::SpinArg;
 use given::{are_given, values_of};
 pub use handle::SpinLane;
@@ -42,7 +44,7 @@ use judge::judge;
 pub use row::SpinRow;
 use row::row_from;
 use spin_objects::Natives;
-use spin_values::{NoMemory, Octets};
+use spin_values::NoMemory;
 use std::alloc::Global;
 pub use step::SpinStep;
 pub use told::{SpinAnswer, SpinFault};
@@ -88,12 +90,41 @@ pub extern "C" fn spin_open(
     lane: &mut SpinLane,
     answer: &mut SpinAnswer,
 ) -> u32
-    ensures { TellsOf lane.old.kept (asked.Open text.now) lane.new.kept result answer.new }
+    ensures { TellsOf lane.old.kept (asked.Open text.now 1) lane.new.kept result answer.new }
 {
-    match Octets::from_bytes(alloc, text) {
-        Ok(text) => ask_of(alloc, lane, Ask::Open(text), answer),
-        Err(NoMemory) => tell(&Outcome::NoMemory, answer),
-    }
+    open_of(alloc, lane, text, 1, answer)
+}
+
+/// Opens a closed handle over a script as [`spin_open`] does, over a hub with so many lanes: the handle is that of lane
+/// 0, and the seats of the others wait at it for [`spin_seat`]. It answers as `spin_open`, and 13 where it was closed
+/// and no hub has so many lanes: a hub has 1 to 8.
+#[unsafe(no_mangle)]
+pub extern "C" fn spin_open_lanes(
+    alloc: Global,
+    text: &[u8],
+    lanes: u8,
+    lane: &mut SpinLane,
+    answer: &mut SpinAnswer,
+) -> u32
+    ensures { TellsOf lane.old.kept (asked.Open text.now lanes) lane.new.kept result answer.new }
+{
+    open_of(alloc, lane, text, lanes, answer)
+}
+
+/// Hands the seat of another lane out, which waits at the handle with which its hub was opened, to a closed handle: the
+/// two share the hub, and nothing else. It answers 0 where the second handle is open now; 1 where there was no memory, 4
+/// where the first handle is closed, 5 where the second is open, 13 where the first has no such lane, as one that was
+/// handed out has none, and 14 where that lane's seat is handed out already. Both handles are as they were then.
+#[unsafe(no_mangle)]
+pub extern "C" fn spin_seat(
+    alloc: Global,
+    lane: &mut SpinLane,
+    number: u8,
+    seat: &mut SpinLane,
+) -> u32
+    ensures { TellsShare lane.old.kept seat.old.kept number lane.new.kept seat.new.kept result }
+{
+    share_of(alloc, lane, number, seat)
 }
 
 /// Raises an event with these words as its arguments, and tells the answer: its place, the number of its kind, its

@@ -117,6 +117,8 @@ pub(crate) fn code_of(outcome: &Outcome) -> u32
         Outcome::NoReply => 9,
         Outcome::NoStep => 10,
         Outcome::NoArgument => 12,
+        Outcome::NoLane => 13,
+        Outcome::Taken => 14,
     }
 }
 

@@ -1,12 +1,14 @@
 //! The calls of a handle.
 
-ghost use Rattle.std.specs.Prelude.{◌≡◌, IfOk, IfSome, None, Some, Option};
+ghost use Rattle.std.specs.Prelude.{◌≡◌, ◌<◌, ◌≤◌, IfOk, IfSome, None, Some, Option};
+ghost use Rattle.std.specs.Arc.{arc_value};
+ghost use Rattle.spin_word.specs.declared.command.TheConstants.{MAX_LANES};
 ghost use Rattle.spin_script.specs.States.{natives_seen};
-ghost use Rattle.spin_table.specs.SetupOf.{data_of};
-ghost use Rattle.spin_seat.specs.Seats.{IsSeatOf};
-ghost use Rattle.spin_c.specs.Turns.{IsWell, IsWellLane, Opens, OpensTo, Raises, Commands, Does, Turns};
+ghost use Rattle.spin_c.specs.Waiting.{IsWell, IsWellLane, IsStarted};
+ghost use Rattle.spin_c.specs.Turns.{Opens, OpensTo, Raises, Commands, Does, Turns};
 
 use crate::ask::{Ask, Call, Outcome};
+use crate::handing::waiting_of;
 use crate::lane::Lane;
 use crate::loose::Loose;
 use crate::maybe::Maybe;
@@ -15,37 +17,60 @@ use spin_code::Sincere;
 use spin_objects::{Catalogue, Natives};
 use spin_script::{Script, ScriptFault, read_script};
 use spin_seat::{Hub, Raised, SeatFault};
+use spin_table::Setup;
 use spin_values::{Args, NoMemory};
-use spin_word::{Deed, Row, unpack};
+use spin_word::{Deed, MAX_LANES, Row, unpack};
 use std::alloc::Global;
+use std::sync::Arc;
+
+// A lane over the setup, at its start: that of the first seat, at which the others wait.
+fn start(alloc: Global, setup: Setup, lanes: u8) -> Result<Lane, NoMemory>
+    requires some { 0 < lanes }
+    requires few { lanes ≤ MAX_LANES }
+    ensures setup { IfOk result (λ l. (arc_value l.hub).setup ≡ setup) }
+    ensures started { IfOk result (λ l. IsStarted lanes l) }
+    ensures well { IfOk result (λ l. IsWellLane l) }
+{
+    let (hub, mut seats) = Hub::new(alloc, setup, lanes)?;
+    let Some(seat) = seats.take_first() else {
+        unreachable!()
+    };
+    let waiting = waiting_of(alloc, seats)?;
+    let hub = Arc::new(alloc, hub)?;
+    let reply = None;
+    Ok(Lane {
+        hub,
+        seat,
+        reply,
+        waiting,
+    })
+}
 
 // A lane over the script, at its start.
-fn open(alloc: Global, natives: Natives, text: &[u8]) -> Result<Lane, Outcome>
+fn open(alloc: Global, natives: Natives, text: &[u8], lanes: u8) -> Result<Lane, Outcome>
     requires sincere { ⟦<Natives as Sincere>⟧.sincere natives }
-    ensures opens { Opens (natives_seen natives) text.now result }
-    ensures sincere { IfOk result (λ l. ⟦<Catalogue as Sincere>⟧.sincere l.hub.setup.catalogue) }
-    ensures well { IfOk result IsWellLane }
+    ensures opens { Opens (natives_seen natives) text.now lanes result }
+    ensures sincere { IfOk result (λ l. ⟦<Catalogue as Sincere>⟧.sincere (arc_value l.hub).setup.catalogue) }
+    ensures well { IfOk result (λ l. IsWellLane l) }
 {
+    if lanes == 0 || lanes > MAX_LANES {
+        return Err(Outcome::NoLane);
+    }
     let script = match read_script(alloc, text, natives) {
         Ok(script) => script,
         Err(ScriptFault::Bad { line, cause }) => return Err(Outcome::Bad { line, cause }),
         Err(ScriptFault::NoMemory) => return Err(Outcome::NoMemory),
     };
     let Script { setup, .. } = script;
-    let (hub, mut seats) = match Hub::new(alloc, setup, 1) {
-        Ok(made) => made,
-        Err(NoMemory) => return Err(Outcome::NoMemory),
-    };
-    let Some(seat) = seats.take_first() else {
-        unreachable!()
-    };
-    let reply = None;
-    Ok(Lane { hub, seat, reply })
+    match start(alloc, setup, lanes) {
+        Ok(lane) => Ok(lane),
+        Err(NoMemory) => Err(Outcome::NoMemory),
+    }
 }
 
 // Raises the event, and keeps the reply.
 fn raise(alloc: Global, lane: &mut Lane, event: u8, args: Args) -> Outcome
-    requires sincere { ⟦<Catalogue as Sincere>⟧.sincere lane.old.hub.setup.catalogue }
+    requires sincere { ⟦<Catalogue as Sincere>⟧.sincere (arc_value lane.old.hub).setup.catalogue }
     requires well { IsWellLane lane.old }
     ensures well { IsWellLane lane.new }
     ensures raises { Raises lane.old event args lane.new result }
@@ -66,7 +91,7 @@ fn raise(alloc: Global, lane: &mut Lane, event: u8, args: Args) -> Outcome
 
 // Does the command of the row.
 fn command(alloc: Global, lane: &mut Lane, row: &Row) -> Outcome
-    requires sincere { ⟦<Catalogue as Sincere>⟧.sincere lane.old.hub.setup.catalogue }
+    requires sincere { ⟦<Catalogue as Sincere>⟧.sincere (arc_value lane.old.hub).setup.catalogue }
     requires well { IsWellLane lane.old }
     ensures well { IsWellLane lane.new }
     ensures commands { Commands lane.old row.now lane.new result }
@@ -87,13 +112,13 @@ fn command(alloc: Global, lane: &mut Lane, row: &Row) -> Outcome
 
 // Does what is asked of an open lane, which only a close closes.
 fn turn_lane(alloc: Global, lane: &mut Lane, ask: Ask) -> Outcome
-    requires sincere { ⟦<Catalogue as Sincere>⟧.sincere lane.old.hub.setup.catalogue }
+    requires sincere { ⟦<Catalogue as Sincere>⟧.sincere (arc_value lane.old.hub).setup.catalogue }
     requires well { IsWellLane lane.old }
     ensures well { IsWellLane lane.new }
     ensures does { Does lane.old ask lane.new result }
 {
     match ask {
-        Ask::Open(_) => Outcome::Open,
+        Ask::Open { .. } => Outcome::Open,
         Ask::Raise { event, args } => raise(alloc, lane, event, args),
         Ask::Command(row) => command(alloc, lane, &row),
         Ask::Step(index) => tell_step(&lane.reply, index),
@@ -103,12 +128,12 @@ fn turn_lane(alloc: Global, lane: &mut Lane, ask: Ask) -> Outcome
 }
 
 // Opens a closed handle.
-fn open_maybe(alloc: Global, natives: Natives, text: &[u8]) -> (Maybe<Lane>, Outcome)
+fn open_maybe(alloc: Global, natives: Natives, text: &[u8], lanes: u8) -> (Maybe<Lane>, Outcome)
     requires sincere { ⟦<Natives as Sincere>⟧.sincere natives }
     ensures well { IsWell result.0.value }
-    ensures opens { OpensTo (natives_seen natives) text.now result.0.value result.1 }
+    ensures opens { OpensTo (natives_seen natives) text.now lanes result.0.value result.1 }
 {
-    let lane = match open(alloc, natives, text) {
+    let lane = match open(alloc, natives, text, lanes) {
         Ok(lane) => lane,
         Err(outcome) => return (Maybe::none(alloc), outcome),
     };
@@ -121,7 +146,7 @@ fn open_maybe(alloc: Global, natives: Natives, text: &[u8]) -> (Maybe<Lane>, Out
 // Does the call on what a handle holds.
 pub(crate) fn turn_maybe(maybe: Maybe<Lane>, natives: Natives, call: Call) -> (Maybe<Lane>, Outcome)
     requires natives { ⟦<Natives as Sincere>⟧.sincere natives }
-    requires sincere { IfSome maybe.value (λ l. ⟦<Catalogue as Sincere>⟧.sincere l.hub.setup.catalogue) }
+    requires sincere { IfSome maybe.value (λ l. ⟦<Catalogue as Sincere>⟧.sincere (arc_value l.hub).setup.catalogue) }
     requires well { IsWell maybe.value }
     ensures well { IsWell result.0.value }
     ensures does { Turns (natives_seen natives) maybe.value call.ask.value result.0.value result.1 }
@@ -130,7 +155,7 @@ pub(crate) fn turn_maybe(maybe: Maybe<Lane>, natives: Natives, call: Call) -> (M
     let ask = Box::into_inner(ask);
     let Some(loose) = maybe.into_loose() else {
         return match ask {
-            Ask::Open(text) => open_maybe(alloc, natives, text.as_slice()),
+            Ask::Open { text, lanes } => open_maybe(alloc, natives, text.as_slice(), lanes),
             _ => (Maybe::none(alloc), Outcome::Closed),
         };
     };

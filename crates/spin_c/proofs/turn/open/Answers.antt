@@ -1,15 +1,14 @@
-use Rattle.std.proofs.Common.{◌≡◌}
-use Rattle.spin_table.specs.SetupOf.{data_of}
-use Rattle.spin_seat.specs.Seats.{SeatValue, IsSeatOf}
-use Rattle.spin_c.proofs.Opening.{of_first}
+use Rattle.std.proofs.Common.{refl}
+use Rattle.spin_script.specs.Scripts.{script_seen}
 use Rattle.spin_c.proofs.turn.open.Goals as goal
 
-pub returns-clause-sincere : goal.returns-clause-sincere
-returns-clause-sincere g c = rw c.in-Ok-new.ensures.setup c.in-Ok.ensures.sincere
+pub returns-in-Ok-start-clause-opens : goal.returns-in-Ok-start-clause-opens
+returns-in-Ok-start-clause-opens g c = record {
+  script = script_seen c.in-Ok.script;
+  read = c.in-Ok.ensures.script;
+  setup = rw c.in-Ok-start.ensures.setup refl;
+  started = c.in-Ok-start.ensures.started;
+}
 
-pub returns-clause-well : goal.returns-clause-well
-returns-clause-well g c =
-    let made = c.in-Ok-new.made in let first = c.in-Some.ensures in (
-      of_first (λ (s : SeatValue). s.pen.log ≡ made.0.log.id) made.1 _ c.in-Some.seat first c.in-Ok-new.ensures.own,
-      of_first (IsSeatOf (data_of made.0.setup)) made.1 _ c.in-Some.seat first (rw c.in-Ok-new.ensures.setup c.in-Ok-new.ensures.seats),
-    )
+pub returns-in-Ok-start-clause-sincere : goal.returns-in-Ok-start-clause-sincere
+returns-in-Ok-start-clause-sincere g c = rw c.in-Ok-start.ensures.setup c.in-Ok.ensures.sincere

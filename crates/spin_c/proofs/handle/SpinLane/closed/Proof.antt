@@ -23,7 +23,7 @@ use Rattle.core.proofs.cell.Inside.{Good, one}
 use Rattle.std_heap.proofs.Global.TheLaws as heap_laws
 use Rattle.std.proofs.raw_atomic.Walks.{proved_at, leaves}
 use Rattle.spin_c.specs.Lanes.{LaneAt}
-use Rattle.spin_c.specs.Turns.{IsWell}
+use Rattle.spin_c.specs.Waiting.{IsWell}
 use Rattle.spin_c.proofs.Values.{both}
 use Rattle.spin_c.proofs.Maybes.{Z, words_good}
 use Rattle.spin_c.proofs.Lanes.{handle_in}

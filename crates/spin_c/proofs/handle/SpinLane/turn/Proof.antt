@@ -31,6 +31,7 @@ use Rattle.core.proofs.atomic.Steps.{Ptr-Good, fm}
 use Rattle.core.proofs.cell.Inside.{Good, one}
 use Rattle.std.proofs.raw_atomic.Walks.{proved_at, leaves}
 use Rattle.std.specs.Prelude.{Option, IfSome}
+use Rattle.std.specs.Arc.{arc_value}
 use Rattle.std_heap.proofs.Global.TheLaws as heap_laws
 use Rattle.spin_objects.specs.Units.{IsSincere}
 use Rattle.spin_objects.specs.contracts.natives.Natives.new as fresh
@@ -40,7 +41,8 @@ use Rattle.spin_objects.specs.contracts.natives.Natives.new.dyn-3 as third'
 use Rattle.spin_objects.proofs.natives.Natives.new.Met as fresh_met
 use Rattle.spin_script.specs.States.{NativeData, natives_seen}
 use Rattle.spin_c.specs.Lanes.{row_at, LaneAt, no_first, no_second, no_third}
-use Rattle.spin_c.specs.Turns.{IsWell, Turns}
+use Rattle.spin_c.specs.Turns.{Turns}
+use Rattle.spin_c.specs.Waiting.{IsWell}
 use Rattle.spin_c.specs.Verdicts.{no_natives}
 use Rattle.spin_c.proofs.Laws.{row_laws, Bare, bare_laws, each_some, none_seen}
 use Rattle.spin_c.specs.contracts.ask.Call as call
@@ -105,10 +107,10 @@ turn_spec 𝓤 𝓛 𝓜 𝓡 wired =
     (t ∷ []) (λ shown. let g = one (layout Bare) (t ∷ []) ((bare_laws.lawful 𝓛).typed n (t ∷ []) shown) in rewrite ! 0 (λ (us : List Val). ‵ (Bare.own_val n us)) g.1 refl $
     let G = triple_of 𝓛 (callee.signature no_first no_second no_third) (callee.spec no_first no_second no_third 𝓛 𝓜.mem 𝓡.returns) in
     let y : G.Ghost = ((tt, tt, tt, (m, (n, (q, tt))), (w ∷ [], (g.0 ∷ [], (k.0 ∷ [], tt)))), tt) in let Pair = Tuple (Mb ∷ O ∷ []) in
-    let Sincere : Type 0 = IfSome d.kept (λ (l : LaneAt). IsSincere _ _ _ l.hub.setup.catalogue.natives) in let Bares : Type 0 = IsSincere _ _ _ n in
+    let Sincere : Type 0 = IfSome d.kept (λ (l : LaneAt). IsSincere _ _ _ (arc_value l.hub).setup.catalogue.natives) in let Bares : Type 0 = IsSincere _ _ _ n in
     move ! (2 ∷ 3 ∷ []) $ fjoin ! $ move ! (1 ∷ 0 ∷ []) $ fjoin ! $ move ! (1 ∷ 0 ∷ []) $ fjoin ! $ move ! (1 ∷ 0 ∷ []) $ join ! $
     use0 𝓛 (raw (fact 𝓤 (IsWell d.kept))) (fact_i 𝓤 (IsWell d.kept) (emp 𝓤) well) $
-    use0 𝓛 (raw (fact 𝓤 Sincere)) (fact_i 𝓤 Sincere (emp 𝓤) (each_some (λ (l : LaneAt). IsSincere _ _ _ l.hub.setup.catalogue.natives)
+    use0 𝓛 (raw (fact 𝓤 Sincere)) (fact_i 𝓤 Sincere (emp 𝓤) (each_some (λ (l : LaneAt). IsSincere _ _ _ (arc_value l.hub).setup.catalogue.natives)
     (λ l. record { handlers = λ k n low. absurd n.object.vtable; guards = λ k n low. absurd n.object.vtable; authorisers = λ k n low. absurd n.object.vtable }) d.kept)) $ join ! $
     use0 𝓛 (raw (fact 𝓤 Bares))
     (fact_i 𝓤 Bares (emp 𝓤) (record { handlers = λ k n low. absurd n.object.vtable; guards = λ k n low. absurd n.object.vtable; authorisers = λ k n low. absurd n.object.vtable })) $ join ! $

@@ -1,6 +1,6 @@
 use Rattle.std.proofs.Common.{refl, inr}
 use Rattle.spin_c.specs.declared.ask.Outcome.TheVariants as outcome
-use Rattle.spin_c.proofs.spin_open.Goals as goal
+use Rattle.spin_c.proofs.asking.open_of.Goals as goal
 
 pub returns-in-Ok : goal.returns-in-Ok
 returns-in-Ok c = rw c.in-Ok.ensures at c.ask_of.ensures

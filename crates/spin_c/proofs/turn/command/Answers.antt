@@ -1,0 +1,36 @@
+use Rattle.std.proofs.Common.{refl}
+use Rattle.std.specs.Arc.{arc_value}
+use Rattle.spin_table.specs.SetupOf.{data_of}
+use Rattle.spin_c.proofs.Turning.{stays_well}
+use Rattle.spin_c.proofs.turn.command.Goals as goal
+
+pub command-requires-clause-sincere : goal.command-requires-clause-sincere
+command-requires-clause-sincere g c = rw c.deref.ensures c.requires.sincere
+
+pub command-requires-clause-seat : goal.command-requires-clause-seat
+command-requires-clause-seat g c = rw c.deref.ensures c.requires.well.0.1.0
+
+pub returns-in-Ok-clause-well : goal.returns-in-Ok-clause-well
+returns-in-Ok-clause-well g c =
+    let hub = arc_value c.args.lane.now.hub in
+    stays_well hub.log.id (data_of hub.setup) c.args.lane.now.waiting c.args.lane.now.seat c.command.new.self c.requires.well c.command.ensures.same
+    (rw c.deref.ensures at c.command.ensures.seat) c.command.ensures.first
+
+pub returns-in-Ok-clause-commands : goal.returns-in-Ok-clause-commands
+returns-in-Ok-clause-commands g c = (
+  (refl, refl),
+  (c.in-Some.command, c.in-Some.ensures.command, rw c.requires.well.0.1.1 at (rw c.deref.ensures at c.in-Ok.ensures.answer)),
+  refl,
+)
+
+pub returns-in-Err-Full-clause-well : goal.returns-in-Err-Full-clause-well
+returns-in-Err-Full-clause-well g c =
+    let hub = arc_value c.args.lane.now.hub in
+    stays_well hub.log.id (data_of hub.setup) c.args.lane.now.waiting c.args.lane.now.seat c.command.new.self c.requires.well c.command.ensures.same
+    (rw c.deref.ensures at c.command.ensures.seat) c.command.ensures.first
+
+pub returns-in-Err-NoMemory-clause-well : goal.returns-in-Err-NoMemory-clause-well
+returns-in-Err-NoMemory-clause-well g c =
+    let hub = arc_value c.args.lane.now.hub in
+    stays_well hub.log.id (data_of hub.setup) c.args.lane.now.waiting c.args.lane.now.seat c.command.new.self c.requires.well c.command.ensures.same
+    (rw c.deref.ensures at c.command.ensures.seat) c.command.ensures.first
