@@ -1,8 +1,9 @@
 //! An endpoint over a file, which tells nothing.
 
-ghost use Rattle.std.specs.Prelude.{◌≡◌, None, IfOk, OnOk};
+ghost use Rattle.std.specs.Prelude.{◌≡◌, IfOk, OnOk};
 ghost use Rattle.std.specs.Io.KnownBytes.{Appends};
-ghost use Rattle.spin_endpoint.specs.Framing.{framed};
+ghost use Rattle.spin_endpoint.specs.Endpoints.{Takes};
+ghost use Rattle.spin_endpoint.specs.Framing.{framed, file_seen, IsAppended};
 
 use crate::endpoint::Endpoint;
 use spin_outside::{Count, Failed};
@@ -51,6 +52,7 @@ impl<R: Files + Drop> FileEnd<R> {
     fn append(&mut self, bytes: &[u8]) -> io::Result<()>
         ensures finishes { self.new.finishes ≡ self.old.finishes }
         ensures faults { self.new.faults ≡ self.old.faults }
+        ensures written { OnOk result (IsAppended R.File.contents self.old.file self.new.file bytes.now) }
     {
         let mut file = match self.file.take() {
             Some(file) => file,
@@ -92,9 +94,14 @@ fn write_piece<W: Write>(file: &mut W, buffer: &mut Vec<u8>, bytes: &[u8]) -> io
 }
 
 impl<R: Files + Drop> Endpoint for FileEnd<R> {
-    ghost seen = { λ e. record { pieces = None; finishes = e.finishes; faults = e.faults.number } };
+    ghost seen = { λ e. file_seen e.finishes e.faults.number };
 
-    fn take(&mut self, bytes: &[u8]) -> Result<(), Failed> {
+    /// Appends the piece, framed, to the file that is open, or to the one that it opens.
+    fn take(&mut self, bytes: &[u8]) -> Result<(), Failed>
+        ensures takes { Takes bytes.now result (file_seen self.old.finishes self.old.faults.number)
+            (file_seen self.new.finishes self.new.faults.number) }
+        ensures written { OnOk result (IsAppended R.File.contents self.old.file self.new.file bytes.now) }
+    {
         match self.append(bytes) {
             Ok(()) => Ok(()),
             Err(_) => {
