@@ -7,7 +7,7 @@
 //!
 //! - of plain data: [`values`], [`rows`], [`expressions`], [`headers`], and [`plans`] of bindings;
 //! - of scripts and reports: [`scripts`], [`setups`], [`reports`], [`entries`], [`generated`];
-//! - of logs, seats and lanes: [`logs`], [`seats`], [`lanes`];
+//! - of logs, seats and lanes: [`logs`], [`seats`], [`renewed_hubs`], [`lanes`];
 //! - of jobs and tasks, and of whole runs that are held up: [`jobs`], [`executor`], [`runs`];
 //! - of the outside: [`outside`], [`adapters`], [`captures`], [`reassembly`], [`endpoints`], [`natives`];
 //! - of runs over it: [`filter`], [`faults`], [`top`];
@@ -52,6 +52,8 @@ mod outside;
 mod plans;
 #[cfg(test)]
 mod reassembly;
+#[cfg(test)]
+mod renewed_hubs;
 #[cfg(test)]
 mod reports;
 #[cfg(test)]
