@@ -18,7 +18,7 @@ from wrapper.program import CRATE, NOT_RUN, PROGRAM, TOP, crates_listed, is_buil
 from wrapper.trial import has_toolchain, passed
 
 LOGS = TOP / "out" / "build"
-HOSTS = ("host_filter", "host_logger", "host_plugins", "host_workers")
+HOSTS = ("host_filter", "host_logger", "host_plugins", "host_renewal", "host_workers")
 
 # What has to be free before a build begins, in bytes.
 MEMORY, DISK = 3_000_000_000, 6_000_000_000

@@ -17,7 +17,7 @@ sys.path.insert(0, str(HERE.parent.parent))
 from wrapper.program import TOP, below_by_crate, crates_listed, stands_on
 
 # The crates that are covered are those that these stand on, and they themselves.
-TOPS = ("spin_main", "host_filter", "host_logger", "host_plugins", "host_workers")
+TOPS = ("spin_main", "host_filter", "host_logger", "host_plugins", "host_renewal", "host_workers")
 
 # Of the kit's libraries, those that are part of Rust's.
 OF_RUST = ("core", "std_collections")
