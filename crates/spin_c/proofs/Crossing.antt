@@ -1,8 +1,5 @@
 -- A handle may go to another thread, since its lane may, and the hub that lanes share may be used by several threads.
-use Prim.Native.Nat.{ℕ}
-use mathlib.Core.List.{[], ◌∷◌}
 use mir.Raw.{raw}
-use mir.Syntax.{Dict}
 use base.Shift.{Keyless}
 use denote.RattleType.{RattleType}
 use denote.Memory.{lone}
@@ -16,8 +13,6 @@ use Rattle.std.specs.Global.{Global}
 use Rattle.std.specs.contracts.option.Option as Option'
 use Rattle.std.proofs.Crossing.{crosses, dyn_box_send, frees}
 use Rattle.std_alloc.proofs.SendSync.{lies}
-use Rattle.std_heap.specs.contracts.Global as Heap
-use Rattle.std_heap.specs.contracts.GlobalAllocator.TheImpl.{ghosts}
 use Rattle.spin_values.proofs.list.Sequence.TheSendSync as list
 use Rattle.spin_values.proofs.text.Text.TheSendSync as text
 use Rattle.spin_values.proofs.types.EventType.TheSendSync as event_type
@@ -37,7 +32,7 @@ use Rattle.spin_objects.specs.contracts.unit.Check as Check
 use Rattle.spin_objects.specs.contracts.catalogue.Catalogue as Catalogue
 use Rattle.spin_table.specs.contracts.event.EventDef as EventDef
 use Rattle.spin_table.specs.contracts.setup.Setup as Setup
-use Rattle.spin_proto.specs.contracts.reply.Reply as Reply
+use Rattle.spin_c.proofs.kept.Kept.TheSendSync as kept
 use Rattle.spin_seat.specs.contracts.hub.Hub as Hub
 use Rattle.spin_seat.specs.contracts.seat.Seat as Seat
 use Rattle.spin_jobs.proofs.ThreadCrossing.{setup_sync, version_send, version_sync}
@@ -69,9 +64,6 @@ seat_send = search (pen.the_send, version_send, version_sync, crosses, sendable)
 
 slot_send : IsSend (Option'.the_row Seat.the_row)
 slot_send = search (seat_send, crosses, sendable) depth 30 fits 20000
-
-reply_send : IsSend Reply.the_row
-reply_send = search (crosses, sendable) depth 60 fits 20000
 
 module _ (A B C : RattleType) (a : Ghosts A.Denot) (b : Ghosts B.Denot) (c : Ghosts C.Denot)
     (handlers : Sends (table_of A.Denot a)) (guards : Sends (table_of B.Denot b)) (authorisers : Sends (table_of C.Denot c))
@@ -123,7 +115,7 @@ module _ (A B C : RattleType) (a : Ghosts A.Denot) (b : Ghosts B.Denot) (c : Gho
         recorded_send (Lane.the_field A B C a b c).row _ _ (Lane.the_type A B C a b c).to_one
         (struct_send (shape (Lane.the_type A B C a b c)) (
           search (hub_send, hub_sync, crosses, sendable),
-          (search (seat_send, sendable), (search (reply_send, crosses, sendable), (list.the_send (Option'.the_row Seat.the_row) slot_send, tt))),
+          (search (seat_send, sendable), (kept.the_send, (list.the_send (Option'.the_row Seat.the_row) slot_send, tt))),
         ))
 
 -- the lane that a handle holds may go to another thread

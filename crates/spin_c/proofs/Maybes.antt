@@ -7,7 +7,7 @@ use mir.Raw.{raw as bare}
 use mir.Val.{Val, vstruct, of_list, has_ty, WT}
 use mir.Syntax.{ty_ptr, impl, tnil, dnil}
 use base.Fraction.{full_share}
-use base.Logic.{never, fst∗, snd∗, ent, via, guard, guard_i}
+use base.Logic.{never, fst∗, snd∗, via, guard_i}
 use types.Logic.{Logic, sem}
 use contract.Monad.{fact_use}
 use types.Kit.{Item, Goal, Seq, Step, step, ‵, given, ◌$◌, move, drop, fsplit, fjoin, fpick, fpack, feq_i, feq_l, use1, learn}

@@ -1,6 +1,6 @@
 -- A seat that waits, what is left when it is taken out, and that it can be put back.
-use Rattle.std.proofs.Common.{◌≡◌, ◌+◌, ℕ, zero, suc, List, [], ◌∷◌, arith, refl, sym, ap, subst, ◌∙◌}
-use Rattle.std.specs.Prelude.{Option, Some, None, get_or, slice_get, slice_set, ⊤}
+use Rattle.std.proofs.Common.{◌≡◌, ◌+◌, ℕ, zero, suc, List, [], ◌∷◌, arith, subst, ◌∙◌}
+use Rattle.std.specs.Prelude.{Option, Some, None, slice_get, slice_set, ⊤}
 use Rattle.std.proofs.lemmas.List.{set-set, set-get_or}
 use Rattle.std.proofs.lemmas.Option.{get_or_from_slice_get}
 use Rattle.atomic_table.specs.Seated.{TableId}

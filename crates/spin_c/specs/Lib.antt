@@ -1,4 +1,5 @@
 pub mod Given
+pub mod Kept
 pub mod Lanes
 pub mod Owned
 pub mod Shares

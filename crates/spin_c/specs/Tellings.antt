@@ -1,7 +1,5 @@
 -- By which numbers it is told what a call comes to.
 use Rattle.std.specs.Prelude.{◌≡◌, ◌<◌, ◌≤◌, ◌++◌, ◌⊎◌, ℕ, List, Option, All, drop, length, map}
-use Rattle.spin_table.specs.declared.refusal.Refusal.{Refusal}
-use Rattle.spin_table.specs.declared.refusal.Refusal.TheVariants as refusal
 use Rattle.spin_table.specs.declared.refusal.Verdicted.{Verdicted}
 use Rattle.spin_table.specs.declared.refusal.Verdicted.TheVariants as verdicted
 use Rattle.spin_report.specs.Verdicts.{refusal_told}

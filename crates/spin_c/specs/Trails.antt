@@ -7,6 +7,7 @@ use Rattle.spin_raise.specs.declared.answer.Answer.TheVariants as answer
 use Rattle.spin_proto.specs.declared.reply.Reply.{Reply}
 use Rattle.spin_proto.specs.declared.reply.Reply.TheVariants as reply
 use Rattle.spin_proto.specs.declared.reply.Step.{Step}
+use Rattle.spin_proto.specs.Parts.{trace_in}
 use Rattle.spin_proto.specs.declared.reply.Step.TheVariants as step
 use Rattle.spin_c.specs.declared.ask.Told.{Told}
 use Rattle.spin_c.specs.declared.ask.Outcome.{Outcome}
@@ -67,15 +68,10 @@ abbrev pub bytes_of : Step → List ℕ
 bytes_of (step.Send endpoint bytes) = bytes
 bytes_of other = []
 
--- the steps of a reply, in order
-abbrev pub steps_of : Reply → List Step
-steps_of (reply.Ran said trace jobs) = trace
-steps_of other = []
-
 -- the step at an index of the reply that is kept, or why there is none
 abbrev pub step_at : Option Reply → ℕ → Result Step Outcome
 step_at None index = Err outcome.NoReply
-step_at (Some kept) index = ok_or (slice_get (steps_of kept) index) outcome.NoStep
+step_at (Some kept) index = ok_or (slice_get (trace_in kept) index) outcome.NoStep
 
 -- it is told, or why there is none
 abbrev pub IsTold : Result Step Outcome → Outcome → Type 0

@@ -6,6 +6,7 @@ ghost use Rattle.spin_c.specs.Waiting.{IsWell, IsWellLane};
 ghost use Rattle.spin_c.specs.Shares.{IsShare, IsNoShare, Shares};
 
 use crate::ask::{Outcome, Pick};
+use crate::kept::Kept;
 use crate::lane::{Lane, Waiting};
 use crate::loose::Loose;
 use crate::maybe::Maybe;
@@ -75,7 +76,7 @@ fn hand_out(alloc: Global, lane: &mut Lane, number: u8) -> Result<Box<Lane>, Out
         return Err(Outcome::NoMemory);
     };
     let seat = take_waiting(alloc, &mut lane.waiting, at)?;
-    let (reply, waiting) = (None, Waiting::new(alloc));
+    let (reply, waiting) = (Kept::new(alloc), Waiting::new(alloc));
     let share = Lane {
         hub,
         seat,

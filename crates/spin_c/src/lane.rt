@@ -1,6 +1,6 @@
 //! What a handle holds.
 
-use spin_proto::Reply;
+use crate::kept::Kept;
 use spin_seat::{Hub, Seat};
 use spin_values::Sequence;
 use std::sync::Arc;
@@ -14,6 +14,6 @@ pub type Waiting = Sequence<Option<Seat>>;
 pub struct Lane {
     pub(crate) hub: Arc<Hub>,
     pub(crate) seat: Seat,
-    pub(crate) reply: Option<Reply>,
+    pub(crate) reply: Kept,
     pub(crate) waiting: Waiting,
 }

@@ -25,6 +25,7 @@ mod given;
 mod handing;
 mod handle;
 mod judge;
+mod kept;
 mod lane;
 mod loose;
 mod maybe;

@@ -5,6 +5,7 @@ ghost use Rattle.spin_c.specs.Trails.{answer_told, no_answer, told_of, fault_num
 ghost use Rattle.spin_c.specs.Trails.{bytes_of, step_at, IsTold, IsHanded};
 
 use crate::ask::{Outcome, Told};
+use crate::kept::Kept;
 use crate::step::SpinStep;
 use spin_headers::HeaderFault;
 use spin_proto::{Reply, Step};
@@ -13,7 +14,7 @@ use spin_values::{NoMemory, Octets};
 use std::alloc::Global;
 
 // What an answer is told as: the number of its kind, and its value.
-fn answer_told(answer: Answer, steps: u64) -> Told
+pub(crate) fn answer_told(answer: Answer, steps: u64) -> Told
     ensures { result ≡ answer_told answer steps }
 {
     let (kind, value) = match answer {
@@ -138,22 +139,18 @@ fn bytes_of(alloc: Global, step: &Step) -> Result<Octets, NoMemory>
 }
 
 // The step at an index of the reply that is kept, or why there is none.
-fn step_at(kept: &Option<Reply>, index: u64) -> Result<&Step, Outcome>
+fn step_at(kept: &Kept, index: u64) -> Result<&Step, Outcome>
     ensures { MatchResult result (λ step. step_at kept.now index ≡ Ok step.now)
         (λ why. step_at kept.now index ≡ Err why) }
 {
-    match kept {
+    match kept.steps() {
         None => Err(Outcome::NoReply),
-        Some(Reply::Ran { trace, .. }) => {
-            let steps = trace.as_slice();
-            steps.get(index as usize).ok_or(Outcome::NoStep)
-        }
-        Some(_) => Err(Outcome::NoStep),
+        Some(steps) => steps.get(index as usize).ok_or(Outcome::NoStep),
     }
 }
 
 // Tells the step at an index of the reply that is kept.
-pub(crate) fn tell_step(kept: &Option<Reply>, index: u64) -> Outcome
+pub(crate) fn tell_step(kept: &Kept, index: u64) -> Outcome
     ensures { IsTold (step_at kept.now index) result }
 {
     match step_at(kept, index) {
@@ -163,7 +160,7 @@ pub(crate) fn tell_step(kept: &Option<Reply>, index: u64) -> Outcome
 }
 
 // Hands out the bytes of the step at an index of the reply that is kept.
-pub(crate) fn hand_bytes(alloc: Global, kept: &Option<Reply>, index: u64) -> Outcome
+pub(crate) fn hand_bytes(alloc: Global, kept: &Kept, index: u64) -> Outcome
     ensures { IsHanded (step_at kept.now index) result }
 {
     let step = match step_at(kept, index) {

@@ -9,14 +9,15 @@ ghost use Rattle.spin_c.specs.Turns.{Opens, OpensTo, Raises, Commands, Does, Tur
 
 use crate::ask::{Ask, Call, Outcome};
 use crate::handing::waiting_of;
+use crate::kept::Kept;
 use crate::lane::Lane;
 use crate::loose::Loose;
 use crate::maybe::Maybe;
-use crate::trail::{hand_bytes, reply_told, tell_step};
+use crate::trail::{hand_bytes, tell_step};
 use spin_code::Sincere;
 use spin_objects::{Catalogue, Natives};
 use spin_script::{Script, ScriptFault, read_script};
-use spin_seat::{Hub, Raised, SeatFault};
+use spin_seat::{Hub, SeatFault};
 use spin_table::Setup;
 use spin_values::{Args, NoMemory};
 use spin_word::{Deed, MAX_LANES, Row, unpack};
@@ -37,7 +38,7 @@ fn start(alloc: Global, setup: Setup, lanes: u8) -> Result<Lane, NoMemory>
     };
     let waiting = waiting_of(alloc, seats)?;
     let hub = Arc::new(alloc, hub)?;
-    let reply = None;
+    let reply = Kept::new(alloc);
     Ok(Lane {
         hub,
         seat,
@@ -75,16 +76,9 @@ fn raise(alloc: Global, lane: &mut Lane, event: u8, args: Args) -> Outcome
     ensures well { IsWellLane lane.new }
     ensures raises { Raises lane.old event args lane.new result }
 {
-    lane.reply = None;
-    match lane
-        .seat
-        .raise(alloc, &lane.hub, &Deed::Raise { event, args })
-    {
-        Ok(Raised { place, reply, .. }) => {
-            let told = reply_told(&reply);
-            lane.reply = Some(reply);
-            Outcome::Raised { place, told }
-        }
+    let deed = Deed::Raise { event, args };
+    match lane.reply.raise(alloc, &lane.hub, &mut lane.seat, &deed) {
+        Ok((place, told)) => Outcome::Raised { place, told },
         Err(NoMemory) => Outcome::NoMemory,
     }
 }
@@ -102,7 +96,7 @@ fn command(alloc: Global, lane: &mut Lane, row: &Row) -> Outcome
     if command.lane != lane.seat.lane() {
         return Outcome::NoCommand;
     }
-    lane.reply = None;
+    lane.reply.forget();
     match lane.seat.command(alloc, &lane.hub, &command) {
         Ok(judged) => Outcome::Judged(judged),
         Err(SeatFault::Full) => Outcome::Full,

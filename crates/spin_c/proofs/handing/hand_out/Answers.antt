@@ -28,7 +28,7 @@ returns-in-Ok-new-clause-shares g c =
       same = (refl, refl, refl);
       lane = rw c.in-Ok-new.ensures.ok (is.1 ∙ c.from-at.ensures);
       hub = rw c.in-Ok-new.ensures.ok c.in-Ok.ensures;
-      fresh = rw c.in-Ok-new.ensures.ok (refl, c.new-waiting.ensures);
+      fresh = rw c.in-Ok-new.ensures.ok (c.new-reply.ensures, c.new-waiting.ensures);
     }
 
 pub returns-in-Err-clause-well : goal.returns-in-Err-clause-well

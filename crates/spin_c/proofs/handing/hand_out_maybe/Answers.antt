@@ -1,4 +1,4 @@
-use Rattle.std.proofs.Common.{◌≡◌, Some, sym, ap, subst, ◌∙◌}
+use Rattle.std.proofs.Common.{Some, sym, ap, subst, ◌∙◌}
 use Rattle.spin_c.specs.Waiting.{IsWell}
 use Rattle.spin_c.proofs.handing.hand_out_maybe.Goals as goal
 

@@ -20,7 +20,7 @@ pub returns-in-Ok-clause-commands : goal.returns-in-Ok-clause-commands
 returns-in-Ok-clause-commands g c = (
   (refl, refl),
   (c.in-Some.command, c.in-Some.ensures.command, rw c.requires.well.0.1.1 at (rw c.deref.ensures at c.in-Ok.ensures.answer)),
-  refl,
+  c.forget.ensures,
 )
 
 pub returns-in-Err-Full-clause-well : goal.returns-in-Err-Full-clause-well

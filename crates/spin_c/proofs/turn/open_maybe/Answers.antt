@@ -1,4 +1,4 @@
-use Rattle.std.proofs.Common.{◌≡◌, Some, refl, sym, ap, subst, ◌∙◌}
+use Rattle.std.proofs.Common.{Some, refl, sym, ap, subst, ◌∙◌}
 use Rattle.spin_script.specs.States.{natives_seen}
 use Rattle.spin_c.specs.declared.ask.Outcome.TheVariants as outcome
 use Rattle.spin_c.specs.Turns.{OpensTo}

@@ -1,8 +1,7 @@
-use Rattle.std.proofs.Common.{◌≡◌, Some, refl, sym, ap, subst, ◌∙◌}
-use Rattle.std.specs.Prelude.{IfSome}
+use Rattle.std.proofs.Common.{Some, sym, ap, subst, ◌∙◌}
 use Rattle.spin_script.specs.States.{natives_seen}
 use Rattle.spin_c.specs.Turns.{Does, Turns}
-use Rattle.spin_c.specs.Waiting.{IsWell, IsWellLane}
+use Rattle.spin_c.specs.Waiting.{IsWell}
 use Rattle.spin_c.proofs.Turning.{stays_open}
 use Rattle.spin_c.proofs.turn.turn_maybe.Goals as goal
 

@@ -11,15 +11,14 @@ use types.Part.{agg}
 use contract.Monad.{fact, fact_i}
 use contract.Running.{tables}
 use denote.Exit.{yes}
-use denote.RattleType.{RattleType, owns}
+use denote.RattleType.{owns}
 use denote.Signature.{types_at, plain}
-use denote.RawPtr.{Ptr, RawPtr, null_ptr, ptr_val}
-use denote.Steps.{nothing, heard}
+use denote.RawPtr.{Ptr, null_ptr, ptr_val}
+use denote.Steps.{nothing}
 use denote.Param.{layout}
 use denote.Triple.Walked.{Stays, stay_dropped, walk_of, Goes-dropped}
 use Rattle.std.specs.Prelude.{None, Option}
-use Rattle.core.proofs.atomic.Steps.{Ptr-Good}
-use Rattle.core.proofs.cell.Inside.{Good, one}
+use Rattle.core.proofs.cell.Inside.{one}
 use Rattle.std_heap.proofs.Global.TheLaws as heap_laws
 use Rattle.std.proofs.raw_atomic.Walks.{proved_at, leaves}
 use Rattle.spin_c.specs.Lanes.{LaneAt}

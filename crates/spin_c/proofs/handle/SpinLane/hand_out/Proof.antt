@@ -1,5 +1,5 @@
 -- `hand_out` hands what both handles own to `hand_out_maybe`, and takes it back.
-use Rattle.std.proofs.Common.{◌≡◌, ℕ, List, [], ◌∷◌, ◌++◌, refl, sym, ap, ◌∙◌, subst}
+use Rattle.std.proofs.Common.{◌≡◌, List, [], ◌∷◌, ◌++◌, refl, sym, ap, ◌∙◌, subst}
 use lib.Dec.{T}
 use mathlib.Core.Bool.{Bool, true, ◌&&◌}
 use mir.Syntax.{ty_ptr}
@@ -14,11 +14,10 @@ use types.Part.{agg, sub, whole}
 use contract.Running.{tables}
 use contract.Monad.{fact, fact_i}
 use denote.Exit.{yes}
-use denote.Laws.{Is, shows}
 use denote.RattleType.{RattleType, owns}
-use denote.Signature.{types_at, type_at, plain}
-use denote.RawPtr.{Ptr, ptr_val}
-use denote.Steps.{nothing, only, heard, peeks}
+use denote.Signature.{types_at, plain}
+use denote.RawPtr.{ptr_val}
+use denote.Steps.{nothing, only, heard}
 use denote.Param.{layout}
 use denote.Param.Table.{none, Includes-refl}
 use denote.Struct.Tuple.{Tuple}
@@ -26,13 +25,10 @@ use denote.Triple.Clauses.{Lasts, lasts}
 use denote.Triple.Spec.{triple_of}
 use denote.Triple.Call.{calls_at}
 use denote.Triple.Walked.{Stays, stay_dropped, walk_of, Goes-dropped}
-use Rattle.core.proofs.alloc.Calls.{Goes-blank}
 use Rattle.core.proofs.atomic.Steps.{Ptr-Good, fm}
-use Rattle.core.proofs.cell.Inside.{Good, one}
+use Rattle.core.proofs.cell.Inside.{one}
 use Rattle.std.proofs.raw_atomic.Walks.{proved_at, leaves}
-use Rattle.std.specs.Prelude.{Option, IfSome}
-use Rattle.std_heap.proofs.Global.TheLaws as heap_laws
-use Rattle.spin_c.specs.Lanes.{row_at, LaneAt}
+use Rattle.spin_c.specs.Lanes.{row_at}
 use Rattle.spin_c.specs.Shares.{Shares}
 use Rattle.spin_c.specs.Waiting.{IsWell}
 use Rattle.spin_c.proofs.Laws.{row_laws}

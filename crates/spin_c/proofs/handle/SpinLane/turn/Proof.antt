@@ -1,5 +1,5 @@
 -- `turn` hands what the handle owns, and natives of which there are none, to `turn_maybe`, and takes it back.
-use Rattle.std.proofs.Common.{◌≡◌, ℕ, List, [], ◌∷◌, ◌++◌, refl, sym, ap, ◌∙◌, subst}
+use Rattle.std.proofs.Common.{◌≡◌, List, [], ◌∷◌, ◌++◌, refl, sym, ap, ◌∙◌, subst}
 use lib.Dec.{T}
 use mathlib.Core.Bool.{true, ◌&&◌}
 use mir.Syntax.{ty_ptr}
@@ -16,8 +16,8 @@ use contract.Monad.{fact, fact_i}
 use denote.Exit.{yes}
 use denote.Laws.{Is, shows}
 use denote.RattleType.{RattleType, owns}
-use denote.Signature.{types_at, type_at, plain}
-use denote.RawPtr.{Ptr, ptr_val}
+use denote.Signature.{types_at, plain}
+use denote.RawPtr.{ptr_val}
 use denote.Steps.{nothing, only, heard, peeks}
 use denote.Param.{layout}
 use denote.Param.Table.{none, Includes-refl}
@@ -28,9 +28,9 @@ use denote.Triple.Call.{calls_at}
 use denote.Triple.Walked.{Stays, stay_dropped, walk_of, Goes-dropped}
 use Rattle.core.proofs.alloc.Calls.{Goes-blank}
 use Rattle.core.proofs.atomic.Steps.{Ptr-Good, fm}
-use Rattle.core.proofs.cell.Inside.{Good, one}
+use Rattle.core.proofs.cell.Inside.{one}
 use Rattle.std.proofs.raw_atomic.Walks.{proved_at, leaves}
-use Rattle.std.specs.Prelude.{Option, IfSome}
+use Rattle.std.specs.Prelude.{IfSome}
 use Rattle.std.specs.Arc.{arc_value}
 use Rattle.std_heap.proofs.Global.TheLaws as heap_laws
 use Rattle.spin_objects.specs.Units.{IsSincere}

@@ -1,5 +1,5 @@
 -- `into_loose` gives up what is owned, where the pointer is not null.
-use Rattle.std.proofs.Common.{◌≡◌, ℕ, List, [], ◌∷◌, ◌++◌, refl, sym, subst, lit<}
+use Rattle.std.proofs.Common.{◌≡◌, List, [], ◌∷◌, ◌++◌, refl, sym, subst, lit<}
 use mir.Syntax.{a_type}
 use mir.Val.{Val, vptr, vcons, vnil}
 use mir.MapTy.{inst_fn}

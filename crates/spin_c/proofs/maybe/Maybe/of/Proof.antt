@@ -24,7 +24,7 @@ use Rattle.std_heap.proofs.Global.TheLaws as heap_laws
 use Rattle.std_heap.specs.contracts.GlobalAllocator.TheImpl.{ghosts}
 use Rattle.std.proofs.raw_atomic.Walks.{proved_at, leaves}
 use Rattle.spin_c.proofs.Values.{both, Loose, loose_good, loose_out}
-use Rattle.spin_c.proofs.Maybes.{Z, Maybe, maybe_in, words_good}
+use Rattle.spin_c.proofs.Maybes.{Z, maybe_in, words_good}
 use Rattle.spin_c.specs.contracts.maybe.Maybe.of.{ended, clauses}
 use Rattle.spin_c.specs.contracts.maybe.Maybe.of.Key.{name as #self}
 use Rattle.spin_c.proofs.maybe.Maybe.of.Statement.{statement}
