@@ -154,13 +154,15 @@ fn take_turns<R: Threads + Sync>(
     )
 }
 
-// The hub of the script, whose first seat has bound the handler, and its two seats; none where memory is lacking.
-fn open(alloc: Global) -> Option<(Hub, Seat, Seat)>
+// The hub of the script over these natives, whose first seat has bound the handler, and its two seats; none where memory
+// is lacking.
+fn open(alloc: Global, natives: Natives) -> Option<(Hub, Seat, Seat)>
+    requires sincere { ⟦<Natives as Sincere>⟧.sincere natives }
     ensures sincere { IfSome result (λ made. ⟦<Catalogue as Sincere>⟧.sincere made.0.setup.catalogue) }
     ensures all { IfSome result (λ made.
         AreAllSeats (data_of made.0.setup) made.0.log (made.1 ∷ made.2 ∷ [])) }
 {
-    let Ok(script) = read_script(alloc, SCRIPT, Natives::new(alloc)) else {
+    let Ok(script) = read_script(alloc, SCRIPT, natives) else {
         return None;
     };
     let Script { setup, .. } = script;
@@ -260,8 +262,10 @@ fn round<R: Threads + Sync>(rt: &R, alloc: Global, course: Course) -> Option<Cou
 }
 
 // How many commands are accepted in all rounds, and how many raises are answered as owed; none where memory is lacking.
-fn play<R: Threads + Sync>(rt: &R, alloc: Global) -> Option<(usize, u32)> {
-    let (hub, a, b) = open(alloc)?;
+fn play<R: Threads + Sync>(rt: &R, alloc: Global, natives: Natives) -> Option<(usize, u32)>
+    requires sincere { ⟦<Natives as Sincere>⟧.sincere natives }
+{
+    let (hub, a, b) = open(alloc, natives)?;
     let mut course = Course {
         hub,
         a,
@@ -276,7 +280,8 @@ fn play<R: Threads + Sync>(rt: &R, alloc: Global) -> Option<(usize, u32)> {
 }
 
 fn main(rt: HostRuntime) -> Result<ExitCode, NoMemory> {
-    let Some((accepted, right)) = play(&rt, rt.alloc()) else {
+    let alloc = rt.alloc();
+    let Some((accepted, right)) = play(&rt, alloc, Natives::new(alloc)) else {
         return Ok(ExitCode::from(OUT_OF_MEMORY));
     };
     let raises = ROUNDS * RAISES;
