@@ -126,6 +126,15 @@ def host():
     return OUT / "target" / "debug" / HOST.name
 
 
+def library_for_c():
+    """The static library whose calls are for C, which cargo builds of the sources as Rust."""
+    with locked():
+        write_sources()
+        words = ["--quiet", "--offline", "--target-dir", str(OUT / "target"), "--release", "--package", "spin_c"]
+        call(["cargo", "build", *words])
+    return OUT / "target" / "release" / "libspin_c.a"
+
+
 def by_rustc(erase):
     """Has rustc build the program, and answers where it lies."""
     target = OUT / "target" / "rustc"

@@ -16,11 +16,14 @@ HERE = Path(__file__).resolve().parent
 sys.path.insert(0, str(HERE.parent.parent))
 from wrapper.program import TOP, below_by_crate, crates_listed, stands_on
 
+# A library whose calls are for C.
+FOR_C = "spin_c"
+
 # The crates that are covered are those that these stand on, and they themselves.
-TOPS = ("spin_main", "host_filter", "host_logger", "host_plugins", "host_renewal", "host_workers")
+TOPS = ("spin_main", "host_filter", "host_logger", "host_plugins", "host_renewal", "host_workers", FOR_C)
 
 # Of the kit's libraries, those that are part of Rust's.
-OF_RUST = ("core", "std_collections")
+OF_RUST = ("core", "std_alloc", "std_collections", "std_heap")
 
 TOKEN = re.compile(
     r"//[^\n]*|/\*.*?\*/"  # comments
@@ -43,6 +46,8 @@ STARTED = (
 # The few places in which Rust's library, or the one that stands in for Rattle's, differs.
 DIFFERENCES = [
     (r"\bBox::new\(", "::std::boxed::boxed("),
+    (r"\bBox::(into_inner|into_raw_with_allocator|from_raw)\(", r"::std::boxed::\1("),
+    (r"\bBox<T, A>", "Box<T>"),
     (r"\.clone\(\)\?", ".clone()"),
     (r"\.to_vec\((?=[^)])", ".copied_by("),
     (r"\buse std::ops::DerefSlice;", "use std::ops::Deref;"),
@@ -123,12 +128,15 @@ class Source:
         return self.behind_pair(place)
 
     def leave_out_visibility(self):
-        """Leaves out the `pub` that stands right before what is left out next."""
+        """Leaves out the `pub`, or the `pub(crate)`, that stands right before what is left out next."""
         place = len(self.left) - 1
         while place >= 0 and self.left[place].isspace():
             place -= 1
-        if place >= 0 and self.left[place] == "pub":
-            del self.left[place:]
+        for words in (["pub"], ["pub", "(", "crate", ")"]):
+            begin = place + 1 - len(words)
+            if begin >= 0 and self.left[begin : place + 1] == words:
+                del self.left[begin:]
+                return
 
     def leave_out(self, at, end, has_docs=False):
         """Leaves the tokens out, but for their line ends; an item's comments before it go too."""
@@ -212,6 +220,10 @@ debug = 0
 incremental = false
 overflow-checks = true
 panic = "abort"
+
+[profile.release]
+overflow-checks = true
+panic = "abort"
 """
 
 
@@ -239,7 +251,8 @@ def packages(name, below):
 
 def manifest(name, below):
     """The manifest of a crate that stands on these."""
-    text = f'[package]\nname = "{name}"\nversion = "0.1.0"\nedition = "2024"\n\n[dependencies]\n'
+    kind = '[lib]\ncrate-type = ["staticlib"]\n\n' if name == FOR_C else ""
+    text = f'[package]\nname = "{name}"\nversion = "0.1.0"\nedition = "2024"\n\n{kind}[dependencies]\n'
     for alias, (package, folder) in packages(name, below).items():
         text += f'{alias} = {{ package = "{package}", path = "{folder}" }}\n'
     return text

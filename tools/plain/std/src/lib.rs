@@ -23,4 +23,4 @@ pub mod prelude;
 pub mod rc;
 pub mod sync;
 
-pub use std::{cell, error, fmt, hint, mem, ops, slice, str};
+pub use std::{cell, error, fmt, hint, mem, ops, ptr, slice, str};
