@@ -39,28 +39,30 @@ def chains(crates, weights):
     return longest
 
 
+def taken(need, jobs):
+    """The memory that so many jobs take of a crate of which one takes `need`: each further one shares some with it."""
+    return need * (1 + 0.6 * (jobs - 1))
+
+
 def chosen(ready, running, processors, memory, chain, need):
     """The crates of `ready` to begin now, each with its number of jobs.
 
-    `running` has the number of jobs of each crate that is being built. In all there are at most as many jobs as
-    processors, and they take no more than this memory, which is what was free when none was running; but where none is
-    running one always begins. Those of the heaviest chains come first, and where none is left that could begin, they get
-    what processors are left.
+    `running` has the number of jobs of each crate that is being built. In all there are at most as many crates as
+    processors, and their jobs take no more than this memory, which is what was free when none was running; but where
+    none is running one always begins. Those of the heaviest chains come first. A crate keeps its jobs to its end, so
+    each gets two where there are two processors, though others may want the second one for a while, and more where no
+    other crate wants them.
     """
-    free = processors - sum(running.values())
-    left = memory - sum(need[name] * jobs for name, jobs in running.items())
+    left = memory - sum(taken(need[name], jobs) for name, jobs in running.items())
+    spare = processors - len(running) - len(ready) + 1
     begin = {}
     for name in sorted(ready, key=lambda it: -chain[it]):
-        if free > 0 and (need[name] <= left or not (running or begin)):
-            begin[name] = 1
-            free, left = free - 1, left - need[name]
-    more = list(begin)
-    while free > 0 and more:
-        more = [name for name in more if need[name] <= left]
-        for name in more[:free]:
-            if need[name] <= left:
-                begin[name] += 1
-                free, left = free - 1, left - need[name]
+        if len(running) + len(begin) == processors:
+            break
+        fitting = [jobs for jobs in range(1, min(processors, max(2, spare)) + 1) if taken(need[name], jobs) <= left]
+        if fitting or not (running or begin):
+            begin[name] = max(fitting, default=1)
+            left -= taken(need[name], begin[name])
     return begin
 
 

@@ -27,22 +27,25 @@ class Chosen(unittest.TestCase):
         return chosen(ready, running or {}, processors, memory, self.chain, dict.fromkeys("abc", need))
 
     def test_the_heaviest_chain_comes_first(self):
-        self.assertEqual(self.chosen("cba", processors=2), {"a": 1, "b": 1})
+        self.assertEqual(list(self.chosen("cba", processors=2)), ["a", "b"])
 
     def test_one_alone_gets_all_processors(self):
         self.assertEqual(self.chosen("b"), {"b": 4})
+        self.assertEqual(self.chosen("b", processors=1), {"b": 1})
 
-    def test_what_is_left_goes_to_the_heaviest(self):
-        self.assertEqual(self.chosen("bc", processors=3), {"b": 2, "c": 1})
+    def test_each_gets_what_no_other_wants_and_two_at_least(self):
+        self.assertEqual(self.chosen("bc"), {"b": 3, "c": 3})
+        self.assertEqual(self.chosen("abc"), {"a": 2, "b": 2, "c": 2})
+        self.assertEqual(self.chosen("c", {"a": 2, "b": 2}), {"c": 2})
 
-    def test_what_runs_keeps_its_processors(self):
-        self.assertEqual(self.chosen("bc", {"a": 2}), {"b": 1, "c": 1})
-        self.assertEqual(self.chosen("b", {"a": 4}), {})
+    def test_no_more_begin_than_there_are_processors(self):
+        self.assertEqual(self.chosen("abc", processors=2), {"a": 2, "b": 2})
+        self.assertEqual(self.chosen("c", {"a": 1, "b": 1}, processors=2), {})
 
     def test_no_more_begins_than_memory_is_there_for(self):
-        self.assertEqual(self.chosen("abc", memory=7 * GB, need=LARGE), {"a": 1, "b": 1})
-        self.assertEqual(self.chosen("a", memory=7 * GB, need=LARGE), {"a": 2})
-        self.assertEqual(self.chosen("b", {"a": 2}, memory=7 * GB, need=LARGE), {})
+        self.assertEqual(self.chosen("abc", memory=8 * GB, need=LARGE), {"a": 2, "b": 1})
+        self.assertEqual(self.chosen("a", memory=7 * GB, need=LARGE), {"a": 3})
+        self.assertEqual(self.chosen("b", {"a": 3}, memory=7 * GB, need=LARGE), {})
 
     def test_one_begins_however_little_memory_there_is(self):
         self.assertEqual(self.chosen("ab", memory=1, need=LARGE), {"a": 1})
