@@ -90,4 +90,4 @@ renewals_go_on d first s last before after sound given room named legal later =
     let live = live_numbers s in
     let same = renewals_rename d s sound given (omega (arith, room)) in
     let r = answers_are_renamed d (old_number live s.place) (renewed s) s last after same.0 (old_zero live s.place) same.1 room named later in
-    (r.0, legal_append d first s r.0 before (before_renewal s after) legal r.1)
+    (r.0, legal_append d first s r.0 before (before_renewal s after) legal r.1, r.2)

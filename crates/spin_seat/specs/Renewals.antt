@@ -50,7 +50,7 @@ before_renewal s answers =
     map (renamed_answer (old_number (live_numbers s) s.place) (renewed s).place s.place) answers
 
 -- What was answered before a renewal and what was answered after it are together one legal history,
--- under the numbers before.
+-- under the numbers before; and it leads to the state after it under these numbers.
 abbrev pub RenewalsGoOn : Type 0
 RenewalsGoOn =
     (d : SetupData) (first s last : State) (before after : List Answer)
@@ -58,3 +58,4 @@ RenewalsGoOn =
     → All (StaysNamed (old_number (live_numbers s) s.place)) after
     → AreLegalAnswers d first before s → AreLegalAnswers d (renewed s) after last
     → (other : State) × AreLegalAnswers d first (before ++ before_renewal s after) other
+    × IsRenamed (old_number (live_numbers s) s.place) last other

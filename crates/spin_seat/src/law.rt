@@ -18,7 +18,8 @@ pub fn seats_answer_one_history()
 /// The laws of renewals. What is legal from a state is legal, under the other numbers, from each state
 /// that differs from it in the numbers of its bindings alone. So what was answered before a renewal and
 /// what was answered after it are together one legal history under the numbers before, as long as these
-/// stay below 65,535. It does nothing.
+/// stay below 65,535; and it leads to a state that differs from the one after it in these numbers alone.
+/// So it goes on over any number of renewals. It does nothing.
 pub fn renewals_go_on()
     ensures answers { AnswersAreRenamed }
     ensures whole { RenewalsGoOn }
