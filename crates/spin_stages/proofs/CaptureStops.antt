@@ -11,7 +11,7 @@ use Rattle.spin_pcap.specs.declared.fault.PcapFault.TheVariants as fault
 use Rattle.spin_pcap.specs.Captures.{header_of}
 use Rattle.spin_pcap.specs.Passing.{fault_number, FaultByCount, UnlessFailed}
 use Rattle.spin_pcap.specs.Whole.{bad_at, IsRefused, IsStopped, BadByCount}
-use Rattle.spin_stages.specs.Captures.{HasBadHeader, IsBadAt, IsBadHeader, NoCaptureBy, NoWholeBy}
+use Rattle.spin_stages.specs.Captures.{HasBadHeader, IsBadAt, NoCaptureBy, NoWholeBy}
 use Rattle.spin_stages.specs.Ends.{end_at}
 use Rattle.spin_stages.specs.Holding.{HeaderRefuses}
 use Rattle.spin_stages.specs.Shelves.{ShelfFailed, ShelfStood}

@@ -1,28 +1,28 @@
 -- A text that is a script says it.
-use Rattle.std.proofs.Common.{◌≡◌, ℕ, ◌+◌, ◌⊎◌, inl, inr, Bool, true, false, not, cond, eqb, List, [], ◌∷◌, length, Option, Some, None, Result, Ok, Err, codes, bytes_eq, refl, sym, ap, subst, ◌∙◌}
-use Rattle.std.specs.Prelude.{slice_index, ◌==◌, if◌then◌else◌, nat_lt}
+use Rattle.std.proofs.Common.{◌≡◌, ℕ, ◌+◌, ◌⊎◌, inl, inr, Bool, true, false, cond, eqb, List, [], ◌∷◌, length, Option, Some, None, Ok, Err, codes, bytes_eq, refl, sym, ap, subst, ◌∙◌}
+use Rattle.std.specs.Prelude.{slice_index, if◌then◌else◌, nat_lt}
 use Rattle.std.specs.Bool.{MatchBool}
-use Rattle.std.specs.List.{list_all}
+use Rattle.std.specs.List.{AllZip, list_all}
 use Rattle.std.specs.Str.Lines.{lines}
 use Rattle.std.proofs.lemmas.Slice.Eq.{bytes_eq-Decides}
-use Rattle.spin_grammar.specs.declared.cause.Cause.{Cause}
 use Rattle.spin_grammar.specs.declared.cause.Cause.TheVariants as cause
 use Rattle.spin_grammar.specs.declared.kind.Kind.{Kind}
 use Rattle.spin_grammar.specs.declared.kind.Kind.TheVariants as kind
-use Rattle.spin_grammar.specs.Grammar.{Fixed, Numeral}
+use Rattle.spin_grammar.specs.Grammar.{Atom, Fixed, Numeral}
+use Rattle.spin_grammar.specs.Lines as line
 use Rattle.spin_grammar.specs.Lines.{LineMeaning, form, line_kind, wanted, Spells}
 use Rattle.spin_grammar.specs.Lookup.{look_up}
 use Rattle.spin_grammar.specs.Spelling.{number}
 use Rattle.spin_grammar.specs.Words.{words}
 use Rattle.spin_grammar.proofs.Signatures.{one_of}
 use Rattle.spin_script.specs.Canonical.{first_word}
-use Rattle.spin_script.specs.Language.{Head, Skipped, Begins, Says, is_allowed, version_word, version_of, first_head, kind_head, words_head, head}
-use Rattle.spin_script.specs.Language.{Passes, Outcome, outcome_at_end, ComesTo, IsScript, most_bytes}
+use Rattle.spin_script.specs.Language.{Skipped, Says, is_allowed, version_word, version_of, first_head, kind_head, words_head, head}
+use Rattle.spin_script.specs.Language.{Passes, Outcome, ComesTo, IsScript, most_bytes}
 use Rattle.spin_script.specs.Sections.{first_words, is_out_of_order}
 use Rattle.spin_script.specs.States.{NativeData, ScriptData, ScriptState, start, after, script_in}
-use Rattle.spin_stages.specs.Texts.{AreSaid, SayLine, SayLines, SaysScript, is_skipped, told_lines, script_with}
+use Rattle.spin_stages.specs.Texts.{SayLine, SaysScript, line_form, is_skipped, told_lines}
 use Rattle.spin_stages.proofs.SaidScripts.{script_from, one_more, none_more, after_version}
-use Rattle.spin_stages.proofs.SaidWords.{is_fit, words_said}
+use Rattle.spin_stages.proofs.SaidWords.{AreSaid, is_fit, words_said}
 
 -- ---- a line that says something
 
@@ -64,10 +64,27 @@ wanted_fit version kind.Lane = refl
 wanted_fit version kind.Barrier = refl
 wanted_fit version kind.Retire = refl
 
+-- the words of a line are the first word of its kind, and those behind it
+whole_form : (l : LineMeaning) → Fixed (first_word (line_kind l)) ∷ form l ≡ line_form l
+whole_form (line.Modules n) = refl
+whole_form (line.Event e owner sig m) = refl
+whole_form (line.Endpoint p name) = refl
+whole_form (line.Handler h sig steps) = refl
+whole_form (line.NativeHandler h name) = refl
+whole_form (line.Guard g sig t) = refl
+whole_form (line.NativeGuard g name) = refl
+whole_form (line.Rules e r) = refl
+whole_form (line.Authoriser e name) = refl
+whole_form (line.Default e h) = refl
+whole_form (line.Lane l t) = refl
+whole_form line.Barrier = refl
+whole_form (line.Retire p) = refl
+
 line_said : (version : ℕ) (k : Kind) (w : List ℕ) (ws : List (List ℕ)) (l : LineMeaning) → w ≡ first_word k → Spells version k ws l → SayLine l (w ∷ ws)
 line_said version k w ws l first s =
     let others : AreSaid (is_guard k) (form l) ws = words_said (is_guard k) (wanted version k) ws (form l) (wanted_fit version k) s.words in
-    (first ∙ ap first_word (sym s.kind), subst (λ (j : Kind). AreSaid (is_guard j) (form l) ws) (sym s.kind) others)
+    let behind : AreSaid (bytes_eq w (codes "guard")) (form l) ws = subst (λ (v : List ℕ). AreSaid (bytes_eq v (codes "guard")) (form l) ws) (sym first) others in
+    subst (λ (atoms : List Atom). AreSaid (bytes_eq w (codes "guard")) atoms (w ∷ ws)) (whole_form l) (first ∙ ap first_word (sym s.kind), behind)
 
 -- ---- the line that names the version
 
@@ -164,6 +181,10 @@ leads n number line s t p = by_bytes n number (words line) s t (list_all is_allo
 
 -- ---- the lines behind the one that names the version
 
+-- each line says what stands at its place, under its number, and there are no others
+abbrev SayLines : List (ℕ × LineMeaning) → List (ℕ × List (List ℕ)) → Type 0
+SayLines said told = AllZip (λ said told. (said.0 ≡ told.0) × SayLine said.1 told.1) said told
+
 -- what the lines say that are told, and the script that they make behind s
 record Made (n : NativeData) (number : ℕ) (texts : List (List ℕ)) (s : ScriptState) (script : ScriptData) : Type 0 where
   said : List (ℕ × LineMeaning)
@@ -193,7 +214,7 @@ made_more : (n : NativeData) (number : ℕ) (text : List ℕ) (more : List (List
     → SayLine l (words text) → t ≡ after n s number l → Made n (number + 1) more t script → Made n number (text ∷ more) s script
 made_more n number text more s t l script skips says same m = record {
   said = (number, l) ∷ m.said;
-  says = subst (λ x. SayLines ((number, l) ∷ m.said) x) (sym (told number text more skips)) (refl, says, m.says);
+  says = subst (λ x. SayLines ((number, l) ∷ m.said) x) (sym (told number text more skips)) ((refl, says), m.says);
   makes = m.makes ∙ ap (λ (u : ScriptState). script_from n u m.said) same ∙ one_more n s number l m.said;
 }
 

@@ -1,12 +1,11 @@
 -- Words that can stand where they do say what they are read as.
-use Rattle.std.proofs.Common.{◌≡◌, ℕ, zero, suc, ◌+◌, ◌-◌, ◌≤◌, ◌&&◌, inl, inr, Bool, true, false, not, cond, eqb, leb, List, [], ◌∷◌, ◌++◌, length, drop, replicate}
-use Rattle.std.proofs.Common.{Option, Some, None, Result, Ok, Err, codes, bytes_eq, refl, sym, ap, subst, ◌∙◌, arith}
+use Rattle.std.proofs.Common.{◌≡◌, ℕ, zero, suc, ◌+◌, ◌-◌, ◌&&◌, inl, inr, Bool, true, false, not, cond, eqb, leb, List, [], ◌∷◌, ◌++◌, length, drop, replicate}
+use Rattle.std.proofs.Common.{Option, Some, None, Ok, Err, codes, bytes_eq, refl, sym, ap, subst, ◌∙◌, arith}
 use Rattle.std.specs.Prelude.{slice_index}
-use Rattle.std.specs.List.{list_all}
+use Rattle.std.specs.List.{AllZip, list_all}
 use Rattle.std.proofs.lemmas.Bool.Decides.{nat_tests}
 use Rattle.std.proofs.lemmas.List.Folds.{list_all-append}
 use Rattle.spin_values.specs.declared.types.EventType.{EventType}
-use Rattle.spin_grammar.specs.declared.cause.Cause.{Cause}
 use Rattle.spin_grammar.specs.declared.cause.Cause.TheVariants as cause
 use Rattle.spin_text.specs.Digits.{begins_with_digit}
 use Rattle.spin_grammar.specs.Spelling.{number, within, greatest, is_name, signature, guard_signature, hex_bytes}
@@ -16,7 +15,11 @@ use Rattle.spin_grammar.specs.Grammar.{Choices, expressions, tests, parts, steps
 use Rattle.spin_grammar.specs.Grammar.{as_number, chosen, is_argument, as_signature, as_blob, rising, accepts, may_end, reads}
 use Rattle.spin_grammar.proofs.CanonicalSpelling.{ok_same, chosen_word, by_number, by_count, by_rising, by_rise, by_signature, by_blob, both, second, went, over}
 use Rattle.spin_grammar.proofs.Signatures.{one_of}
-use Rattle.spin_stages.specs.Texts.{IsSaid, AreSaid}
+use Rattle.spin_stages.specs.Texts.{IsSaid}
+
+-- each of the words says what stands at its place, and there are no others
+abbrev pub AreSaid : (of_guard : Bool) → List Atom → List (List ℕ) → Type 0
+AreSaid of_guard atoms ws = AllZip (IsSaid of_guard) atoms ws
 
 -- ---- one word
 

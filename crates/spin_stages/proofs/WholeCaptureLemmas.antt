@@ -1,13 +1,14 @@
 -- A capture that is read without a fault is whole.
-use Rattle.std.proofs.Common.{◌≡◌, ℕ, ◌+◌, ◌≤◌, inl, inr, Bool, true, false, not, cond, eqb, ltb, List, [], ◌∷◌, length, drop, Option, Some, None, Result, Ok, Err, refl, sym, ap, subst, ◌∙◌, arith}
+use Rattle.std.proofs.Common.{◌≡◌, ℕ, ◌+◌, ◌≤◌, inl, inr, Bool, true, false, not, cond, eqb, ltb, List, [], ◌∷◌, length, Option, Some, None, Ok, Err, refl, subst, arith}
 use Rattle.std.proofs.lemmas.Bool.Decides.{nat_tests}
+use Rattle.spin_grammar.proofs.CanonicalSpelling.{both, second}
 use Rattle.spin_grammar.proofs.Signatures.{one_of}
-use Rattle.spin_pcap.specs.declared.fault.PcapFault.{PcapFault}
 use Rattle.spin_pcap.specs.declared.fault.PcapFault.TheVariants as fault
 use Rattle.spin_pcap.specs.declared.next.Next.{Next}
 use Rattle.spin_pcap.specs.declared.next.Next.TheVariants as next
 use Rattle.spin_pcap.specs.declared.order.Order.{Order}
-use Rattle.spin_pcap.specs.Captures.{ordered_number_at, is_version, order_of, fields_of, header_of, IsBody}
+use Rattle.spin_pcap.specs.declared.order.Order.TheVariants as order
+use Rattle.spin_pcap.specs.Captures.{ordered_number, ordered_number_at, is_magic, is_version, order_of, fields_of, header_of, IsBody}
 use Rattle.spin_pcap.specs.Whole.{cut_of}
 use Rattle.spin_stages.specs.WholeCaptures.{HasHeader, HoldsRecords}
 
@@ -39,11 +40,29 @@ fields_are bytes way found e =
       | inr x ↦ link_of bytes way found (isnt (is_version way bytes) x.0) x.1
     ]
 
+same_order : (way found : Order) → Some way ≡ Some found → way ≡ found
+same_order way found e = cc
+
+magic_of : (bytes : List ℕ) (way : Order) → order_of bytes ≡ Some way → is_magic (ordered_number way 4 bytes) ≡ true
+magic_of bytes way e =
+    elim (one_of (is_magic (ordered_number order.Big 4 bytes)) (Some order.Big) (cond (is_magic (ordered_number order.Little 4 bytes)) (Some order.Little) None) (Some way) e) [
+      | inl x ↦ subst (λ (o : Order). is_magic (ordered_number o 4 bytes) ≡ true) (same_order order.Big way x.1) x.0
+      | inr x ↦ elim (one_of (is_magic (ordered_number order.Little 4 bytes)) (Some order.Little) None (Some way) x.1) [
+        | inl y ↦ subst (λ (o : Order). is_magic (ordered_number o 4 bytes) ≡ true) (same_order order.Little way y.1) y.0
+        | inr y ↦ absurd (let bad : None ≡ Some way = y.1 in cc)
+      ]
+    ]
+
 header_by : (bytes : List ℕ) (found : Order) (o : Option Order) → 24 ≤ length bytes → order_of bytes ≡ o → fields_of o bytes ≡ Ok found → HasHeader found bytes
 header_by bytes found None long at e = absurd (let bad : Err fault.BadMagic ≡ Ok found = e in cc)
 header_by bytes found (Some way) long at e =
     let fields = fields_are bytes way found e in
-    subst (λ (o : Order). HasHeader o bytes) fields.0 (record { long = long; magic = at; version = fields.1; link = fields.2 })
+    let first = both (eqb (ordered_number_at way 4 2 bytes) 2) (eqb (ordered_number_at way 6 2 bytes) 4) fields.1 in
+    let last = second (eqb (ordered_number_at way 4 2 bytes) 2) (eqb (ordered_number_at way 6 2 bytes) 4) fields.1 in
+    let major : ordered_number_at way 4 2 bytes ≡ 2 = grind (arith, nat_tests, first) in
+    let minor : ordered_number_at way 6 2 bytes ≡ 4 = grind (arith, nat_tests, last) in
+    subst (λ (o : Order). HasHeader o bytes) fields.0
+    (record { long = long; magic = magic_of bytes way at; major = major; minor = minor; link = fields.2 })
 
 pub has_header : (bytes : List ℕ) (way : Order) → header_of bytes ≡ Ok way → HasHeader way bytes
 has_header bytes way e =

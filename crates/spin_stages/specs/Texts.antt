@@ -1,21 +1,23 @@
 -- What the text of a script says, whether or not a line of it is refused: which lines are, and why, is `IsScript`.
 use Rattle.std.specs.Prelude.{◌≡◌, ◌==◌, ◌+◌, ℕ, max, Bool, true, false, not, if◌then◌else◌, List, [], ◌∷◌, ◌++◌, map}
-use Rattle.std.specs.Prelude.{Option, Some, None, drop, slice_index, slice_get, codes, bytes_eq, ⊤}
-use Rattle.std.specs.List.{filter, filter_map, fold, enumerate_from}
+use Rattle.std.specs.Prelude.{Option, Some, None, drop, slice_index, codes, bytes_eq}
+use Rattle.std.specs.List.{AllZip, filter, filter_map, find, flat_map, fold, enumerate_from, position}
 use Rattle.std.specs.Option.{option_map, option_map_or}
 use Rattle.std.specs.Str.Lines.{lines}
-use Rattle.spin_objects.specs.Units.{HandlerUnit, GuardUnit, handler_if, guard_if}
+use Rattle.spin_objects.specs.Units.{HandlerUnit, GuardUnit, Named}
+use Rattle.spin_table.specs.declared.event.Authority.TheVariants as authority
 use Rattle.spin_table.specs.declared.event.EventDef.{EventDef}
+use Rattle.spin_table.specs.declared.setup.TheConstants.{MAX_LIVE}
+use Rattle.spin_grammar.specs.Forms.{step_form, test_form, merge_form, rule_form, task_form}
 use Rattle.spin_grammar.specs.Grammar.{Atom, Fixed, Numeral, Argument, Called, Typed, Blob}
 use Rattle.spin_grammar.specs.Lines as line
-use Rattle.spin_grammar.specs.Lines.{LineMeaning, form, line_kind}
+use Rattle.spin_grammar.specs.Lines.{LineMeaning}
 use Rattle.spin_grammar.specs.Spelling.{number, signature, guard_signature, hex_bytes}
 use Rattle.spin_grammar.specs.Tasks.{work_of}
 use Rattle.spin_grammar.specs.Words.{words}
+use Rattle.spin_script.specs.declared.read.TheConstants.{MAX_EARLY_LIVE}
 use Rattle.spin_script.specs.declared.script.Segment.{Segment}
-use Rattle.spin_script.specs.Canonical.{first_word}
-use Rattle.spin_script.specs.States.{NativeData, ScriptData, native_at, new_event, with_event, with_rule}
-use Rattle.spin_script.specs.States.{with_authoriser, with_default, most_live}
+use Rattle.spin_script.specs.States.{NativeData, ScriptData, with_event, with_rule}
 
 -- ---- words
 
@@ -28,17 +30,26 @@ IsSaid of_guard (Called name) w = w ≡ name
 IsSaid of_guard (Typed sig) w = (if of_guard then guard_signature w else signature w) ≡ Some sig
 IsSaid of_guard (Blob bytes) w = (slice_index w 0 ≡ 120) × (hex_bytes (drop 1 w) ≡ Some bytes)
 
--- Each of the words says what stands at its place, and there are no others.
-abbrev pub AreSaid : (of_guard : Bool) → List Atom → List (List ℕ) → Type 0
-AreSaid of_guard [] [] = ⊤
-AreSaid of_guard (atom ∷ atoms) (w ∷ ws) = IsSaid of_guard atom w × AreSaid of_guard atoms ws
-AreSaid of_guard atoms ws = ⊥
+-- the words of a line
+abbrev pub line_form : LineMeaning → List Atom
+line_form (line.Modules n) = Fixed (codes "modules") ∷ Numeral n ∷ []
+line_form (line.Event e owner sig m) = Fixed (codes "event") ∷ Numeral e ∷ Numeral owner ∷ Typed sig ∷ merge_form m
+line_form (line.Endpoint p name) = Fixed (codes "endpoint") ∷ Numeral p ∷ Called name ∷ []
+line_form (line.Handler h sig steps) = Fixed (codes "handler") ∷ Numeral h ∷ Typed sig ∷ flat_map step_form steps
+line_form (line.NativeHandler h name) = Fixed (codes "handler") ∷ Numeral h ∷ Fixed (codes "native") ∷ Called name ∷ []
+line_form (line.Guard g sig t) = Fixed (codes "guard") ∷ Numeral g ∷ Typed sig ∷ test_form t
+line_form (line.NativeGuard g name) = Fixed (codes "guard") ∷ Numeral g ∷ Fixed (codes "native") ∷ Called name ∷ []
+line_form (line.Rules e r) = Fixed (codes "rule") ∷ Numeral e ∷ rule_form r
+line_form (line.Authoriser e name) = Fixed (codes "authoriser") ∷ Numeral e ∷ Called name ∷ []
+line_form (line.Default e h) = Fixed (codes "default") ∷ Numeral e ∷ Numeral h ∷ []
+line_form (line.Lane l t) = Fixed (codes "lane") ∷ Numeral l ∷ task_form t
+line_form line.Barrier = Fixed (codes "barrier") ∷ []
+line_form (line.Retire p) = Fixed (codes "retire") ∷ Numeral p ∷ []
 
--- The words say this line: the first its kind, and the others the rest.
+-- The words say this line: each what stands at its place, and there are no others.
 abbrev pub SayLine : LineMeaning → List (List ℕ) → Type 0
-SayLine l ws =
-    let first = first_word (line_kind l) in
-    AreSaid (bytes_eq first (codes "guard")) (Fixed first ∷ form l) ws
+SayLine l [] = ⊥
+SayLine l (w ∷ ws) = AllZip (IsSaid (bytes_eq w (codes "guard"))) (line_form l) (w ∷ ws)
 
 -- ---- lines
 
@@ -51,35 +62,33 @@ is_skipped (w ∷ ws) = slice_index w 0 == 35
 abbrev pub told_lines : ℕ → List (List ℕ) → List (ℕ × List (List ℕ))
 told_lines first texts = filter (λ told. not (is_skipped told.1)) (enumerate_from first (map words texts))
 
--- Each line says what stands at its place, under its number, and there are no others.
-abbrev pub SayLines : List (ℕ × LineMeaning) → List (ℕ × List (List ℕ)) → Type 0
-SayLines [] [] = ⊤
-SayLines (said ∷ more) (told ∷ others) = (said.0 ≡ told.0) × SayLine said.1 told.1 × SayLines more others
-SayLines said told = ⊥
-
 -- ---- what lines make
 
 -- the events with what a line says of them
 abbrev pub events_with : NativeData → List EventDef → LineMeaning → List EventDef
-events_with n events (line.Event e owner sig m) = events ++ new_event owner sig m ∷ []
+events_with n events (line.Event e owner sig m) =
+    events ++ record { sig = sig; owner = owner; merge = m; first_default = 0; authority = authority.Rules [] } ∷ []
 events_with n events (line.Rules e r) = with_event (with_rule r) e events
 events_with n events (line.Authoriser e name) =
-    option_map_or (λ native. with_event (with_authoriser native) e events) (native_at name n.authorisers) events
-events_with n events (line.Default e h) = with_event (with_default h) e events
+    option_map_or (λ at. with_event (λ event. record event { authority = authority.Native at }) e events)
+    (position (λ native. bytes_eq native.name name) n.authorisers) events
+events_with n events (line.Default e h) = with_event (λ event. record event { first_default = h }) e events
 events_with n events l = events
+
+-- what the first native of that name was handed in with
+abbrev pub native_of : {X : Type 0} → List ℕ → List (Named X) → Option X
+native_of name natives = option_map (λ native. native.unit) (find (λ native. bytes_eq native.name name) natives)
 
 -- the handler that a line declares
 abbrev pub handler_said : NativeData → LineMeaning → Option HandlerUnit
 handler_said n (line.Handler h sig steps) = Some (record { sig = sig; act = record { steps = steps } })
-handler_said n (line.NativeHandler h name) =
-    option_map (λ native. handler_if (slice_get n.handlers native)) (native_at name n.handlers)
+handler_said n (line.NativeHandler h name) = native_of name n.handlers
 handler_said n l = None
 
 -- the guard that a line declares
 abbrev pub guard_said : NativeData → LineMeaning → Option GuardUnit
 guard_said n (line.Guard g sig t) = Some (record { sig = sig; test = t })
-guard_said n (line.NativeGuard g name) =
-    option_map (λ native. guard_if (slice_get n.guards native)) (native_at name n.guards)
+guard_said n (line.NativeGuard g name) = native_of name n.guards
 guard_said n l = None
 
 -- the name of the endpoint that a line declares
@@ -100,14 +109,10 @@ lanes_with lanes l = lanes
 -- the segments that lines make behind the one that goes on
 abbrev pub segments_with : Segment → List (ℕ × LineMeaning) → List Segment
 segments_with s [] = s ∷ []
-segments_with s ((number, line.Barrier) ∷ more) = s ∷ segments_with (record { retires = []; lines = [] }) more
-segments_with s ((number, line.Retire p) ∷ more) =
-    segments_with (record { retires = s.retires ++ p ∷ []; lines = s.lines }) more
-segments_with s ((number, line.Lane lane t) ∷ more) =
-    segments_with (record {
-      retires = s.retires;
-      lines = s.lines ++ record { number = number; lane = lane; work = work_of lane t } ∷ [];
-    }) more
+segments_with s ((at, line.Barrier) ∷ more) = s ∷ segments_with (record { retires = []; lines = [] }) more
+segments_with s ((at, line.Retire p) ∷ more) = segments_with (record s { retires = s.retires ++ p ∷ [] }) more
+segments_with s ((at, line.Lane l t) ∷ more) =
+    segments_with (record s { lines = s.lines ++ record { number = at; lane = l; work = work_of l t } ∷ [] }) more
 segments_with s (said ∷ more) = segments_with s more
 
 -- the script that lines make, where it is of that version
@@ -117,7 +122,7 @@ script_with n version said =
     record {
       setup = record {
         modules = fold modules_with 1 meanings;
-        live = most_live version;
+        live = if version == 3 then MAX_LIVE else MAX_EARLY_LIVE;
         events = fold (events_with n) [] meanings;
         handlers = filter_map (handler_said n) meanings;
         guards = filter_map (guard_said n) meanings;
@@ -139,6 +144,6 @@ pub record SaysScript (n : NativeData) (text : List ℕ) (script : ScriptData) :
   pub first : ℕ × List (List ℕ)
   pub others : List (ℕ × List (List ℕ))
   pub told : told_lines 1 (lines text) ≡ first ∷ others
-  pub begins : AreSaid false (Fixed (codes "spin") ∷ Numeral version ∷ []) first.1
-  pub says : SayLines said others
+  pub begins : AllZip (IsSaid false) (Fixed (codes "spin") ∷ Numeral version ∷ []) first.1
+  pub says : AllZip (λ said told. (said.0 ≡ told.0) × SayLine said.1 told.1) said others
   pub makes : script ≡ script_with n version said
