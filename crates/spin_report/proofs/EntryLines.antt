@@ -17,10 +17,10 @@ use Rattle.spin_table.specs.Laws.{cause_of, without_cycle}
 use Rattle.spin_report.specs.declared.entry.Entry.{Entry}
 use Rattle.spin_text.specs.Words.{Word}
 use Rattle.spin_report.specs.Verdicts.{refusal_numbers, verdict_words}
-use Rattle.spin_report.specs.Lines.{what_words, line_word, entry_words, entry_line}
+use Rattle.spin_report.specs.Lines.{what_words, line_word, entry_line}
 use Rattle.spin_report.specs.Laws.{cycle_of, cycle_in, HasNumbers}
 use Rattle.spin_report.proofs.PlainWords.{IsDigit, each_so, decimal_digits, same_words}
-use Rattle.spin_report.proofs.ReportLines.{entry_are_words}
+use Rattle.spin_report.proofs.ReportLines.{entry_words, entry_are_words}
 
 -- ---- line and part
 

@@ -28,7 +28,7 @@ use Rattle.spin_text.specs.Words.{Word}
 use Rattle.spin_grammar.specs.Forms.{op_word}
 use Rattle.spin_report.specs.Verdicts.{refusal_told, refusal_numbers, verdict_words}
 use Rattle.spin_report.specs.Replies.{answer_words, fault_word, step_words, reply_words}
-use Rattle.spin_report.specs.Lines.{what_words, line_word, entry_words, entry_line, JobSeen, job_words, job_line}
+use Rattle.spin_report.specs.Lines.{what_words, line_word, entry_line, JobSeen, job_line}
 use Rattle.spin_report.specs.Histories.{Retired, SegmentSeen, HistorySeen, retire_line, segment_line}
 use Rattle.spin_report.specs.Histories.{lost_line, losses, lost_lines, segment_lines, capture_words, end_line, report_lines, entries_of}
 use Rattle.spin_text.specs.Digits.{begins_with_digit}
@@ -106,6 +106,14 @@ what_are_words part (what.Deed (deed.Later event args) r) = (refl, reply_are_wor
 
 line_is_word : (line part : ℕ) → IsWord (line_word line part)
 line_is_word line part = either_is_word (part == 0) (decimal line) (decimal line ++ 46 ∷ decimal part) (decimal_word line) (dotted_word line part)
+
+-- the words of an entry's line
+abbrev pub entry_words : Entry → List Word
+entry_words e = decimal e.place ∷ decimal e.lane ∷ line_word e.line e.part ∷ what_words e.part e.what
+
+-- the words of a job's line
+abbrev job_words : JobSeen → List Word
+job_words j = codes "job" ∷ decimal j.place ∷ decimal j.lane ∷ line_word j.line j.part ∷ decimal j.index ∷ reply_words j.reply
 
 pub entry_are_words : (e : Entry) → AreWords (entry_words e)
 entry_are_words e = (decimal_word e.place, (decimal_word e.lane, (line_is_word e.line e.part, what_are_words e.part e.what)))

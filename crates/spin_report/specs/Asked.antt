@@ -23,12 +23,8 @@ asked_by (what.Deed deed reply) = work.Deed deed
 
 -- what an entry answers
 abbrev pub asked_of : Entry → Numbered
-asked_of entry = record {
-  lane = entry.lane;
-  line = entry.line;
-  part = entry.part;
-  asked = asked_by entry.what;
-}
+asked_of entry =
+    record { lane = entry.lane; line = entry.line; part = entry.part; asked = asked_by entry.what }
 
 -- no two of these have one line and part
 abbrev pub AreApart : List Numbered → Type 0

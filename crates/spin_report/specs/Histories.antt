@@ -33,8 +33,7 @@ first_line = codes "report 1"
 
 -- the line of an endpoint that is retired: its number, with `ok` where one stood under its name, else `unknown`
 abbrev pub retire_line : Retired → List ℕ
-retire_line r =
-    line_of (codes "retire" ∷ decimal r.endpoint ∷ (if r.stood then codes "ok" else codes "unknown") ∷ [])
+retire_line r = line_of (codes "retire" ∷ decimal r.endpoint ∷ (if r.stood then codes "ok" else codes "unknown") ∷ [])
 
 -- the line of a segment: its number, and the log's length at its start
 abbrev pub segment_line : ℕ → ℕ → List ℕ
@@ -55,20 +54,14 @@ lost_lines counts = map lost_line (losses counts)
 -- the lines of the segment of that number
 abbrev pub segment_lines : ℕ → SegmentSeen → List (List ℕ)
 segment_lines number s =
-    map retire_line s.retired
-    ++ segment_line number s.start ∷ []
-    ++ map entry_line s.entries
-    ++ map job_line s.jobs
-    ++ lost_lines s.lost
+    map retire_line s.retired ++ segment_line number s.start ∷ []
+    ++ map entry_line s.entries ++ map job_line s.jobs ++ lost_lines s.lost
 
 -- what became of a capture
 abbrev pub capture_words : Option CaptureCounts → List Word
 capture_words None = []
 capture_words (Some c) =
-    codes "records" ∷ decimal c.records
-    ∷ codes "used" ∷ decimal c.used
-    ∷ codes "cut" ∷ decimal c.cut
-    ∷ []
+    codes "records" ∷ decimal c.records ∷ codes "used" ∷ decimal c.used ∷ codes "cut" ∷ decimal c.cut ∷ []
 
 -- the last line of a report: the log's length at the end, and what became of a capture
 abbrev pub end_line : ℕ → Option CaptureCounts → List ℕ
@@ -77,8 +70,7 @@ end_line length capture = line_of (codes "end" ∷ decimal length ∷ capture_wo
 -- the lines of a report up to these segments, which are numbered from 0
 abbrev pub front_lines : List SegmentSeen → List (List ℕ)
 front_lines segments =
-    first_line
-    ∷ flat_map (λ numbered. segment_lines numbered.0 numbered.1) (enumerate_from 0 segments)
+    first_line ∷ flat_map (λ numbered. segment_lines numbered.0 numbered.1) (enumerate_from 0 segments)
 
 -- the text of a report up to these segments, each line ended by a line feed
 abbrev pub front_text : List SegmentSeen → List ℕ

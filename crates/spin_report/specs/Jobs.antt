@@ -18,22 +18,14 @@ answer_calls (what.Deed deed reply) = calls_left reply
 
 -- the entry's job of that index, with its reply
 abbrev pub entry_job : Entry → ℕ → Reply → JobSeen
-entry_job entry index reply = record {
-  place = entry.place;
-  lane = entry.lane;
-  line = entry.line;
-  part = entry.part;
-  index = index;
-  reply = reply;
-}
+entry_job entry at reply =
+    record { place = entry.place; lane = entry.lane; line = entry.line; part = entry.part; index = at; reply = reply }
 
 -- These are the entry's jobs with these calls, the first of which has that index, each with its reply at the state.
 abbrev pub AreJobsFrom : SetupData → State → Entry → ℕ → List JobCall → List JobSeen → Type 0
 AreJobsFrom d state entry index [] jobs = jobs ≡ []
 AreJobsFrom d state entry index (call ∷ calls) jobs =
-    (reply : Reply)
-    × (others : List JobSeen)
-    × IsJobReply d state call reply
+    (reply : Reply) × (others : List JobSeen) × IsJobReply d state call reply
     × (jobs ≡ entry_job entry index reply ∷ others)
     × AreJobsFrom d state entry (index + 1) calls others
 
@@ -42,10 +34,7 @@ AreJobsFrom d state entry index (call ∷ calls) jobs =
 abbrev pub AreJobs : SetupData → State → List Entry → List JobSeen → Type 0
 AreJobs d state [] jobs = jobs ≡ []
 AreJobs d state (entry ∷ entries) jobs =
-    (next : State)
-    × (own : List JobSeen)
-    × (others : List JobSeen)
-    × IsNextEntry d state entry next
-    × AreJobsFrom d next entry 0 (answer_calls entry.what) own
+    (next : State) × (own : List JobSeen) × (others : List JobSeen)
+    × IsNextEntry d state entry next × AreJobsFrom d next entry 0 (answer_calls entry.what) own
     × AreJobs d next entries others
     × (jobs ≡ own ++ others)

@@ -26,14 +26,9 @@ what_words part (what.Deed deed reply) = deed_word part deed ∷ reply_words rep
 abbrev pub line_word : ℕ → ℕ → Word
 line_word line part = if part == 0 then decimal line else decimal line ++ 46 ∷ decimal part
 
--- the place, the lane and the line of an entry, and what was asked and answered there
-abbrev pub entry_words : Entry → List Word
-entry_words e =
-    decimal e.place ∷ decimal e.lane ∷ line_word e.line e.part ∷ what_words e.part e.what
-
--- the line of an entry, without its line feed
+-- the line of an entry, without its line feed: its place, its lane and its line, and what was asked and answered there
 abbrev pub entry_line : Entry → List ℕ
-entry_line e = line_of (entry_words e)
+entry_line e = line_of (decimal e.place ∷ decimal e.lane ∷ line_word e.line e.part ∷ what_words e.part e.what)
 
 -- what a report tells of a job: the place, lane, line and part of its entry, which of the entry's jobs it is, and
 -- what it came to
@@ -55,12 +50,9 @@ job_seen job reply = record {
   reply = reply;
 }
 
--- the place, the lane and the line of a job's entry, the job's index there, and what it came to
-abbrev pub job_words : JobSeen → List Word
-job_words j =
-    codes "job" ∷ decimal j.place ∷ decimal j.lane ∷ line_word j.line j.part ∷ decimal j.index
-    ∷ reply_words j.reply
-
--- the line of a job, without its line feed
+-- the line of a job, without its line feed: the place, the lane and the line of its entry, its index there, and what it
+-- came to
 abbrev pub job_line : JobSeen → List ℕ
-job_line j = line_of (job_words j)
+job_line j =
+    line_of (codes "job" ∷ decimal j.place ∷ decimal j.lane ∷ line_word j.line j.part ∷ decimal j.index
+    ∷ reply_words j.reply)

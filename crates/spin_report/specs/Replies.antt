@@ -33,8 +33,7 @@ fault_word fault.UdpLength = codes "udp_length"
 abbrev pub step_words : Step → List Word
 step_words (step.Run event number) = codes "run" ∷ decimal event ∷ decimal number ∷ []
 step_words (step.Result value) = codes "result" ∷ decimal value ∷ []
-step_words (step.Send endpoint bytes) =
-    codes "send" ∷ decimal endpoint ∷ decimal (length bytes) ∷ []
+step_words (step.Send endpoint bytes) = codes "send" ∷ decimal endpoint ∷ decimal (length bytes) ∷ []
 step_words (step.Up event) = codes "up" ∷ decimal event ∷ []
 step_words (step.Back answer) = codes "back" ∷ answer_words answer
 step_words (step.Dropped fault) = codes "drop" ∷ fault_word fault ∷ []
@@ -42,8 +41,7 @@ step_words (step.Job event number) = codes "job" ∷ decimal event ∷ decimal n
 
 -- the words of a reply: the steps and, behind `=`, the answer; or `queued`; or which refusal it is
 abbrev pub reply_words : Reply → List Word
-reply_words (reply.Ran answer trace jobs) =
-    flat_map step_words trace ++ (codes "=" ∷ answer_words answer)
+reply_words (reply.Ran answer trace jobs) = flat_map step_words trace ++ (codes "=" ∷ answer_words answer)
 reply_words (reply.Queued call) = codes "queued" ∷ []
 reply_words reply.UnknownEvent = codes "refused" ∷ codes "1" ∷ codes "unknown_event" ∷ []
 reply_words reply.WrongArgs = codes "refused" ∷ codes "2" ∷ codes "wrong_args" ∷ []

@@ -45,8 +45,7 @@ sends_of (what.Deed deed answer) = sends_of_reply answer
 -- the sends of a segment: of its entries in their order, and then of its jobs in theirs
 abbrev pub sends_in : SegmentSeen → List SentSeen
 sends_in seen =
-    flat_map (λ entry. sends_of entry.what) seen.entries
-    ++ flat_map (λ job. sends_of_reply job.reply) seen.jobs
+    flat_map (λ entry. sends_of entry.what) seen.entries ++ flat_map (λ job. sends_of_reply job.reply) seen.jobs
 
 -- ---- endpoints
 
@@ -58,8 +57,7 @@ retirements names numbers ends =
 
 -- how many of the sends are lost, for each number of an endpoint from 0 on
 abbrev pub lost_counts : List (List ℕ) → List NamedEnd → List SentSeen → List ℕ
-lost_counts names ends sends =
-    map (λ numbered. lost_to names ends sends numbered.0) (enumerate_from 0 names)
+lost_counts names ends sends = map (λ numbered. lost_to names ends sends numbered.0) (enumerate_from 0 names)
 
 -- ---- one segment
 
@@ -69,12 +67,10 @@ pub record IsSegmentRun (d : SetupData) (lanes : ℕ) (names : List (List ℕ)) 
     (before : Standing) (seen : SegmentSeen) (after : Standing) : Type 0 where
   pub retired : seen.retired ≡ retirements names segment.retires before.ends
   pub start : seen.start ≡ before.state.place
-  pub woven : IsWoven d lanes (asked_in segment.lines before.left)
-      before.state after.state seen.entries seen.jobs
+  pub woven : IsWoven d lanes (asked_in segment.lines before.left) before.state after.state seen.entries seen.jobs
   pub left : after.left ≡ drop (wanted_by segment.lines) before.left
   pub lost : seen.lost ≡ lost_counts names (all_retired names segment.retires before.ends) (sends_in seen)
-  pub ends : after.ends
-      ≡ all_received names (sends_in seen) (all_retired names segment.retires before.ends)
+  pub ends : after.ends ≡ all_received names (sends_in seen) (all_retired names segment.retires before.ends)
 
 -- ---- segments one after another
 
@@ -82,10 +78,7 @@ pub record IsSegmentRun (d : SetupData) (lanes : ℕ) (names : List (List ℕ)) 
 abbrev pub AreRun : ScriptData → List Segment → Standing → List SegmentSeen → Standing → Type 0
 AreRun script [] before seen after = (seen ≡ []) × (after ≡ before)
 AreRun script (segment ∷ segments) before seen after =
-    (first : SegmentSeen)
-    × (others : List SegmentSeen)
-    × (next : Standing)
-    × (seen ≡ first ∷ others)
+    (first : SegmentSeen) × (others : List SegmentSeen) × (next : Standing) × (seen ≡ first ∷ others)
     × IsSegmentRun script.setup script.lanes script.endpoints segment before first next
     × AreRun script segments next others after
 
@@ -101,22 +94,17 @@ frames_of (Some capture) = capture.frames
 
 -- the start of a run
 abbrev pub start_with : ScriptData → List (List ℕ) → List NamedEnd → Standing
-start_with script frames ends =
-    record { state = start_of script.setup; left = frames; ends = ends }
+start_with script frames ends = record { state = start_of script.setup; left = frames; ends = ends }
 
 -- what the end line tells of a capture of which so many records are left
 abbrev pub counts_of : List (List ℕ) → Captured → CaptureCounts
-counts_of left capture = record {
-  records = length capture.frames;
-  used = length capture.frames - length left;
-  cut = capture.cut;
-}
+counts_of left capture =
+    record { records = length capture.frames; used = length capture.frames - length left; cut = capture.cut }
 
 -- This is a history of the script with that capture and those endpoints, and so it leaves them: all segments, one after
 -- another, from the start.
 pub record IsRun (script : ScriptData) (capture : Option Captured) (ends : List NamedEnd)
     (history : HistorySeen) (last : Standing) : Type 0 where
-  pub segments : AreRun script script.segments
-      (start_with script (frames_of capture) ends) history.segments last
+  pub segments : AreRun script script.segments (start_with script (frames_of capture) ends) history.segments last
   pub end : history.end ≡ last.state.place
   pub capture_is : history.capture ≡ option_map (counts_of last.left) capture

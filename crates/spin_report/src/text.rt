@@ -2,8 +2,7 @@
 
 ghost use Rattle.std.specs.Prelude.{◌≡◌, ◌≤◌, ◌++◌, ◌∷◌, [], take, length, OnOk, OnErr};
 ghost use Rattle.spin_text.specs.Words.{spaced, line_of, ended};
-ghost use Rattle.spin_report.specs.Lines.{line_word, what_words, entry_words};
-ghost use Rattle.spin_report.specs.Lines.{job_words, entry_line, job_line, job_seen};
+ghost use Rattle.spin_report.specs.Lines.{line_word, what_words, entry_line, job_line, job_seen};
 ghost use Rattle.spin_report.specs.Histories.{retire_line, segment_line, lost_line, capture_words, end_line};
 
 use crate::entry::{Entry, What};
