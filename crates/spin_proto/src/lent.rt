@@ -1,6 +1,6 @@
 //! What a deed comes to, into a buffer that is lent.
 
-ghost use Rattle.std.specs.Prelude.{◌≡◌, ◌<◌, [], length, OnOk};
+ghost use Rattle.std.specs.Prelude.{◌≡◌, ◌<◌, [], length, OnOk, IfOk};
 ghost use Rattle.std.specs.List.{All};
 ghost use Rattle.spin_table.specs.SetupOf.{data_of};
 ghost use Rattle.spin_table.specs.Soundness.{IsSound};
@@ -12,8 +12,8 @@ ghost use Rattle.spin_proto.specs.Parts.{answer_in, trace_in, jobs_in};
 ghost use Rattle.spin_proto.specs.Whole.{raised, reply_of};
 ghost use Rattle.spin_proto.specs.Inner.Walks.{OnBounds};
 
-use crate::deed::JobCall;
-use crate::reply::{Reply, Step};
+use crate::deed::{JobCall, JobCalls};
+use crate::reply::{Reply, Step, Trace};
 use crate::rising::raise_event;
 use crate::walk::Walk;
 use crate::whole::{path, refusal};
@@ -21,10 +21,11 @@ use spin_code::Sincere;
 use spin_objects::{Catalogue, Outcome};
 use spin_raise::{Answer, Progress, Runner};
 use spin_table::{Setup, Version};
-use spin_values::{Args, NoMemory, Value};
+use spin_values::{Args, NoMemory, Octets, Value};
 use spin_word::Deed;
 use std::alloc::Global;
 use std::marker::Model;
+use std::mem;
 
 // How a deed ended.
 #[derive(Drop)]
@@ -112,20 +113,60 @@ impl ReplyBuffer {
             Ending::Other(reply) => reply,
         }
     }
+
+    /// Takes the reply out, also after want of memory, and leaves [`Reply::Spent`]. The steps are moved into a list that
+    /// has just the room they need, and the buffer keeps its own; it takes time linear in them.
+    pub fn take_reply(&mut self, alloc: Global) -> Result<Reply, NoMemory>
+        ensures taken { IfOk result (λ taken. taken ≡ self.old) }
+        ensures left { self.new ≡ reply.Spent }
+    {
+        match mem::replace(&mut self.ending, Ending::Other(Reply::Spent)) {
+            Ending::Ran(answer) => {
+                let mut trace = Trace::with_capacity(alloc, self.walk.trace.len())?;
+                trace.append(&mut self.walk.trace)?;
+                let jobs = mem::replace(&mut self.walk.jobs, JobCalls::new(alloc));
+                Ok(Reply::Ran {
+                    answer,
+                    trace,
+                    jobs,
+                })
+            }
+            Ending::Other(reply) => Ok(reply),
+        }
+    }
+}
+
+// Takes out the last argument, and answers its room if it is bytes.
+#[inline]
+fn room_in(alloc: Global, args: &mut Args) -> Octets
+    ensures { result ≡ [] }
+{
+    match args.pop() {
+        Some(Value::Bytes(mut bytes)) => {
+            bytes.clear();
+            bytes
+        }
+        _ => Octets::new(alloc),
+    }
 }
 
 // Starts a raise on equal arguments, in the room of those that are there.
 #[inline]
-fn start_over(progress: &mut Progress, args: &Args) -> Result<(), NoMemory>
+fn start_over(alloc: Global, progress: &mut Progress, args: &Args) -> Result<(), NoMemory>
     ensures from { OnOk result (progress.new.from ≡ 0) }
     ensures answer { OnOk result (progress.new.answer ≡ Answer.NoHandler) }
     ensures args { OnOk result (progress.new.args ≡ args.now) }
 {
+    let mut room = room_in(alloc, &mut progress.args);
     progress.args.clear();
     for value in args.as_slice() {
         match value {
             Value::Word(word) => progress.args.push(Value::Word(*word))?,
-            Value::Bytes(bytes) => progress.args.push(Value::Bytes(bytes.copy()?))?,
+            Value::Bytes(bytes) => {
+                let mut copy = mem::replace(&mut room, Octets::new(alloc));
+                copy.extend_from_slice(bytes)?;
+                progress.args.push(Value::Bytes(copy))?;
+            }
         }
     }
     progress.from = 0;
@@ -150,7 +191,7 @@ fn raise_into(
         let all = raised runner.Raiser (units_in (data_of setup.now)) bounds 0 event args.now in
         buffer.new ≡ reply_of MAX_RUNS all)) }
 {
-    start_over(&mut buffer.progress, args)?;
+    start_over(alloc, &mut buffer.progress, args)?;
     buffer.walk.restart();
     let (progress, given, walk) = (&mut buffer.progress, &mut buffer.given, &mut buffer.walk);
     let runner = Runner::Raiser;
