@@ -1,10 +1,15 @@
 //! One lane of a segment.
 
 ghost use Rattle.std.specs.Prelude.{◌≡◌, ◌+◌, ◌<◌, ◌≤◌, [], ◌∷◌, map, length, All, IsTrue, OnOk};
+ghost use Rattle.std.specs.Prelude.{IfOk, OnErr, None};
+ghost use Rattle.std.specs.Arc.{arc_value};
 ghost use Rattle.spin_word.specs.Commands.{is_command};
 ghost use Rattle.spin_word.specs.declared.work.Work.TheVariants as work;
+ghost use Rattle.spin_log.specs.Pens.{IsSamePen};
 ghost use Rattle.spin_table.specs.SetupOf.{data_of};
-ghost use Rattle.spin_seat.specs.Seats.{IsSeatOf};
+ghost use Rattle.spin_proto.specs.Replies.{BelongsTo, calls_left};
+ghost use Rattle.spin_seat.specs.Seats.{IsSeat, IsSeatOf};
+ghost use Rattle.spin_seat.specs.Calls.{AddsAtMostAPin, GivesFrom, reply_answer};
 ghost use Rattle.spin_script.specs.States.{deed_count};
 ghost use Rattle.spin_script.specs.Soundness.{IsValidWork};
 ghost use Rattle.spin_script.specs.Segments.{IsOfLane};
@@ -19,7 +24,7 @@ use spin_code::Sincere;
 use spin_objects::Catalogue;
 use spin_outside::Gate;
 use spin_pcap::Frames;
-use spin_proto::Jobs;
+use spin_proto::{Jobs, ReplyBuffer};
 use spin_report::{Entries, Entry, What, split_records};
 use spin_script::{Line, Segment};
 use spin_seat::{Hub, Judged, Raised, Seat, SeatFault};
@@ -38,6 +43,40 @@ pub struct Lane {
     pub jobs: Jobs,
     /// Why it ended before its last deed, if it did.
     pub stop: Option<SeatFault>,
+}
+
+// Does the deed as `Seat::raise` does, in the room of the buffer.
+fn raise(
+    alloc: Global,
+    hub: &Hub,
+    seat: &mut Seat,
+    deed: &Deed,
+    buffer: &mut ReplyBuffer,
+) -> Result<Raised, NoMemory>
+    requires sincere { ⟦<Catalogue as Sincere>⟧.sincere hub.now.setup.catalogue }
+    requires log { seat.old.pen.log ≡ hub.now.log.id }
+    requires seat { IsSeat (data_of hub.now.setup) seat.old }
+    ensures seat { IsSeat (data_of hub.now.setup) seat.new }
+    ensures first { seat.new.first ≡ seat.old.first }
+    ensures same { IsSamePen seat.old.pen seat.new.pen }
+    ensures answer { let d = data_of hub.now.setup in
+        let first = seat.old.first in
+        let pen = seat.old.pen in
+        IfOk result (λ raised.
+        GivesFrom d first pen (reply_answer pen.lane deed.now raised.place raised.reply) seat.new.pen) }
+    ensures whole { OnOk result (seat.new.kept ≡ None) }
+    ensures pinned { IfOk result (λ raised. arc_value raised.pinned ≡ seat.new.state) }
+    ensures calls { IfOk result (λ raised. All (BelongsTo seat.new.state) (calls_left raised.reply)) }
+    ensures err { OnErr result (AddsAtMostAPin seat.old.pen seat.new.pen) }
+{
+    let place = seat.raise_into(alloc, hub, deed, buffer)?;
+    let pinned = seat.version()?;
+    let reply = buffer.take_reply(alloc)?;
+    Ok(Raised {
+        place,
+        reply,
+        pinned,
+    })
 }
 
 impl Lane {
@@ -99,12 +138,13 @@ impl Lane {
             let own = asked_of_lane self.old.seat.pen.lane asked in
             Comes (data_of hub.now.setup) own self.old result self.new }
     {
+        let mut buffer = ReplyBuffer::new(alloc);
         let mut left = frames.as_slice();
         for line in segment.lines.as_slice() {
             let (records, others) = split_records(&line.work, left);
             left = others;
             if line.lane == self.seat.lane() {
-                self.answer_line(alloc, hub, line, records, gate)?;
+                self.answer_line(alloc, hub, line, records, gate, &mut buffer)?;
             }
         }
         Ok(())
@@ -118,6 +158,7 @@ impl Lane {
         line: &Line,
         records: &[Octets],
         gate: &G,
+        buffer: &mut ReplyBuffer,
     ) -> Result<(), SeatFault>
         requires sincere { ⟦<Catalogue as Sincere>⟧.sincere hub.now.setup.catalogue }
         requires log { self.old.seat.pen.log ≡ hub.now.log.id }
@@ -134,10 +175,10 @@ impl Lane {
             Work::Command(command) => self.answer_command(alloc, hub, line.number, command, gate),
             Work::Deed(deed) => {
                 let deed = deed.copy()?;
-                Ok(self.answer_deed(alloc, hub, line.number, 0, deed, gate)?)
+                Ok(self.answer_deed(alloc, hub, line.number, 0, deed, gate, buffer)?)
             }
             Work::Packet { event, .. } => {
-                Ok(self.answer_packets(alloc, hub, line.number, *event, records, gate)?)
+                Ok(self.answer_packets(alloc, hub, line.number, *event, records, gate, buffer)?)
             }
         }
     }
@@ -184,6 +225,7 @@ impl Lane {
         event: u8,
         records: &[Octets],
         gate: &G,
+        buffer: &mut ReplyBuffer,
     ) -> Result<(), NoMemory>
         requires sincere { ⟦<Catalogue as Sincere>⟧.sincere hub.now.setup.catalogue }
         requires log { self.old.seat.pen.log ≡ hub.now.log.id }
@@ -198,7 +240,7 @@ impl Lane {
         for frame in records {
             part += 1;
             let args = Args::of_bytes(alloc, frame)?;
-            self.answer_deed(alloc, hub, line, part, Deed::Raise { event, args }, gate)?;
+            self.answer_deed(alloc, hub, line, part, Deed::Raise { event, args }, gate, buffer)?;
         }
         Ok(())
     }
@@ -212,6 +254,7 @@ impl Lane {
         part: u32,
         deed: Deed,
         gate: &G,
+        buffer: &mut ReplyBuffer,
     ) -> Result<(), NoMemory>
         requires sincere { ⟦<Catalogue as Sincere>⟧.sincere hub.now.setup.catalogue }
         requires log { self.old.seat.pen.log ≡ hub.now.log.id }
@@ -228,7 +271,7 @@ impl Lane {
             place,
             reply,
             pinned,
-        } = self.seat.raise(alloc, hub, &deed)?;
+        } = raise(alloc, hub, &mut self.seat, &deed, buffer)?;
         let entry = Entry {
             place,
             lane,

@@ -24,7 +24,7 @@ pub returns-clause-ok : goal.returns-clause-ok
 returns-clause-ok g c =
     let d = data_of c.args.hub.now.setup in
     let old = c.args.self.now in
-    let new : Lane = record { seat = c.raise.new.self; trail = c.push.new.self; jobs = c.leave_jobs.new.jobs; stop = old.stop } in
+    let new : Lane = record { seat = c.raise.new.seat; trail = c.push.new.self; jobs = c.leave_jobs.new.jobs; stop = old.stop } in
     let entry : Entry = record { place = c.in_ok-place.field-0.place; lane = old.seat.pen.lane; line = c.args.line; part = c.args.part; what = what.Deed c.args.deed c.in_ok-place.field-0.reply } in
     let version = arc_value c.in_ok-place.field-0.pinned in
     let adds : AddsJobs entry version (answer_calls entry.what) old.jobs new.jobs =
