@@ -33,7 +33,11 @@ fn is_allowed(byte: u8) -> bool
 pub fn all_allowed(line: &[u8]) -> bool
     ensures { result ≡ list_all is_allowed line.now }
 {
-    line.iter().all(|byte| is_allowed(*byte))
+    let mut allowed = true;
+    for byte in line {
+        allowed &= is_allowed(*byte);
+    }
+    allowed
 }
 
 // The words that lines begin with. Most lines of long scripts are a lane's, so its word stands first.
