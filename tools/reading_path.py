@@ -64,8 +64,8 @@ DEEPER = [
     "spin_place:IsTheOrder", "spin_table:bindings_after",
     "spin_proto:raised", "spin_proto:raised_after", "spin_proto:job_of", "spin_proto:reply_of", "spin_proto:are_fit",
     "spin_report:entry_line", "spin_report:job_line",
-    "spin_stages:script_with", "spin_stages:line_form", "spin_grammar:LineMeaning", "spin_grammar:signature",
-    "spin_grammar:guard_signature", "spin_grammar:number", "spin_grammar:hex_bytes", "spin_outside:Keep",
+    "spin_stages:script_with", "spin_stages:line_form", "spin_grammar:LineMeaning", "spin_stages:IsSignature",
+    "spin_grammar:number", "spin_grammar:hex_bytes", "spin_outside:Keep",
     "spin_objects:HandlerUnit", "spin_objects:GuardUnit",
     "spin_objects:native_handlers", "spin_objects:native_guards", "spin_objects:native_authorisers",
 ]

@@ -4,6 +4,7 @@ pub mod LargeTexts
 pub mod OpenedCaptures
 pub mod ReadingUniqueness
 pub mod SaidScripts
+pub mod SaidSignatures
 pub mod SaidTexts
 pub mod SaidWords
 pub mod ShelfLemmas

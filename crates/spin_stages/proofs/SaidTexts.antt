@@ -4,7 +4,6 @@ use Rattle.std.specs.Prelude.{slice_index, if◌then◌else◌, nat_lt}
 use Rattle.std.specs.Bool.{MatchBool}
 use Rattle.std.specs.List.{AllZip, list_all}
 use Rattle.std.specs.Str.Lines.{lines}
-use Rattle.std.proofs.lemmas.Slice.Eq.{bytes_eq-Decides}
 use Rattle.spin_grammar.specs.declared.cause.Cause.TheVariants as cause
 use Rattle.spin_grammar.specs.declared.kind.Kind.{Kind}
 use Rattle.spin_grammar.specs.declared.kind.Kind.TheVariants as kind
@@ -22,12 +21,10 @@ use Rattle.spin_script.specs.Sections.{first_words, is_out_of_order}
 use Rattle.spin_script.specs.States.{NativeData, ScriptData, ScriptState, start, after, script_in}
 use Rattle.spin_stages.specs.Texts.{SayLine, SaysScript, line_form, is_skipped, told_lines}
 use Rattle.spin_stages.proofs.SaidScripts.{script_from, one_more, none_more, after_version}
+use Rattle.spin_stages.proofs.SaidSignatures.{same_bytes}
 use Rattle.spin_stages.proofs.SaidWords.{AreSaid, is_fit, words_said}
 
 -- ---- a line that says something
-
-same_bytes : (w v : List ℕ) → bytes_eq w v ≡ true → w ≡ v
-same_bytes w v h = (bytes_eq-Decides w v).0 h
 
 same_kind : (j k : Kind) → Some j ≡ Some k → j ≡ k
 same_kind j k e = cc

@@ -16,6 +16,7 @@ use Rattle.spin_grammar.specs.Grammar.{as_number, chosen, is_argument, as_signat
 use Rattle.spin_grammar.proofs.CanonicalSpelling.{ok_same, chosen_word, by_number, by_count, by_rising, by_rise, by_signature, by_blob, both, second, went, over}
 use Rattle.spin_grammar.proofs.Signatures.{one_of}
 use Rattle.spin_stages.specs.Texts.{IsSaid}
+use Rattle.spin_stages.proofs.SaidSignatures.{signature_spelled, guard_spelled}
 
 -- each of the words says what stands at its place, and there are no others
 abbrev pub AreSaid : (of_guard : Bool) → List Atom → List (List ℕ) → Type 0
@@ -125,13 +126,13 @@ handlers_said : (g : Bool) (w : List ℕ) (next : List Want) (p : Atom × List W
 handlers_said true w next p b e = absurd cc
 handlers_said false w next p b e =
     let s = by_signature (signature w) next p e in
-    atom_said false w (Typed s.0) next p s.2 s.1
+    atom_said false w (Typed s.0) next p s.2 (signature_spelled w s.0 s.1)
 
 guards_said : (g : Bool) (w : List ℕ) (next : List Want) (p : Atom × List Want) → g ≡ true → as_signature (guard_signature w) next ≡ Ok p → IsSaid g p.0 w
 guards_said false w next p b e = absurd cc
 guards_said true w next p b e =
     let s = by_signature (guard_signature w) next p e in
-    atom_said true w (Typed s.0) next p s.2 s.1
+    atom_said true w (Typed s.0) next p s.2 (guard_spelled w s.0 s.1)
 
 handler_body : (g : Bool) (w : List ℕ) (p : Atom × List Want) → not g ≡ true → accepts HandlerBody w ≡ Ok p → IsSaid g p.0 w
 unfolding accepts

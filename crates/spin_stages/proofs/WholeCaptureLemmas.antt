@@ -1,5 +1,5 @@
 -- A capture that is read without a fault is whole.
-use Rattle.std.proofs.Common.{◌≡◌, ℕ, ◌+◌, ◌≤◌, inl, inr, Bool, true, false, not, cond, eqb, ltb, List, [], ◌∷◌, length, Option, Some, None, Ok, Err, refl, subst, arith}
+use Rattle.std.proofs.Common.{◌≡◌, ℕ, ◌+◌, ◌≤◌, ◌⊎◌, ◌||◌, inl, inr, Bool, true, false, not, cond, eqb, ltb, List, [], ◌∷◌, length, Option, Some, None, Ok, Err, refl, subst, arith}
 use Rattle.std.proofs.lemmas.Bool.Decides.{nat_tests}
 use Rattle.spin_grammar.proofs.CanonicalSpelling.{both, second}
 use Rattle.spin_grammar.proofs.Signatures.{one_of}
@@ -53,6 +53,11 @@ magic_of bytes way e =
       ]
     ]
 
+-- of microseconds, or of nanoseconds
+one_magic : (n : ℕ) (b : Bool) → eqb n 0xa1b2c3d4 ≡ b → (b || eqb n 0xa1b23c4d) ≡ true → (n ≡ 0xa1b2c3d4) ⊎ (n ≡ 0xa1b23c4d)
+one_magic n true e h = inl (grind (arith, nat_tests, e))
+one_magic n false e h = inr (grind (arith, nat_tests, h))
+
 header_by : (bytes : List ℕ) (found : Order) (o : Option Order) → 24 ≤ length bytes → order_of bytes ≡ o → fields_of o bytes ≡ Ok found → HasHeader found bytes
 header_by bytes found None long at e = absurd (let bad : Err fault.BadMagic ≡ Ok found = e in cc)
 header_by bytes found (Some way) long at e =
@@ -62,7 +67,12 @@ header_by bytes found (Some way) long at e =
     let major : ordered_number_at way 4 2 bytes ≡ 2 = grind (arith, nat_tests, first) in
     let minor : ordered_number_at way 6 2 bytes ≡ 4 = grind (arith, nat_tests, last) in
     subst (λ (o : Order). HasHeader o bytes) fields.0
-    (record { long = long; magic = magic_of bytes way at; major = major; minor = minor; link = fields.2 })
+    (record {
+      long = long;
+      magic = one_magic (ordered_number way 4 bytes) (eqb (ordered_number way 4 bytes) 0xa1b2c3d4) refl (magic_of bytes way at);
+      version = (major, minor);
+      link = fields.2;
+    })
 
 pub has_header : (bytes : List ℕ) (way : Order) → header_of bytes ≡ Ok way → HasHeader way bytes
 has_header bytes way e =

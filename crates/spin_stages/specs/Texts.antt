@@ -1,18 +1,22 @@
 -- What the text of a script says, whether or not a line of it is refused: which lines are, and why, is `IsScript`.
-use Rattle.std.specs.Prelude.{◌≡◌, ◌==◌, ◌+◌, ℕ, max, Bool, true, false, not, if◌then◌else◌, List, [], ◌∷◌, ◌++◌, map}
-use Rattle.std.specs.Prelude.{Option, Some, None, drop, slice_index, codes, bytes_eq}
+use Rattle.std.specs.Prelude.{◌≡◌, ◌≤◌, ◌==◌, ◌+◌, ℕ, max, Bool, true, false, not, if◌then◌else◌, List, [], ◌∷◌, ◌++◌, map}
+use Rattle.std.specs.Prelude.{Option, Some, None, length, drop, slice_index, codes, bytes_eq}
 use Rattle.std.specs.List.{AllZip, filter, filter_map, find, flat_map, fold, enumerate_from, position}
 use Rattle.std.specs.Option.{option_map, option_map_or}
+use Rattle.std.specs.Char.{to_ascii_lowercase}
 use Rattle.std.specs.Str.Lines.{lines}
+use Rattle.spin_values.specs.declared.types.EventType.{EventType}
+use Rattle.spin_values.specs.declared.types.TheConstants.{MAX_PARAMS}
 use Rattle.spin_objects.specs.Units.{HandlerUnit, GuardUnit, Named}
 use Rattle.spin_table.specs.declared.event.Authority.TheVariants as authority
 use Rattle.spin_table.specs.declared.event.EventDef.{EventDef}
 use Rattle.spin_table.specs.declared.setup.TheConstants.{MAX_LIVE}
+use Rattle.spin_grammar.specs.Canonical.{signature_word}
 use Rattle.spin_grammar.specs.Forms.{step_form, test_form, merge_form, rule_form, task_form}
 use Rattle.spin_grammar.specs.Grammar.{Atom, Fixed, Numeral, Argument, Called, Typed, Blob}
 use Rattle.spin_grammar.specs.Lines as line
 use Rattle.spin_grammar.specs.Lines.{LineMeaning}
-use Rattle.spin_grammar.specs.Spelling.{number, signature, guard_signature, hex_bytes}
+use Rattle.spin_grammar.specs.Spelling.{number, hex_bytes}
 use Rattle.spin_grammar.specs.Tasks.{work_of}
 use Rattle.spin_grammar.specs.Words.{words}
 use Rattle.spin_script.specs.declared.read.TheConstants.{MAX_EARLY_LIVE}
@@ -21,13 +25,20 @@ use Rattle.spin_script.specs.States.{NativeData, ScriptData, with_event, with_ru
 
 -- ---- words
 
+-- The word spells this signature of at most 8 parameters. A guard's gives no result, and the case of its letters doesn't
+-- matter.
+abbrev pub IsSignature : (of_guard : Bool) → EventType → List ℕ → Type 0
+IsSignature false sig w = (length sig.params ≤ MAX_PARAMS) × (w ≡ signature_word sig)
+IsSignature true sig w =
+    (length sig.params ≤ MAX_PARAMS) × (sig.gives ≡ false) × (map to_ascii_lowercase w ≡ signature_word sig)
+
 -- The word says this, where the signature is that of a guard or isn't.
 abbrev pub IsSaid : (of_guard : Bool) → Atom → List ℕ → Type 0
 IsSaid of_guard (Fixed word) w = w ≡ word
 IsSaid of_guard (Numeral n) w = number w ≡ Some n
 IsSaid of_guard (Argument k) w = w ≡ 97 ∷ (48 + k) ∷ []
 IsSaid of_guard (Called name) w = w ≡ name
-IsSaid of_guard (Typed sig) w = (if of_guard then guard_signature w else signature w) ≡ Some sig
+IsSaid of_guard (Typed sig) w = IsSignature of_guard sig w
 IsSaid of_guard (Blob bytes) w = (slice_index w 0 ≡ 120) × (hex_bytes (drop 1 w) ≡ Some bytes)
 
 -- the words of a line

@@ -1,16 +1,15 @@
 -- Captures that are read whole: a header, whole records, and a rest that is none.
-use Rattle.std.specs.Prelude.{◌≡◌, ◌⊎◌, ◌≤◌, ◌+◌, ℕ, true, List, [], ◌∷◌, Option, Some, None, length, drop, ⊤}
+use Rattle.std.specs.Prelude.{◌≡◌, ◌⊎◌, ◌≤◌, ◌+◌, ℕ, List, [], ◌∷◌, Option, Some, None, length, drop, ⊤}
 use Rattle.spin_outside.specs.Files.{File, content}
 use Rattle.spin_pcap.specs.declared.order.Order.{Order}
-use Rattle.spin_pcap.specs.Captures.{ordered_number, ordered_number_at, is_magic, IsRecord, IsCut}
+use Rattle.spin_pcap.specs.Captures.{ordered_number_at, IsRecord, IsCut}
 use Rattle.spin_report.specs.Runs.{Captured}
 
 -- The file begins with the header of a capture of Ethernet frames, whose numbers stand in that order.
 pub record HasHeader (way : Order) (file : List ℕ) : Type 0 where
   pub long : 24 ≤ length file
-  pub magic : is_magic (ordered_number way 4 file) ≡ true
-  pub major : ordered_number_at way 4 2 file ≡ 2
-  pub minor : ordered_number_at way 6 2 file ≡ 4
+  pub magic : (ordered_number_at way 0 4 file ≡ 0xa1b2c3d4) ⊎ (ordered_number_at way 0 4 file ≡ 0xa1b23c4d)
+  pub version : (ordered_number_at way 4 2 file ≡ 2) × (ordered_number_at way 6 2 file ≡ 4)
   pub link : ordered_number_at way 20 4 file ≡ 1
 
 -- Behind so many records stand whole records with these captured bytes, and then nothing, or so many bytes of a record
