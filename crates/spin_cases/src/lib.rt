@@ -7,7 +7,7 @@
 //!
 //! - of plain data: [`values`], [`rows`], [`expressions`], [`headers`], and [`plans`] of bindings;
 //! - of scripts and reports: [`scripts`], [`setups`], [`reports`], [`entries`], [`generated`];
-//! - of logs, seats and lanes: [`logs`], [`seats`], [`renewed_hubs`], [`lanes`]; of versions that are renewed: [`renewals`];
+//! - of logs, seats and lanes: [`logs`], [`seats`], [`renewed_hubs`], [`lanes`];
 //! - of one raise of one event: [`raises`];
 //! - of jobs and tasks, and of whole runs that are held up: [`jobs`], [`executor`], [`runs`];
 //! - of the outside: [`outside`], [`adapters`], [`captures`], [`reassembly`], [`endpoints`], [`natives`];
@@ -55,8 +55,6 @@ mod plans;
 mod raises;
 #[cfg(test)]
 mod reassembly;
-#[cfg(test)]
-mod renewals;
 #[cfg(test)]
 mod renewed_hubs;
 #[cfg(test)]

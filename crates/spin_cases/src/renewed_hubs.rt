@@ -1,6 +1,6 @@
 //! Hubs that are renewed: what is bound stays bound under its new number, and all else goes on.
 
-ghost use Rattle.std.specs.Prelude.{◌≡◌, ◌∷◌, [], IfSome, IsTrue};
+ghost use Rattle.std.specs.Prelude.{◌≡◌, ◌∷◌, [], IfOk, IfSome, IsTrue};
 ghost use Rattle.spin_word.specs.Commands.{is_command};
 ghost use Rattle.spin_log.specs.Pens.{IsSamePen};
 ghost use Rattle.spin_table.specs.SetupOf.{data_of};
@@ -8,28 +8,27 @@ ghost use Rattle.spin_seat.specs.Seats.{IsSeat};
 ghost use Rattle.spin_seat.specs.RenewedHubs.{AreAllSeats};
 
 use spin_code::Sincere;
-use spin_log::Rows;
 use spin_objects::{Catalogue, Natives};
 use spin_proto::{Deed, Reply};
 use spin_raise::Answer;
 use spin_script::{Script, read_script};
-use spin_seat::{Hub, Judged, Renewal, Seat, SeatFault, Seats, Verdicted};
+use spin_seat::{Hub, Judged, RenewFault, Renewal, Seat, SeatFault, Seats, Unrenewed, Verdicted};
 use spin_table::Refusal;
-use spin_values::{Args, Numbers};
+use spin_values::{Args, NoMemory};
 use spin_word::{Command, MAX_PLACE, NO_BINDING, Op, is_valid};
 use std::alloc::Global;
 use std::test::Fail;
 
-// An event whose answer tells the order of its handlers, which give 1, 2 and 3, and the same event with an owner that
+// Two events whose answers tell the order of their handlers, which give 1, 2 and 3; and such an event with an owner that
 // lets nobody install a third handler.
 const FREE: &[u8] =
-    b"spin 1\nevent 0 0 -:w fold + + a0 a0 a1\nhandler 1 -:w result 1\nhandler 2 -:w result 2\nhandler 3 -:w result 3\n";
+    b"spin 1\nevent 0 0 -:w fold + + a0 a0 a1\nevent 1 0 -:w fold + + a0 a0 a1\nhandler 1 -:w result 1\nhandler 2 -:w result 2\nhandler 3 -:w result 3\n";
 
 const DENIED: &[u8] =
     b"spin 1\nmodules 2\nevent 0 1 -:w fold + + a0 a0 a1\nhandler 1 -:w result 1\nhandler 2 -:w result 2\nhandler 3 -:w result 3\nrule 0 0 255 install any all quota 2\nrule 0 0 255 any any all allow\n";
 
-// What is asked of a seat: to bind a handler, also before or after a binding, to remove a binding, to set the default,
-// once or until the log is full, or to raise the event.
+// What is asked of a seat about an event: to bind a handler, also before or after a binding, to remove a binding, to set
+// the default, once or until the log is full, or to raise the event.
 #[derive(Clone, Copy)]
 enum Asked {
     Install(u16),
@@ -54,10 +53,13 @@ enum Said {
     NoValue,
 }
 
-// What is asked up to a renewal, with the places and what is said, and the numbers that the live bindings have then.
+// An event, what is asked about it, and the place and the words of the answer.
+type Line = (u8, Asked, u16, Said);
+
+// What is asked up to a renewal, and the numbers that the live bindings have then.
 #[derive(Clone, Copy)]
 struct Round {
-    said: &'static [(Asked, u16, Said)],
+    said: &'static [Line],
     live: &'static [u16],
 }
 
@@ -68,20 +70,20 @@ struct Case {
     rounds: &'static [Round],
 }
 
-const CASES: [Case; 6] = [
+const CASES: [Case; 7] = [
     // Nothing is bound.
     Case {
         script: FREE,
         rounds: &[
             Round {
-                said: &[(Asked::Raise, 0, Said::NoValue)],
+                said: &[(0, Asked::Raise, 0, Said::NoValue)],
                 live: &[],
             },
             Round {
                 said: &[
-                    (Asked::Raise, 0, Said::NoValue),
-                    (Asked::Install(1), 1, Said::Accepted),
-                    (Asked::Raise, 1, Said::Value(1)),
+                    (0, Asked::Raise, 0, Said::NoValue),
+                    (0, Asked::Install(1), 1, Said::Accepted),
+                    (0, Asked::Raise, 1, Said::Value(1)),
                 ],
                 live: &[1],
             },
@@ -93,17 +95,17 @@ const CASES: [Case; 6] = [
         rounds: &[
             Round {
                 said: &[
-                    (Asked::Install(1), 1, Said::Accepted),
-                    (Asked::Install(2), 2, Said::Accepted),
-                    (Asked::Remove(2), 3, Said::Accepted),
-                    (Asked::Remove(1), 4, Said::Accepted),
+                    (0, Asked::Install(1), 1, Said::Accepted),
+                    (0, Asked::Install(2), 2, Said::Accepted),
+                    (0, Asked::Remove(2), 3, Said::Accepted),
+                    (0, Asked::Remove(1), 4, Said::Accepted),
                 ],
                 live: &[],
             },
             Round {
                 said: &[
-                    (Asked::Remove(1), 0, Said::UnknownBinding),
-                    (Asked::Raise, 0, Said::NoValue),
+                    (0, Asked::Remove(1), 0, Said::UnknownBinding),
+                    (0, Asked::Raise, 0, Said::NoValue),
                 ],
                 live: &[],
             },
@@ -115,20 +117,20 @@ const CASES: [Case; 6] = [
         rounds: &[
             Round {
                 said: &[
-                    (Asked::Install(1), 1, Said::Accepted),
-                    (Asked::Install(2), 2, Said::Accepted),
-                    (Asked::Before(3, 2), 3, Said::Accepted),
-                    (Asked::Remove(1), 4, Said::Accepted),
+                    (0, Asked::Install(1), 1, Said::Accepted),
+                    (0, Asked::Install(2), 2, Said::Accepted),
+                    (0, Asked::Before(3, 2), 3, Said::Accepted),
+                    (0, Asked::Remove(1), 4, Said::Accepted),
                 ],
                 live: &[2, 3],
             },
             Round {
                 said: &[
-                    (Asked::Raise, 2, Said::Value(8)),
-                    (Asked::After(1, 1), 3, Said::Accepted),
-                    (Asked::Raise, 3, Said::Value(17)),
-                    (Asked::Remove(2), 4, Said::Accepted),
-                    (Asked::Raise, 4, Said::Value(5)),
+                    (0, Asked::Raise, 2, Said::Value(8)),
+                    (0, Asked::After(1, 1), 3, Said::Accepted),
+                    (0, Asked::Raise, 3, Said::Value(17)),
+                    (0, Asked::Remove(2), 4, Said::Accepted),
+                    (0, Asked::Raise, 4, Said::Value(5)),
                 ],
                 live: &[1, 3],
             },
@@ -140,18 +142,18 @@ const CASES: [Case; 6] = [
         rounds: &[
             Round {
                 said: &[
-                    (Asked::Install(1), 1, Said::Accepted),
-                    (Asked::Install(2), 2, Said::Accepted),
-                    (Asked::Before(3, 2), 3, Said::Accepted),
-                    (Asked::Remove(2), 4, Said::Accepted),
+                    (0, Asked::Install(1), 1, Said::Accepted),
+                    (0, Asked::Install(2), 2, Said::Accepted),
+                    (0, Asked::Before(3, 2), 3, Said::Accepted),
+                    (0, Asked::Remove(2), 4, Said::Accepted),
                 ],
                 live: &[1, 3],
             },
             Round {
                 said: &[
-                    (Asked::Raise, 2, Said::Value(5)),
-                    (Asked::Before(2, 1), 3, Said::Accepted),
-                    (Asked::Raise, 3, Said::Value(17)),
+                    (0, Asked::Raise, 2, Said::Value(5)),
+                    (0, Asked::Before(2, 1), 3, Said::Accepted),
+                    (0, Asked::Raise, 3, Said::Value(17)),
                 ],
                 live: &[1, 2, 3],
             },
@@ -163,19 +165,58 @@ const CASES: [Case; 6] = [
         rounds: &[
             Round {
                 said: &[
-                    (Asked::Default(3), 1, Said::Accepted),
-                    (Asked::Install(1), 2, Said::Accepted),
-                    (Asked::Remove(2), 3, Said::Accepted),
+                    (0, Asked::Default(3), 1, Said::Accepted),
+                    (0, Asked::Install(1), 2, Said::Accepted),
+                    (0, Asked::Remove(2), 3, Said::Accepted),
                 ],
                 live: &[],
             },
             Round {
                 said: &[
-                    (Asked::Raise, 0, Said::ByDefault(3)),
-                    (Asked::Install(2), 1, Said::Accepted),
-                    (Asked::Raise, 1, Said::Value(2)),
+                    (0, Asked::Raise, 0, Said::ByDefault(3)),
+                    (0, Asked::Install(2), 1, Said::Accepted),
+                    (0, Asked::Raise, 1, Said::Value(2)),
                 ],
                 live: &[1],
+            },
+        ],
+    },
+    // Bindings of two events are numbered in one order, and each event keeps its own and its default.
+    Case {
+        script: FREE,
+        rounds: &[
+            Round {
+                said: &[
+                    (0, Asked::Default(3), 1, Said::Accepted),
+                    (0, Asked::Install(1), 2, Said::Accepted),
+                    (1, Asked::Install(1), 3, Said::Accepted),
+                    (0, Asked::Install(2), 4, Said::Accepted),
+                    (0, Asked::Before(3, 4), 5, Said::Accepted),
+                    (0, Asked::Remove(2), 6, Said::Accepted),
+                    (1, Asked::After(2, 3), 7, Said::Accepted),
+                    (1, Asked::Default(2), 8, Said::Accepted),
+                ],
+                live: &[3, 4, 5, 7],
+            },
+            Round {
+                said: &[
+                    (0, Asked::Raise, 4, Said::Value(8)),
+                    (1, Asked::Raise, 4, Said::Value(4)),
+                    (0, Asked::Remove(1), 4, Said::UnknownBinding),
+                    (1, Asked::Remove(1), 5, Said::Accepted),
+                    (1, Asked::Remove(4), 6, Said::Accepted),
+                    (1, Asked::Raise, 6, Said::ByDefault(2)),
+                ],
+                live: &[2, 3],
+            },
+            Round {
+                said: &[
+                    (0, Asked::Raise, 2, Said::Value(8)),
+                    (0, Asked::Remove(1), 3, Said::Accepted),
+                    (0, Asked::Remove(2), 4, Said::Accepted),
+                    (0, Asked::Raise, 4, Said::ByDefault(3)),
+                ],
+                live: &[],
             },
         ],
     },
@@ -185,17 +226,17 @@ const CASES: [Case; 6] = [
         rounds: &[
             Round {
                 said: &[
-                    (Asked::Install(1), 1, Said::Accepted),
-                    (Asked::Install(2), 2, Said::Accepted),
+                    (0, Asked::Install(1), 1, Said::Accepted),
+                    (0, Asked::Install(2), 2, Said::Accepted),
                 ],
                 live: &[1, 2],
             },
             Round {
                 said: &[
-                    (Asked::Raise, 2, Said::Value(4)),
-                    (Asked::Install(3), 2, Said::Denied),
-                    (Asked::Remove(1), 3, Said::Accepted),
-                    (Asked::Install(3), 4, Said::Accepted),
+                    (0, Asked::Raise, 2, Said::Value(4)),
+                    (0, Asked::Install(3), 2, Said::Denied),
+                    (0, Asked::Remove(1), 3, Said::Accepted),
+                    (0, Asked::Install(3), 4, Said::Accepted),
                 ],
                 live: &[2, 4],
             },
@@ -209,9 +250,9 @@ const FULL: Case = Case {
     rounds: &[
         Round {
             said: &[
-                (Asked::Default(1), 1, Said::Accepted),
-                (Asked::Install(3), 2, Said::Accepted),
-                (Asked::Fill(2), MAX_PLACE, Said::Full),
+                (0, Asked::Default(1), 1, Said::Accepted),
+                (0, Asked::Install(3), 2, Said::Accepted),
+                (0, Asked::Fill(2), MAX_PLACE, Said::Full),
             ],
             live: &[2],
         },
@@ -221,41 +262,40 @@ const FULL: Case = Case {
         },
         Round {
             said: &[
-                (Asked::Raise, 1, Said::Value(3)),
-                (Asked::Remove(1), 2, Said::Accepted),
-                (Asked::Raise, 2, Said::ByDefault(2)),
+                (0, Asked::Raise, 1, Said::Value(3)),
+                (0, Asked::Remove(1), 2, Said::Accepted),
+                (0, Asked::Raise, 2, Said::ByDefault(2)),
             ],
             live: &[],
         },
     ],
 };
 
+// The op of what is asked, its handler, its target and the binding that it goes before and after; none for a raise.
+fn parts_of(asked: Asked) -> Option<(Op, u16, u16, u16, u16)> {
+    match asked {
+        Asked::Install(handler) => Some((Op::Install, handler, 0, NO_BINDING, NO_BINDING)),
+        Asked::Before(handler, other) => Some((Op::Install, handler, 0, other, NO_BINDING)),
+        Asked::After(handler, other) => Some((Op::Install, handler, 0, NO_BINDING, other)),
+        Asked::Remove(target) => Some((Op::Remove, 0, target, NO_BINDING, NO_BINDING)),
+        Asked::Default(handler) | Asked::Fill(handler) => {
+            Some((Op::Default, handler, 0, NO_BINDING, NO_BINDING))
+        }
+        Asked::Raise => None,
+    }
+}
+
 // The command of lane 0 for what is asked; none for a raise, and where it isn't valid.
-fn command_of(asked: Asked) -> Option<Command>
+fn command_of(event: u8, asked: Asked) -> Option<Command>
     ensures { IfSome result (λ c. IsTrue (is_command c) × (c.lane ≡ 0)) }
 {
-    let install = Command::bare(Op::Install, 0, 0, 0);
-    let command = match asked {
-        Asked::Install(handler) => Command { handler, ..install },
-        Asked::Before(handler, other) => Command {
-            handler,
-            before: [other, NO_BINDING, NO_BINDING, NO_BINDING],
-            ..install
-        },
-        Asked::After(handler, other) => Command {
-            handler,
-            after: [other, NO_BINDING, NO_BINDING, NO_BINDING],
-            ..install
-        },
-        Asked::Remove(target) => Command {
-            target,
-            ..Command::bare(Op::Remove, 0, 0, 0)
-        },
-        Asked::Default(handler) | Asked::Fill(handler) => Command {
-            handler,
-            ..Command::bare(Op::Default, 0, 0, 0)
-        },
-        Asked::Raise => return None,
+    let (op, handler, target, before, after) = parts_of(asked)?;
+    let command = Command {
+        handler,
+        target,
+        before: [before, NO_BINDING, NO_BINDING, NO_BINDING],
+        after: [after, NO_BINDING, NO_BINDING, NO_BINDING],
+        ..Command::bare(op, 0, event, 0)
     };
     if is_valid(&command) {
         Some(command)
@@ -313,8 +353,28 @@ fn fill(
     Ok((seat.front(), Said::Accepted))
 }
 
+// The place of a raise of the event, and what it says.
+fn raise(alloc: Global, hub: &Hub, seat: &mut Seat, event: u8) -> Result<(u16, Said), SeatFault>
+    requires sincere { ⟦<Catalogue as Sincere>⟧.sincere hub.now.setup.catalogue }
+    requires log { seat.old.pen.log ≡ hub.now.log.id }
+    requires seat { IsSeat (data_of hub.now.setup) seat.old }
+    ensures same { IsSamePen seat.old.pen seat.new.pen }
+    ensures first { seat.new.first ≡ seat.old.first }
+    ensures seat { IsSeat (data_of hub.now.setup) seat.new }
+{
+    let args = Args::new(alloc);
+    let raised = seat.raise(alloc, hub, &Deed::Raise { event, args })?;
+    Ok((raised.place, reply_said(&raised.reply)))
+}
+
 // The place of the answer to what is asked, and what it says.
-fn ask(alloc: Global, hub: &Hub, seat: &mut Seat, asked: Asked) -> Result<(u16, Said), SeatFault>
+fn ask(
+    alloc: Global,
+    hub: &Hub,
+    seat: &mut Seat,
+    event: u8,
+    asked: Asked,
+) -> Result<(u16, Said), SeatFault>
     requires sincere { ⟦<Catalogue as Sincere>⟧.sincere hub.now.setup.catalogue }
     requires log { seat.old.pen.log ≡ hub.now.log.id }
     requires seat { IsSeat (data_of hub.now.setup) seat.old }
@@ -323,91 +383,34 @@ fn ask(alloc: Global, hub: &Hub, seat: &mut Seat, asked: Asked) -> Result<(u16, 
     ensures first { seat.new.first ≡ seat.old.first }
     ensures seat { IsSeat (data_of hub.now.setup) seat.new }
 {
-    match command_of(asked) {
-        Some(command) => {
-            if matches!(asked, Asked::Fill(_)) {
-                return fill(alloc, hub, seat, &command);
-            }
-            let judged = seat.command(alloc, hub, &command)?;
-            Ok((judged.place, verdict_said(&judged)))
-        }
-        None => {
-            let (event, args) = (0, Args::new(alloc));
-            let raised = seat.raise(alloc, hub, &Deed::Raise { event, args })?;
-            Ok((raised.place, reply_said(&raised.reply)))
-        }
+    let Some(command) = command_of(event, asked) else {
+        return raise(alloc, hub, seat, event);
+    };
+    if matches!(asked, Asked::Fill(_)) {
+        return fill(alloc, hub, seat, &command);
     }
+    let judged = seat.command(alloc, hub, &command)?;
+    Ok((judged.place, verdict_said(&judged)))
 }
 
-// The seat once all this was said at those places; none where it wasn't.
-fn say_all(alloc: Global, hub: &Hub, mut seat: Seat, wanted: &[(Asked, u16, Said)]) -> Option<Seat>
+// Whether all this is said at those places.
+fn say_all(alloc: Global, hub: &Hub, seat: &mut Seat, wanted: &[Line]) -> Result<bool, SeatFault>
     requires sincere { ⟦<Catalogue as Sincere>⟧.sincere hub.now.setup.catalogue }
-    requires log { seat.pen.log ≡ hub.now.log.id }
-    requires seat { IsSeat (data_of hub.now.setup) seat }
-    requires lane { seat.pen.lane ≡ 0 }
-    ensures { IfSome result (λ after.
-        IsSamePen seat.pen after.pen
-        × (after.first ≡ seat.first)
-        × IsSeat (data_of hub.now.setup) after) }
+    requires log { seat.old.pen.log ≡ hub.now.log.id }
+    requires seat { IsSeat (data_of hub.now.setup) seat.old }
+    requires lane { seat.old.pen.lane ≡ 0 }
+    ensures same { IsSamePen seat.old.pen seat.new.pen }
+    ensures first { seat.new.first ≡ seat.old.first }
+    ensures seat { IsSeat (data_of hub.now.setup) seat.new }
 {
-    for one in wanted {
-        let (asked, place, said) = *one;
-        let (at, answer) = ask(alloc, hub, &mut seat, asked).ok()?;
+    for line in wanted {
+        let (event, asked, place, said) = *line;
+        let (at, answer) = ask(alloc, hub, seat, event, asked)?;
         if !(at == place && answer == said) {
-            return None;
+            return Ok(false);
         }
     }
-    Some(seat)
-}
-
-// A hub of two lanes over this script, and its seats; none where the script is wrong or memory is lacking.
-fn open(alloc: Global, script: &[u8]) -> Option<(Hub, Seat, Seat)>
-    ensures sincere { IfSome result (λ made. ⟦<Catalogue as Sincere>⟧.sincere made.0.setup.catalogue) }
-    ensures all { IfSome result (λ made.
-        AreAllSeats (data_of made.0.setup) made.0.log (made.1 ∷ made.2 ∷ [])) }
-{
-    let Ok(script) = read_script(alloc, script, Natives::new(alloc)) else {
-        return None;
-    };
-    let Script { setup, .. } = script;
-    let Ok((hub, mut seats)) = Hub::new(alloc, setup, 2) else {
-        return None;
-    };
-    let Some(a) = seats.take_first() else {
-        unreachable!()
-    };
-    let Some(b) = seats.take_first() else {
-        unreachable!()
-    };
-    Some((hub, a, b))
-}
-
-// The hub renewed, with its seats, the rows of its log and the numbers that the live bindings had; none where memory is
-// lacking.
-fn renew(alloc: Global, hub: Hub, a: Seat, b: Seat) -> Option<(Hub, Seat, Seat, Rows, Numbers)>
-    requires sincere { ⟦<Catalogue as Sincere>⟧.sincere hub.setup.catalogue }
-    requires all { AreAllSeats (data_of hub.setup) hub.log (a ∷ b ∷ []) }
-    ensures setup { IfSome result (λ made. made.0.setup ≡ hub.setup) }
-    ensures all { IfSome result (λ made.
-        AreAllSeats (data_of hub.setup) made.0.log (made.1 ∷ made.2 ∷ [])) }
-{
-    let seats = Seats::from_vec(vec![in alloc; a, b].ok()?);
-    let Ok(renewal) = hub.renew(alloc, seats) else {
-        return None;
-    };
-    let Renewal {
-        hub,
-        mut seats,
-        rows,
-        live,
-    } = renewal;
-    let Some(a) = seats.take_first() else {
-        unreachable!()
-    };
-    let Some(b) = seats.take_first() else {
-        unreachable!()
-    };
-    Some((hub, a, b, rows, live))
+    Ok(true)
 }
 
 // A hub with its two seats.
@@ -418,44 +421,114 @@ struct Course {
     b: Seat,
 }
 
-// The hub renewed after that round, where all goes as the round says; none where it doesn't.
-fn play_round(alloc: Global, course: Course, round: &Round) -> Option<Course>
+// A hub of two lanes over this script, and its seats.
+fn open(alloc: Global, script: &[u8]) -> Result<Course, Fail>
+    ensures sincere { IfOk result (λ made. ⟦<Catalogue as Sincere>⟧.sincere made.hub.setup.catalogue) }
+    ensures all { IfOk result (λ made.
+        AreAllSeats (data_of made.hub.setup) made.hub.log (made.a ∷ made.b ∷ [])) }
+{
+    let Script { setup, .. } = read_script(alloc, script, Natives::new(alloc))?;
+    let (hub, mut seats) = Hub::new(alloc, setup, 2)?;
+    let Some(a) = seats.take_first() else {
+        unreachable!()
+    };
+    let Some(b) = seats.take_first() else {
+        unreachable!()
+    };
+    Ok(Course { hub, a, b })
+}
+
+// Renews the hub, once more after want of memory.
+fn renewed(alloc: Global, hub: Hub, seats: Seats) -> Result<Renewal, Unrenewed>
+    requires sincere { ⟦<Catalogue as Sincere>⟧.sincere hub.setup.catalogue }
+    requires all { AreAllSeats (data_of hub.setup) hub.log seats }
+    ensures setup { IfOk result (λ made. made.hub.setup ≡ hub.setup) }
+    ensures lanes { IfOk result (λ made. made.hub.log.lanes ≡ hub.log.lanes) }
+    ensures all { IfOk result (λ made. AreAllSeats (data_of hub.setup) made.hub.log made.seats) }
+{
+    match hub.renew(alloc, seats) {
+        Err(
+            Unrenewed {
+                fault: RenewFault::NoMemory,
+                hub,
+                seats,
+            },
+        ) => hub.renew(alloc, seats),
+        answer => answer,
+    }
+}
+
+// The hub renewed, with its seats, and whether its log had so many rows and its live bindings these numbers.
+fn renew(
+    alloc: Global,
+    course: Course,
+    count: u16,
+    numbers: &[u16],
+) -> Result<(Course, bool), NoMemory>
     requires sincere { ⟦<Catalogue as Sincere>⟧.sincere course.hub.setup.catalogue }
     requires all { AreAllSeats (data_of course.hub.setup) course.hub.log (course.a ∷ course.b ∷ []) }
-    ensures setup { IfSome result (λ next. next.hub.setup ≡ course.hub.setup) }
-    ensures all { IfSome result (λ next.
-        AreAllSeats (data_of course.hub.setup) next.hub.log (next.a ∷ next.b ∷ [])) }
+    ensures setup { IfOk result (λ made. made.0.hub.setup ≡ course.hub.setup) }
+    ensures all { IfOk result (λ made.
+        AreAllSeats (data_of course.hub.setup) made.0.hub.log (made.0.a ∷ made.0.b ∷ [])) }
 {
     let Course { hub, a, b } = course;
-    let a = say_all(alloc, &hub, a, round.said)?;
-    let front = usize::from(a.front());
-    let (hub, a, b, rows, live) = renew(alloc, hub, a, b)?;
-    if rows.len() != front || live.as_slice() != round.live {
-        return None;
-    }
-    Some(Course { hub, a, b })
+    let seats = Seats::from_vec(vec![in alloc; a, b]?);
+    let Ok(renewal) = renewed(alloc, hub, seats) else {
+        return Err(NoMemory);
+    };
+    let Renewal {
+        hub,
+        mut seats,
+        rows,
+        live,
+    } = renewal;
+    let is_so = rows.len() == usize::from(count) && live.as_slice() == numbers;
+    let Some(a) = seats.take_first() else {
+        unreachable!()
+    };
+    let Some(b) = seats.take_first() else {
+        unreachable!()
+    };
+    Ok((Course { hub, a, b }, is_so))
+}
+
+// The hub renewed after that round, and whether all went as the round says.
+fn play_round(alloc: Global, mut course: Course, round: &Round) -> Result<(Course, bool), Fail>
+    requires sincere { ⟦<Catalogue as Sincere>⟧.sincere course.hub.setup.catalogue }
+    requires all { AreAllSeats (data_of course.hub.setup) course.hub.log (course.a ∷ course.b ∷ []) }
+    ensures setup { IfOk result (λ next. next.0.hub.setup ≡ course.hub.setup) }
+    ensures all { IfOk result (λ next.
+        AreAllSeats (data_of course.hub.setup) next.0.hub.log (next.0.a ∷ next.0.b ∷ [])) }
+{
+    let is_said = say_all(alloc, &course.hub, &mut course.a, round.said)?;
+    let front = course.a.front();
+    let (next, is_renewed) = renew(alloc, course, front, round.live)?;
+    Ok((next, is_said && is_renewed))
 }
 
 // Whether the case goes as it says.
-fn goes(alloc: Global, case: &Case) -> Option<()> {
-    let (hub, a, b) = open(alloc, case.script)?;
-    let mut course = Course { hub, a, b };
+fn goes(alloc: Global, case: &Case) -> Result<bool, Fail> {
+    let mut course = open(alloc, case.script)?;
+    let mut goes = true;
     for round in case.rounds {
-        course = play_round(alloc, course, round)?;
+        let (next, is_so) = play_round(alloc, course, round)?;
+        course = next;
+        goes = goes && is_so;
     }
-    Some(())
+    Ok(goes)
 }
 
+// Where the one request for memory that is refused is a renewal's, its second call goes as if none were.
 #[test]
 fn what_is_bound_stays_bound(rt: HostRuntime) -> Result<(), Fail> {
     for case in CASES {
-        assert!(rt; goes(rt.alloc(), &case).is_some());
+        assert!(rt; goes(rt.alloc(), &case)?);
     }
     Ok(())
 }
 
 #[test]
 fn a_full_hub_is_renewed_twice(rt: HostRuntime) -> Result<(), Fail> {
-    assert!(rt; goes(rt.alloc(), &FULL).is_some());
+    assert!(rt; goes(rt.alloc(), &FULL)?);
     Ok(())
 }

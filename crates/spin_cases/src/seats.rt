@@ -17,7 +17,7 @@ use spin_raise::Answer;
 use spin_seat::{Hub, Judged, Seat, SeatFault, Seats, Verdicted};
 use spin_table::{Authority, EventDef, EventList, Refusal, Setup};
 use spin_values::{Args, EventType, Kind, NoMemory, Param, Params, Value};
-use spin_word::{Command, MAX_PLACE, Op, Row, pack};
+use spin_word::{Command, Op, Row, pack};
 use std::alloc::Global;
 use std::process::Abort;
 use std::test::Fail;
@@ -33,16 +33,6 @@ pub(crate) fn install_of(lane: u8) -> Command
     Command {
         handler: 1,
         ..Command::bare(Op::Install, lane, 0, 0)
-    }
-}
-
-fn default_of(lane: u8) -> Command
-    requires { lane < 16 }
-    ensures { IsTrue (is_command result) × (result.lane ≡ lane) }
-{
-    Command {
-        handler: 1,
-        ..Command::bare(Op::Default, lane, 0, 0)
     }
 }
 
@@ -362,33 +352,6 @@ fn install_and_raise<R: Abort>(rt: &R, alloc: Global, hub: &Hub, a: &mut Seat) -
 fn a_command_is_given_again_after_want_of_memory(rt: HostRuntime) -> Result<(), Fail> {
     let (hub, mut a, _b) = two_seats(rt.alloc())?;
     install_and_raise(&rt, rt.alloc(), &hub, &mut a)
-}
-
-// Gives defaults until there is a fault, at most so often, and tells how many were judged.
-fn give_defaults(alloc: Global, hub: &Hub, seat: &mut Seat, times: u16) -> (u16, Option<SeatFault>)
-    requires sincere { ⟦<Catalogue as Sincere>⟧.sincere hub.now.setup.catalogue }
-    requires log { seat.old.pen.log ≡ hub.now.log.id }
-    requires seat { IsSeatOf (data_of hub.now.setup) seat.old }
-    ensures same { IsSamePen seat.old.pen seat.new.pen }
-    ensures seat { IsSeatOf (data_of hub.now.setup) seat.new }
-{
-    let lane = seat.lane();
-    let default = default_of(lane);
-    for done in 0..times {
-        if let Err(fault) = seat.command(alloc, hub, &default) {
-            return (done, Some(fault));
-        }
-    }
-    (times, None)
-}
-
-#[test]
-fn a_hub_is_full(rt: HostRuntime) -> Result<(), Fail> {
-    let alloc = rt.alloc();
-    let (hub, mut a, _b) = two_seats(alloc)?;
-    let given = give_defaults(alloc, &hub, &mut a, MAX_PLACE + 1);
-    assert_eq!(rt; given, (MAX_PLACE, Some(SeatFault::Full)));
-    Ok(())
 }
 
 // Installs and raises in turn.

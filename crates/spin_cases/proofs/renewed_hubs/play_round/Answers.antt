@@ -16,5 +16,6 @@ pub renew-requires-clause-all : goal.renew-requires-clause-all
 renew-requires-clause-all g c =
     let d = data_of c.args.course.hub.setup in
     let b = c.args.course.b in
-    both_still d c.args.course.hub.log c.args.course.a b c.in_ok-a.a b c.requires.all c.in_ok-a.ensures.0 c.in_ok-a.ensures.1 c.in_ok-a.ensures.2
+    both_still d c.args.course.hub.log c.args.course.a b _ b c.requires.all
+    c.in_ok-is_said.ensures.same c.in_ok-is_said.ensures.first c.in_ok-is_said.ensures.seat
     (refl, refl, refl) refl (c.requires.all.seats_are 1 b (omega arith)).0
