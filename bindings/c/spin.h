@@ -37,8 +37,9 @@ enum spin_error {
     SPIN_NO_STEP = 10,     /* the reply has no step of that index */
     SPIN_TOO_SMALL = 11,   /* the bytes don't fit the buffer; how many they are is told */
     SPIN_NO_ARGUMENT = 12, /* an argument is neither a word nor a range within the bytes: nothing is done */
-    SPIN_NO_LANE = 13,     /* no hub has so many lanes; or the handle has no such lane to hand out */
-    SPIN_TAKEN = 14,       /* the seat of the lane is handed out already */
+    SPIN_NO_LANE = 13,     /* no hub has so many lanes; or the handle has no such lane to hand out, or none to renew */
+    SPIN_TAKEN = 14,       /* the seat of the lane is handed out already; or some seat is, so the hub isn't renewed */
+    SPIN_NO_BINDING = 15,  /* the last renewal numbered no such binding, or there was none */
     SPIN_NULL = 100,       /* a pointer is null that may not be */
     SPIN_SAME = 101        /* one handle is handed in as two */
 };
@@ -119,6 +120,8 @@ uint32_t spin_raise(struct spin_lane *lane, uint8_t event, const uint8_t *bytes,
 uint32_t spin_step(struct spin_lane *lane, uint64_t index, struct spin_step *step);
 uint32_t spin_step_bytes(struct spin_lane *lane, uint64_t index, uint8_t *buffer, size_t room, uint64_t *length);
 uint32_t spin_command(struct spin_lane *lane, const struct spin_row *row, struct spin_answer *answer);
+uint32_t spin_renew(struct spin_lane *lane, struct spin_answer *answer);
+uint32_t spin_before(struct spin_lane *lane, uint64_t index, struct spin_answer *answer);
 uint32_t spin_close(struct spin_lane *lane, struct spin_answer *answer);
 
 /* Bytes that are handed in: null stands for none where the length is 0. */
@@ -223,6 +226,27 @@ static inline uint32_t spin_lane_step_bytes(struct spin_lane *lane, uint64_t ind
     return spin_step_bytes(lane, index, at, room, length);
 }
 
+/* Renews the hub of a handle with which it was opened, and no seat of which was handed out: it goes on over a new log,
+ * so that its bindings may change again, and nothing is lost that is bound. The live bindings are numbered anew, from 1
+ * on in the order of their numbers. Where no memory is left for the renewed lane, the handle is closed. */
+static inline uint32_t spin_lane_renew(struct spin_lane *lane, struct spin_answer *answer) {
+    if (lane == NULL || answer == NULL) {
+        return SPIN_NULL;
+    }
+    return spin_renew(lane, answer);
+}
+
+/* Tells which number the binding of this number had before the last renewal. */
+static inline uint32_t spin_lane_number_before(struct spin_lane *lane, uint64_t number, uint64_t *before) {
+    if (lane == NULL || before == NULL) {
+        return SPIN_NULL;
+    }
+    struct spin_answer answer;
+    const uint32_t error = spin_before(lane, number - 1, &answer);
+    *before = answer.value;
+    return error;
+}
+
 /* Closes a handle. */
 static inline uint32_t spin_lane_close(struct spin_lane *lane, struct spin_answer *answer) {
     if (lane == NULL || answer == NULL) {
@@ -307,6 +331,7 @@ static inline const char *spin_error_name(uint32_t error) {
     case SPIN_NO_ARGUMENT: return "no argument";
     case SPIN_NO_LANE: return "no such lane";
     case SPIN_TAKEN: return "the seat is taken";
+    case SPIN_NO_BINDING: return "no such binding was renewed";
     case SPIN_NULL: return "null";
     case SPIN_SAME: return "one handle twice";
     default: return "unknown";

@@ -198,9 +198,82 @@ static void expect_seats(void) {
     expect("a close of the last", spin_lane_close(&second, &answer), SPIN_OK);
 }
 
+/* The number that a binding had before a renewal. */
+static void expect_before(struct spin_lane *lane, uint64_t number, uint32_t wanted, uint64_t before) {
+    uint64_t told = 9;
+    expect("a number before", spin_lane_number_before(lane, number, &told), wanted);
+    if (told != before) {
+        printf("binding %u is told to have been %u\n", (unsigned)number, (unsigned)told);
+        wrong = 1;
+    }
+}
+
+/* The answer to a raise of event 0 with the word 10. */
+static void expect_value(struct spin_lane *lane, uint32_t place, uint64_t value) {
+    const uint64_t words[1] = {10};
+    struct spin_answer answer = {9, 9, 9, 9};
+    expect("a raise", spin_lane_raise(lane, 0, words, 1, &answer), SPIN_OK);
+    if (answer.place != place || answer.kind != SPIN_VALUE || answer.value != value) {
+        printf("the raise at %u gives %u\n", answer.place, (unsigned)answer.value);
+        wrong = 1;
+    }
+}
+
+/* What a renewal leaves, and which handles have none. */
+static void expect_renewals(void) {
+    static const char script[] =
+        "spin 1\nevent 0 0 w:w last\nhandler 1 w:w result + a0 1\nhandler 2 w:w result + a0 2\n";
+    const size_t length = sizeof script - 1;
+    struct spin_lane lane = {NULL}, other = {NULL};
+    struct spin_answer answer;
+    struct spin_step step;
+    const struct spin_command_words first = {.op = SPIN_INSTALL, .handler = 1};
+    const struct spin_command_words second = {.op = SPIN_INSTALL, .handler = 2};
+    struct spin_command_words change = {.op = SPIN_REMOVE, .target = 1};
+    expect("a renewal of a closed handle", spin_lane_renew(&lane, &answer), SPIN_CLOSED);
+    expect("a null handle", spin_lane_renew(NULL, &answer), SPIN_NULL);
+    expect("a null number", spin_lane_number_before(&lane, 1, NULL), SPIN_NULL);
+    expect_before(&lane, 1, SPIN_CLOSED, 0);
+    expect("an open", spin_lane_open_hub(&lane, 2, script, length, &answer), SPIN_OK);
+    expect_before(&lane, 1, SPIN_NO_BINDING, 0);
+    expect("a command", spin_lane_command(&lane, &first, &answer), SPIN_OK);
+    expect("a command", spin_lane_command(&lane, &second, &answer), SPIN_OK);
+    expect("a command", spin_lane_command(&lane, &first, &answer), SPIN_OK);
+    expect("a command", spin_lane_command(&lane, &change, &answer), SPIN_OK);
+    expect_value(&lane, 4, 11);
+    expect("a renewal", spin_lane_renew(&lane, &answer), SPIN_OK);
+    expect("no reply", spin_lane_step(&lane, 0, &step), SPIN_NO_REPLY);
+    expect_value(&lane, 2, 11);
+    expect_before(&lane, 0, SPIN_NO_BINDING, 0);
+    expect_before(&lane, 1, SPIN_OK, 2);
+    expect_before(&lane, 2, SPIN_OK, 3);
+    expect_before(&lane, 3, SPIN_NO_BINDING, 0);
+    change.target = 2;
+    expect("a command after it", spin_lane_command(&lane, &change, &answer), SPIN_OK);
+    expect_value(&lane, 3, 12);
+    for (int turn = 0; turn < 5000; turn++) {
+        change = (struct spin_command_words){.op = SPIN_REPLACE, .target = 1, .handler = (uint16_t)(1 + turn % 2)};
+        uint32_t error = spin_lane_command(&lane, &change, &answer);
+        if (error == SPIN_FULL) {
+            expect("a renewal of a full log", spin_lane_renew(&lane, &answer), SPIN_OK);
+            error = spin_lane_command(&lane, &change, &answer);
+        }
+        expect("a command of many", error, SPIN_OK);
+    }
+    expect("a seat", spin_lane_seat(&lane, 1, &other), SPIN_OK);
+    expect("a renewal with a seat handed out", spin_lane_renew(&lane, &answer), SPIN_TAKEN);
+    expect("a renewal by another handle", spin_lane_renew(&other, &answer), SPIN_NO_LANE);
+    expect_value(&other, 908, 12);
+    expect("a close", spin_lane_close(&other, &answer), SPIN_OK);
+    expect("a renewal with a seat lost", spin_lane_renew(&lane, &answer), SPIN_TAKEN);
+    expect_value(&lane, 908, 12);
+    expect("a close", spin_lane_close(&lane, &answer), SPIN_OK);
+}
+
 int main(void) {
     expect_lanes();
     expect_seats();
+    expect_renewals();
     expect_steps();
     expect_replies();
     static const char script[] =

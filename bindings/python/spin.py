@@ -15,14 +15,14 @@ from dataclasses import dataclass
 from os import PathLike, fspath
 
 __all__ = [
-    *("BadScript", "Fault", "KINDS", "Lane", "Library", "NoMemory", "NoStep", "REFUSALS", "Refused", "Reply"),
-    *("STEPS", "Step"),
+    *("BadScript", "Fault", "KINDS", "Lane", "Library", "NoBinding", "NoMemory", "NoStep", "REFUSALS", "Refused"),
+    *("Reply", "STEPS", "Step"),
 ]
 
 # The numbers that the calls answer, as bindings/c/spin.h has them.
 _OK, _NO_MEMORY, _BAD_SCRIPT, _NO_HISTORY, _CLOSED, _OPEN, _NO_COMMAND, _FULL, _REFUSED = range(9)
 _NO_REPLY, _NO_STEP = 9, 10
-_NO_LANE, _TAKEN = 13, 14
+_NO_LANE, _TAKEN, _NO_BINDING = 13, 14, 15
 
 # The kinds of replies to a raise, by number.
 KINDS = (
@@ -45,6 +45,7 @@ _SAID = {
     **{_NO_COMMAND: "that is no command", _FULL: "the log is full"},
     **{_NO_REPLY: "no reply is kept", _NO_STEP: "the reply has no such step"},
     **{_NO_LANE: "there is no such lane", _TAKEN: "the seat is taken"},
+    **{_NO_BINDING: "no such binding was renewed"},
 }
 
 
@@ -77,6 +78,10 @@ class Refused(Fault):
 
 class NoStep(Fault):
     """The reply has no step of that index."""
+
+
+class NoBinding(Fault):
+    """The last renewal numbered no such binding, or there was none."""
 
 
 class _SpinFault(ctypes.Structure):
@@ -123,7 +128,8 @@ def _fault(number: int, answer: _SpinAnswer) -> Fault:
         return BadScript(answer.place, answer.kind)
     if number == _REFUSED:
         return Refused(answer.kind, answer.place)
-    return (NoStep if number == _NO_STEP else Fault)(_SAID.get(number, f"the library answered {number}"))
+    kinds = {_NO_STEP: NoStep, _NO_BINDING: NoBinding}
+    return kinds.get(number, Fault)(_SAID.get(number, f"the library answered {number}"))
 
 
 def _value(kind: int, value: int) -> int | None:
@@ -253,6 +259,16 @@ class Lane:
         row = (ctypes.c_uint64 * 4)(first, target, 2**64 - 1, 2**64 - 1)
         return self._ask(self._calls.spin_command, ctypes.byref(self._lane), row).place
 
+    def renew(self) -> None:
+        """Renews its hub, where this is the seat with which it was opened and no other was handed out: it goes on over a
+        new log, so that its bindings may change again, and nothing is lost that is bound. The live bindings are numbered
+        anew, from 1 on in the order of their numbers. Where no memory is left for it, it is closed."""
+        self._ask(self._calls.spin_renew, ctypes.byref(self._lane))
+
+    def number_before(self, number: int) -> int:
+        """Which number the binding of this number had before the last renewal."""
+        return self._ask(self._calls.spin_before, ctypes.byref(self._lane), (number - 1) % 2**64).value
+
     def close(self) -> None:
         """Closes it, where it is open."""
         if self._lane.at is not None:
@@ -276,6 +292,8 @@ class Library:
             (calls.spin_raise_words, [*one, ctypes.c_uint8, words, ctypes.c_size_t]),
             (calls.spin_raise, [*one, ctypes.c_uint8, *text, ctypes.POINTER(_SpinArg), ctypes.c_size_t]),
             (calls.spin_command, [*one, words]),
+            (calls.spin_renew, one),
+            (calls.spin_before, [*one, ctypes.c_uint64]),
             (calls.spin_close, one),
         ):
             call.argtypes, call.restype = [*given, *told], ctypes.c_uint32

@@ -171,6 +171,33 @@ class Lanes(unittest.TestCase):
         for reply in (reply for each in raised for reply in each):
             self.assertEqual((reply.kind, reply.value), ("default value", 10 + handlers[reply.place]))
 
+    def test_renewals(self):
+        with self.library.open(self.SCRIPT) as lane:
+            with self.assertRaises(spin.NoBinding):
+                lane.number_before(1)
+            for _ in range(3):
+                lane.command(0, 1, handler=1)
+            lane.command(0, 2, target=1)
+            lane.renew()
+            self.assertEqual([lane.number_before(number) for number in (1, 2)], [2, 3])
+            for number in (0, 3):
+                with self.assertRaises(spin.NoBinding):
+                    lane.number_before(number)
+            self.assertEqual(lane.raise_event(0, 41), spin.Reply(2, "value", 42, 4))
+            for turn in range(3000):
+                lane.command(0, 3, target=1, handler=1 + turn % 2)
+            lane.renew()
+            for turn in range(3000):
+                lane.command(0, 3, target=1, handler=1 + turn % 2)
+
+    def test_no_renewal_where_a_seat_is_handed_out(self):
+        first, second = self.library.open_lanes(self.SCRIPT, 2)
+        for seat, why in ((first, "taken"), (second, "no such lane")):
+            with self.assertRaisesRegex(spin.Fault, why):
+                seat.renew()
+            self.assertEqual(seat.raise_event(0, 1).kind, "no handler")
+            seat.close()
+
     def test_no_hub_has_no_lanes_or_9(self):
         for lanes in (-1, 0, 9, 256):
             with self.assertRaisesRegex(spin.Fault, "no such lane"):

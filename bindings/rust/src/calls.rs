@@ -52,6 +52,8 @@ unsafe extern "C" {
     fn spin_step(lane: *mut SpinLane, index: u64, step: *mut SpinStep) -> u32;
     fn spin_step_bytes(lane: *mut SpinLane, index: u64, buffer: *mut u8, room: usize, length: *mut u64) -> u32;
     fn spin_command(lane: *mut SpinLane, row: *const [u64; 4], answer: *mut SpinAnswer) -> u32;
+    fn spin_renew(lane: *mut SpinLane, answer: *mut SpinAnswer) -> u32;
+    fn spin_before(lane: *mut SpinLane, index: u64, answer: *mut SpinAnswer) -> u32;
     fn spin_close(lane: *mut SpinLane, answer: *mut SpinAnswer) -> u32;
 }
 
@@ -144,12 +146,14 @@ fn fault_of(number: u32, answer: &SpinAnswer) -> Fault {
     match number {
         1 => Fault::NoMemory,
         2 => Fault::BadScript { line: answer.place, cause: answer.kind },
+        4 => Fault::Closed,
         6 => Fault::NoCommand,
         7 => Fault::Full,
         9 => Fault::NoReply,
         10 => Fault::NoStep,
         13 => Fault::NoLane,
         14 => Fault::Taken,
+        15 => Fault::NoBinding,
         other => Fault::Unknown(other),
     }
 }
@@ -226,6 +230,26 @@ impl Held {
         match unsafe { spin_command(&mut self.lane, &row, &mut answer) } {
             0 => Ok((true, answer)),
             8 => Ok((false, answer)),
+            number => Err(fault_of(number, &answer)),
+        }
+    }
+}
+
+impl Held {
+    pub(crate) fn renew(&mut self) -> Result<(), Fault> {
+        let mut answer = SpinAnswer::default();
+        // SAFETY: the handle is this value's own, and the answer is a value of this function.
+        match unsafe { spin_renew(&mut self.lane, &mut answer) } {
+            0 => Ok(()),
+            number => Err(fault_of(number, &answer)),
+        }
+    }
+
+    pub(crate) fn before(&mut self, index: u64) -> Result<SpinAnswer, Fault> {
+        let mut answer = SpinAnswer::default();
+        // SAFETY: the handle is this value's own, and the answer is a value of this function.
+        match unsafe { spin_before(&mut self.lane, index, &mut answer) } {
+            0 => Ok(answer),
             number => Err(fault_of(number, &answer)),
         }
     }

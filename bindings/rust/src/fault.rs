@@ -16,6 +16,8 @@ pub enum Fault {
         /// The number of the cause.
         cause: u32,
     },
+    /// The lane is closed, since there was no memory for it when its hub was renewed.
+    Closed,
     /// A number of the command has no room in it, or a field is used that its op doesn't use.
     NoCommand,
     /// The log has as many commands as it holds.
@@ -26,8 +28,10 @@ pub enum Fault {
     NoStep,
     /// No hub has so many lanes, or the hub has no such lane.
     NoLane,
-    /// The seat of the lane is taken already.
+    /// The seat of the lane is taken already, or another is, so that the hub isn't renewed.
     Taken,
+    /// The last renewal numbered no such binding, or there was none.
+    NoBinding,
     /// The library answered a number that this crate doesn't know.
     Unknown(u32),
 }
@@ -38,12 +42,14 @@ impl Display for Fault {
             Fault::NoMemory => write!(out, "there was no memory"),
             Fault::BadScript { line: 0, .. } => write!(out, "the script is too large"),
             Fault::BadScript { line, cause } => write!(out, "line {line} is bad: cause {cause}"),
+            Fault::Closed => write!(out, "the lane is closed"),
             Fault::NoCommand => write!(out, "that is no command"),
             Fault::Full => write!(out, "the log is full"),
             Fault::NoReply => write!(out, "no reply is kept"),
             Fault::NoStep => write!(out, "the reply has no such step"),
             Fault::NoLane => write!(out, "there is no such lane"),
             Fault::Taken => write!(out, "the seat is taken"),
+            Fault::NoBinding => write!(out, "no such binding was renewed"),
             Fault::Unknown(number) => write!(out, "the library answered {number}"),
         }
     }

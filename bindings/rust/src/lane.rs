@@ -256,4 +256,16 @@ impl Lane {
         let SpinAnswer { place, kind: number, .. } = answer;
         Ok(if is_accepted { Ok(place) } else { Err(Refusal { number, place }) })
     }
+
+    /// Renews its hub, where this is the seat of lane 0 and no other was taken: it goes on over a new log, so that its
+    /// bindings may change again, and nothing is lost that is bound. The live bindings are numbered anew, from 1 on in the
+    /// order of their numbers. Where no memory is left for the renewed lane, it is closed.
+    pub fn renew(&mut self) -> Result<(), Fault> {
+        self.held.renew()
+    }
+
+    /// Which number the binding of this number had before the last renewal.
+    pub fn number_before(&mut self, number: u64) -> Result<u64, Fault> {
+        Ok(self.held.before(number.wrapping_sub(1))?.value)
+    }
 }

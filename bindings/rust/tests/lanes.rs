@@ -1,6 +1,6 @@
 //! What a lane answers.
 
-use spin::{Answer, Arg, Command, Fault, Lane, Mode, Op, Place, Step};
+use spin::{Answer, Arg, Command, Fault, Hub, Lane, Mode, Op, Place, Step};
 
 const SCRIPT: &[u8] = b"spin 1\nmodules 2\nevent 0 0 w:w last\nhandler 1 w:w result + a0 1\n\
     handler 2 w:w result + a0 2\nhandler 3 -:w result 9\nrule 0 1 1 any any all deny\n";
@@ -95,5 +95,34 @@ fn steps_are_those_of_the_last_raise() -> Result<(), Fault> {
     assert_eq!(lane.steps()?, []);
     assert!(lane.command(&by(0, Op::Remove(9)))?.is_err());
     assert_eq!(lane.step(0), Err(Fault::NoReply));
+    Ok(())
+}
+
+#[test]
+fn a_renewed_hub_goes_on() -> Result<(), Fault> {
+    let mut lane = Lane::open(SCRIPT)?;
+    assert_eq!(lane.number_before(1), Err(Fault::NoBinding));
+    for place in 1..4 {
+        assert_eq!(lane.command(&by(0, install(1)))?, Ok(place));
+    }
+    assert_eq!(lane.command(&by(0, Op::Remove(1)))?, Ok(4));
+    lane.renew()?;
+    assert_eq!((lane.number_before(1)?, lane.number_before(2)?), (2, 3));
+    for number in [0, 3] {
+        assert_eq!(lane.number_before(number), Err(Fault::NoBinding));
+    }
+    assert_eq!(lane.raise(0, &[41])?.place, 2);
+    assert_eq!(lane.command(&by(0, Op::Remove(2)))?, Ok(3));
+    assert_eq!(lane.raise(0, &[41])?.answer, Answer::Value(42));
+    Ok(())
+}
+
+#[test]
+fn no_hub_is_renewed_whose_seats_are_taken() -> Result<(), Fault> {
+    for mut seat in Hub::open(SCRIPT, 2)?.into_seats(2)? {
+        let why = if seat.number() == 0 { Fault::Taken } else { Fault::NoLane };
+        assert_eq!(seat.renew(), Err(why));
+        assert_eq!(seat.raise(0, &[1])?.answer, Answer::NoHandler);
+    }
     Ok(())
 }

@@ -115,7 +115,7 @@ module _ (A B C : RattleType) (a : Ghosts A.Denot) (b : Ghosts B.Denot) (c : Gho
         recorded_send (Lane.the_field A B C a b c).row _ _ (Lane.the_type A B C a b c).to_one
         (struct_send (shape (Lane.the_type A B C a b c)) (
           search (hub_send, hub_sync, crosses, sendable),
-          (search (seat_send, sendable), (kept.the_send, (list.the_send (Option'.the_row Seat.the_row) slot_send, tt))),
+          (search (seat_send, sendable), (kept.the_send, (list.the_send (Option'.the_row Seat.the_row) slot_send, (search (list.the_send, crosses, sendable), tt)))),
         ))
 
 -- the lane that a handle holds may go to another thread

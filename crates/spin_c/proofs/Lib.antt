@@ -5,4 +5,5 @@ pub mod Maybes
 pub mod Opening
 pub mod Sharing
 pub mod Turning
+pub mod Untold
 pub mod Values

@@ -1,29 +1,80 @@
--- The seats of a new hub: the first, and those that wait.
-use Rattle.std.proofs.Common.{◌≡◌, ◌+◌, ℕ, List, [], ◌∷◌, subst}
-use Rattle.std.specs.Prelude.{All, Some, map}
+-- The lane of the first seat of a hub, at which the others wait; and all seats of a hub, from a lane at which they wait.
+use Rattle.std.proofs.Common.{◌≡◌, ◌+◌, ◌<◌, ℕ, List, [], ◌∷◌, arith, refl, sym, ap, subst, inl, inr, length, drop}
+use Rattle.std.specs.Prelude.{All, None, Option, Some, map}
+use Rattle.std.proofs.lemmas.List.{length-map}
 use Rattle.std.proofs.lemmas.List.Elements.{All-head, All-tail}
 use Rattle.atomic_table.specs.Seated.{TableId}
+use Rattle.spin_log.specs.Pens.{LogValue}
+use Rattle.spin_log.proofs.RowLists.{all_cons}
 use Rattle.spin_table.specs.Setups.{SetupData}
-use Rattle.spin_seat.specs.Seats.{SeatValue, AreOfLanes, IsSeatOf}
-use Rattle.spin_c.specs.Waiting.{AreWaiting, IsOf}
+use Rattle.spin_table.specs.States.{State}
+use Rattle.spin_seat.specs.Seats.{SeatValue, AreOfLanes, IsSeatFrom}
+use Rattle.spin_seat.specs.RenewedHubs.{AreAllSeats}
+use Rattle.spin_c.specs.Waiting.{AreWaiting, IsHome, IsWellAt, IsWhole, present}
 
 -- seats of a hub, in the order of its lanes from this one on, wait as they should
-pub all_waiting : (log : TableId) (d : SetupData) (lane : ℕ) (seats : List SeatValue) → All (λ (seat : SeatValue). seat.pen.log ≡ log) seats
-    → All (IsSeatOf d) seats → AreOfLanes lane seats → AreWaiting log d lane (map Some seats)
-all_waiting log d lane [] own whole order = tt
-all_waiting log d lane (seat ∷ seats) own whole order = (
-  ((All-head (λ (s : SeatValue). s.pen.log ≡ log) seat seats own, All-head (IsSeatOf d) seat seats whole), order.0),
-  all_waiting log d (lane + 1) seats (All-tail (λ (s : SeatValue). s.pen.log ≡ log) seat seats own) (All-tail (IsSeatOf d) seat seats whole) order.1,
+all_waiting : (log : TableId) (d : SetupData) (first : State) (lane : ℕ) (seats : List SeatValue) → All (λ (seat : SeatValue). seat.pen.log ≡ log) seats
+    → All (IsSeatFrom d first) seats → AreOfLanes lane seats → AreWaiting log d first lane (map Some seats)
+all_waiting log d first lane [] own whole order = tt
+all_waiting log d first lane (seat ∷ seats) own whole order = (
+  ((All-head (λ (s : SeatValue). s.pen.log ≡ log) seat seats own, All-head (IsSeatFrom d first) seat seats whole), order.0),
+  all_waiting log d first (lane + 1) seats (All-tail (λ (s : SeatValue). s.pen.log ≡ log) seat seats own) (All-tail (IsSeatFrom d first) seat seats whole) order.1,
 )
 
--- the first is one of the hub, and so are the others
-pub first_of : (log : TableId) (d : SetupData) (seats rest : List SeatValue) (seat : SeatValue) → seats ≡ seat ∷ rest
-    → All (λ (s : SeatValue). s.pen.log ≡ log) seats → All (IsSeatOf d) seats → AreOfLanes 0 seats
-    → IsOf log d seat × AreWaiting log d 1 (map Some rest)
-first_of log d seats rest seat first own whole order =
-    let own' = subst (All (λ (s : SeatValue). s.pen.log ≡ log)) first own in
-    let whole' = subst (All (IsSeatOf d)) first whole in
-    let order' = subst (AreOfLanes 0) first order in (
-      (All-head (λ (s : SeatValue). s.pen.log ≡ log) seat rest own', All-head (IsSeatOf d) seat rest whole'),
-      all_waiting log d 1 rest (All-tail (λ (s : SeatValue). s.pen.log ≡ log) seat rest own') (All-tail (IsSeatOf d) seat rest whole') order'.1,
+-- the first is one of the hub, and the others wait at it
+pub laid_well : (d : SetupData) (log : LogValue) (seats rest : List SeatValue) (seat : SeatValue) → seats ≡ seat ∷ rest → AreAllSeats d log seats
+    → IsWellAt log d seat (None ∷ map Some rest)
+laid_well d log seats rest seat is all =
+    let Own = λ (s : SeatValue). s.pen.log ≡ log.id in
+    let From = IsSeatFrom d all.first in
+    let own = subst (All Own) is all.own in
+    let from = subst (All From) is all.seats_are in
+    let order = subst (AreOfLanes 0) is all.order in
+    let head = All-head From seat rest from in
+    let waits = all_waiting log.id d all.first 1 rest (All-tail Own seat rest own) (All-tail From seat rest from) order.1 in (
+      (All-head Own seat rest own, (head.0, refl)),
+      (
+        subst (λ (f : State). AreWaiting log.id d f 1 (map Some rest)) (sym head.1) waits,
+        inr (order.0, (map Some rest, refl, omega (arith, ap length is, all.all, length-map rest (λ (s : SeatValue). Some s)))),
+      ),
     )
+
+-- where all slots have a seat, these are all as they should, and in order
+record AllHome (log : TableId) (d : SetupData) (first : State) (lane : ℕ) (slots : List (Option SeatValue)) : Type 0 where
+  own : All (λ (seat : SeatValue). seat.pen.log ≡ log) (present slots)
+  count : length (present slots) ≡ length slots
+  order : AreOfLanes lane (present slots)
+  from : All (IsSeatFrom d first) (present slots)
+
+all_home : (log : TableId) (d : SetupData) (first : State) (lane : ℕ) (slots : List (Option SeatValue)) → AreWaiting log d first lane slots → All IsHome slots
+    → AllHome log d first lane slots
+all_home log d first lane [] waits home = record { own = λ k x h. absurd (omega (arith, h)); count = refl; order = tt; from = λ k x h. absurd (omega (arith, h)) }
+all_home log d first lane (None ∷ slots) waits home = absurd (All-head IsHome None slots home)
+all_home log d first lane (Some seat ∷ slots) waits home =
+    let more = all_home log d first (lane + 1) slots waits.1 (All-tail IsHome (Some seat) slots home) in record {
+      own = all_cons (λ (s : SeatValue). s.pen.log ≡ log) seat (present slots) waits.0.0.0 more.own;
+      count = omega (arith, more.count);
+      order = (waits.0.1, more.order);
+      from = all_cons (IsSeatFrom d first) seat (present slots) waits.0.0.1 more.from;
+    }
+
+-- a lane's seat and those that wait are all seats of its hub, where none is handed out
+pub home_all : (log : LogValue) (d : SetupData) (seat : SeatValue) (waiting : List (Option SeatValue)) → IsWellAt log d seat waiting → 0 < length waiting
+    → All IsHome (drop 1 waiting) → AreAllSeats d log (seat ∷ present waiting)
+home_all log d seat waiting well some home = go well.1.1
+  where
+    go : IsWhole log.lanes seat waiting → AreAllSeats d log (seat ∷ present waiting)
+    go (inl none) = absurd (omega (arith, some, ap length none))
+    go (inr w) =
+        let others = w.1.0 in
+        let is = w.1.1 in
+        let waits = subst (AreWaiting log.id d seat.first 0) is well.1.0 in
+        let all = all_home log.id d seat.first 1 others waits (subst (λ (ws : List (Option SeatValue)). All IsHome (drop 1 ws)) is home) in
+        subst (λ (ws : List (Option SeatValue)). AreAllSeats d log (seat ∷ present ws)) (sym is) (record {
+          some = omega (arith, w.1.2);
+          own = all_cons (λ (s : SeatValue). s.pen.log ≡ log.id) seat (present others) well.0.0 all.own;
+          all = omega (arith, w.1.2, all.count);
+          order = (w.0, all.order);
+          first = seat.first;
+          seats_are = all_cons (IsSeatFrom d seat.first) seat (present others) well.0.1 all.from;
+        })

@@ -13,10 +13,10 @@ pub record IsShare {A C E : Type 0} {B : A → Type 0} {D : C → Type 0}
     {F : E → Type 0} (l : Lane A C E B D F) (number : ℕ) (after share : Lane A C E B D F) : Type 0 where
   pub waited : slice_get l.waiting number ≡ Some (Some share.seat)
   pub left : after.waiting ≡ slice_set l.waiting number None
-  pub same : (after.hub ≡ l.hub) × (after.seat ≡ l.seat) × (after.reply ≡ l.reply)
+  pub same : (after.hub ≡ l.hub) × (after.seat ≡ l.seat) × (after.reply ≡ l.reply) × (after.before ≡ l.before)
   pub lane : share.seat.pen.lane ≡ number
   pub hub : arc_value share.hub ≡ arc_value l.hub
-  pub fresh : (share.reply ≡ None) × (share.waiting ≡ [])
+  pub fresh : (share.reply ≡ None) × (share.waiting ≡ []) × (share.before ≡ [])
 
 -- why none is handed out: the handle has no such lane, its seat is handed out, or there was no memory
 abbrev pub IsNoShare : List (Option SeatValue) → ℕ → Outcome → Type 0

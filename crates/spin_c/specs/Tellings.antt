@@ -38,9 +38,11 @@ code_of outcome.NoStep = 10
 code_of outcome.NoArgument = 12
 code_of outcome.NoLane = 13
 code_of outcome.Taken = 14
+code_of outcome.NoBinding = 15
 code_of (outcome.Raised place told) = 0
 code_of (outcome.Step found) = 0
 code_of (outcome.Bytes bytes) = 0
+code_of (outcome.Before number) = 0
 
 -- the number of the refusal, and 0 where the command is accepted
 abbrev pub verdict_kind : Verdicted → ℕ
@@ -54,6 +56,7 @@ answer_of (outcome.Judged judged) =
     record { place = judged.place; kind = verdict_kind judged.verdict; value = 0; steps = 0 }
 answer_of (outcome.Raised place told) =
     record { place = place; kind = told.kind; value = told.value; steps = told.steps }
+answer_of (outcome.Before number) = record { place = 0; kind = 0; value = number; steps = 0 }
 answer_of other = record { place = 0; kind = 0; value = 0; steps = 0 }
 
 -- The call does so, or there was no memory for it and the handle is as it was; and what it comes to is told.

@@ -2,7 +2,7 @@
 use Rattle.std.specs.Prelude.{◌≡◌, ◌≢◌, ◌<◌, ◌⊎◌, ℕ, List, Option, None, Some, Result, Ok, Err, length, ⊤}
 use Rattle.std.specs.Arc.{arc_value}
 use Rattle.spin_word.specs.declared.command.Command.{Command}
-use Rattle.spin_word.specs.declared.command.TheConstants.{MAX_LANES, MAX_PLACE}
+use Rattle.spin_word.specs.declared.command.TheConstants.{MAX_LANES}
 use Rattle.spin_word.specs.declared.row.Row.{Row}
 use Rattle.spin_word.specs.declared.work.Deed.TheVariants as deed
 use Rattle.spin_word.specs.Rows.{StandsFor, StandsForNone, lane_of}
@@ -13,7 +13,9 @@ use Rattle.spin_script.specs.Language.{IsScript}
 use Rattle.spin_script.specs.Scripts.{IsBad}
 use Rattle.spin_script.specs.States.{NativeData, ScriptData}
 use Rattle.spin_script.specs.declared.script.ScriptFault.TheVariants as fault
-use Rattle.spin_seat.specs.Calls.{Gives, AddsAtMostAPin, ReadsOn, reply_answer, verdict_answer}
+use Rattle.spin_seat.specs.declared.answer.SeatFault.TheVariants as seat_fault
+use Rattle.spin_seat.specs.Calls.{GivesFrom, AddsAtMostAPin, IsFaultAt, ReadsOn, reply_answer, verdict_answer}
+use Rattle.spin_c.specs.Renewing.{RenewsTo, number_before}
 use Rattle.spin_c.specs.Trails.{IsHanded, IsTold, step_at, told_of}
 use Rattle.spin_c.specs.Verdicts.{no_natives}
 use Rattle.spin_c.specs.Waiting.{IsStarted, KeepsHub}
@@ -63,7 +65,7 @@ pub record IsRaised {A C E : Type 0} {B : A → Type 0} {D : C → Type 0}
     (args : List Value) (after : Lane A C E B D F) (place : ℕ) (told : Told) : Type 0 where
   pub reply : Reply
   pub kept : after.reply ≡ Some reply
-  pub gives : Gives (data_of (arc_value l.hub).setup) l.seat.pen
+  pub gives : GivesFrom (data_of (arc_value l.hub).setup) l.seat.first l.seat.pen
       (reply_answer l.seat.pen.lane (deed.Raise event args) place reply) after.seat.pen
   pub told_is : told ≡ told_of reply
 
@@ -82,19 +84,19 @@ abbrev pub Commands : {A C E : Type 0} {B : A → Type 0} {D : C → Type 0} {F 
     → Lane A C E B D F → Row → Lane A C E B D F → Outcome → Type 0
 Commands l row after (outcome.Judged judged) =
     KeepsHub l after × ((c : Command) × StandsFor row c
-    × Gives (data_of (arc_value l.hub).setup) l.seat.pen
+    × GivesFrom (data_of (arc_value l.hub).setup) l.seat.first l.seat.pen
     (verdict_answer l.seat.pen.lane c judged.place judged.verdict) after.seat.pen) × (after.reply ≡ None)
 Commands l row after outcome.NoCommand = (after ≡ l) × (StandsForNone row ⊎ (lane_of row ≢ l.seat.pen.lane))
 Commands l row after outcome.Full =
-    KeepsHub l after × ReadsOn l.seat.pen after.seat.pen × (length after.seat.pen.front ≡ MAX_PLACE)
-    × (after.reply ≡ None)
+    KeepsHub l after × ReadsOn l.seat.pen after.seat.pen
+    × IsFaultAt l.seat.first.place (length after.seat.pen.front) seat_fault.Full × (after.reply ≡ None)
 Commands l row after outcome.NoMemory =
     KeepsHub l after × ReadsOn l.seat.pen after.seat.pen × (after.reply ≡ None)
 Commands l row after other = ⊥
 
 -- ---- a call
 
--- what is asked of an open lane does this, but for a close
+-- what is asked of an open lane does this, but for a renewal and a close
 abbrev pub Does : {A C E : Type 0} {B : A → Type 0} {D : C → Type 0} {F : E → Type 0}
     → Lane A C E B D F → Ask → Lane A C E B D F → Outcome → Type 0
 Does l (ask.Open text lanes) after told = (after ≡ l) × (told ≡ outcome.Open)
@@ -102,6 +104,8 @@ Does l (ask.Raise event args) after told = Raises l event args after told
 Does l (ask.Command row) after told = Commands l row after told
 Does l (ask.Step index) after told = (after ≡ l) × IsTold (step_at l.reply index) told
 Does l (ask.Bytes index) after told = (after ≡ l) × IsHanded (step_at l.reply index) told
+Does l (ask.Before index) after told = (after ≡ l) × (told ≡ number_before l.before index)
+Does l ask.Renew after told = (after ≡ l) × (told ≡ outcome.Done)
 Does l ask.Close after told = (after ≡ l) × (told ≡ outcome.Done)
 
 -- a closed handle can only be opened
@@ -110,10 +114,11 @@ abbrev pub DoesClosed : {A C E : Type 0} {B : A → Type 0} {D : C → Type 0} {
 DoesClosed natives (ask.Open text lanes) after told = OpensTo natives text lanes after told
 DoesClosed natives other after told = (after ≡ None) × (told ≡ outcome.Closed)
 
--- an open handle stays open until it is closed
+-- an open handle stays open until it is closed, or no memory is left to renew its hub
 abbrev pub DoesOpen : {A C E : Type 0} {B : A → Type 0} {D : C → Type 0} {F : E → Type 0}
     → Lane A C E B D F → Ask → Option (Lane A C E B D F) → Outcome → Type 0
 DoesOpen l ask.Close after told = (after ≡ None) × (told ≡ outcome.Done)
+DoesOpen l ask.Renew after told = RenewsTo l after told
 DoesOpen l asked None told = ⊥
 DoesOpen l asked (Some after) told = Does l asked after told
 

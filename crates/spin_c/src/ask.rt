@@ -29,6 +29,10 @@ pub enum Ask {
     Step(u64),
     /// To hand out the bytes of the step at this index of the reply that is kept.
     Bytes(u64),
+    /// To tell the number that a binding had before the hub was renewed, which is now this index and 1.
+    Before(u64),
+    /// To renew its hub.
+    Renew,
     /// To close it.
     Close,
 }
@@ -91,6 +95,10 @@ pub enum Outcome {
     NoLane,
     /// The seat of the lane is handed out already.
     Taken,
+    /// No binding of that number was renewed.
+    NoBinding,
+    /// The number that a binding had.
+    Before(u16),
     /// The verdict on a command.
     Judged(Judged),
     /// The reply to a raise.

@@ -11,7 +11,7 @@ use crate::lane::{Lane, Waiting};
 use crate::loose::Loose;
 use crate::maybe::Maybe;
 use spin_seat::{Seat, Seats};
-use spin_values::NoMemory;
+use spin_values::{NoMemory, Numbers};
 use std::alloc::Global;
 use std::mem;
 use std::sync::Arc;
@@ -82,6 +82,7 @@ fn hand_out(alloc: Global, lane: &mut Lane, number: u8) -> Result<Box<Lane>, Out
         seat,
         reply,
         waiting,
+        before: Numbers::new(alloc),
     };
     match Box::new(alloc, share) {
         Ok(share) => Ok(share),

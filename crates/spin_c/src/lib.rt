@@ -5,6 +5,7 @@
 //!   the handle, over [`maybe`] and [`loose`]:
 //!   pointers that own a box, or may be null;
 //! - [`ask`] is what is asked of a handle and what it comes to, [`turn`] does it, and [`asking`] asks;
+//! - [`renewing`] renews the hub of a lane;
 //! - [`row`] is a command as it is handed in, and [`given`] the arguments of a raise;
 //! - [`trail`] tells a reply in numbers, and its steps one by one as a [`step`]; [`told`] tells whatever else a call
 //!   comes to, and [`copying`] copies bytes into a buffer.
@@ -29,6 +30,7 @@ mod kept;
 mod lane;
 mod loose;
 mod maybe;
+mod renewing;
 mod row;
 mod step;
 mod told;
@@ -214,6 +216,34 @@ pub extern "C" fn spin_command(
     ensures { TellsOf lane.old.kept (asked.Command (row_from row.now)) lane.new.kept result answer.new }
 {
     ask_of(alloc, lane, Ask::Command(row_from(row)), answer)
+}
+
+/// Renews the hub of a handle with which it was opened, and at which the seats of all its other lanes wait: it goes on
+/// over a new log, with room for 4,096 commands less one for each live binding, and nothing is lost that is bound. The
+/// live bindings are numbered anew, from 1 on in the order of their numbers; [`spin_before`] tells what they were. No
+/// reply is kept then. It answers 0 where it is renewed; 1 where there was no memory, and where there was none to put
+/// the lane back the handle is closed; 4 where the handle is closed, 7 where 4,096 bindings are live, 13 where the
+/// handle's seat was handed out by another, and 14 where another handle has a seat of the hub.
+#[unsafe(no_mangle)]
+pub extern "C" fn spin_renew(alloc: Global, lane: &mut SpinLane, answer: &mut SpinAnswer) -> u32
+    ensures { TellsOf lane.old.kept asked.Renew lane.new.kept result answer.new }
+{
+    ask_of(alloc, lane, Ask::Renew, answer)
+}
+
+/// Tells as the value which number the binding had before the last renewal that is now this index and 1. It answers 0
+/// where there is one, 1 where there was no memory, 4 where the handle is closed, and 15 where the last renewal numbered
+/// no such binding, or there was none.
+#[unsafe(no_mangle)]
+pub extern "C" fn spin_before(
+    alloc: Global,
+    lane: &mut SpinLane,
+    index: u64,
+    answer: &mut SpinAnswer,
+) -> u32
+    ensures { TellsOf lane.old.kept (asked.Before index) lane.new.kept result answer.new }
+{
+    ask_of(alloc, lane, Ask::Before(index), answer)
 }
 
 /// Closes a handle. It answers 0 where it was open and is closed now, 1 where there was no memory for the call, and 4

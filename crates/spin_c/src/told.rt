@@ -106,7 +106,7 @@ pub(crate) fn code_of(outcome: &Outcome) -> u32
 {
     match outcome {
         Outcome::Done | Outcome::Raised { .. } => 0,
-        Outcome::Step(_) | Outcome::Bytes(_) => 0,
+        Outcome::Step(_) | Outcome::Bytes(_) | Outcome::Before(_) => 0,
         Outcome::NoMemory => 1,
         Outcome::Bad { .. } => 2,
         Outcome::Closed => 4,
@@ -119,6 +119,7 @@ pub(crate) fn code_of(outcome: &Outcome) -> u32
         Outcome::NoArgument => 12,
         Outcome::NoLane => 13,
         Outcome::Taken => 14,
+        Outcome::NoBinding => 15,
     }
 }
 
@@ -132,6 +133,7 @@ pub(crate) fn answer_of(outcome: &Outcome) -> SpinAnswer
         Outcome::Raised { place, told } => {
             (u32::from(*place), told.kind, told.value, told.steps)
         }
+        Outcome::Before(number) => (0, 0, u64::from(*number), 0),
         _ => (0, 0, 0, 0),
     };
     SpinAnswer {

@@ -8,21 +8,19 @@ ghost use Rattle.spin_c.specs.Waiting.{IsWell, IsWellLane, IsStarted};
 ghost use Rattle.spin_c.specs.Turns.{Opens, OpensTo, Raises, Commands, Does, Turns};
 
 use crate::ask::{Ask, Call, Outcome};
-use crate::handing::waiting_of;
-use crate::kept::Kept;
 use crate::lane::Lane;
 use crate::loose::Loose;
 use crate::maybe::Maybe;
+use crate::renewing::{before, lane_of, renew_boxed};
 use crate::trail::{hand_bytes, tell_step};
 use spin_code::Sincere;
 use spin_objects::{Catalogue, Natives};
 use spin_script::{Script, ScriptFault, read_script};
 use spin_seat::{Hub, SeatFault};
 use spin_table::Setup;
-use spin_values::{Args, NoMemory};
+use spin_values::{Args, NoMemory, Numbers};
 use spin_word::{Deed, MAX_LANES, Row, unpack};
 use std::alloc::Global;
-use std::sync::Arc;
 
 // A lane over the setup, at its start: that of the first seat, at which the others wait.
 fn start(alloc: Global, setup: Setup, lanes: u8) -> Result<Lane, NoMemory>
@@ -32,19 +30,9 @@ fn start(alloc: Global, setup: Setup, lanes: u8) -> Result<Lane, NoMemory>
     ensures started { IfOk result (λ l. IsStarted lanes l) }
     ensures well { IfOk result (λ l. IsWellLane l) }
 {
-    let (hub, mut seats) = Hub::new(alloc, setup, lanes)?;
-    let Some(seat) = seats.take_first() else {
-        unreachable!()
-    };
-    let waiting = waiting_of(alloc, seats)?;
-    let hub = Arc::new(alloc, hub)?;
-    let reply = Kept::new(alloc);
-    Ok(Lane {
-        hub,
-        seat,
-        reply,
-        waiting,
-    })
+    let (hub, seats) = Hub::new(alloc, setup, lanes)?;
+    let lane = lane_of(alloc, hub, seats, Numbers::new(alloc))?;
+    Ok(lane)
 }
 
 // A lane over the script, at its start.
@@ -104,7 +92,7 @@ fn command(alloc: Global, lane: &mut Lane, row: &Row) -> Outcome
     }
 }
 
-// Does what is asked of an open lane, which only a close closes.
+// Does what is asked of an open lane that stays where it is.
 fn turn_lane(alloc: Global, lane: &mut Lane, ask: Ask) -> Outcome
     requires sincere { ⟦<Catalogue as Sincere>⟧.sincere (arc_value lane.old.hub).setup.catalogue }
     requires well { IsWellLane lane.old }
@@ -117,7 +105,8 @@ fn turn_lane(alloc: Global, lane: &mut Lane, ask: Ask) -> Outcome
         Ask::Command(row) => command(alloc, lane, &row),
         Ask::Step(index) => tell_step(&lane.reply, index),
         Ask::Bytes(index) => hand_bytes(alloc, &lane.reply, index),
-        Ask::Close => Outcome::Done,
+        Ask::Before(index) => before(&lane.before, index),
+        Ask::Renew | Ask::Close => Outcome::Done,
     }
 }
 
@@ -156,6 +145,9 @@ pub(crate) fn turn_maybe(maybe: Maybe<Lane>, natives: Natives, call: Call) -> (M
     let mut lane = loose.into_box();
     if let Ask::Close = ask {
         return (Maybe::none(alloc), Outcome::Done);
+    }
+    if let Ask::Renew = ask {
+        return renew_boxed(alloc, lane);
     }
     let outcome = turn_lane(alloc, &mut lane, ask);
     (Maybe::of(Loose::of(lane)), outcome)

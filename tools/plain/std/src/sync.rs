@@ -15,6 +15,11 @@ impl<T> Arc<T> {
         Ok(Arc(std::sync::Arc::new(value)))
     }
 
+    /// The object, where this is its one owner.
+    pub fn try_unwrap(owner: Arc<T>) -> Result<T, Arc<T>> {
+        std::sync::Arc::try_unwrap(owner.0).map_err(Arc)
+    }
+
     /// One owner more.
     pub fn try_clone(owner: &Arc<T>) -> Result<Arc<T>, AllocError> {
         Ok(Arc(owner.0.clone()))
@@ -49,5 +54,8 @@ mod tests {
         let other = Arc::try_clone(&one).unwrap();
         one.store(7, atomic::Ordering::SeqCst);
         assert_eq!(other.load(atomic::Ordering::SeqCst), 7);
+        let one = Arc::try_unwrap(one).unwrap_err();
+        drop(other);
+        assert_eq!(Arc::try_unwrap(one).unwrap().into_inner(), 7);
     }
 }

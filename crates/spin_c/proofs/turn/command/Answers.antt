@@ -13,24 +13,32 @@ command-requires-clause-seat g c = rw c.deref.ensures c.requires.well.0.1.0
 pub returns-in-Ok-clause-well : goal.returns-in-Ok-clause-well
 returns-in-Ok-clause-well g c =
     let hub = arc_value c.args.lane.now.hub in
-    stays_well hub.log.id (data_of hub.setup) c.args.lane.now.waiting c.args.lane.now.seat c.command.new.self c.requires.well c.command.ensures.same
+    stays_well hub.log (data_of hub.setup) c.args.lane.now.waiting c.args.lane.now.seat c.command.new.self c.requires.well c.command.ensures.same
     (rw c.deref.ensures at c.command.ensures.seat) c.command.ensures.first
 
 pub returns-in-Ok-clause-commands : goal.returns-in-Ok-clause-commands
 returns-in-Ok-clause-commands g c = (
-  (refl, refl),
-  (c.in-Some.command, c.in-Some.ensures.command, rw c.requires.well.0.1.1 at (rw c.deref.ensures at c.in-Ok.ensures.answer)),
+  (refl, c.command.ensures.first, refl, refl),
+  (c.in-Some.command, c.in-Some.ensures.command, rw c.deref.ensures at c.in-Ok.ensures.answer),
   c.forget.ensures,
 )
 
 pub returns-in-Err-Full-clause-well : goal.returns-in-Err-Full-clause-well
 returns-in-Err-Full-clause-well g c =
     let hub = arc_value c.args.lane.now.hub in
-    stays_well hub.log.id (data_of hub.setup) c.args.lane.now.waiting c.args.lane.now.seat c.command.new.self c.requires.well c.command.ensures.same
+    stays_well hub.log (data_of hub.setup) c.args.lane.now.waiting c.args.lane.now.seat c.command.new.self c.requires.well c.command.ensures.same
     (rw c.deref.ensures at c.command.ensures.seat) c.command.ensures.first
 
 pub returns-in-Err-NoMemory-clause-well : goal.returns-in-Err-NoMemory-clause-well
 returns-in-Err-NoMemory-clause-well g c =
     let hub = arc_value c.args.lane.now.hub in
-    stays_well hub.log.id (data_of hub.setup) c.args.lane.now.waiting c.args.lane.now.seat c.command.new.self c.requires.well c.command.ensures.same
+    stays_well hub.log (data_of hub.setup) c.args.lane.now.waiting c.args.lane.now.seat c.command.new.self c.requires.well c.command.ensures.same
     (rw c.deref.ensures at c.command.ensures.seat) c.command.ensures.first
+
+pub returns-in-Err-Full-clause-commands : goal.returns-in-Err-Full-clause-commands
+returns-in-Err-Full-clause-commands g c = (
+  (refl, c.command.ensures.first, refl, refl),
+  c.in-Err-Full.ensures.read,
+  rw c.in-Err-Full.field-0-is at c.in-Err-Full.ensures.fault,
+  c.forget.ensures,
+)

@@ -7,16 +7,16 @@ use Rattle.spin_c.proofs.turn.raise.Goals as goal
 pub returns-in-Ok-clause-well : goal.returns-in-Ok-clause-well
 returns-in-Ok-clause-well g c =
     let hub = arc_value c.args.lane.now.hub in
-    stays_well hub.log.id (data_of hub.setup) c.args.lane.now.waiting c.args.lane.now.seat c.raise.new.seat c.requires.well c.raise.ensures.same
+    stays_well hub.log (data_of hub.setup) c.args.lane.now.waiting c.args.lane.now.seat c.raise.new.seat c.requires.well c.raise.ensures.same
     (rw c.deref.ensures at c.raise.ensures.seat) c.raise.ensures.first
 
 pub returns-in-Ok-clause-raises : goal.returns-in-Ok-clause-raises
 returns-in-Ok-clause-raises g c = (
-  (refl, refl),
+  (refl, c.raise.ensures.first, refl, refl),
   record {
     reply = c.in-Ok.ensures.answer.0;
     kept = c.in-Ok.ensures.answer.1;
-    gives = rw c.requires.well.0.1.1 at (rw c.deref.ensures at c.in-Ok.ensures.answer.3);
+    gives = rw c.deref.ensures at c.in-Ok.ensures.answer.3;
     told_is = c.in-Ok.ensures.answer.2;
   },
 )

@@ -1,12 +1,22 @@
 use Rattle.spin_table.specs.SetupOf.{data_of}
-use Rattle.spin_c.proofs.Opening.{first_of}
+use Rattle.spin_seat.proofs.SeatPairs.{new_are_all}
 use Rattle.spin_c.proofs.turn.start.Goals as goal
 
-pub returns-clause-well : goal.returns-clause-well
-returns-clause-well g c =
+pub lane_of-requires : goal.lane_of-requires
+lane_of-requires g c =
     let hub = c.in_ok-hub.hub in
-    let seats = c.in_ok-hub.seats in
-    rw c.in_ok-hub-2.ensures.ok
-    (rw c.in_ok-waiting.ensures
-    (first_of hub.log.id (data_of hub.setup) seats c.take_first.new.self c.in-Some.seat c.in-Some.ensures c.in_ok-hub.ensures.own
-    (rw c.in_ok-hub.ensures.setup c.in_ok-hub.ensures.seats) c.in_ok-hub.ensures.order))
+    let made = c.in_ok-hub.ensures in
+    record {
+      all = new_are_all (data_of hub.setup) hub.log c.in_ok-hub.seats c.args.lanes c.requires.some made.lanes made.own made.all made.order (rw made.setup made.seats);
+    }
+
+pub returns-clause-started : goal.returns-clause-started
+returns-clause-started g c =
+    let made = c.in_ok-hub.ensures in
+    let lane = c.in_ok-lane.ensures in
+    record {
+      seats = c.in_ok-hub.seats;
+      laid = rw c.new-2.ensures at lane.laid;
+      pens = rw lane.hub made.pens;
+      first = rw lane.hub (rw made.setup (λ k seat within. (made.seats k seat within).1));
+    }
