@@ -240,7 +240,15 @@ impl Lane {
         for frame in records {
             part += 1;
             let args = Args::of_bytes(alloc, frame)?;
-            self.answer_deed(alloc, hub, line, part, Deed::Raise { event, args }, gate, buffer)?;
+            self.answer_deed(
+                alloc,
+                hub,
+                line,
+                part,
+                Deed::Raise { event, args },
+                gate,
+                buffer,
+            )?;
         }
         Ok(())
     }
