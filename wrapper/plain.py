@@ -126,13 +126,19 @@ def host():
     return OUT / "target" / "debug" / HOST.name
 
 
-def library_for_c():
-    """The static library whose calls are for C, which cargo builds of the sources as Rust."""
+def library_for_c(sanitiser=None):
+    """The static library whose calls are for C, which cargo builds of the sources as Rust; where a sanitiser of rustc's
+    is named, with its code in all but Rust's own library."""
+    target, variables = OUT / "target", {}
+    if sanitiser:
+        target = OUT / f"target_{sanitiser}"
+        flags = f"-Zsanitizer={sanitiser} -Cunsafe-allow-abi-mismatch=sanitizer"
+        variables = {"RUSTC_BOOTSTRAP": "1", "RUSTFLAGS": flags}
     with locked():
         write_sources()
-        words = ["--quiet", "--offline", "--target-dir", str(OUT / "target"), "--release", "--package", "spin_c"]
-        call(["cargo", "build", *words])
-    return OUT / "target" / "release" / "libspin_c.a"
+        words = ["--quiet", "--offline", "--target-dir", str(target), "--release", "--package", "spin_c"]
+        call(["cargo", "build", *words], **variables)
+    return target / "release" / "libspin_c.a"
 
 
 def by_rustc(erase):
@@ -144,12 +150,13 @@ def by_rustc(erase):
     return target / "spin_main"
 
 
-def call(words):
+def call(words, **variables):
     """Makes a call of a compiler; what it can't build ends the process, with what it says of the sources."""
     import re
     import subprocess
 
-    ran = subprocess.run(words, cwd=OUT / "work", stdin=subprocess.DEVNULL, capture_output=True, text=True)
+    how = {"cwd": OUT / "work", "stdin": subprocess.DEVNULL, "capture_output": True, "text": True}
+    ran = subprocess.run(words, env={**os.environ, **variables}, **how)
     if ran.returncode:
         sys.stderr.write(re.sub(r"(crates/\w+/src/[\w/]+)\.rs\b", r"\1.rt", ran.stderr)[:20_000])
         tell(f"{words[0]} can't build the plain program, for what is told above; it wants Rust 1.85 or later, and a linker")
