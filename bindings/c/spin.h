@@ -40,14 +40,16 @@ enum spin_error {
     SPIN_NO_LANE = 13,     /* no hub has so many lanes; or the handle has no such lane to hand out, or none to renew */
     SPIN_TAKEN = 14,       /* the seat of the lane is handed out already; or some seat is, so the hub isn't renewed */
     SPIN_NO_BINDING = 15,  /* the last renewal numbered no such binding, or there was none */
+    SPIN_BAD_CAPTURE = 16, /* the bytes are refused as a capture: the record, and the number of the fault, are told */
     SPIN_NULL = 100,       /* a pointer is null that may not be */
     SPIN_SAME = 101        /* one handle is handed in as two */
 };
 
-/* Where a text is no script, and why; zeros where nothing is told. */
+/* Where a text is no script, or a capture is refused, and why; zeros where nothing is told. */
 struct spin_fault {
-    uint32_t line;  /* the first bad line, counted from 1; 0 where the text is too large */
-    uint32_t cause; /* the number of the cause, as docs/FORMATS.md has them */
+    uint32_t line;  /* the first bad line, counted from 1; 0 where the text is too large. Of a capture that is refused
+                       its record, counted from 1; 0 where it is the header */
+    uint32_t cause; /* the number of the cause, or of the capture's fault, as docs/FORMATS.md has them */
 };
 
 /* A handle: a seat of a hub over a script; closed where it is {NULL}. A hub has a seat for each lane, and each seat is
@@ -108,6 +110,9 @@ struct spin_row {
 uint32_t spin_version(void);
 uint32_t spin_check(const uint8_t *text, size_t text_length, const uint8_t *report, size_t report_length,
                     const uint8_t *standing, size_t standing_length, struct spin_fault *fault);
+uint32_t spin_check_packets(const uint8_t *text, size_t text_length, const uint8_t *packets, size_t packets_length,
+                            const uint8_t *report, size_t report_length, const uint8_t *standing,
+                            size_t standing_length, struct spin_fault *fault);
 
 uint32_t spin_open(const uint8_t *text, size_t text_length, struct spin_lane *lane, struct spin_answer *answer);
 uint32_t spin_open_lanes(const uint8_t *text, size_t text_length, uint8_t lanes, struct spin_lane *lane,
@@ -139,6 +144,20 @@ static inline uint32_t spin_judge(const void *text, size_t text_length, const vo
         return SPIN_NULL;
     }
     return spin_check(texts[0], text_length, texts[1], report_length, texts[2], standing_length, fault);
+}
+
+/* Whether a report is that of one legal history of a script with a capture, which is handed in as its bytes, and else
+ * as spin_judge. SPIN_BAD_CAPTURE says that it is refused; the script is one then. */
+static inline uint32_t spin_judge_packets(const void *text, size_t text_length, const void *packets,
+                                          size_t packets_length, const void *report, size_t report_length,
+                                          const void *standing, size_t standing_length, struct spin_fault *fault) {
+    const uint8_t *texts[4] = {spin_bytes(text, text_length), spin_bytes(packets, packets_length),
+                               spin_bytes(report, report_length), spin_bytes(standing, standing_length)};
+    if (texts[0] == NULL || texts[1] == NULL || texts[2] == NULL || texts[3] == NULL || fault == NULL) {
+        return SPIN_NULL;
+    }
+    return spin_check_packets(texts[0], text_length, texts[1], packets_length, texts[2], report_length, texts[3],
+                              standing_length, fault);
 }
 
 /* Opens a closed handle over a script: what it declares, with nothing bound. */
@@ -332,6 +351,7 @@ static inline const char *spin_error_name(uint32_t error) {
     case SPIN_NO_LANE: return "no such lane";
     case SPIN_TAKEN: return "the seat is taken";
     case SPIN_NO_BINDING: return "no such binding was renewed";
+    case SPIN_BAD_CAPTURE: return "no capture";
     case SPIN_NULL: return "null";
     case SPIN_SAME: return "one handle twice";
     default: return "unknown";

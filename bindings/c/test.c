@@ -1,4 +1,5 @@
-/* What the calls of a handle answer, and spin.h's own code: null pointers, and the names of errors. */
+/* test [EXAMPLES]: what the calls of a handle answer, what a report is judged to be beside the capture of the examples,
+ * and spin.h's own code: null pointers, and the names of errors. */
 #include "spin.h"
 
 #include <stdio.h>
@@ -270,7 +271,49 @@ static void expect_renewals(void) {
     expect("a close", spin_lane_close(&lane, &answer), SPIN_OK);
 }
 
-int main(void) {
+/* A file of the examples. */
+struct file {
+    char at[4096];
+    size_t length;
+};
+
+static struct file read_example(const char *examples, const char *name) {
+    struct file file = {.length = 0};
+    char path[1024];
+    snprintf(path, sizeof path, "%s/%s", examples, name);
+    FILE *from = fopen(path, "rb");
+    if (from != NULL) {
+        file.length = fread(file.at, 1, sizeof file.at, from);
+        fclose(from);
+    }
+    return file;
+}
+
+/* What a report is judged to be beside a capture. */
+static void expect_packets(const char *examples) {
+    const struct file script = read_example(examples, "packets.spin");
+    const struct file packets = read_example(examples, "packets.pcap");
+    const struct file report = read_example(examples, "packets.report");
+    const char *text = script.at, *capture = packets.at, *told = report.at;
+    const size_t s = script.length, p = packets.length, r = report.length;
+    struct spin_fault fault = {9, 9};
+    expect("a history with its capture", spin_judge_packets(text, s, capture, p, told, r, "out0", 4, &fault), SPIN_OK);
+    expect("it without an endpoint", spin_judge_packets(text, s, capture, p, told, r, NULL, 0, &fault),
+           SPIN_NO_HISTORY);
+    expect("it without its capture", spin_judge(text, s, told, r, "out0", 4, &fault), SPIN_NO_HISTORY);
+    expect("it with a capture that is cut", spin_judge_packets(text, s, capture, p - 1, told, r, "out0", 4, &fault),
+           SPIN_NO_HISTORY);
+    expect("no script", spin_judge_packets("spin 1\nevent\n", 13, NULL, 0, told, r, NULL, 0, &fault), SPIN_BAD_SCRIPT);
+    expect("a null capture", spin_judge_packets(text, s, NULL, p, told, r, "out0", 4, &fault), SPIN_NULL);
+    expect("an empty capture", spin_judge_packets(text, s, NULL, 0, told, r, "out0", 4, &fault), SPIN_BAD_CAPTURE);
+    if (fault.line != 0 || fault.cause != 5) {
+        printf("the bad capture is told as record %u, fault %u\n", fault.line, fault.cause);
+        wrong = 1;
+    }
+}
+
+int main(int count, char **words) {
+    expect_packets(count > 1 ? words[1] : "../examples");
     expect_lanes();
     expect_seats();
     expect_renewals();

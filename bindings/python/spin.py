@@ -15,14 +15,14 @@ from dataclasses import dataclass
 from os import PathLike, fspath
 
 __all__ = [
-    *("BadScript", "Fault", "KINDS", "Lane", "Library", "NoBinding", "NoMemory", "NoStep", "REFUSALS", "Refused"),
-    *("Reply", "STEPS", "Step"),
+    *("BadCapture", "BadScript", "Fault", "KINDS", "Lane", "Library", "NoBinding", "NoMemory", "NoStep", "REFUSALS"),
+    *("Refused", "Reply", "STEPS", "Step"),
 ]
 
 # The numbers that the calls answer, as bindings/c/spin.h has them.
 _OK, _NO_MEMORY, _BAD_SCRIPT, _NO_HISTORY, _CLOSED, _OPEN, _NO_COMMAND, _FULL, _REFUSED = range(9)
 _NO_REPLY, _NO_STEP = 9, 10
-_NO_LANE, _TAKEN, _NO_BINDING = 13, 14, 15
+_NO_LANE, _TAKEN, _NO_BINDING, _BAD_CAPTURE = 13, 14, 15, 16
 
 # The kinds of replies to a raise, by number.
 KINDS = (
@@ -55,6 +55,14 @@ class Fault(Exception):
 
 class NoMemory(Fault):
     """There was no memory."""
+
+
+class BadCapture(Fault):
+    """The bytes are refused as a capture: at which record, counted from 1, or 0 for its header, and why."""
+
+    def __init__(self, record: int, fault: int) -> None:
+        super().__init__(f"record {record} is bad: fault {fault}")
+        self.record, self.fault = record, fault
 
 
 class BadScript(Fault):
@@ -283,7 +291,8 @@ class Library:
         text = [ctypes.c_char_p, ctypes.c_size_t]
         calls.spin_version.argtypes, calls.spin_version.restype = [], ctypes.c_uint32
         calls.spin_check.argtypes = [*text, *text, *text, ctypes.POINTER(_SpinFault)]
-        calls.spin_check.restype = ctypes.c_uint32
+        calls.spin_check_packets.argtypes = [*text, *calls.spin_check.argtypes]
+        calls.spin_check.restype = calls.spin_check_packets.restype = ctypes.c_uint32
         one = [ctypes.POINTER(_SpinLane)]
         told = [ctypes.POINTER(_SpinAnswer)]
         words = ctypes.POINTER(ctypes.c_uint64)
@@ -320,17 +329,24 @@ class Library:
         """The version of the calls. It grows where one of them is changed."""
         return self._calls.spin_version()
 
-    def judge(self, script: bytes, report: bytes, standing: Iterable[str] = ()) -> bool:
-        """Whether the report is that of one legal history of the script, which is run without a capture, `standing`
-        being the names of the endpoints that stood. A name that has a blank is that of no endpoint."""
+    def judge(
+        self, script: bytes, report: bytes, standing: Iterable[str] = (), packets: bytes | None = None
+    ) -> bool:
+        """Whether the report is that of one legal history of the script, with the capture that these packets are the
+        bytes of, or without one, `standing` being the names of the endpoints that stood. A name that has a blank is
+        that of no endpoint."""
         names = " ".join(name for name in standing if not set(name) & set(" \t")).encode()
-        texts = [it for text in (bytes(script), bytes(report), names) for it in (text, len(text))]
+        given = [bytes(script), *([] if packets is None else [bytes(packets)]), bytes(report), names]
+        texts = [it for text in given for it in (text, len(text))]
         fault = _SpinFault()
-        number = self._calls.spin_check(*texts, ctypes.byref(fault))
+        check = self._calls.spin_check if packets is None else self._calls.spin_check_packets
+        number = check(*texts, ctypes.byref(fault))
         if number == _NO_MEMORY:
             raise NoMemory("there was no memory")
         if number == _BAD_SCRIPT:
             raise BadScript(fault.line, fault.cause)
+        if number == _BAD_CAPTURE:
+            raise BadCapture(fault.line, fault.cause)
         if number not in (_OK, _NO_HISTORY):
             raise Fault(f"the library answered {number}")
         return number == _OK

@@ -2,6 +2,7 @@
 Run by `python3 -m unittest` in this folder."""
 
 import os
+import sys
 import threading
 import unittest
 from pathlib import Path
@@ -9,6 +10,9 @@ from pathlib import Path
 import spin
 
 TOP = Path(__file__).resolve().parent.parent.parent
+sys.path.append(str(TOP / "cases"))
+import made  # the captures of the worked cases
+
 CASES = TOP / "cases" / "check_reports"
 SCRIPT = b"spin 1\nevent 0 0 -:w last\nhandler 1 -:w result 7\nlane 0 install 0 0 1 0 free plain\nlane 0 raise 0\n"
 REPORT = b"report 1\nsegment 0 at 0\n1 0 4 install ok\n1 0 5 raise run 0 1 result 7 = value 7\nend 1\n"
@@ -17,12 +21,16 @@ STANDING = ("out0", "out1", "out2", "out3", "echo")
 
 
 def judged_cases():
-    """The worked cases of reports that are judged without a capture: the name, the script, the report, the answer."""
+    """The worked cases of reports that are judged: the name, the script, the report, the capture or none, the answer. A
+    report that isn't there counts only behind a bad script or capture."""
+    captures = dict(made.captures())
     for words in sorted(CASES.glob("*.args")):
-        case = CASES / words.stem
-        report = CASES / words.read_text().split()[0] if words.read_text().split() else None
-        if len(words.read_text().split()) == 1 and report.is_file():
-            yield case.name, case.read_bytes(), report.read_bytes(), (CASES / f"{case.name}.stdout").read_text()
+        case, named = CASES / words.stem, words.read_text().split()
+        answer = (CASES / f"{case.name}.stdout").read_text()
+        if len(named) in (1, 2) and not answer.startswith("stop 6"):
+            report = CASES / named[0]
+            text = report.read_bytes() if report.is_file() else b""
+            yield case.name, case.read_bytes(), text, captures[named[1]] if named[1:] else None, answer
 
 
 class Judging(unittest.TestCase):
@@ -31,10 +39,12 @@ class Judging(unittest.TestCase):
     def setUp(self):
         self.library = spin.Library(os.environ["SPIN_LIBRARY"])
 
-    def told(self, script, report):
+    def told(self, script, report, packets):
         """The answer in the words of the program."""
         try:
-            return "yes\n" if self.library.judge(script, report, STANDING) else "no\n"
+            return "yes\n" if self.library.judge(script, report, STANDING, packets) else "no\n"
+        except spin.BadCapture as bad:
+            return f"stop 3 record {bad.record} fault {bad.fault}\n"
         except spin.BadScript as fault:
             return f"stop 2 line {fault.line} cause {fault.cause}\n"
 
@@ -44,16 +54,18 @@ class Judging(unittest.TestCase):
     def test_worked_cases(self):
         cases = list(judged_cases())
         self.assertGreater(len(cases), 30)
-        for name, script, report, answer in cases:
+        for name, script, report, packets, answer in cases:
             with self.subTest(name):
-                self.assertEqual(self.told(script, report), answer)
+                self.assertEqual(self.told(script, report, packets), answer)
 
     def test_examples(self):
         for report in sorted((TOP / "examples").glob("*.report")):
             script = report.with_suffix(".spin")
-            if not report.with_suffix(".pcap").exists() and b"native" not in script.read_bytes():
+            capture = report.with_suffix(".pcap")
+            packets = capture.read_bytes() if capture.exists() else None
+            if b"native" not in script.read_bytes():
                 with self.subTest(report.stem):
-                    self.assertTrue(self.library.judge(script.read_bytes(), report.read_bytes(), STANDING))
+                    self.assertTrue(self.library.judge(script.read_bytes(), report.read_bytes(), STANDING, packets))
 
     def test_each_byte_counts(self):
         for at in range(len(REPORT)):
@@ -65,6 +77,16 @@ class Judging(unittest.TestCase):
             self.library.judge(b"spin 1\nevent\n", REPORT)
         self.assertEqual((told.exception.line, told.exception.cause), (2, 11))
         self.assertEqual(str(told.exception), "line 2 is bad: cause 11")
+
+    def test_captures(self):
+        names = ("packets.spin", "packets.report", "packets.pcap")
+        script, report, packets = ((TOP / "examples" / name).read_bytes() for name in names)
+        self.assertFalse(self.library.judge(script, report, STANDING))
+        self.assertFalse(self.library.judge(script, report, STANDING, packets[:-1]))
+        with self.assertRaises(spin.BadCapture) as told:
+            self.library.judge(script, report, STANDING, b"")
+        self.assertEqual((told.exception.record, told.exception.fault), (0, 5))
+        self.assertEqual(str(told.exception), "record 0 is bad: fault 5")
 
     def test_empty_texts(self):
         self.assertFalse(self.library.judge(SCRIPT, b""))

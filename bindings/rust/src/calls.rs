@@ -4,7 +4,7 @@ use crate::fault::Fault;
 use std::ffi::c_void;
 use std::ptr::null_mut;
 
-/// Where a text is no script, and why.
+/// Where a text is no script, or a capture is refused, and why.
 #[repr(C)]
 #[derive(Default)]
 struct SpinFault {
@@ -18,6 +18,17 @@ unsafe extern "C" {
     fn spin_check(
         text: *const u8,
         text_length: usize,
+        report: *const u8,
+        report_length: usize,
+        standing: *const u8,
+        standing_length: usize,
+        fault: *mut SpinFault,
+    ) -> u32;
+    fn spin_check_packets(
+        text: *const u8,
+        text_length: usize,
+        packets: *const u8,
+        packets_length: usize,
         report: *const u8,
         report_length: usize,
         standing: *const u8,
@@ -76,11 +87,35 @@ pub(crate) fn check(text: &[u8], report: &[u8], standing: &[u8]) -> Result<bool,
             &mut fault,
         )
     };
+    verdict_of(number, &fault)
+}
+
+pub(crate) fn check_packets(text: &[u8], packets: &[u8], report: &[u8], standing: &[u8]) -> Result<bool, Fault> {
+    let mut fault = SpinFault::default();
+    // SAFETY: as above.
+    let number = unsafe {
+        spin_check_packets(
+            text.as_ptr(),
+            text.len(),
+            packets.as_ptr(),
+            packets.len(),
+            report.as_ptr(),
+            report.len(),
+            standing.as_ptr(),
+            standing.len(),
+            &mut fault,
+        )
+    };
+    verdict_of(number, &fault)
+}
+
+fn verdict_of(number: u32, fault: &SpinFault) -> Result<bool, Fault> {
     match number {
         0 => Ok(true),
         3 => Ok(false),
         1 => Err(Fault::NoMemory),
         2 => Err(Fault::BadScript { line: fault.line, cause: fault.cause }),
+        16 => Err(Fault::BadCapture { record: fault.line, fault: fault.cause }),
         other => Err(Fault::Unknown(other)),
     }
 }

@@ -32,6 +32,13 @@ pub enum Fault {
     Taken,
     /// The last renewal numbered no such binding, or there was none.
     NoBinding,
+    /// The bytes are refused as a capture.
+    BadCapture {
+        /// The record, counted from 1; 0 where it is the header.
+        record: u32,
+        /// The number of the fault.
+        fault: u32,
+    },
     /// The library answered a number that this crate doesn't know.
     Unknown(u32),
 }
@@ -50,6 +57,7 @@ impl Display for Fault {
             Fault::NoLane => write!(out, "there is no such lane"),
             Fault::Taken => write!(out, "the seat is taken"),
             Fault::NoBinding => write!(out, "no such binding was renewed"),
+            Fault::BadCapture { record, fault } => write!(out, "record {record} is bad: fault {fault}"),
             Fault::Unknown(number) => write!(out, "the library answered {number}"),
         }
     }

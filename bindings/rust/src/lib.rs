@@ -30,6 +30,17 @@ pub fn version() -> u32 {
 /// Whether the report is that of one legal history of the script, which is run without a capture, `standing` being the
 /// names of the endpoints that stood. A name that is empty or has a blank is that of no endpoint.
 pub fn judge(script: &[u8], report: &[u8], standing: &[&str]) -> Result<bool, Fault> {
+    calls::check(script, report, names_of(standing).as_bytes())
+}
+
+/// Whether the report is that of one legal history of the script with a capture, which these packets are the bytes of;
+/// and else as [`judge`].
+pub fn judge_packets(script: &[u8], packets: &[u8], report: &[u8], standing: &[&str]) -> Result<bool, Fault> {
+    calls::check_packets(script, packets, report, names_of(standing).as_bytes())
+}
+
+/// The names that may be those of endpoints, with blanks between them.
+fn names_of(standing: &[&str]) -> String {
     let names: Vec<&str> = standing.iter().copied().filter(|name| !name.contains([' ', '\t'])).collect();
-    calls::check(script, report, names.join(" ").as_bytes())
+    names.join(" ")
 }

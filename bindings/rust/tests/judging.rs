@@ -1,6 +1,6 @@
 //! What the safe calls make of the proved ones.
 
-use spin::{Fault, judge, version};
+use spin::{Fault, judge, judge_packets, version};
 
 const SCRIPT: &[u8] =
     b"spin 1\nevent 0 0 -:w last\nhandler 1 -:w result 7\nlane 0 install 0 0 1 0 free plain\nlane 0 raise 0\n";
@@ -41,4 +41,23 @@ fn empty_texts_are_no_script_and_no_report() {
 #[test]
 fn names_with_blanks_are_those_of_no_endpoint() {
     assert_eq!(judge(SCRIPT, REPORT, &["", "out0 out1", "out2"]), Ok(true));
+}
+
+const FILTER: &[u8] = include_bytes!("../../../examples/packets.spin");
+const PACKETS: &[u8] = include_bytes!("../../../examples/packets.pcap");
+const FILTERED: &[u8] = include_bytes!("../../../examples/packets.report");
+
+#[test]
+fn a_report_is_that_of_its_script_and_capture() {
+    assert_eq!(judge_packets(FILTER, PACKETS, FILTERED, &["out0"]), Ok(true));
+    assert_eq!(judge_packets(FILTER, &PACKETS[..PACKETS.len() - 1], FILTERED, &["out0"]), Ok(false));
+    assert_eq!(judge(FILTER, FILTERED, &["out0"]), Ok(false));
+}
+
+#[test]
+fn a_capture_that_is_refused_is_told_with_its_record_and_fault() {
+    let fault = judge_packets(FILTER, b"", FILTERED, &["out0"]).unwrap_err();
+    assert_eq!(fault, Fault::BadCapture { record: 0, fault: 5 });
+    assert_eq!(fault.to_string(), "record 0 is bad: fault 5");
+    assert_eq!(judge_packets(b"", b"", b"", &[]), Err(Fault::BadScript { line: 1, cause: 3 }));
 }

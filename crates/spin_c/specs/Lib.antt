@@ -2,6 +2,7 @@ pub mod Given
 pub mod Kept
 pub mod Lanes
 pub mod Owned
+pub mod Packets
 pub mod Renewing
 pub mod Shares
 pub mod Tellings

@@ -1,11 +1,13 @@
 -- What a report is judged to be, and by which numbers that is told.
-use Rattle.std.specs.Prelude.{ℕ, Bool, true, false, List, [], None, Ok, Decides, ⊤}
+use Rattle.std.specs.Prelude.{ℕ, Bool, true, false, List, [], Option, Ok, Decides, ⊤}
 use Rattle.spin_endpoint.specs.Named.{NamedEnd}
+use Rattle.spin_report.specs.Runs.{Captured}
 use Rattle.spin_script.specs.Language.{IsScript}
 use Rattle.spin_script.specs.Scripts.{IsBad}
 use Rattle.spin_script.specs.States.{NativeData, ScriptData}
 use Rattle.spin_script.specs.declared.script.ScriptFault.TheVariants as fault
 use Rattle.spin_check.specs.RunTexts.{IsRunText, StandAs}
+use Rattle.spin_c.specs.Packets.{AreCaptured, AreRefused}
 use Rattle.spin_c.specs.declared.told.SpinFault.{SpinFault}
 use Rattle.spin_c.specs.declared.verdict.Verdict.{Verdict}
 use Rattle.spin_c.specs.declared.verdict.Verdict.TheVariants as verdict
@@ -14,21 +16,31 @@ use Rattle.spin_c.specs.declared.verdict.Verdict.TheVariants as verdict
 abbrev pub no_natives : NativeData
 no_natives = record { handlers = []; guards = []; authorisers = [] }
 
--- The text is that of a script; and of any endpoints, where just those of the script stand that have these names, it is
--- decided whether the report is that of one legal history of the script, without a capture.
-pub record IsJudged (natives : NativeData) (text : List ℕ) (names : List (List ℕ)) (report : List ℕ) (yes : Bool)
-    : Type 0 where
+-- The text is that of a script, and the capture, where one is handed in, a good one; and of any endpoints, where just
+-- those of the script stand that have these names, it is decided whether the report is that of one legal history of the
+-- script with that capture.
+pub record IsJudged (natives : NativeData) (text : List ℕ) (packets : Option (List ℕ)) (names : List (List ℕ))
+    (report : List ℕ) (yes : Bool) : Type 0 where
   pub script : ScriptData
   pub read : IsScript natives text (Ok script)
+  pub capture : Option Captured
+  pub captured : AreCaptured packets capture
   pub judged : (ends : List NamedEnd) → StandAs script.endpoints names ends
-      → Decides yes (IsRunText script None ends report)
+      → Decides yes (IsRunText script capture ends report)
+
+-- The text is that of a script, and the capture is refused at that record by that fault.
+pub record IsUnread (natives : NativeData) (text : List ℕ) (packets : Option (List ℕ)) (at fault : ℕ) : Type 0 where
+  pub script : ScriptData
+  pub read : IsScript natives text (Ok script)
+  pub refused : AreRefused packets at fault
 
 -- What a verdict says; want of memory comes at any time.
-abbrev pub IsVerdict : NativeData → List ℕ → List (List ℕ) → List ℕ → Verdict → Type 0
-IsVerdict natives text names report verdict.History = IsJudged natives text names report true
-IsVerdict natives text names report verdict.NoHistory = IsJudged natives text names report false
-IsVerdict natives text names report (verdict.Bad line cause) = IsBad natives text (fault.Bad line cause)
-IsVerdict natives text names report verdict.NoMemory = ⊤
+abbrev pub IsVerdict : NativeData → List ℕ → Option (List ℕ) → List (List ℕ) → List ℕ → Verdict → Type 0
+IsVerdict natives text packets names report verdict.History = IsJudged natives text packets names report true
+IsVerdict natives text packets names report verdict.NoHistory = IsJudged natives text packets names report false
+IsVerdict natives text packets names report (verdict.Bad line cause) = IsBad natives text (fault.Bad line cause)
+IsVerdict natives text packets names report (verdict.BadCapture at fault) = IsUnread natives text packets at fault
+IsVerdict natives text packets names report verdict.NoMemory = ⊤
 
 -- the number that a verdict is told by
 abbrev pub number_of : Verdict → ℕ
@@ -36,8 +48,10 @@ number_of verdict.History = 0
 number_of verdict.NoMemory = 1
 number_of (verdict.Bad line cause) = 2
 number_of verdict.NoHistory = 3
+number_of (verdict.BadCapture at fault) = 16
 
--- where the script is bad, and why
+-- where the script is bad, or the capture, and why
 abbrev pub fault_of : Verdict → SpinFault
 fault_of (verdict.Bad line cause) = record { line = line; cause = cause }
+fault_of (verdict.BadCapture at fault) = record { line = at; cause = fault }
 fault_of other = record { line = 0; cause = 0 }

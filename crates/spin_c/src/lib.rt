@@ -1,6 +1,6 @@
 //! The dispatcher for hosts that aren't Rattle: the calls that `bindings/c/spin.h` declares.
 //!
-//! - [`verdict`] has what a report is judged to be, and [`judge`] judges it;
+//! - [`verdict`] has what a report is judged to be, [`judge`] judges it, and [`packets`] reads a capture beside it;
 //! - [`lane`] is what a handle holds, a seat with its hub, [`handing`] hands the seats of other lanes out, and [`handle`] is
 //!   the handle, over [`maybe`] and [`loose`]:
 //!   pointers that own a box, or may be null;
@@ -11,7 +11,7 @@
 //!   comes to, and [`copying`] copies bytes into a buffer.
 #![tactic(auto)]
 
-ghost use Rattle.std.specs.Prelude.{◌≡◌, map};
+ghost use Rattle.std.specs.Prelude.{◌≡◌, None, Some, map};
 ghost use Rattle.spin_values.specs.declared.values.Value.TheVariants as value;
 ghost use Rattle.spin_grammar.specs.Words.{words};
 ghost use Rattle.spin_c.specs.declared.verdict.Verdict.{Verdict as VerdictValue};
@@ -30,6 +30,7 @@ mod kept;
 mod lane;
 mod loose;
 mod maybe;
+mod packets;
 mod renewing;
 mod row;
 mod step;
@@ -75,10 +76,39 @@ pub extern "C" fn spin_check(
     fault: &mut SpinFault,
 ) -> u32
     ensures { (verdict : VerdictValue)
-        × IsVerdict no_natives text.now (words standing.now) report.now verdict
+        × IsVerdict no_natives text.now None (words standing.now) report.now verdict
         × (result ≡ number_of verdict) × (fault.new ≡ fault_of verdict) }
 {
-    let verdict = judge(alloc, Natives::new(alloc), text, report, standing);
+    let verdict = judge(alloc, Natives::new(alloc), text, None, report, standing);
+    *fault = fault_of(&verdict);
+    number_of(&verdict)
+}
+
+/// Judges as [`spin_check`] does whether a text is the report of one legal history of a script, with the capture that
+/// these bytes are. It answers as `spin_check`, and 16 where the first text is a script and the bytes are refused as a
+/// capture: it tells then at which record, counted from 1, or 0 for the header, and by which fault. Bytes behind the
+/// records that are no whole record are no reason to refuse them.
+#[unsafe(no_mangle)]
+pub extern "C" fn spin_check_packets(
+    alloc: Global,
+    text: &[u8],
+    packets: &[u8],
+    report: &[u8],
+    standing: &[u8],
+    fault: &mut SpinFault,
+) -> u32
+    ensures { (verdict : VerdictValue)
+        × IsVerdict no_natives text.now (Some packets.now) (words standing.now) report.now verdict
+        × (result ≡ number_of verdict) × (fault.new ≡ fault_of verdict) }
+{
+    let verdict = judge(
+        alloc,
+        Natives::new(alloc),
+        text,
+        Some(packets),
+        report,
+        standing,
+    );
     *fault = fault_of(&verdict);
     number_of(&verdict)
 }

@@ -11,17 +11,18 @@ use crate::trail::blank;
 use crate::verdict::Verdict;
 use spin_table::{Refusal, Verdicted};
 
-/// Where a text is no script, and why; zeros where nothing is told.
+/// Where a text is no script, or a capture is refused, and why; zeros where nothing is told.
 #[repr(C)]
 #[derive(Clone, Copy, PartialEq, Eq, Debug)]
 pub struct SpinFault {
-    /// The first bad line, counted from 1; 0 where the text is too large.
+    /// The first bad line, counted from 1; 0 where the text is too large. Of a capture that is refused its record,
+    /// counted from 1; 0 where it is the header.
     pub line: u32,
-    /// The number of the cause, from 1.
+    /// The number of the cause, or of the capture's fault, from 1.
     pub cause: u32,
 }
 
-// Where the script is bad, and why.
+// Where the script is bad, or the capture, and why.
 pub(crate) fn fault_of(verdict: &Verdict) -> SpinFault
     ensures { result ≡ fault_of verdict.now }
 {
@@ -29,6 +30,10 @@ pub(crate) fn fault_of(verdict: &Verdict) -> SpinFault
         Verdict::Bad { line, cause } => SpinFault {
             line: *line,
             cause: u32::from(*cause),
+        },
+        Verdict::BadCapture { number, fault } => SpinFault {
+            line: *number,
+            cause: u32::from(*fault),
         },
         _ => SpinFault { line: 0, cause: 0 },
     }
@@ -43,6 +48,7 @@ pub(crate) fn number_of(verdict: &Verdict) -> u32
         Verdict::NoMemory => 1,
         Verdict::Bad { .. } => 2,
         Verdict::NoHistory => 3,
+        Verdict::BadCapture { .. } => 16,
     }
 }
 

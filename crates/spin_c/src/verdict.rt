@@ -14,6 +14,13 @@ pub enum Verdict {
         /// The number of the cause.
         cause: u8,
     },
+    /// The capture that is handed in is refused.
+    BadCapture {
+        /// The number of the record, counted from 1; 0 where it is the header.
+        number: u32,
+        /// The number of the fault.
+        fault: u8,
+    },
     /// There was no memory.
     NoMemory,
 }

@@ -1,4 +1,5 @@
 use Rattle.std.proofs.Common.{subst}
+use Rattle.std.specs.Prelude.{None}
 use Rattle.spin_grammar.specs.Words.{words}
 use Rattle.spin_script.specs.States.{NativeData}
 use Rattle.spin_c.specs.Verdicts.{IsVerdict}
@@ -7,7 +8,7 @@ use Rattle.spin_c.proofs.spin_check.Goals as goal
 pub returns : goal.returns
 returns c = (
   c.judge-verdict.result,
-  subst (λ (n : NativeData). IsVerdict n c.args.text.now (words c.args.standing.now) c.args.report.now c.judge-verdict.result)
+  subst (λ (n : NativeData). IsVerdict n c.args.text.now None (words c.args.standing.now) c.args.report.now c.judge-verdict.result)
       (λ i. record { handlers = c.new.ensures.handlers i; guards = c.new.ensures.guards i; authorisers = c.new.ensures.authorisers i })
       c.judge-verdict.ensures,
   c.number_of.ensures,
