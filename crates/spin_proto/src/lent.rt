@@ -15,6 +15,7 @@ ghost use Rattle.spin_proto.specs.Inner.Walks.{OnBounds};
 use crate::deed::{JobCall, JobCalls};
 use crate::reply::{Reply, Step, Trace};
 use crate::rising::raise_event;
+use crate::view::{LentReply, ReplyView};
 use crate::walk::Walk;
 use crate::whole::{path, refusal};
 use spin_code::Sincere;
@@ -96,6 +97,22 @@ impl ReplyBuffer {
             Ending::Ran(_) => self.walk.jobs.as_slice(),
             Ending::Other(reply) => reply.jobs(),
         }
+    }
+
+    /// The reply, lent.
+    #[inline]
+    pub fn view(&self) -> ReplyView<'_>
+        ensures { result ≡ self.now }
+    {
+        let lent = match &self.ending {
+            Ending::Ran(answer) => LentReply::Ran {
+                answer: *answer,
+                trace: self.walk.trace.as_slice(),
+                jobs: self.walk.jobs.as_slice(),
+            },
+            Ending::Other(reply) => LentReply::Whole(reply),
+        };
+        ReplyView { lent }
     }
 
     /// The reply, which takes no memory.

@@ -1,7 +1,7 @@
 //! A raise with its raises upwards, and the work of jobs, each on one version.
 //!
 //! - a [`Deed`] is what is asked, a raise or a raise that is left to a job, and a [`JobCall`] what a job is to do;
-//! - a [`Reply`] is what it comes to: the answer, the steps and the calls of jobs;
+//! - a [`Reply`] is what it comes to: the answer, the steps and the calls of jobs; a [`ReplyView`] is one that is lent;
 //! - [`path`] does deeds and [`job_path`] the calls of jobs, over `rising`, which goes from handler to handler and up,
 //!   and `walk`, which notes the steps and counts the handlers.
 #![tactic(auto)]
@@ -13,6 +13,7 @@ mod lent;
 mod limits;
 mod reply;
 mod rising;
+mod view;
 mod walk;
 mod whole;
 
@@ -23,4 +24,5 @@ pub use lent::{ReplyBuffer, path_into};
 pub use limits::limits_are_stated;
 pub use reply::{MAX_RUNS, Reply, Step, Trace};
 pub use spin_word::Deed;
+pub use view::{LentReply, ReplyView};
 pub use whole::path;

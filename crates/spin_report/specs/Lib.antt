@@ -1,5 +1,6 @@
 pub mod Verdicts
 pub mod Replies
+pub mod Views
 pub mod Lines
 pub mod Histories
 pub mod Legal

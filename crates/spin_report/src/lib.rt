@@ -1,6 +1,7 @@
 //! The report of a run: the line of each entry of a history, and of each job.
 //!
 //! - `entry` is an entry of a history: where it stands, what was asked, and what it answered;
+//! - `view` is an entry that is lent;
 //! - `records` are those of a capture that a line takes;
 //! - `verdict` writes what became of a command, and `reply` what a deed or a job came to;
 //! - `words` appends words, and `text` whole lines;
@@ -13,6 +14,7 @@ mod records;
 mod reply;
 mod text;
 mod verdict;
+mod view;
 mod words;
 
 pub use entry::{Entries, Entry, Moment, What};
@@ -20,5 +22,6 @@ pub use law::{one_history, report_tells};
 pub use records::{records_wanted, split_records};
 pub use reply::reply_text;
 pub use text::{
-    CaptureCounts, end_text, entry_text, job_text, lost_text, retire_text, segment_text,
+    CaptureCounts, end_text, entry_text, job_text, lost_text, retire_text, segment_text, view_text,
 };
+pub use view::{EntryView, LentWhat, WhatView};

@@ -1,13 +1,13 @@
 //! The words of what a deed or a job came to.
 
-ghost use Rattle.std.specs.Prelude.{◌≡◌, ◌++◌, ◌∷◌, [], decimal, take, length, OnOk, OnErr};
+ghost use Rattle.std.specs.Prelude.{◌≡◌, ◌++◌, ◌∷◌, [], decimal, codes, take, length, OnOk, OnErr};
 ghost use Rattle.std.specs.List.{flat_map};
 ghost use Rattle.spin_text.specs.Words.{spaced};
 ghost use Rattle.spin_report.specs.Replies.{answer_words, fault_word, step_words, reply_words};
 
 use crate::words::{add_number, add_word};
 use spin_headers::HeaderFault;
-use spin_proto::{Reply, Step};
+use spin_proto::{LentReply, Reply, ReplyView, Step};
 use spin_raise::Answer;
 use spin_values::{NoMemory, Octets};
 
@@ -98,6 +98,18 @@ fn put_trace(out: &mut Octets, trace: &[Step]) -> Result<(), NoMemory>
     Ok(())
 }
 
+// Appends the steps of a deed or a job that was done, and its answer.
+#[tactic(auto, using(crate::proofs::Kept::kept_same, crate::proofs::Kept::kept_more, crate::proofs::Kept::kept_on))]
+fn put_ran(out: &mut Octets, trace: &[Step], answer: Answer) -> Result<(), NoMemory>
+    ensures ok { OnOk result (out.new
+        ≡ out.old ++ spaced (flat_map step_words trace.now ++ (codes "=" ∷ answer_words answer))) }
+    ensures err { OnErr result (take (length out.old) out.new ≡ out.old) }
+{
+    put_trace(out, trace)?;
+    out.extend_from_slice(b" =")?;
+    put_answer(out, answer)
+}
+
 // Appends what a deed or a job came to.
 #[tactic(auto, using(crate::proofs::Kept::kept_same, crate::proofs::Kept::kept_more, crate::proofs::Kept::kept_on))]
 pub(crate) fn put_reply(out: &mut Octets, reply: &Reply) -> Result<(), NoMemory>
@@ -105,15 +117,23 @@ pub(crate) fn put_reply(out: &mut Octets, reply: &Reply) -> Result<(), NoMemory>
     ensures err { OnErr result (take (length out.old) out.new ≡ out.old) }
 {
     match reply {
-        Reply::Ran { answer, trace, .. } => {
-            put_trace(out, trace.as_slice())?;
-            out.extend_from_slice(b" =")?;
-            put_answer(out, *answer)
-        }
+        Reply::Ran { answer, trace, .. } => put_ran(out, trace.as_slice(), *answer),
         Reply::Queued(_) => out.extend_from_slice(b" queued"),
         Reply::UnknownEvent => out.extend_from_slice(b" refused 1 unknown_event"),
         Reply::WrongArgs => out.extend_from_slice(b" refused 2 wrong_args"),
         Reply::Spent => out.extend_from_slice(b" refused 3 spent"),
+    }
+}
+
+// Appends what a deed came to whose reply is lent.
+#[tactic(auto, using(crate::proofs::Kept::kept_same, crate::proofs::Kept::kept_more, crate::proofs::Kept::kept_on))]
+pub(crate) fn put_reply_view(out: &mut Octets, reply: &ReplyView<'_>) -> Result<(), NoMemory>
+    ensures ok { OnOk result (out.new ≡ out.old ++ spaced (reply_words reply.now)) }
+    ensures err { OnErr result (take (length out.old) out.new ≡ out.old) }
+{
+    match &reply.lent {
+        LentReply::Ran { answer, trace, .. } => put_ran(out, trace, *answer),
+        LentReply::Whole(reply) => put_reply(out, reply),
     }
 }
 

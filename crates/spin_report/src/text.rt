@@ -5,9 +5,10 @@ ghost use Rattle.spin_text.specs.Words.{spaced, line_of, ended};
 ghost use Rattle.spin_report.specs.Lines.{line_word, what_words, entry_line, job_line, job_seen};
 ghost use Rattle.spin_report.specs.Histories.{retire_line, segment_line, lost_line, capture_words, end_line};
 
-use crate::entry::{Entry, What};
-use crate::reply::put_reply;
+use crate::entry::Entry;
+use crate::reply::{put_reply, put_reply_view};
 use crate::verdict::put_verdict;
+use crate::view::{EntryView, LentWhat, WhatView};
 use crate::words::{add_number, add_word};
 use spin_proto::{Job, Reply};
 use spin_script::op_word;
@@ -53,32 +54,32 @@ fn put_line_word(out: &mut Octets, line: u32, part: u32) -> Result<(), NoMemory>
 }
 
 #[tactic(auto, using(crate::proofs::Kept::kept_same, crate::proofs::Kept::kept_more, crate::proofs::Kept::kept_on))]
-fn put_what(out: &mut Octets, part: u32, what: &What) -> Result<(), NoMemory>
+fn put_what(out: &mut Octets, part: u32, what: &WhatView<'_>) -> Result<(), NoMemory>
     ensures ok { OnOk result (out.new ≡ out.old ++ spaced (what_words part what.now)) }
     ensures err { OnErr result (take (length out.old) out.new ≡ out.old) }
 {
-    match what {
-        What::Command(command, verdict) => {
+    match &what.lent {
+        LentWhat::Command(command, verdict) => {
             add_word(out, op_word(command.op))?;
             put_verdict(out, verdict)
         }
-        What::Deed(Deed::Later { .. }, reply) => {
+        LentWhat::Deed(Deed::Later { .. }, reply) => {
             out.extend_from_slice(b" later")?;
-            put_reply(out, reply)
+            put_reply_view(out, reply)
         }
-        What::Deed(Deed::Raise { .. }, reply) => {
+        LentWhat::Deed(Deed::Raise { .. }, reply) => {
             if part == 0 {
                 out.extend_from_slice(b" raise")?;
             } else {
                 out.extend_from_slice(b" packet")?;
             }
-            put_reply(out, reply)
+            put_reply_view(out, reply)
         }
     }
 }
 
 #[tactic(auto, using(crate::proofs::Kept::kept_same, crate::proofs::Kept::kept_more, crate::proofs::Kept::kept_on))]
-fn put_entry(out: &mut Octets, entry: &Entry) -> Result<(), NoMemory>
+fn put_entry(out: &mut Octets, entry: &EntryView<'_>) -> Result<(), NoMemory>
     ensures ok { OnOk result (out.new ≡ out.old ++ entry_line entry.now) }
     ensures err { OnErr result (take (length out.old) out.new ≡ out.old) }
 {
@@ -90,7 +91,7 @@ fn put_entry(out: &mut Octets, entry: &Entry) -> Result<(), NoMemory>
 
 // Appends the line of an entry, with its end.
 #[tactic(auto, using(crate::proofs::Kept::kept_same, crate::proofs::Kept::kept_more, crate::proofs::Kept::kept_on))]
-fn put_entry_line(out: &mut Octets, entry: &Entry) -> Result<(), NoMemory>
+fn put_entry_line(out: &mut Octets, entry: &EntryView<'_>) -> Result<(), NoMemory>
     ensures ok { OnOk result (out.new ≡ out.old ++ ended (entry_line entry.now)) }
     ensures err { OnErr result (take (length out.old) out.new ≡ out.old) }
 {
@@ -226,6 +227,15 @@ pub fn end_text(
 /// part of a packet line is followed by a dot and the part. After want of memory `out` is unchanged.
 /// It takes time linear in the line's length and in the steps of the entry's reply.
 pub fn entry_text(entry: &Entry, out: &mut Octets) -> Result<(), NoMemory>
+    ensures ok { OnOk result (out.new ≡ out.old ++ ended (entry_line entry.now)) }
+    ensures err { OnErr result (out.new ≡ out.old) }
+{
+    view_text(&entry.view(), out)
+}
+
+/// Appends the line of an entry that is lent: the same as [`entry_text`] appends of the entry. After want of memory
+/// `out` is unchanged. It takes time linear in the line's length and in the steps of the entry's reply.
+pub fn view_text(entry: &EntryView<'_>, out: &mut Octets) -> Result<(), NoMemory>
     ensures ok { OnOk result (out.new ≡ out.old ++ ended (entry_line entry.now)) }
     ensures err { OnErr result (out.new ≡ out.old) }
 {
