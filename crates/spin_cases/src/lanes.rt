@@ -17,10 +17,9 @@ use spin_code::Sincere;
 use spin_log::Rows;
 use spin_objects::Catalogue;
 use spin_outside::OpenGate;
-use spin_report::What;
-use spin_run::{Frames, Lane, Lanes, run_lanes};
+use spin_run::{Frames, Kind, Lane, Lanes, run_lanes};
 use spin_script::{Line, Lines, Segment};
-use spin_seat::{Hub, Seats, Verdicted};
+use spin_seat::{Hub, Seats};
 use spin_values::{NoMemory, Numbers};
 use spin_word::{Work, pack};
 use std::alloc::Global;
@@ -102,11 +101,8 @@ fn run_over<R: Threads + Sync>(
 
 // The place of the lane's one entry, where that is its install, which was accepted.
 fn installed_at(lane: &Lane) -> Option<u16> {
-    match lane.trail.as_slice() {
-        [entry] => match &entry.what {
-            What::Command(_, Verdicted::Accepted) => Some(entry.place),
-            _ => None,
-        },
+    match lane.trail.marks.as_slice() {
+        [mark] if matches!(mark.kind, Kind::Accepted) => Some(mark.place),
         _ => None,
     }
 }

@@ -21,7 +21,8 @@ use Rattle.spin_report.specs.declared.entry.What.TheVariants as what
 use Rattle.spin_report.specs.Asked.{asked_by}
 use Rattle.spin_report.specs.Legal.{Answers}
 use Rattle.spin_report.specs.Segments.{is_accepted}
-use Rattle.spin_run.specs.Summaries.{is_run, is_send, is_refused, steps_of}
+use Rattle.spin_report.specs.Views.{answer_steps}
+use Rattle.spin_run.specs.Summaries.{is_run, is_send, is_refused}
 use Rattle.spin_counts.proofs.RaiseCounts.{runs_of}
 use Rattle.spin_counts.proofs.WordSetups.{IsWordEvent, IsWordHandler, IsWordGuard, HasWords}
 use Rattle.spin_counts.proofs.InstallVerdicts.{install_of}
@@ -40,8 +41,8 @@ abbrev pub tally_of : What → Tally
 tally_of w = record {
   accepted = cond (is_accepted w) 1 0;
   refused = cond (is_refused w) 1 0;
-  runs = count_by is_run (steps_of w);
-  sends = count_by is_send (steps_of w);
+  runs = count_by is_run (answer_steps w);
+  sends = count_by is_send (answer_steps w);
 }
 
 abbrev tally : ℕ → ℕ → ℕ → Tally

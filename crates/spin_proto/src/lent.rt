@@ -1,6 +1,6 @@
 //! What a deed comes to, into a buffer that is lent.
 
-ghost use Rattle.std.specs.Prelude.{◌≡◌, ◌<◌, [], length, OnOk, IfOk};
+ghost use Rattle.std.specs.Prelude.{◌≡◌, ◌<◌, [], length, OnOk};
 ghost use Rattle.std.specs.List.{All};
 ghost use Rattle.spin_table.specs.SetupOf.{data_of};
 ghost use Rattle.spin_table.specs.Soundness.{IsSound};
@@ -12,8 +12,8 @@ ghost use Rattle.spin_proto.specs.Parts.{answer_in, trace_in, jobs_in};
 ghost use Rattle.spin_proto.specs.Whole.{raised, reply_of};
 ghost use Rattle.spin_proto.specs.Inner.Walks.{OnBounds};
 
-use crate::deed::{JobCall, JobCalls};
-use crate::reply::{Reply, Step, Trace};
+use crate::deed::JobCall;
+use crate::reply::{Reply, Step};
 use crate::rising::raise_event;
 use crate::view::{LentReply, ReplyView};
 use crate::walk::Walk;
@@ -128,27 +128,6 @@ impl ReplyBuffer {
                 jobs,
             },
             Ending::Other(reply) => reply,
-        }
-    }
-
-    /// Takes the reply out, also after want of memory, and leaves [`Reply::Spent`]. The steps are moved into a list that
-    /// has just the room they need, and the buffer keeps its own; it takes time linear in them.
-    pub fn take_reply(&mut self, alloc: Global) -> Result<Reply, NoMemory>
-        ensures taken { IfOk result (λ taken. taken ≡ self.old) }
-        ensures left { self.new ≡ reply.Spent }
-    {
-        match mem::replace(&mut self.ending, Ending::Other(Reply::Spent)) {
-            Ending::Ran(answer) => {
-                let mut trace = Trace::with_capacity(alloc, self.walk.trace.len())?;
-                trace.append(&mut self.walk.trace)?;
-                let jobs = mem::replace(&mut self.walk.jobs, JobCalls::new(alloc));
-                Ok(Reply::Ran {
-                    answer,
-                    trace,
-                    jobs,
-                })
-            }
-            Ending::Other(reply) => Ok(reply),
         }
     }
 }

@@ -25,7 +25,7 @@ use Rattle.spin_report.specs.Segments.{is_accepted, moment, moment_cmp, IsInOrde
 use Rattle.spin_report.proofs.Asking.{IsLater}
 use Rattle.spin_run.specs.Lanes.{said_of, seat_answer}
 
-moment_total : IsTotalOrder moment_cmp
+pub moment_total : IsTotalOrder moment_cmp
 moment_total =
     then_total (then_total (then_total (then_total (on_total (λ (t : ℕ × Bool × ℕ × ℕ × ℕ). t.0) nat_cmp_total) (on_total (λ (t : ℕ × Bool × ℕ × ℕ × ℕ). t.1) bool_cmp_total))
     (on_total (λ (t : ℕ × Bool × ℕ × ℕ × ℕ). t.2) nat_cmp_total)) (on_total (λ (t : ℕ × Bool × ℕ × ℕ × ℕ). t.3) nat_cmp_total)) (on_total (λ (t : ℕ × Bool × ℕ × ℕ × ℕ). t.4) nat_cmp_total)

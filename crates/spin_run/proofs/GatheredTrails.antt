@@ -2,17 +2,19 @@
 use Rattle.std.proofs.Common.{◌≡◌, ℕ, ◌+◌, ◌<◌, ◌≤◌, List, [], ◌∷◌, ◌++◌, map, length, take, drop, set, get_or, sym, ap, ◌∙◌, subst, arith}
 use Rattle.std.specs.Prelude.{All}
 use Rattle.std.specs.List.{flat_map}
-use Rattle.std.proofs.lemmas.List.{drop-set-lt, take_more, take_more_set, drop-drop, length-set, take_all, append-nil, get_or-map, length-map, get_or-drop, map-set, set-get_or}
+use Rattle.std.proofs.lemmas.List.{drop-set-lt, take_more, take_more_set, drop-drop, length-set, take_all, append-nil, get_or-map, length-map, map-append, get_or-drop, map-set, set-get_or}
 use Rattle.std.proofs.lemmas.List.Elements.{All-push}
 use Rattle.std.proofs.lemmas.List.Concat.{flat_map-append}
 use Rattle.spin_proto.specs.declared.deed.Job.{Job}
-use Rattle.spin_report.specs.declared.entry.Entry.{Entry}
 use Rattle.spin_run.specs.declared.lane.Lane.{Lane}
-use Rattle.spin_run.specs.Inner.Weaves.{IsEmptied, trails_of, jobs_by_lane}
+use Rattle.spin_run.specs.declared.trail.Mark.{Mark}
+use Rattle.spin_run.specs.declared.trail.Trail.{Trail}
+use Rattle.spin_run.specs.Inner.Weaves.{IsEmptied, unmarked, marks_by_lane, jobs_by_lane}
 
-pub record Gathered (before now : List Lane) (i : ℕ) (entries : List Entry) (jobs : List Job) : Type 0 where
+pub record Gathered (before now : List Lane) (i : ℕ) (trails : List Trail) (marks : List Mark) (jobs : List Job) : Type 0 where
   pub count : length now ≡ length before
-  pub taken : entries ≡ flat_map (λ trail. trail) (take i (trails_of before))
+  pub trails_are : trails ≡ map unmarked (take i before)
+  pub taken : marks ≡ flat_map (λ marks. marks) (take i (marks_by_lane before))
   pub jobs_taken : jobs ≡ flat_map (λ jobs. jobs) (take i (jobs_by_lane before))
   pub left : drop i now ≡ drop i before
   pub emptied : All IsEmptied (take i now)
@@ -33,16 +35,24 @@ one_more {X} f before i lane all here is =
     ∙ sym (flat_map-append (λ (xs : List X). xs) (take i (map f before)) (get_or (map f before) i [] ∷ []))
     ∙ sym (ap (flat_map (λ xs. xs)) (take_more (map f before) i [] inside))
 
-pub gathers : (before now : List Lane) (i : ℕ) (entries es : List Entry) (jobs js : List Job) (lane rest : Lane) → i < length before → Gathered before now i entries jobs → IsEmptied rest
-    → es ≡ entries ++ (get_or now i lane).trail → js ≡ jobs ++ (get_or now i lane).jobs → rest.seat ≡ (get_or now i lane).seat
-    → rest.stop ≡ (get_or now i lane).stop → Gathered before (set now i rest) (i + 1) es js
-gathers before now i entries es jobs js lane rest here g none added jobs_added seat stop =
+-- one trail more
+trail_more : (before : List Lane) (i : ℕ) (lane : Lane) (all : List Trail) → i < length before → all ≡ map unmarked (take i before) ++ unmarked (get_or before i lane) ∷ []
+    → all ≡ map unmarked (take (i + 1) before)
+trail_more before i lane all here is =
+    is ∙ sym (map-append unmarked (take i before) (get_or before i lane ∷ [])) ∙ sym (ap (map unmarked) (take_more before i lane here))
+
+pub gathers : (before now : List Lane) (i : ℕ) (trails ts : List Trail) (marks ms : List Mark) (jobs js : List Job) (lane rest : Lane) → i < length before
+    → Gathered before now i trails marks jobs → IsEmptied rest → ts ≡ trails ++ unmarked (get_or now i lane) ∷ []
+    → ms ≡ marks ++ (get_or now i lane).trail.marks → js ≡ jobs ++ (get_or now i lane).jobs → rest.seat ≡ (get_or now i lane).seat
+    → rest.stop ≡ (get_or now i lane).stop → Gathered before (set now i rest) (i + 1) ts ms js
+gathers before now i trails ts marks ms jobs js lane rest here g none trail_added added jobs_added seat stop =
     let lt : i < length now = omega (arith, g.count) in
     let same : get_or now i lane ≡ get_or before i lane =
     ap (λ n. get_or now n lane) (plus i) ∙ sym (get_or-drop i now 0 lane) ∙ ap (λ l. get_or l 0 lane) g.left ∙ get_or-drop i before 0 lane ∙ sym (ap (λ n. get_or before n lane) (plus i)) in
     record {
       count = length-set now i rest ∙ g.count;
-      taken = one_more (λ (l : Lane). l.trail) before i lane es here (added ∙ (λ h. g.taken h ++ (same h).trail));
+      trails_are = trail_more before i lane ts here (trail_added ∙ (λ h. g.trails_are h ++ unmarked (same h) ∷ []));
+      taken = one_more (λ (l : Lane). l.trail.marks) before i lane ms here (added ∙ (λ h. g.taken h ++ (same h).trail.marks));
       jobs_taken = one_more (λ (l : Lane). l.jobs) before i lane js here (jobs_added ∙ (λ h. g.jobs_taken h ++ (same h).jobs));
       left = drop-set-lt (i + 1) now i rest (omega arith) ∙ sym (drop-drop 1 i now) ∙ ap (drop 1) g.left ∙ drop-drop 1 i before;
       emptied = subst (All IsEmptied) (sym (take_more_set now i rest lt)) (All-push IsEmptied (take i now) rest g.emptied none);
@@ -53,5 +63,5 @@ gathers before now i entries es jobs js lane rest here g none added jobs_added s
     plus : (i : ℕ) → i ≡ i + 0
     plus i = omega arith
 
-pub all_emptied : (before now : List Lane) (i : ℕ) (entries : List Entry) (jobs : List Job) → length before ≤ i → Gathered before now i entries jobs → All IsEmptied now
-all_emptied before now i entries jobs le g = subst (All IsEmptied) (take_all i now (omega (arith, le, g.count))) g.emptied
+pub all_emptied : (before now : List Lane) (i : ℕ) (trails : List Trail) (marks : List Mark) (jobs : List Job) → length before ≤ i → Gathered before now i trails marks jobs → All IsEmptied now
+all_emptied before now i trails marks jobs le g = subst (All IsEmptied) (take_all i now (omega (arith, le, g.count))) g.emptied

@@ -26,48 +26,57 @@ use Rattle.spin_report.specs.Jobs.{answer_calls}
 use Rattle.spin_report.specs.Asked.{Numbered, asked_of}
 use Rattle.spin_run.specs.declared.lane.Lane.{Lane}
 use Rattle.spin_run.specs.Lanes.{seat_answer, jobs_from, AreJobsOf, BeginsWithCommand}
+use Rattle.spin_run.specs.declared.trail.Trail.{Trail}
+use Rattle.spin_run.specs.Trails.{IsNew, IsTrailOf, AddsTo}
 use Rattle.spin_run.specs.Inner.Answering.{HasAnswered, Answers, EndsFull, Comes, AddsJobs, IsLeftBy}
 use Rattle.spin_run.proofs.EntryJobs.{jobs_stay, jobs_more}
+use Rattle.spin_run.proofs.KeptMarks.{new_trail}
 
 -- ---- one call
 
 -- one more entry
-entry_more : (d : SetupData) (old new : Lane) (entry : Entry) → new.trail ≡ old.trail ++ entry ∷ [] → Gives d old.seat.pen (seat_answer entry) new.seat.pen
-    → (AreJobsOf d old.trail new.seat.pen.front old.jobs → AreJobsOf d (old.trail ++ entry ∷ []) new.seat.pen.front new.jobs) → Answers d (asked_of entry ∷ []) old new
-entry_more d old new entry trail gives jobs =
-    let answers : map seat_answer new.trail ≡ map seat_answer old.trail ++ seat_answer entry ∷ [] = ap (map seat_answer) trail ∙ map-append seat_answer old.trail (entry ∷ []) in
-    record {
-      asked_are = ap (map asked_of) trail ∙ map-append asked_of old.trail (entry ∷ []);
-      goes_on = λ before h. record {
-        ran = subst (λ l. Ran d before l new.seat.pen) (sym answers) (ran_more d before old.seat.pen new.seat.pen (map seat_answer old.trail) (seat_answer entry) h.ran gives);
-        pins = subst (λ l. GainsPins before l new.seat.pen) (sym answers) (pins_more d before old.seat.pen new.seat.pen (map seat_answer old.trail) (seat_answer entry) h.pins gives);
-        jobs_are =
-            let front = (answered d old.seat.pen (seat_answer entry) new.seat.pen gives).front in
-            subst (λ l. AreJobsOf d l new.seat.pen.front new.jobs) (sym trail) (jobs (jobs_stay d before old.seat.pen new.seat.pen old.trail old.jobs h.ran front h.jobs_are));
+entry_more : (d : SetupData) (old new : Lane) (entry : Entry) → AddsTo old.trail entry new.trail → Gives d old.seat.pen (seat_answer entry) new.seat.pen
+    → ((given : List Entry) → AreJobsOf d given new.seat.pen.front old.jobs → AreJobsOf d (given ++ entry ∷ []) new.seat.pen.front new.jobs) → Answers d (asked_of entry ∷ []) old new
+entry_more d old new entry adds gives jobs = record {
+  added = entry ∷ [];
+  asked_are = refl;
+  count = omega (arith, adds.count);
+  goes_on = λ before given h.
+      let answers : map seat_answer (given ++ entry ∷ []) ≡ map seat_answer given ++ seat_answer entry ∷ [] = map-append seat_answer given (entry ∷ []) in
+      let front = (answered d old.seat.pen (seat_answer entry) new.seat.pen gives).front in
+      record {
+        ran = subst (λ l. Ran d before l new.seat.pen) (sym answers) (ran_more d before old.seat.pen new.seat.pen (map seat_answer given) (seat_answer entry) h.ran gives);
+        pins = subst (λ l. GainsPins before l new.seat.pen) (sym answers) (pins_more d before old.seat.pen new.seat.pen (map seat_answer given) (seat_answer entry) h.pins gives);
+        jobs_are = jobs given (jobs_stay d before old.seat.pen new.seat.pen given old.jobs h.ran front h.jobs_are);
+        told = adds.goes_on given h.told;
       };
-    }
+}
 
 -- a deed's reply, with the jobs that it leaves on the version of the seat
-pub reply_more : (d : SetupData) (old new : Lane) (entry : Entry) (version : State) → new.trail ≡ old.trail ++ entry ∷ []
+pub reply_more : (d : SetupData) (old new : Lane) (entry : Entry) (version : State) → AddsTo old.trail entry new.trail
     → Gives d old.seat.pen (seat_answer entry) new.seat.pen → IsSeatOf d new.seat → new.seat.kept ≡ None → version ≡ new.seat.state
     → AddsJobs entry version (answer_calls entry.what) old.jobs new.jobs → Answers d (asked_of entry ∷ []) old new
-reply_more d old new entry version trail gives seat whole is adds =
+reply_more d old new entry version added gives seat whole is adds =
     let place : length new.seat.pen.front ≤ entry.place = omega (arith, gives.place) in
     let replay : IsReplay d (take entry.place new.seat.pen.front) version =
     subst (λ (x : List Row × State). IsReplay d x.0 x.1) (λ i. (sym (take_all entry.place new.seat.pen.front place) i, sym is i)) (all_applied d new.seat seat whole) in
-    entry_more d old new entry trail gives (λ j. jobs_more d new.seat.pen old.trail entry version old.jobs new.jobs j adds replay (subst (IsSound d) (sym is) seat.0.sound))
+    entry_more d old new entry added gives (λ given j. jobs_more d new.seat.pen given entry version old.jobs new.jobs j adds replay (subst (IsSound d) (sym is) seat.0.sound))
 
 -- a command's verdict, which leaves no job
-pub verdict_more : (d : SetupData) (old new : Lane) (entry : Entry) → answer_calls entry.what ≡ [] → new.trail ≡ old.trail ++ entry ∷ []
+pub verdict_more : (d : SetupData) (old new : Lane) (entry : Entry) → answer_calls entry.what ≡ [] → AddsTo old.trail entry new.trail
     → new.jobs ≡ old.jobs → Gives d old.seat.pen (seat_answer entry) new.seat.pen → IsSeatOf d new.seat → new.seat.kept ≡ None
     → Answers d (asked_of entry ∷ []) old new
-verdict_more d old new entry none trail jobs gives seat whole =
-    reply_more d old new entry new.seat.state trail gives seat whole refl (record {
+verdict_more d old new entry none added jobs gives seat whole =
+    reply_more d old new entry new.seat.state added gives seat whole refl (record {
       added = [];
       jobs_are = jobs ∙ sym (append-nil old.jobs);
       asked = sym (ap (jobs_from entry 0) none);
       each = All-nil (IsLeftBy entry new.seat.state);
     })
+
+-- nothing is given
+none_given : (d : SetupData) (before : PenValue) (given : List Entry) (lane : Lane) → HasAnswered d before given lane → HasAnswered d before (given ++ []) lane
+none_given d before given lane h = subst (λ l. HasAnswered d before l lane) (sym (append-nil given)) h
 
 -- a call that only reads rows of other lanes
 pub reads_more : (d : SetupData) (old new : Lane) → new.trail ≡ old.trail → new.jobs ≡ old.jobs → ReadsOn old.seat.pen new.seat.pen → Answers d [] old new
@@ -75,13 +84,15 @@ reads_more d old new trail jobs reads =
     let pins : new.seat.pen.pins ≡ old.seat.pen.pins = ap (λ (p : PenValue). p.pins) reads.1 in
     let front : IsPrefix old.seat.pen.front new.seat.pen.front = (reads.0, ap (λ (p : PenValue). p.front) reads.1) in
     record {
-      asked_are = ap (map asked_of) trail ∙ sym (append-nil (map asked_of old.trail));
-      goes_on = λ before h. record {
-        ran = subst (λ l. Ran d before (map seat_answer l) new.seat.pen) (sym trail) (ran_reads d before old.seat.pen new.seat.pen (map seat_answer old.trail) h.ran reads);
-        pins = pins ∙ subst (λ l. GainsPins before (map seat_answer l) old.seat.pen) (sym trail) h.pins;
-        jobs_are = subst (λ (x : List Entry × List Job). AreJobsOf d x.0 new.seat.pen.front x.1) (λ i. (sym trail i, sym jobs i))
-            (jobs_stay d before old.seat.pen new.seat.pen old.trail old.jobs h.ran front h.jobs_are);
-      };
+      added = [];
+      asked_are = refl;
+      count = omega (arith, ap (λ (t : Trail). length t.marks) trail);
+      goes_on = λ before given h. none_given d before given new (record {
+        ran = ran_reads d before old.seat.pen new.seat.pen (map seat_answer given) h.ran reads;
+        pins = pins ∙ h.pins;
+        jobs_are = subst (AreJobsOf d given new.seat.pen.front) (sym jobs) (jobs_stay d before old.seat.pen new.seat.pen given old.jobs h.ran front h.jobs_are);
+        told = subst (IsTrailOf given) (sym trail) h.told;
+      });
     }
 
 -- a command that finds the log full
@@ -99,12 +110,14 @@ ends_full d old new asked trail jobs reads full next = record {
 -- ---- calls one after another
 
 pub answers_nothing : (d : SetupData) (lane : Lane) → Answers d [] lane lane
-answers_nothing d lane = record { asked_are = sym (append-nil (map asked_of lane.trail)); goes_on = λ before h. h }
+answers_nothing d lane = record { added = []; asked_are = refl; count = omega arith; goes_on = λ before given h. none_given d before given lane h }
 
 pub answers_then : (d : SetupData) (first second : List Numbered) (old middle new : Lane) → Answers d first old middle → Answers d second middle new → Answers d (first ++ second) old new
 answers_then d first second old middle new a b = record {
-  asked_are = b.asked_are ∙ ap (λ l. l ++ second) a.asked_are ∙ append_assoc (map asked_of old.trail) first second;
-  goes_on = λ before h. b.goes_on before (a.goes_on before h);
+  added = a.added ++ b.added;
+  asked_are = map-append asked_of a.added b.added ∙ (λ i. a.asked_are i ++ b.asked_are i);
+  count = omega (arith, a.count, b.count, length-append a.added b.added);
+  goes_on = λ before given h. subst (λ l. HasAnswered d before l new) (append_assoc given a.added b.added) (b.goes_on before (given ++ a.added) (a.goes_on before given h));
 }
 
 begins_more : (left more : List Numbered) → BeginsWithCommand left → BeginsWithCommand (left ++ more)
@@ -123,16 +136,16 @@ ends_then d first second more old middle new a e = record {
 }
 
 -- how many entries there are
-pub answers_count : (d : SetupData) (asked : List Numbered) (old new : Lane) → Answers d asked old new → length new.trail ≡ length old.trail + length asked
-answers_count d asked old new a =
-    omega (arith, ap length a.asked_are, length-append (map asked_of old.trail) asked, length-map new.trail asked_of, length-map old.trail asked_of)
+pub answers_count : (d : SetupData) (asked : List Numbered) (old new : Lane) → Answers d asked old new → length new.trail.marks ≡ length old.trail.marks + length asked
+answers_count d asked old new a = omega (arith, a.count, ap length a.asked_are, length-map a.added asked_of)
 
 -- a lane that has answered nothing
-pub nothing_answered : (d : SetupData) (lane : Lane) → lane.trail ≡ [] → lane.jobs ≡ [] → HasAnswered d lane.seat.pen lane
+pub nothing_answered : (d : SetupData) (lane : Lane) → IsNew lane.trail → lane.jobs ≡ [] → HasAnswered d lane.seat.pen [] lane
 nothing_answered d lane trail jobs = record {
-  ran = subst (λ l. Ran d lane.seat.pen (map seat_answer l) lane.seat.pen) (sym trail) (nothing_ran d lane.seat.pen);
-  pins = subst (λ l. GainsPins lane.seat.pen (map seat_answer l) lane.seat.pen) (sym trail) (sym (append-nil lane.seat.pen.pins));
-  jobs_are = subst (λ (x : List Entry × List Job). AreJobsOf d x.0 lane.seat.pen.front x.1) (λ i. (sym trail i, sym jobs i)) none;
+  ran = nothing_ran d lane.seat.pen;
+  pins = sym (append-nil lane.seat.pen.pins);
+  jobs_are = subst (AreJobsOf d [] lane.seat.pen.front) (sym jobs) none;
+  told = new_trail lane.trail trail;
 }
   where
     none : AreJobsOf d [] lane.seat.pen.front []

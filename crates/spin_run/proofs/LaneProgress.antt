@@ -13,7 +13,10 @@ use Rattle.spin_script.specs.declared.script.Line.{Line}
 use Rattle.spin_script.specs.States.{deed_count}
 use Rattle.spin_report.specs.Asked.{Numbered, asked_of}
 use Rattle.spin_report.specs.Segments.{records_wanted, asked_at, asked_in, asked_of_lane}
+use Rattle.spin_report.specs.declared.entry.Entry.{Entry}
 use Rattle.spin_run.specs.declared.lane.Lane.{Lane}
+use Rattle.spin_run.specs.declared.trail.Trail.{Trail}
+use Rattle.spin_run.specs.Trails.{IsNew, IsTrailOf}
 use Rattle.spin_run.specs.Lanes.{RanLane, HadMemory, HasRunLane}
 use Rattle.spin_run.specs.Inner.Answering.{HasAnswered, Answers, EndsFull, Comes, Stays}
 use Rattle.spin_run.proofs.AskedOfLane.{own_line, other_line, asked_next, own_few}
@@ -92,24 +95,25 @@ all_done d own old now rest none p = subst (λ l. Answers d l old now) (sym (p.p
 
 -- the entries of a line are within the number of deeds that a segment may have
 pub line_few : (d : SetupData) (k i : ℕ) (lines : List Line) (line : Line) (frames left : List (List ℕ)) (old now : Lane)
-    → i < length lines → line ≡ get_or lines i line → line.lane ≡ k → old.trail ≡ []
+    → i < length lines → line ≡ get_or lines i line → line.lane ≡ k → IsNew old.trail
     → Progress d (asked_of_lane k (asked_in lines frames)) (rest_at k i lines left) old now
-    → length now.trail + length (asked_at line (take (records_wanted line.work) left)) ≤ sum_by (λ l. deed_count l.work) lines
+    → length now.trail.marks + length (asked_at line (take (records_wanted line.work) left)) ≤ sum_by (λ l. deed_count l.work) lines
 line_few d k i lines line frames left old now lt is same none p =
     let here = asked_at line (take (records_wanted line.work) left) in
     let rest = rest_at k (i + 1) lines (drop (records_wanted line.work) left) in
     let all = own_few k lines frames in
     let parts = ap length (p.parts ∙ ap (λ l. p.first ++ l) (own_parts k i lines line left lt is same)) in
     let count = answers_count d p.first old now p.answers in
-    let empty : length old.trail ≡ 0 = ap length none in
+    let empty : length old.trail.marks ≡ 0 = ap (λ (t : Trail). length t.marks) none in
     omega (arith, all, parts, count, empty, length-append p.first (here ++ rest), length-append here rest)
 
 -- what a lane's run says, by what its lines came to
-pub has_run : (d : SetupData) (asked : List Numbered) (old now new : Lane) (r : Result (Unit {0}) SeatFault) → old.trail ≡ [] → old.jobs ≡ []
+pub has_run : (d : SetupData) (asked : List Numbered) (old now new : Lane) (r : Result (Unit {0}) SeatFault) → IsNew old.trail → old.jobs ≡ []
     → Stays d old now → Comes d (asked_of_lane old.seat.pen.lane asked) old r now
-    → new.seat ≡ now.seat → new.trail ≡ now.trail → new.jobs ≡ now.jobs → new.stop ≡ result_err r → HasRunLane d asked old new
+    → new.seat ≡ now.seat → new.trail ≡ now.trail → new.jobs ≡ now.jobs → new.stop ≡ result_err r → (given : List Entry) × HasRunLane d asked old new given
 has_run d asked old now new r trail jobs stays comes seat trail' jobs' stop =
-    subst (λ (l : Lane). HasRunLane d asked old l) same (record { seat = stays.0; same = stays.1; ran = ran r comes })
+    let run = ran r comes in
+    (run.0, subst (λ (l : Lane). HasRunLane d asked old l run.0) same (record { seat = stays.0; same = stays.1; ran = λ memory. (run.1 memory).0; told = λ memory. (run.1 memory).1 }))
   where
     own : List Numbered
     own = asked_of_lane old.seat.pen.lane asked
@@ -117,30 +121,41 @@ has_run d asked old now new r trail jobs stays comes seat trail' jobs' stop =
     same : ◌≡◌ {A = Lane} (record { seat = now.seat; trail = now.trail; jobs = now.jobs; stop = result_err r }) new
     same = λ i. record { seat = sym seat i; trail = sym trail' i; jobs = sym jobs' i; stop = sym stop i }
 
-    before : HasAnswered d old.seat.pen old
+    before : HasAnswered d old.seat.pen [] old
     before = nothing_answered d old trail jobs
 
-    ran : (o : Result (Unit {0}) SeatFault) → Comes d own old o now → HadMemory (result_err o) → RanLane d own old.seat.pen now.seat.pen now.trail now.jobs (result_err o)
-    ran (Ok done) a memory =
-        let h = a.goes_on old.seat.pen before in
-        record {
-          ran = h.ran;
-          pins = h.pins;
-          left = [];
-          deeds_are = sym (append-nil (map asked_of now.trail) ∙ a.asked_are ∙ ap (λ l. map asked_of l ++ own) trail);
-          whole = λ none. refl;
-          full = λ e. absurd (none-some fault.Full e);
-          jobs_are = h.jobs_are;
-        }
-    ran (Err fault.Full) e memory =
-        let h = e.answers.goes_on old.seat.pen before in
-        record {
-          ran = h.ran;
-          pins = h.pins;
-          left = e.left;
-          deeds_are = e.parts ∙ ap (λ l. l ++ e.left) (sym (e.answers.asked_are ∙ ap (λ l. map asked_of l ++ e.first) trail));
-          whole = λ none. absurd (none-some fault.Full (sym none));
-          full = λ full. (e.full, e.next);
-          jobs_are = h.jobs_are;
-        }
-    ran (Err fault.NoMemory) e memory = absurd (memory refl)
+    ran : (o : Result (Unit {0}) SeatFault) → Comes d own old o now
+        → (given : List Entry) × (HadMemory (result_err o) → RanLane d own old.seat.pen now.seat.pen given now.jobs (result_err o) × IsTrailOf given now.trail)
+    ran (Ok done) a =
+        let h = a.goes_on old.seat.pen [] before in (
+          a.added,
+          λ memory. (
+            record {
+              ran = h.ran;
+              pins = h.pins;
+              left = [];
+              deeds_are = sym (append-nil (map asked_of a.added) ∙ a.asked_are);
+              whole = λ none. refl;
+              full = λ e. absurd (none-some fault.Full e);
+              jobs_are = h.jobs_are;
+            },
+            h.told,
+          ),
+        )
+    ran (Err fault.Full) e =
+        let h = e.answers.goes_on old.seat.pen [] before in (
+          e.answers.added,
+          λ memory. (
+            record {
+              ran = h.ran;
+              pins = h.pins;
+              left = e.left;
+              deeds_are = e.parts ∙ ap (λ l. l ++ e.left) (sym e.answers.asked_are);
+              whole = λ none. absurd (none-some fault.Full (sym none));
+              full = λ full. (e.full, e.next);
+              jobs_are = h.jobs_are;
+            },
+            h.told,
+          ),
+        )
+    ran (Err fault.NoMemory) e = ([], λ memory. absurd (memory refl))

@@ -1,5 +1,8 @@
 pub mod SortedLists
 pub mod JoinedLanes
+pub mod KeptMarks
+pub mod LiftedWeaves
+pub mod MarkOrder
 pub mod EntryOrder
 pub mod JobOrder
 pub mod AskedOfSegment
@@ -11,6 +14,7 @@ pub mod JobReplies
 pub mod GatheredTrails
 pub mod JobCounts
 pub mod SegmentLemmas
+pub mod GivenEntries
 pub mod AskedOfLane
 pub mod EntryJobs
 pub mod LaneAnswers

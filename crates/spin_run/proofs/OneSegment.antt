@@ -39,7 +39,12 @@ use Rattle.spin_run.specs.Inner.Steps.{Moment, standing, Setting, RunsFrom, reti
 use Rattle.spin_run.specs.Summaries.{Counts, counts_in}
 use Rattle.spin_run.specs.Inner.Tallies.{TalliesOn, Tells}
 use Rattle.spin_run.specs.Inner.Writing.{joined}
+use Rattle.spin_run.specs.declared.trail.Mark.{Mark}
+use Rattle.spin_run.specs.declared.trail.Trail.{Trail}
+use Rattle.spin_run.specs.Trails.{AreMarksOf}
+use Rattle.spin_run.specs.Inner.Marks.{sends_in}
 use Rattle.spin_run.proofs.JoinedTexts.{joined_ended, Appends-none}
+use Rattle.spin_run.proofs.KeptMarks.{sends_told}
 use Rattle.spin_run.proofs.Left.{some_left}
 use Rattle.spin_run.proofs.ReaderCalls.{ReadsFrames}
 use Rattle.spin_run.proofs.CaptureBytes.{past_none, takes_before, takes_reading, takes_told}
@@ -387,8 +392,14 @@ one_told s number segment before after frames entries jobs replies lost retired 
     (λ left rest front. stops_telling s number segment before after left frames rest entries jobs replies lost retired lines stop (answered left front) k m t)
 
 -- the same sends, as slices have them
-pub sends_as : (names : List (List ℕ)) (es es' : List Entry) (rs rs' : List Reply) (ends ends' after : List NamedEnd) (result : Result (List ℕ) RunEnd)
-    → es ≡ es' → rs ≡ rs' → ends ≡ ends' → SendsAll names (sends_made es rs) result ends after → SendsAll names (sends_made es' rs') result ends' after
-sends_as names es es' rs rs' ends ends' after result a b e h =
-    subst (λ (x : List NamedEnd). SendsAll names (sends_made es' rs') result x after) e
-    (subst (λ (x : List SentSeen). SendsAll names x result ends after) (λ i. sends_made (a i) (b i)) h)
+pub sends_as : (names : List (List ℕ)) (sends sends' : List SentSeen) (ends ends' after : List NamedEnd) (result : Result (List ℕ) RunEnd)
+    → sends ≡ sends' → ends ≡ ends' → SendsAll names sends result ends after → SendsAll names sends' result ends' after
+sends_as names sends sends' ends ends' after result a e h =
+    subst (λ (x : List NamedEnd). SendsAll names sends' result x after) e
+    (subst (λ (x : List SentSeen). SendsAll names x result ends after) a h)
+
+-- those of the marks of entries, and of replies
+pub marks_sent : (trails trails' : List Trail) (marks marks' : List Mark) (entries : List Entry) (rs rs' : List Reply) → trails ≡ trails' → marks ≡ marks' → rs ≡ rs'
+    → AreMarksOf trails' marks' entries → flat_map (sends_in trails) marks ++ flat_map sends_of_reply rs ≡ sends_made entries rs'
+marks_sent trails trails' marks marks' entries rs rs' a b r are =
+    (λ i. flat_map (sends_in (a i)) (b i) ++ flat_map sends_of_reply (r i)) ∙ ap (λ x. x ++ flat_map sends_of_reply rs') (sends_told trails' marks' entries are)

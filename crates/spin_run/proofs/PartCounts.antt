@@ -9,7 +9,7 @@ use Rattle.spin_report.specs.Histories.{SegmentSeen}
 use Rattle.spin_run.specs.Summaries.{Counts, counts_in}
 use Rattle.spin_run.specs.Inner.Tallies.{plus, TalliesOn}
 
-same_counts : (a b : Counts) → a.entries ≡ b.entries → a.accepted ≡ b.accepted → a.refused ≡ b.refused → a.runs ≡ b.runs → a.sends ≡ b.sends → a ≡ b
+pub same_counts : (a b : Counts) → a.entries ≡ b.entries → a.accepted ≡ b.accepted → a.refused ≡ b.refused → a.runs ≡ b.runs → a.sends ≡ b.sends → a ≡ b
 same_counts a b entries accepted refused runs sends = λ i. record {
   entries = entries i;
   accepted = accepted i;
@@ -26,7 +26,7 @@ plus_none c = same_counts c (plus c (counts_in [])) (omega arith) (omega arith) 
 pub none_plus : (c : Counts) → plus (counts_in []) c ≡ c
 none_plus c = same_counts (plus (counts_in []) c) c (omega arith) (omega arith) (omega arith) (omega arith) (omega arith)
 
-plus_assoc : (a b c : Counts) → plus (plus a b) c ≡ plus a (plus b c)
+pub plus_assoc : (a b c : Counts) → plus (plus a b) c ≡ plus a (plus b c)
 plus_assoc a b c =
     same_counts (plus (plus a b) c) (plus a (plus b c)) (omega arith) (omega arith) (omega arith) (omega arith) (omega arith)
 

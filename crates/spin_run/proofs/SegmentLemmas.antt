@@ -1,9 +1,10 @@
 -- From the clauses of all lanes and of their meeting to those of a segment.
-use Rattle.std.proofs.Common.{◌≡◌, ◌==◌, ◌≢◌, ℕ, zero, suc, ◌+◌, ◌<◌, ◌≤◌, ◌^◌, List, [], ◌∷◌, ◌++◌, map, length, take, drop, get_or, refl, sym, ap, ◌∙◌, subst, arith, append_assoc, length-append}
+use Rattle.std.proofs.Common.{◌≡◌, ◌==◌, ◌≢◌, ℕ, zero, suc, ◌+◌, ◌<◌, ◌≤◌, ◌^◌, Bool, true, false, ltb, List, [], ◌∷◌, ◌++◌, map, length, take, drop, get_or, refl, sym, ap, ◌∙◌, subst, arith, append_assoc, length-append}
 use Rattle.std.specs.Prelude.{All, filter, Option, Some, None}
 use Rattle.std.specs.List.{flat_map, AllZip}
 use Rattle.std.specs.Arc.{arc_value}
-use Rattle.std.proofs.lemmas.List.{append-nil, get_or-map, length-map, drop_at, take_at, take-append-le}
+use Rattle.std.proofs.lemmas.Bool.{ltb-true, ltb-false}
+use Rattle.std.proofs.lemmas.List.{append-nil, get_or-map, get_or_past, length-map, drop_at, take_at, take-append-le}
 use Rattle.std.proofs.lemmas.List.Elements.{All-drop, All-weaker}
 use Rattle.atomic_table.specs.Seated.{TableId}
 use Rattle.spin_word.specs.declared.command.TheConstants.{MAX_PLACE}
@@ -41,9 +42,15 @@ use Rattle.spin_run.specs.declared.lane.Lane.{Lane}
 use Rattle.spin_run.specs.Lanes.{seat_answer, rows_in, job_asked, jobs_of, AreJobsOf, RanLane, HadMemory}
 use Rattle.spin_run.specs.Segments.{front_of, state_of, IsAtRest, AreAtRest, IsReady, AreReady, IsFitSegment, HaveRun, jobs_seen}
 use Rattle.spin_run.specs.Meetings.{IsOfHub, HasMet, HaveMet}
-use Rattle.spin_run.specs.Inner.Weaves.{AreOfTheirLanes, IsInterleaving, AreJobsInOrder, IsEmptied, trails_of, jobs_by_lane}
+use Rattle.spin_run.specs.declared.trail.Mark.{Mark}
+use Rattle.spin_run.specs.declared.trail.Trail.{Trail}
+use Rattle.spin_run.specs.Trails.{IsMarkOf, IsTrailOf, none_left, trail_of, AreMarksOf}
+use Rattle.spin_run.specs.Inner.Weaves.{AreOfTheirLanes, IsInterleaving, AreMarksInOrder, AreJobsInOrder, IsEmptied, unmarked, marks_by_lane, jobs_by_lane}
 use Rattle.spin_run.proofs.EntryOrder.{trail_in_order}
-use Rattle.spin_run.proofs.JobOrder.{jobs_in_order, jobs_have, jobs_woven}
+use Rattle.spin_run.proofs.JobOrder.{jobs_in_order, jobs_have, jobs_woven, filter_beyond}
+use Rattle.spin_run.proofs.KeptMarks.{AllZip-weaker, mark_in, moment_is}
+use Rattle.spin_run.proofs.LiftedWeaves.{Lifted, lift}
+use Rattle.spin_run.proofs.MarkOrder.{marks_in_order, entries_in_order, lanes_of_marks, lanes_of_entries}
 use Rattle.spin_run.proofs.AskedOfSegment.{lane_rises, commands_asked}
 use Rattle.spin_run.proofs.LogCounts.{AllRan, grown_few, never_full}
 use Rattle.spin_run.proofs.JobCounts.{jobs_few}
@@ -71,7 +78,7 @@ lane_at xs k l order lt =
     let at = of_lanes_at 0 k (map (λ (x : Lane). x.seat) xs) l.seat order (omega (arith, length-map xs (λ (x : Lane). x.seat))) in
     ap (λ (s : SeatValue). s.pen.lane) (sym (seat_at xs k l lt)) ∙ omega (arith, at)
 
-get_or_same : {X : Type 0} (xs : List X) (k : ℕ) (a b : X) → k < length xs → get_or xs k a ≡ get_or xs k b
+pub get_or_same : {X : Type 0} (xs : List X) (k : ℕ) (a b : X) → k < length xs → get_or xs k a ≡ get_or xs k b
 get_or_same [] k a b lt = absurd (omega arith)
 get_or_same (x ∷ xs) zero a b lt = refl
 get_or_same (x ∷ xs) (suc k) a b lt = get_or_same xs k a b (omega arith)
@@ -88,13 +95,13 @@ neither None full memory = refl
 neither (Some fault.Full) full memory = absurd (full refl)
 neither (Some fault.NoMemory) full memory = absurd (memory refl)
 
-module _ (d : SetupData) (log : TableId) (count : ℕ) (lines : List Line) (records : List (List ℕ)) (before ran met : List Lane) (l : Lane) where
+module _ (d : SetupData) (log : TableId) (count : ℕ) (lines : List Line) (records : List (List ℕ)) (before ran met : List Lane) (given : List (List Entry)) (l : Lane) where
   -- what is known once all lanes ran and all seats met
   pub record Facts : Type 0 where
     pub ready : AreAtRest d log count before
     pub fit : IsFitSegment (length before) lines
     pub room : length (front_of before) + commands_in lines ≤ MAX_PLACE
-    pub have_run : HaveRun d (asked_in lines records) before ran
+    pub have_run : HaveRun d (asked_in lines records) before ran given
     pub memory : All (λ (lane : Lane). HadMemory lane.stop) ran
     pub have_met : HaveMet d ran met
 
@@ -108,7 +115,7 @@ module _ (d : SetupData) (log : TableId) (count : ℕ) (lines : List Line) (reco
   pen_ran k = (get_or ran k l).seat.pen
 
   abbrev trail_at : ℕ → List Entry
-  trail_at k = (get_or ran k l).trail
+  trail_at k = get_or given k []
 
   abbrev jobs_at : ℕ → List Job
   jobs_at k = (get_or ran k l).jobs
@@ -117,8 +124,8 @@ module _ (d : SetupData) (log : TableId) (count : ℕ) (lines : List Line) (reco
   stop_at k = (get_or ran k l).stop
 
   module _ (f : Facts) where
-    met_count : length met ≡ length before
-    met_count = f.have_met.0 ∙ f.have_run.0
+    pub met_count : length met ≡ length before
+    met_count = f.have_met.0 ∙ f.have_run.count
 
     lane_before : (k : ℕ) → k < length before → (pen_before k).lane ≡ k
     lane_before k lt = lane_at before k l f.ready.order lt
@@ -128,11 +135,11 @@ module _ (d : SetupData) (log : TableId) (count : ℕ) (lines : List Line) (reco
 
     lane_ran : (k : ℕ) → k < length before → RanLane d (asked_of_lane k asked) (pen_before k) (pen_ran k) (trail_at k) (jobs_at k) (stop_at k)
     lane_ran k lt =
-        let h = f.have_run.1 k l lt in
-        subst (λ (n : ℕ). RanLane d (asked_of_lane n asked) (pen_before k) (pen_ran k) (trail_at k) (jobs_at k) (stop_at k)) (lane_before k lt) (h.ran (f.memory k l (omega (arith, f.have_run.0))))
+        let h = f.have_run.each k l lt in
+        subst (λ (n : ℕ). RanLane d (asked_of_lane n asked) (pen_before k) (pen_ran k) (trail_at k) (jobs_at k) (stop_at k)) (lane_before k lt) (h.ran (f.memory k l (omega (arith, f.have_run.count))))
 
     lane_met : (k : ℕ) → k < length before → HasMet d (front_of met) (state_of d met) (get_or ran k l) (get_or met k l)
-    lane_met k lt = f.have_met.1 k l (omega (arith, f.have_run.0))
+    lane_met k lt = f.have_met.1 k l (omega (arith, f.have_run.count))
 
     -- the common front is what each lane knew and rows of other lanes
     begins : (k : ℕ) (lt : k < length before) → front_of met ≡ (pen_ran k).front ++ (lane_met k lt).read.reads.0
@@ -164,13 +171,13 @@ module _ (d : SetupData) (log : TableId) (count : ℕ) (lines : List Line) (reco
     lanes_below =
         let m = lane_met 0 f.ready.some in
         let lanes : (get_or met 0 l).seat.pen.lanes ≡ length before =
-        ap (λ (p : PenValue). p.lanes) m.read.reads.1 ∙ (f.have_run.1 0 l f.ready.some).same.1 ∙ (ready_at 0 f.ready.some).among ∙ sym f.ready.all in
+        ap (λ (p : PenValue). p.lanes) m.read.reads.1 ∙ (f.have_run.each 0 l f.ready.some).same.1 ∙ (ready_at 0 f.ready.some).among ∙ sym f.ready.all in
         All-weaker (IsCommandBelow (length before)) (λ row. lane_of row < length before) (λ row h. h.1) (front_of met)
         (subst (λ (x : ℕ × List Row). All (IsCommandBelow x.0) x.1) (λ i. (lanes i, m.front_is i)) m.settled.pen.commands)
 
     clean : IsClean d (front_of met)
     clean = clean_by_lanes d (length before) (front_of met) (λ k. (get_or met k l).seat.pen) lanes_below
-        (λ k lt. ap (λ (p : PenValue). p.lane) (lane_met k lt).read.reads.1 ∙ (f.have_run.1 k l lt).same.2 ∙ lane_before k lt)
+        (λ k lt. ap (λ (p : PenValue). p.lane) (lane_met k lt).read.reads.1 ∙ (f.have_run.each k l lt).same.2 ∙ lane_before k lt)
         (λ k lt.
         let m = lane_met k lt in
         let own = m.settled.pen.own ∙ ap (rows_of (get_or met k l).seat.pen.lane) m.front_is in
@@ -209,7 +216,7 @@ module _ (d : SetupData) (log : TableId) (count : ℕ) (lines : List Line) (reco
     no_stop k lt =
         neither (stop_at k)
         (never_full d (length before) asked pen_before pen_ran trail_at jobs_at stop_at (front_of before) grown.0 all_ran (omega (arith, f.room, commands_asked lines records)) k lt)
-        (f.memory k l (omega (arith, f.have_run.0)))
+        (f.memory k l (omega (arith, f.have_run.count)))
 
     pub room_taken : length (front_of met) ≤ length (front_of before) + commands_in lines
     room_taken =
@@ -219,20 +226,24 @@ module _ (d : SetupData) (log : TableId) (count : ℕ) (lines : List Line) (reco
 
     -- ---- the trails and the jobs that are woven
 
-    abbrev trails : List (List Entry)
-    trails = trails_of met
+    abbrev marks : List (List Mark)
+    marks = marks_by_lane met
 
     abbrev jobs : List (List Job)
     jobs = jobs_by_lane met
 
-    trails_count : length trails ≡ length before
-    trails_count = length-map met (λ (x : Lane). x.trail) ∙ met_count
+    marks_count : length marks ≡ length before
+    marks_count = length-map met (λ (x : Lane). x.trail.marks) ∙ met_count
 
     jobs_count : length jobs ≡ length before
     jobs_count = length-map met (λ (x : Lane). x.jobs) ∙ met_count
 
-    trail_is : (k : ℕ) (e : List Entry) → k < length before → get_or trails k e ≡ trail_at k
-    trail_is k e lt = get_or-map (λ (x : Lane). x.trail) met k l e (omega (arith, met_count)) ∙ (lane_met k lt).read.trail
+    marks_are : (k : ℕ) (e : List Mark) → k < length before → get_or marks k e ≡ (get_or ran k l).trail.marks
+    marks_are k e lt = get_or-map (λ (x : Lane). x.trail.marks) met k l e (omega (arith, met_count)) ∙ ap (λ (t : Trail). t.marks) (lane_met k lt).read.trail
+
+    -- the trail of each lane is that of what it has given
+    told_at : (k : ℕ) → k < length before → IsTrailOf (trail_at k) (get_or ran k l).trail
+    told_at k lt = (f.have_run.each k l lt).told (f.memory k l (omega (arith, f.have_run.count)))
 
     jobs_is : (k : ℕ) (e : List Job) → k < length before → get_or jobs k e ≡ jobs_at k
     jobs_is k e lt = get_or-map (λ (x : Lane). x.jobs) met k l e (omega (arith, met_count)) ∙ (lane_met k lt).read.jobs_are
@@ -247,11 +258,18 @@ module _ (d : SetupData) (log : TableId) (count : ℕ) (lines : List Line) (reco
         let r = lane_ran k lt in
         trail_in_order k (trail_at k) (asked_of_lane k asked) r.left r.ran.rising (trail_lane k lt) r.deeds_are (lane_rises k lines records f.fit.numbers)
 
-    pub trails_lanes : AreOfTheirLanes (λ (e : Entry). e.lane) trails
-    trails_lanes k e lt = let at : k < length before = omega (arith, trails_count) in subst (All (λ (x : Entry). x.lane ≡ k)) (sym (trail_is k e at)) (trail_lane k at)
+    pub marks_lanes : AreOfTheirLanes (λ (m : Mark). m.lane) marks
+    marks_lanes k e lt =
+        let at : k < length before = omega (arith, marks_count) in
+        let t = (get_or ran k l).trail in
+        subst (All (λ (m : Mark). m.lane ≡ k)) (sym (marks_are k e at))
+        (lanes_of_marks (IsMarkOf t) (λ m e is. is.lane) (λ n. n ≡ k) t.marks (trail_at k) (told_at k at) (trail_lane k at))
 
-    pub trails_order : All IsInOrder trails
-    trails_order k e lt = let at : k < length before = omega (arith, trails_count) in subst IsInOrder (sym (trail_is k e at)) (trail_order k at)
+    pub marks_order : All AreMarksInOrder marks
+    marks_order k e lt =
+        let at : k < length before = omega (arith, marks_count) in
+        let t = (get_or ran k l).trail in
+        subst AreMarksInOrder (sym (marks_are k e at)) (marks_in_order (IsMarkOf t) (moment_is t) t.marks (trail_at k) (told_at k at) (trail_order k at))
 
     pub jobs_lanes : AreOfTheirLanes (λ (j : Job). j.lane) jobs
     jobs_lanes k e lt =
@@ -279,23 +297,66 @@ module _ (d : SetupData) (log : TableId) (count : ℕ) (lines : List Line) (reco
         ap (take job.place) (begins k lt) ∙ take-append-le job.place (pen_ran k).front (lane_met k lt).read.reads.0 (jobs_reach k lt i j in') in
         subst (λ (rows : List Row). IsReplay d rows (arc_value job.version)) (sym same) ((lane_ran k lt).jobs_are.versions i j in')
 
+    -- ---- the entries whose marks are woven
+
+    -- the trails as they are taken out
+    abbrev pub trails : List Trail
+    trails = map unmarked met
+
+    trails_are : (k : ℕ) → k < length before → trail_of trails k ≡ unmarked (get_or met k l)
+    trails_are k lt = get_or-map unmarked met k l none_left (omega (arith, met_count))
+
+    -- the marks of each lane are those of its entries in the trails, too
+    told_in : (k : ℕ) → k < length before → AllZip (IsMarkOf (trail_of trails k)) (get_or ran k l).trail.marks (trail_at k)
+    told_in k lt =
+        let at = trails_are k lt in
+        let read = (lane_met k lt).read.trail in
+        AllZip-weaker (IsMarkOf (get_or ran k l).trail) (IsMarkOf (trail_of trails k))
+        (mark_in (get_or ran k l).trail (trail_of trails k) (ap (λ (t : Trail). t.text) at ∙ ap (λ (t : Trail). t.text) read) (ap (λ (t : Trail). t.sends) at ∙ ap (λ (t : Trail). t.sends) read))
+        (get_or ran k l).trail.marks (trail_at k) (told_at k lt)
+
+    module _ (woven_marks : List Mark) (all : IsInterleaving (λ (m : Mark). m.lane) marks woven_marks) where
+      pub marks_under : All (λ (m : Mark). m.lane < length before) woven_marks
+      marks_under = subst (λ (n : ℕ). All (λ (m : Mark). m.lane < n) woven_marks) marks_count all.lanes_are
+
+      each_lane : (k : ℕ) → AllZip (IsMarkOf (trail_of trails k)) (filter (λ (m : Mark). m.lane == k) woven_marks) (trail_at k)
+      each_lane k = go (ltb k (length before)) refl
+        where
+          go : (b : Bool) → ltb k (length before) ≡ b → AllZip (IsMarkOf (trail_of trails k)) (filter (λ (m : Mark). m.lane == k) woven_marks) (trail_at k)
+          go true e =
+              let lt = ltb-true k (length before) e in
+              subst (λ (ms : List Mark). AllZip (IsMarkOf (trail_of trails k)) ms (trail_at k)) (sym (all.each k [] (omega (arith, lt, marks_count)) ∙ marks_are k [] lt)) (told_in k lt)
+          go false e =
+              let le = ltb-false k (length before) e in
+              subst (λ (x : List Mark × List Entry). AllZip (IsMarkOf (trail_of trails k)) x.0 x.1)
+              (λ i. (sym (filter_beyond (λ (m : Mark). m.lane) (length before) k woven_marks (λ lt. absurd (omega (arith, lt, le))) marks_under) i, sym (get_or_past given k [] (omega (arith, le, f.have_run.given_count))) i)) tt
+
+      pub lifted : Lifted (λ (m : Mark). m.lane) (λ (e : Entry). e.lane) (λ k. IsMarkOf (trail_of trails k)) (λ k m e is. sym is.lane) trail_at woven_marks
+      lifted = lift (λ (m : Mark). m.lane) (λ (e : Entry). e.lane) (λ k. IsMarkOf (trail_of trails k)) (λ k m e is. sym is.lane) woven_marks trail_at each_lane
+
     module _ (entries : List Entry) (woven_jobs : List Job) where
       -- what the weave gave
       pub record Wove : Type 0 where
-        pub entries_are : IsInterleaving (λ (e : Entry). e.lane) trails entries
+        pub each_trail : (k : ℕ) → k < length before → of_lane k entries ≡ trail_at k
+        pub under : All (λ (e : Entry). e.lane < length before) entries
         pub order : IsInOrder entries
         pub jobs_are : IsInterleaving (λ (j : Job). j.lane) jobs woven_jobs
         pub jobs_rise : AreJobsInOrder woven_jobs
 
-      module _ (w : Wove) where
-        under : All (λ (e : Entry). e.lane < length before) entries
-        under = subst (λ (n : ℕ). All (λ (e : Entry). e.lane < n) entries) trails_count w.entries_are.lanes_are
+      -- it is so of the entries of the woven marks
+      pub wove : (woven_marks : List Mark) → AreMarksOf trails woven_marks entries → ((k : ℕ) → of_lane k entries ≡ trail_at k) → All (λ (m : Mark). m.lane < length before) woven_marks
+          → AreMarksInOrder woven_marks → IsInterleaving (λ (j : Job). j.lane) jobs woven_jobs → AreJobsInOrder woven_jobs → Wove
+      wove woven_marks are each lanes order of_jobs rise = record {
+        each_trail = λ k lt. each k;
+        under = lanes_of_entries (λ m e. IsMarkOf (trail_of trails m.lane) m e) (λ m e is. is.lane) (λ n. n < length before) woven_marks entries are lanes;
+        order = entries_in_order (λ m e. IsMarkOf (trail_of trails m.lane) m e) (λ m e is. moment_is (trail_of trails m.lane) m e is) woven_marks entries are order;
+        jobs_are = of_jobs;
+        jobs_rise = rise;
+      }
 
+      module _ (w : Wove) where
         jobs_under : All (λ (j : Job). j.lane < length before) woven_jobs
         jobs_under = subst (λ (n : ℕ). All (λ (j : Job). j.lane < n) woven_jobs) jobs_count w.jobs_are.lanes_are
-
-        each_trail : (k : ℕ) → k < length before → of_lane k entries ≡ trail_at k
-        each_trail k lt = w.entries_are.each k [] (omega (arith, trails_count)) ∙ trail_is k [] lt
 
         each_jobs : (k : ℕ) → k < length before → filter (λ (j : Job). j.lane == k) woven_jobs ≡ jobs_at k
         each_jobs k lt = w.jobs_are.each k [] (omega (arith, jobs_count)) ∙ jobs_is k [] lt
@@ -307,19 +368,19 @@ module _ (d : SetupData) (log : TableId) (count : ℕ) (lines : List Line) (reco
         asked_once : (k : ℕ) → k < length before → map asked_of (of_lane k entries) ≡ asked_of_lane k asked
         asked_once k lt =
             let r = lane_ran k lt in
-            ap (map asked_of) (each_trail k lt) ∙ sym (r.deeds_are ∙ ap (λ x. map asked_of (trail_at k) ++ x) (r.whole (no_stop k lt)) ∙ append-nil (map asked_of (trail_at k)))
+            ap (map asked_of) (w.each_trail k lt) ∙ sym (r.deeds_are ∙ ap (λ x. map asked_of (trail_at k) ++ x) (r.whole (no_stop k lt)) ∙ append-nil (map asked_of (trail_at k)))
 
         woven_is_legal : IsLegal d first entries (state_of d met)
         woven_is_legal =
-            woven_legal d (length before) asked pen_before pen_ran trail_at jobs_at stop_at (front_of before) grown.0 all_ran entries under each_trail first (state_of d met)
+            woven_legal d (length before) asked pen_before pen_ran trail_at jobs_at stop_at (front_of before) grown.0 all_ran entries w.under w.each_trail first (state_of d met)
             (subst (IsClean d) grown.1 clean) replay_first (subst (λ (rows : List Row). IsReplay d rows (state_of d met)) grown.1 replay_met) w.order
 
         jobs_told : map job_asked woven_jobs ≡ flat_map jobs_of entries
-        jobs_told = jobs_woven (length before) trail_at entries woven_jobs w.order under each_trail w.jobs_rise jobs_under
+        jobs_told = jobs_woven (length before) trail_at entries woven_jobs w.order w.under w.each_trail w.jobs_rise jobs_under
             (λ k lt. ap (map job_asked) (each_jobs k lt) ∙ (lane_ran k lt).jobs_are.asked)
 
         pub few_jobs : length woven_jobs < 2 ^ 32
-        few_jobs = jobs_few d first (state_of d met) (length before) lines records entries woven_jobs f.fit.few woven_is_legal all_ran.under under asked_once jobs_told
+        few_jobs = jobs_few d first (state_of d met) (length before) lines records entries woven_jobs f.fit.few woven_is_legal all_ran.under w.under asked_once jobs_told
 
         -- the jobs are those that the entries leave, each with its version
         pub jobs_left : AreJobsOf d entries (front_of met) woven_jobs
@@ -334,7 +395,7 @@ module _ (d : SetupData) (log : TableId) (count : ℕ) (lines : List Line) (reco
         pub front_told : front_of met ≡ front_of before ++ rows_in entries
         front_told =
             grown.1 ∙ ap (λ (rows : List Row). front_of before ++ rows)
-            (rows_are d (length before) asked pen_before pen_ran trail_at jobs_at stop_at (front_of before) grown.0 all_ran entries under each_trail w.order)
+            (rows_are d (length before) asked pen_before pen_ran trail_at jobs_at stop_at (front_of before) grown.0 all_ran entries w.under w.each_trail w.order)
 
         -- each job can be done
         pub jobs_can_run : All (CanRun d) woven_jobs
@@ -344,11 +405,11 @@ module _ (d : SetupData) (log : TableId) (count : ℕ) (lines : List Line) (reco
             → IsWoven d (length before) asked first (state_of d met) entries (jobs_seen woven_jobs replies)
         woven_made replies replied =
             let right = subst (λ (rows : List Row). All (λ e. seat.IsAnswerIn d rows (seat_answer e)) entries) (sym grown.1)
-            (all_right d (length before) asked pen_before pen_ran trail_at jobs_at stop_at (front_of before) grown.0 all_ran entries under each_trail) in
+            (all_right d (length before) asked pen_before pen_ran trail_at jobs_at stop_at (front_of before) grown.0 all_ran entries w.under w.each_trail) in
             record {
               legal = woven_is_legal;
               once = asked_once;
-              lanes_are = under;
+              lanes_are = w.under;
               order = w.order;
               jobs_are =
                   are_jobs d (front_of met) clean entries woven_jobs replies (length (front_of before)) first (state_of d met)
@@ -385,7 +446,7 @@ module _ (d : SetupData) (log : TableId) (count : ℕ) (lines : List Line) (reco
           let at : k < length before = omega (arith, lt, met_count, length-map met (λ (x : Lane). x.seat)) in
           let same : (get_or (map (λ (x : Lane). x.seat) met) k s).pen.lane ≡ k =
           ap (λ (v : SeatValue). v.pen.lane) (get_or-map (λ (x : Lane). x.seat) met k l s (omega (arith, met_count)))
-          ∙ ap (λ (p : PenValue). p.lane) (lane_met k at).read.reads.1 ∙ (f.have_run.1 k l at).same.2 ∙ lane_before k at in
+          ∙ ap (λ (p : PenValue). p.lane) (lane_met k at).read.reads.1 ∙ (f.have_run.each k l at).same.2 ∙ lane_before k at in
           omega (arith, same))
 
       one_ready : All IsEmptied after → (k : ℕ) → k < length before → IsReady d log count (front_of after) (get_or after k l)
@@ -393,7 +454,7 @@ module _ (d : SetupData) (log : TableId) (count : ℕ) (lines : List Line) (reco
           let m = lane_met k lt in
           let seat = seat_after k lt in
           let r = ready_at k lt in
-          let same = (f.have_run.1 k l lt).same in
+          let same = (f.have_run.each k l lt).same in
           let none = emptied k l (omega (arith, after_count)) in
           record {
             own = ap (λ (s : SeatValue). s.pen.log) seat ∙ ap (λ (p : PenValue). p.log) m.read.reads.1 ∙ same.0 ∙ r.own;
@@ -416,29 +477,30 @@ module _ (d : SetupData) (log : TableId) (count : ℕ) (lines : List Line) (reco
       }
 
 -- the seats of lanes that ran are still those of their hub
-pub still_of_hub : (d : SetupData) (log : TableId) (count : ℕ) (asked : List Numbered) (before ran : List Lane) → AreAtRest d log count before → HaveRun d asked before ran → All (IsOfHub d log) ran
-still_of_hub d log count asked before ran ready have k l lt =
-    let at : k < length before = omega (arith, have.0) in
-    let h = have.1 k l at in
+pub still_of_hub : (d : SetupData) (log : TableId) (count : ℕ) (asked : List Numbered) (before ran : List Lane) (given : List (List Entry)) → AreAtRest d log count before
+    → HaveRun d asked before ran given → All (IsOfHub d log) ran
+still_of_hub d log count asked before ran given ready have k l lt =
+    let at : k < length before = omega (arith, have.count) in
+    let h = have.each k l at in
     (h.same.0 ∙ (ready.each k l at).own, h.seat)
 
 -- and stand in the order of their lanes
-pub still_in_order : (d : SetupData) (asked : List Numbered) (before ran : List Lane)
-    → AreOfLanes 0 (map (λ (x : Lane). x.seat) before) → HaveRun d asked before ran → AreOfLanes 0 (map (λ (x : Lane). x.seat) ran)
-still_in_order d asked before ran order have = are_of_lanes 0 (map (λ (x : Lane). x.seat) ran) (λ k s lt.
-    let l : Lane = record { seat = s; trail = []; jobs = []; stop = None } in
+pub still_in_order : (d : SetupData) (asked : List Numbered) (before ran : List Lane) (given : List (List Entry))
+    → AreOfLanes 0 (map (λ (x : Lane). x.seat) before) → HaveRun d asked before ran given → AreOfLanes 0 (map (λ (x : Lane). x.seat) ran)
+still_in_order d asked before ran given order have = are_of_lanes 0 (map (λ (x : Lane). x.seat) ran) (λ k s lt.
+    let l : Lane = record { seat = s; trail = none_left; jobs = []; stop = None } in
     let size = length-map ran (λ (x : Lane). x.seat) in
-    let at : k < length before = omega (arith, lt, have.0, size) in
+    let at : k < length before = omega (arith, lt, have.count, size) in
     let same : (get_or (map (λ (x : Lane). x.seat) ran) k s).pen.lane ≡ k =
-    ap (λ (v : SeatValue). v.pen.lane) (get_or-map (λ (x : Lane). x.seat) ran k l s (omega (arith, lt, size))) ∙ (have.1 k l at).same.2 ∙ lane_at before k l order at in
+    ap (λ (v : SeatValue). v.pen.lane) (get_or-map (λ (x : Lane). x.seat) ran k l s (omega (arith, lt, size))) ∙ (have.each k l at).same.2 ∙ lane_at before k l order at in
     omega (arith, same))
 
 -- what is known where all have met
-pub known : (d : SetupData) (log : TableId) (count : ℕ) (lines : List Line) (records : List (List ℕ)) (before ran met : List Lane) (ready : AreAtRest d log count before)
+pub known : (d : SetupData) (log : TableId) (count : ℕ) (lines : List Line) (records : List (List ℕ)) (before ran met : List Lane) (given : List (List Entry)) (ready : AreAtRest d log count before)
     → IsFitSegment (length before) lines → length (front_of before) + commands_in lines ≤ MAX_PLACE
-    → HaveRun d (asked_in lines records) before ran → All (λ (lane : Lane). HadMemory lane.stop) ran → HaveMet d ran met
-    → Facts d log count lines records before ran met (some_lane before ready.some)
-known d log count lines records before ran met ready fit room have_run memory have_met =
+    → HaveRun d (asked_in lines records) before ran given → All (λ (lane : Lane). HadMemory lane.stop) ran → HaveMet d ran met
+    → Facts d log count lines records before ran met given (some_lane before ready.some)
+known d log count lines records before ran met given ready fit room have_run memory have_met =
     record { ready = ready; fit = fit; room = room; have_run = have_run; memory = memory; have_met = have_met }
 
 -- ---- lanes that keep no row

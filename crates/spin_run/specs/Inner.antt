@@ -1,5 +1,6 @@
 -- What the contracts of private functions cite alone.
 pub mod Answering
+pub mod Marks
 pub mod Meeting
 pub mod Weaves
 pub mod Ending

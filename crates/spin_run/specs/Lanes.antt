@@ -24,12 +24,13 @@ use Rattle.spin_report.specs.Jobs.{answer_calls}
 use Rattle.spin_report.specs.Asked.{Numbered, asked_of}
 use Rattle.spin_report.specs.Segments.{asked_of_lane}
 use Rattle.spin_run.specs.declared.lane.Lane.{Lane}
+use Rattle.spin_run.specs.Trails.{IsNew, IsTrailOf}
 
 -- ---- new lanes
 
 -- nothing was answered yet
 abbrev pub IsFresh : Lane → Type 0
-IsFresh lane = (lane.trail ≡ []) × (lane.jobs ≡ []) × (lane.stop ≡ None)
+IsFresh lane = IsNew lane.trail × (lane.jobs ≡ []) × (lane.stop ≡ None)
 
 -- ---- an entry as the answer of a seat
 
@@ -112,11 +113,14 @@ pub record RanLane (d : SetupData) (deeds : List Numbered) (before after : PenVa
 abbrev pub HadMemory : Option SeatFault → Type 0
 HadMemory stop = stop ≢ Some fault.NoMemory
 
--- How a lane stands after a segment in which all lanes are asked these, beside how it stood before: its seat is still
--- that of its lane, and where it had memory it has done its own.
-pub record HasRunLane (d : SetupData) (asked : List Numbered) (before after : Lane) : Type 0 where
+-- How a lane stands after a segment in which all lanes are asked these, beside how it stood before, where it has given
+-- these entries: its seat is still that of its lane, and where it had memory it has done its own, and its trail is that
+-- of the entries.
+pub record HasRunLane (d : SetupData) (asked : List Numbered) (before after : Lane) (entries : List Entry)
+    : Type 0 where
   pub seat : IsSeatOf d after.seat
   pub same : IsSamePen before.seat.pen after.seat.pen
   pub ran : HadMemory after.stop
       → RanLane d (asked_of_lane before.seat.pen.lane asked)
-      before.seat.pen after.seat.pen after.trail after.jobs after.stop
+      before.seat.pen after.seat.pen entries after.jobs after.stop
+  pub told : HadMemory after.stop → IsTrailOf entries after.trail

@@ -1,4 +1,5 @@
 pub mod Lanes
+pub mod Trails
 pub mod Segments
 pub mod Meetings
 pub mod Laws

@@ -1,5 +1,5 @@
 -- All lanes of a segment: how they must stand, and how they stand afterwards.
-use Rattle.std.specs.Prelude.{◌≡◌, ℕ, ◌<◌, ◌≤◌, List, [], ◌∷◌, map, length}
+use Rattle.std.specs.Prelude.{◌≡◌, ℕ, ◌<◌, ◌≤◌, List, [], ◌∷◌, ◌++◌, map, length}
 use Rattle.std.specs.Prelude.{All, AllPairs, None, sum_by, zip, slice_index_or}
 use Rattle.atomic_table.specs.Seated.{TableId}
 use Rattle.spin_word.specs.declared.row.Row.{Row}
@@ -16,8 +16,13 @@ use Rattle.spin_script.specs.Segments.{IsOnLane}
 use Rattle.spin_script.specs.Checks.{most_deeds}
 use Rattle.spin_report.specs.Asked.{Numbered}
 use Rattle.spin_report.specs.Lines.{JobSeen, job_seen}
+use Rattle.spin_report.specs.declared.entry.Entry.{Entry}
+use Rattle.spin_report.specs.Segments.{IsWoven}
 use Rattle.spin_run.specs.declared.lane.Lane.{Lane}
-use Rattle.spin_run.specs.Lanes.{HasRunLane}
+use Rattle.spin_run.specs.declared.segment.Woven.{Woven}
+use Rattle.spin_run.specs.Lanes.{HasRunLane, AreJobsOf, rows_in}
+use Rattle.spin_run.specs.Trails.{IsNew, AreMarksOf}
+use Rattle.spin_seat.specs.Replay.{IsReplay}
 
 -- the front of the first lane's seat, and the state of its version
 abbrev pub front_of : List Lane → List Row
@@ -35,7 +40,7 @@ pub record IsAtRest (d : SetupData) (log : TableId) (count : ℕ) (front : List 
   pub among : lane.seat.pen.lanes ≡ count
   pub seat : IsSeatOf d lane.seat
   pub front_is : lane.seat.pen.front ≡ front
-  pub trail : lane.trail ≡ []
+  pub trail : IsNew lane.trail
   pub jobs_are : lane.jobs ≡ []
   pub stop : lane.stop ≡ None
 
@@ -55,7 +60,7 @@ pub record IsReady (d : SetupData) (log : TableId) (count : ℕ) (front : List R
   pub seat : IsSeatOf d lane.seat
   pub whole : lane.seat.kept ≡ None
   pub front_is : lane.seat.pen.front ≡ front
-  pub trail : lane.trail ≡ []
+  pub trail : IsNew lane.trail
   pub jobs_are : lane.jobs ≡ []
   pub stop : lane.stop ≡ None
 
@@ -74,13 +79,28 @@ pub record IsFitSegment (lanes : ℕ) (lines : List Line) : Type 0 where
   pub valid : All (λ line. IsValidWork line.work) lines
   pub few : sum_by (λ line. deed_count line.work) lines ≤ most_deeds
 
--- as many lanes as before, each of which has run
-abbrev pub HaveRun : SetupData → List Numbered → List Lane → List Lane → Type 0
-HaveRun d asked before after =
-    (length after ≡ length before)
-    × ((k : ℕ) (lane : Lane) → k < length before
-    → HasRunLane d asked (slice_index_or before k lane) (slice_index_or after k lane))
+-- as many lanes as before, each of which has run and has given the entries that stand at its place
+pub record HaveRun (d : SetupData) (asked : List Numbered) (before after : List Lane) (given : List (List Entry))
+    : Type 0 where
+  pub count : length after ≡ length before
+  pub given_count : length given ≡ length before
+  pub each : (k : ℕ) (lane : Lane) → k < length before
+      → HasRunLane d asked (slice_index_or before k lane) (slice_index_or after k lane) (slice_index_or given k [])
 
 -- jobs with their replies, as a report tells them
 abbrev pub jobs_seen : List Job → List Reply → List JobSeen
 jobs_seen jobs replies = map (λ done. job_seen done.0 done.1) (zip jobs replies)
+
+-- What a segment came to, in which the lanes are asked these: these entries of all lanes, of which the marks are kept,
+-- answer that, from the state of the front that all lanes know before it to the one in which they stand afterwards; the
+-- jobs are those that they leave, each with the version of its entry's place; and the front has grown by the rows that
+-- they published.
+pub record HasWoven (d : SetupData) (asked : List Numbered) (before after : List Lane) (woven : Woven) : Type 0 where
+  pub entries : List Entry
+  pub trails_are : length woven.trails ≡ length before
+  pub marks_are : AreMarksOf woven.trails woven.marks entries
+  pub start : State
+  pub start_is : IsReplay d (front_of before) start
+  pub answers : IsWoven d (length before) asked start (state_of d after) entries (jobs_seen woven.jobs woven.replies)
+  pub jobs_are : AreJobsOf d entries (front_of after) woven.jobs
+  pub front_is : front_of after ≡ front_of before ++ rows_in entries

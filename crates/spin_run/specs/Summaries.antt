@@ -6,14 +6,13 @@ use Rattle.spin_pcap.specs.declared.next.Next.{Next}
 use Rattle.spin_table.specs.declared.refusal.Verdicted.TheVariants as verdicted
 use Rattle.spin_proto.specs.declared.reply.Step.{Step}
 use Rattle.spin_proto.specs.declared.reply.Step.TheVariants as step
-use Rattle.spin_proto.specs.declared.reply.Reply.{Reply}
-use Rattle.spin_proto.specs.declared.reply.Reply.TheVariants as reply
 use Rattle.spin_text.specs.Words.{line_of, text_of}
 use Rattle.spin_report.specs.declared.entry.What.{What}
 use Rattle.spin_report.specs.declared.entry.What.TheVariants as what
 use Rattle.spin_report.specs.declared.entry.Entry.{Entry}
 use Rattle.spin_report.specs.Histories.{HistorySeen, entries_of}
 use Rattle.spin_report.specs.Segments.{is_accepted}
+use Rattle.spin_report.specs.Views.{answer_steps}
 use Rattle.spin_script.specs.States.{ScriptData}
 use Rattle.spin_run.specs.declared.end.RunEnd.{RunEnd}
 use Rattle.spin_run.specs.declared.end.RunEnd.TheVariants as end
@@ -37,16 +36,6 @@ abbrev pub is_send : Step → Bool
 is_send (step.Send endpoint bytes) = true
 is_send other = false
 
--- the steps of a reply: those of the deed, and not of the jobs that it leaves
-abbrev pub steps_of_reply : Reply → List Step
-steps_of_reply (reply.Ran answer trace jobs) = trace
-steps_of_reply other = []
-
--- the steps of what an entry tells: a command has none, and a deed those of its reply
-abbrev pub steps_of : What → List Step
-steps_of (what.Command command verdict) = []
-steps_of (what.Deed deed answer) = steps_of_reply answer
-
 -- entries, commands that were accepted and refused, and steps of entries that run a handler or send
 pub record Counts : Type 0 where
   pub entries : ℕ
@@ -61,8 +50,8 @@ counts_in entries = record {
   entries = length entries;
   accepted = count_by (λ entry. is_accepted entry.what) entries;
   refused = count_by (λ entry. is_refused entry.what) entries;
-  runs = sum_by (λ entry. count_by is_run (steps_of entry.what)) entries;
-  sends = sum_by (λ entry. count_by is_send (steps_of entry.what)) entries;
+  runs = sum_by (λ entry. count_by is_run (answer_steps entry.what)) entries;
+  sends = sum_by (λ entry. count_by is_send (answer_steps entry.what)) entries;
 }
 
 -- ---- the lines

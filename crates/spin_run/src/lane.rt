@@ -1,10 +1,12 @@
 //! One lane of a segment.
 
 ghost use Rattle.std.specs.Prelude.{◌≡◌, ◌+◌, ◌<◌, ◌≤◌, [], ◌∷◌, map, length, All, IsTrue, OnOk};
-ghost use Rattle.std.specs.Prelude.{IfOk, OnErr, None};
+ghost use Rattle.std.specs.Prelude.{List, IfOk, OnErr, None};
 ghost use Rattle.std.specs.Arc.{arc_value};
 ghost use Rattle.spin_word.specs.Commands.{is_command};
+ghost use Rattle.spin_values.specs.declared.values.Value.TheVariants as value;
 ghost use Rattle.spin_word.specs.declared.work.Work.TheVariants as work;
+ghost use Rattle.spin_word.specs.declared.work.Deed.TheVariants as deed;
 ghost use Rattle.spin_log.specs.Pens.{IsSamePen};
 ghost use Rattle.spin_table.specs.SetupOf.{data_of};
 ghost use Rattle.spin_proto.specs.Replies.{BelongsTo, calls_left};
@@ -15,20 +17,23 @@ ghost use Rattle.spin_script.specs.Soundness.{IsValidWork};
 ghost use Rattle.spin_script.specs.Segments.{IsOfLane};
 ghost use Rattle.spin_script.specs.declared.lanes.TheConstants.{MAX_DEEDS};
 ghost use Rattle.spin_report.specs.Segments.{raise_with, parts_of, asked_at, asked_in, asked_of_lane};
+ghost use Rattle.spin_report.specs.declared.entry.Entry.{Entry};
+ghost use Rattle.spin_report.specs.declared.entry.What.TheVariants as what;
 ghost use Rattle.spin_run.specs.Lanes.{HasRunLane, IsFresh};
 ghost use Rattle.spin_run.specs.Segments.{IsAtRest, IsFitSegment};
 ghost use Rattle.spin_run.specs.Inner.Answering.{Answers, Comes, Stays, asked_alone, asked_packets};
 
 use crate::jobs_left::leave_jobs;
+use crate::trail::Trail;
 use spin_code::Sincere;
 use spin_objects::Catalogue;
 use spin_outside::Gate;
 use spin_pcap::Frames;
 use spin_proto::{Jobs, ReplyBuffer};
-use spin_report::{Entries, Entry, What, split_records};
+use spin_report::{EntryView, LentWhat, WhatView, split_records};
 use spin_script::{Line, Segment};
-use spin_seat::{Hub, Judged, Raised, Seat, SeatFault};
-use spin_values::{Args, NoMemory, Octets};
+use spin_seat::{Hub, Judged, Seat, SeatFault};
+use spin_values::{Args, NoMemory, Octets, Value};
 use spin_word::{Command, Deed, Work};
 use std::alloc::Global;
 
@@ -37,46 +42,37 @@ use std::alloc::Global;
 pub struct Lane {
     /// The seat that it calls.
     pub seat: Seat,
-    /// The entries that its calls have answered, in their order.
-    pub trail: Entries,
+    /// What the entries that its calls have answered leave, in their order.
+    pub trail: Trail,
     /// The jobs that these entries leave, each with its version.
     pub jobs: Jobs,
     /// Why it ended before its last deed, if it did.
     pub stop: Option<SeatFault>,
 }
 
-// Does the deed as `Seat::raise` does, in the room of the buffer.
-fn raise(
-    alloc: Global,
-    hub: &Hub,
-    seat: &mut Seat,
-    deed: &Deed,
-    buffer: &mut ReplyBuffer,
-) -> Result<Raised, NoMemory>
-    requires sincere { ⟦<Catalogue as Sincere>⟧.sincere hub.now.setup.catalogue }
-    requires log { seat.old.pen.log ≡ hub.now.log.id }
-    requires seat { IsSeat (data_of hub.now.setup) seat.old }
-    ensures seat { IsSeat (data_of hub.now.setup) seat.new }
-    ensures first { seat.new.first ≡ seat.old.first }
-    ensures same { IsSamePen seat.old.pen seat.new.pen }
-    ensures answer { let d = data_of hub.now.setup in
-        let first = seat.old.first in
-        let pen = seat.old.pen in
-        IfOk result (λ raised.
-        GivesFrom d first pen (reply_answer pen.lane deed.now raised.place raised.reply) seat.new.pen) }
-    ensures whole { OnOk result (seat.new.kept ≡ None) }
-    ensures pinned { IfOk result (λ raised. arc_value raised.pinned ≡ seat.new.state) }
-    ensures calls { IfOk result (λ raised. All (BelongsTo seat.new.state) (calls_left raised.reply)) }
-    ensures err { OnErr result (AddsAtMostAPin seat.old.pen seat.new.pen) }
+// A deed, and what it came to, which the buffer has.
+fn answered<'a>(deed: &'a Deed, buffer: &'a ReplyBuffer) -> WhatView<'a>
+    ensures { result ≡ what.Deed deed.now buffer.now }
 {
-    let place = seat.raise_into(alloc, hub, deed, buffer)?;
-    let pinned = seat.version()?;
-    let reply = buffer.take_reply(alloc)?;
-    Ok(Raised {
-        place,
-        reply,
-        pinned,
-    })
+    let reply = buffer.view();
+    let lent = LentWhat::Deed(deed, reply);
+    WhatView { lent }
+}
+
+// These bytes as the one argument, in the room of arguments that are done with.
+fn refilled(alloc: Global, args: Args, frame: &[u8]) -> Result<Args, NoMemory>
+    ensures { IfOk result (λ refilled. refilled ≡ value.Bytes frame.now ∷ []) }
+{
+    let mut args = args;
+    let mut bytes = match args.pop() {
+        Some(Value::Bytes(bytes)) => bytes,
+        _ => Octets::new(alloc),
+    };
+    args.clear();
+    bytes.clear();
+    bytes.extend_from_slice(frame)?;
+    args.push(Value::Bytes(bytes))?;
+    Ok(args)
 }
 
 impl Lane {
@@ -87,7 +83,7 @@ impl Lane {
     {
         Lane {
             seat,
-            trail: Entries::new(alloc),
+            trail: Trail::new(alloc),
             jobs: Jobs::new(alloc),
             stop: None,
         }
@@ -114,7 +110,7 @@ impl Lane {
             IsAtRest d hub.now.log.id hub.now.log.lanes front self.old }
         requires lines { IsFitSegment hub.now.log.lanes segment.now.lines }
         ensures { let asked = asked_in segment.now.lines frames.now in
-            HasRunLane (data_of hub.now.setup) asked self.old self.new }
+            (entries : List Entry) × HasRunLane (data_of hub.now.setup) asked self.old self.new entries }
     {
         self.stop = self.answer_lines(alloc, hub, segment, frames, gate).err();
     }
@@ -166,17 +162,22 @@ impl Lane {
         requires lane { line.now.lane ≡ self.old.seat.pen.lane }
         requires own { IsOfLane line.now.lane line.now.work }
         requires valid { IsValidWork line.now.work }
-        requires few { length self.old.trail + length (asked_at line.now records.now) ≤ MAX_DEEDS }
+        requires few { length self.old.trail.marks + length (asked_at line.now records.now) ≤ MAX_DEEDS }
         ensures stays { Stays (data_of hub.now.setup) self.old self.new }
         ensures comes { let asked = asked_at line.now records.now in
             Comes (data_of hub.now.setup) asked self.old result self.new }
     {
         match &line.work {
             Work::Command(command) => self.answer_command(alloc, hub, line.number, command, gate),
-            Work::Deed(deed) => {
-                let deed = deed.copy()?;
-                Ok(self.answer_deed(alloc, hub, line.number, 0, deed, gate, buffer)?)
-            }
+            Work::Deed(deed) => Ok(self.answer_deed(
+                alloc,
+                hub,
+                line.number,
+                0,
+                deed,
+                gate,
+                buffer,
+            )?),
             Work::Packet { event, .. } => {
                 Ok(self.answer_packets(alloc, hub, line.number, *event, records, gate, buffer)?)
             }
@@ -197,21 +198,23 @@ impl Lane {
         requires seat { IsSeatOf (data_of hub.now.setup) self.old.seat }
         requires valid { IsTrue (is_command command.now) }
         requires lane { command.now.lane ≡ self.old.seat.pen.lane }
-        requires few { length self.old.trail < MAX_DEEDS }
+        requires few { length self.old.trail.marks < MAX_DEEDS }
         ensures stays { Stays (data_of hub.now.setup) self.old self.new }
         ensures comes { let d = data_of hub.now.setup in
             let asked = asked_alone self.old.seat.pen.lane line 0 (work.Command command.now) in
             Comes d asked self.old result self.new }
     {
         let lane = self.seat.lane();
-        gate.pass(lane, self.trail.len() as u32);
+        gate.pass(lane, self.trail.marks.len() as u32);
         let Judged { place, verdict } = self.seat.command(alloc, hub, command)?;
-        self.trail.push(Entry {
+        let lent = LentWhat::Command(command, &verdict);
+        let what = WhatView { lent };
+        self.trail.add(&EntryView {
             place,
             lane,
             line,
             part: 0,
-            what: What::Command(*command, verdict),
+            what,
         })?;
         Ok(())
     }
@@ -230,27 +233,48 @@ impl Lane {
         requires sincere { ⟦<Catalogue as Sincere>⟧.sincere hub.now.setup.catalogue }
         requires log { self.old.seat.pen.log ≡ hub.now.log.id }
         requires seat { IsSeatOf (data_of hub.now.setup) self.old.seat }
-        requires few { length self.old.trail + length records.now ≤ MAX_DEEDS }
+        requires few { length self.old.trail.marks + length records.now ≤ MAX_DEEDS }
         ensures stays { Stays (data_of hub.now.setup) self.old self.new }
         ensures ok { let d = data_of hub.now.setup in
             let asked = asked_packets self.old.seat.pen.lane line event 1 records.now in
             OnOk result (Answers d asked self.old self.new) }
     {
         let mut part = 0;
+        let mut room = Args::new(alloc);
         for frame in records {
             part += 1;
-            let args = Args::of_bytes(alloc, frame)?;
-            self.answer_deed(
-                alloc,
-                hub,
-                line,
-                part,
-                Deed::Raise { event, args },
-                gate,
-                buffer,
-            )?;
+            let args = refilled(alloc, room, frame)?;
+            room = self.answer_raise(alloc, hub, line, part, event, args, gate, buffer)?;
         }
         Ok(())
+    }
+
+    // Raises an event with these arguments, and gives them back.
+    fn answer_raise<G: Gate>(
+        &mut self,
+        alloc: Global,
+        hub: &Hub,
+        line: u32,
+        part: u32,
+        event: u8,
+        args: Args,
+        gate: &G,
+        buffer: &mut ReplyBuffer,
+    ) -> Result<Args, NoMemory>
+        requires sincere { ⟦<Catalogue as Sincere>⟧.sincere hub.now.setup.catalogue }
+        requires log { self.old.seat.pen.log ≡ hub.now.log.id }
+        requires seat { IsSeatOf (data_of hub.now.setup) self.old.seat }
+        requires few { length self.old.trail.marks < MAX_DEEDS }
+        ensures stays { Stays (data_of hub.now.setup) self.old self.new }
+        ensures ok { let d = data_of hub.now.setup in
+            let asked = asked_alone self.old.seat.pen.lane line part (work.Deed (deed.Raise event args)) in
+            OnOk result (Answers d asked self.old self.new) }
+    {
+        let deed = Deed::Raise { event, args };
+        self.answer_deed(alloc, hub, line, part, &deed, gate, buffer)?;
+        match deed {
+            Deed::Raise { args, .. } | Deed::Later { args, .. } => Ok(args),
+        }
     }
 
     // Does a deed.
@@ -260,34 +284,31 @@ impl Lane {
         hub: &Hub,
         line: u32,
         part: u32,
-        deed: Deed,
+        deed: &Deed,
         gate: &G,
         buffer: &mut ReplyBuffer,
     ) -> Result<(), NoMemory>
         requires sincere { ⟦<Catalogue as Sincere>⟧.sincere hub.now.setup.catalogue }
         requires log { self.old.seat.pen.log ≡ hub.now.log.id }
         requires seat { IsSeatOf (data_of hub.now.setup) self.old.seat }
-        requires few { length self.old.trail < MAX_DEEDS }
+        requires few { length self.old.trail.marks < MAX_DEEDS }
         ensures stays { Stays (data_of hub.now.setup) self.old self.new }
         ensures ok { let d = data_of hub.now.setup in
-            let asked = asked_alone self.old.seat.pen.lane line part (work.Deed deed) in
+            let asked = asked_alone self.old.seat.pen.lane line part (work.Deed deed.now) in
             OnOk result (Answers d asked self.old self.new) }
     {
         let lane = self.seat.lane();
-        gate.pass(lane, self.trail.len() as u32);
-        let Raised {
-            place,
-            reply,
-            pinned,
-        } = raise(alloc, hub, &mut self.seat, &deed, buffer)?;
-        let entry = Entry {
+        gate.pass(lane, self.trail.marks.len() as u32);
+        let place = self.seat.raise_into(alloc, hub, deed, buffer)?;
+        let what = answered(deed, buffer);
+        let entry = EntryView {
             place,
             lane,
             line,
             part,
-            what: What::Deed(deed, reply),
+            what,
         };
-        leave_jobs(&mut self.jobs, &entry, &pinned)?;
-        self.trail.push(entry)
+        leave_jobs(&mut self.jobs, &entry, &self.seat)?;
+        self.trail.add(&entry)
     }
 }

@@ -1,13 +1,14 @@
 //! All lanes of a segment, side by side.
 
 ghost use Rattle.std.specs.Prelude.{◌≡◌, ◌<◌, ◌≤◌, ◌++◌, [], ◌∷◌, map, length, slice_get};
-ghost use Rattle.std.specs.Prelude.{Some, All, IfOk, OnOk, OnErr, MatchOption};
+ghost use Rattle.std.specs.Prelude.{List, Some, All, IfOk, OnOk, OnErr, MatchOption};
 ghost use Rattle.spin_word.specs.declared.command.TheConstants.{MAX_LANES};
 ghost use Rattle.spin_log.specs.Pens.{new_pens};
 ghost use Rattle.spin_objects.specs.Units.{IsSincereBy};
 ghost use Rattle.spin_table.specs.SetupOf.{data_of};
 ghost use Rattle.spin_table.specs.States.{start_of};
 ghost use Rattle.spin_seat.specs.Seats.{IsSeatOf};
+ghost use Rattle.spin_report.specs.declared.entry.Entry.{Entry};
 ghost use Rattle.spin_report.specs.Segments.{asked_in};
 ghost use Rattle.spin_run.specs.Lanes.{HasRunLane};
 ghost use Rattle.spin_run.specs.Segments.{IsAtRest, AreAtRest, AreReady, IsFitSegment, HaveRun, front_of, state_of};
@@ -160,7 +161,7 @@ pub fn run_lanes<R: Threads + Sync, G: Gate>(
         AreAtRest d hub.now.log.id hub.now.log.lanes lanes.old }
     requires lines { IsFitSegment (length lanes.old) segment.now.lines }
     ensures { let asked = asked_in segment.now.lines frames.now in
-        HaveRun (data_of hub.now.setup) asked lanes.old lanes.new }
+        (trails : List (List Entry)) × HaveRun (data_of hub.now.setup) asked lanes.old lanes.new trails }
 {
     thread::for_each_mut(
         rt,
@@ -173,7 +174,7 @@ pub fn run_lanes<R: Threads + Sync, G: Gate>(
                 IsAtRest d hub.now.log.id hub.now.log.lanes front lane.old }
             requires lines { IsFitSegment hub.now.log.lanes segment.now.lines }
             ensures { let asked = asked_in segment.entry.now.lines frames.entry.now in
-                HasRunLane (data_of hub.entry.now.setup) asked lane.old lane.new }
+                (entries : List Entry) × HasRunLane (data_of hub.entry.now.setup) asked lane.old lane.new entries }
         { lane.run(alloc, hub, segment, frames, gate) },
     );
 }

@@ -1,7 +1,7 @@
 //! Whole runs: lanes on threads, captures by segment, deliveries, and one woven history.
 //!
-//! - `lane` is one lane of a segment, which does the deeds of the lines that name it, and `lanes` all of them side by
-//!   side;
+//! - `lane` is one lane of a segment, which does the deeds of the lines that name it and makes their lines, which
+//!   `trail` keeps, and `lanes` all of them side by side;
 //! - `meeting` lets the seats of all lanes know the same;
 //! - `weave` puts the entries and jobs of all lanes into one history, and `segment` runs a segment whole;
 //! - `jobs_left` notes the jobs that an answer leaves;
@@ -33,6 +33,7 @@ mod sends;
 mod summary;
 mod tally;
 mod telling;
+mod trail;
 mod weave;
 mod writing;
 
@@ -45,3 +46,4 @@ pub use script::run_script;
 pub use segment::{WORKERS, Woven, run_segment};
 pub use spin_pcap::Frames;
 pub use summary::run_summary;
+pub use trail::{Kind, Mark, Marks, Sending, Stretch, Trail, Trails};

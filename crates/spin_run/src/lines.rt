@@ -1,17 +1,20 @@
 //! The lines of a segment's part of the report.
 
-ghost use Rattle.std.specs.Prelude.{◌≡◌, ◌≤◌, ◌++◌, ◌∷◌, [], map, length, OnOk};
+ghost use Rattle.std.specs.Prelude.{◌≡◌, ◌≤◌, ◌++◌, ◌∷◌, [], map, length, OnOk, All};
+ghost use Rattle.std.specs.List.{flat_map};
 ghost use Rattle.spin_text.specs.Words.{ended, text_of};
 ghost use Rattle.spin_endpoint.specs.declared.ends.TheConstants.{MAX_ENDPOINTS};
-ghost use Rattle.spin_report.specs.Lines.{entry_line, job_line};
+ghost use Rattle.spin_report.specs.Lines.{job_line};
 ghost use Rattle.spin_report.specs.Histories.{retire_line, segment_line, lost_line, lost_lines};
 ghost use Rattle.spin_run.specs.Segments.{jobs_seen};
+ghost use Rattle.spin_run.specs.Inner.Marks.{IsInTrails, line_in};
 ghost use Rattle.spin_run.specs.Inner.Lining.{retired_as, if_lost, counts_to};
 
+use crate::trail::{Mark, Trail};
 use crate::writing::TextLines;
 use spin_endpoint::Lost;
 use spin_proto::{Job, Reply};
-use spin_report::{Entry, entry_text, job_text, lost_text, retire_text, segment_text};
+use spin_report::{job_text, lost_text, retire_text, segment_text};
 use spin_values::{NoMemory, Octets};
 
 // Adds the line of each endpoint that is retired, with whether one stood under its name.
@@ -41,12 +44,26 @@ pub(crate) fn add_segment(lines: &mut TextLines, number: usize, start: u16) -> R
     lines.push(line)
 }
 
-// Appends the lines of entries.
-pub(crate) fn put_entries(text: &mut Octets, entries: &[Entry]) -> Result<(), NoMemory>
-    ensures { OnOk result (text.new ≡ text.old ++ text_of (map entry_line entries.now)) }
+// Appends the line of a mark, from its lane's trail.
+fn put_line(text: &mut Octets, trails: &[Trail], mark: &Mark) -> Result<(), NoMemory>
+    requires lies { IsInTrails trails.now mark.now }
+    ensures { OnOk result (text.new ≡ text.old ++ line_in trails.now mark.now) }
 {
-    for entry in entries {
-        entry_text(entry, text)?;
+    let lines = trails[usize::from(mark.lane)].text.as_slice();
+    text.extend_from_slice(mark.text.of(lines))
+}
+
+// Appends the lines of entries, of which these are the marks.
+pub(crate) fn put_entries(
+    text: &mut Octets,
+    trails: &[Trail],
+    marks: &[Mark],
+) -> Result<(), NoMemory>
+    requires lie { All (IsInTrails trails.now) marks.now }
+    ensures { OnOk result (text.new ≡ text.old ++ flat_map (line_in trails.now) marks.now) }
+{
+    for mark in marks {
+        put_line(text, trails, mark)?;
     }
     Ok(())
 }

@@ -101,7 +101,8 @@ pub(crate) fn run_one<R: Threads + Sync, S: Source, T: Telling, G: Gate>(
     let frames = read_records(alloc, capture, source, wanted)?;
     let start = lanes.place(hub);
     let woven = run_segment(rt, alloc, hub, lanes, segment, &frames, gate)?;
-    let entries = woven.entries.as_slice();
-    let lost = send_all(alloc, ends, names, entries, woven.replies.as_slice())?;
+    let trails = woven.trails.as_slice();
+    let marks = woven.marks.as_slice();
+    let lost = send_all(alloc, ends, names, trails, marks, woven.replies.as_slice())?;
     out.tell(retired, number, start, &woven, &lost, names.len() as u8)
 }

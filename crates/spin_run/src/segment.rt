@@ -1,24 +1,22 @@
 //! One segment: its lanes side by side, then one history of them all, then its jobs.
 
-ghost use Rattle.std.specs.Prelude.{◌≡◌, ◌+◌, ◌++◌, ◌≤◌, false, length, All, Any, IsTrue, Some, IfOk, OnOk};
+ghost use Rattle.std.specs.Prelude.{◌≡◌, ◌+◌, ◌≤◌, false, length, All, Any, IsTrue, Some, IfOk, OnOk};
 ghost use Rattle.spin_word.specs.declared.command.TheConstants.{MAX_PLACE};
 ghost use Rattle.spin_table.specs.SetupOf.{data_of};
-ghost use Rattle.spin_table.specs.States.{State};
-ghost use Rattle.spin_seat.specs.Replay.{IsReplay};
 ghost use Rattle.spin_seat.specs.declared.answer.SeatFault.TheVariants as fault;
-ghost use Rattle.spin_report.specs.Segments.{asked_in, IsWoven};
-ghost use Rattle.spin_run.specs.Lanes.{AreJobsOf, HadMemory, rows_in};
-ghost use Rattle.spin_run.specs.Segments.{AreAtRest, AreReady, IsFitSegment, front_of, state_of, jobs_seen};
+ghost use Rattle.spin_report.specs.Segments.{asked_in};
+ghost use Rattle.spin_run.specs.Lanes.{HadMemory};
+ghost use Rattle.spin_run.specs.Segments.{AreAtRest, AreReady, IsFitSegment, HasWoven, front_of};
 ghost use Rattle.spin_script.specs.Soundness.{commands_in};
 
 use crate::lanes::{Lanes, run_lanes};
+use crate::trail::{Marks, Trails};
 use spin_code::Sincere;
 use spin_jobs::{Replies, run_all};
 use spin_objects::Catalogue;
 use spin_outside::Gate;
 use spin_pcap::Frames;
 use spin_proto::Jobs;
-use spin_report::Entries;
 use spin_script::Segment;
 use spin_seat::{Hub, SeatFault};
 use spin_values::NoMemory;
@@ -28,11 +26,13 @@ use std::thread::Threads;
 /// How many workers do the jobs of a segment.
 pub const WORKERS: u8 = 4;
 
-/// What a segment came to.
+/// What a segment came to: the entries of all lanes, of which their lines, their sends and marks are kept.
 #[derive(Drop)]
 pub struct Woven {
-    /// The entries of all lanes, in the order of the history.
-    pub entries: Entries,
+    /// What the entries of each lane leave, without their marks.
+    pub trails: Trails,
+    /// The marks of all entries, in the order of the history.
+    pub marks: Marks,
     /// The jobs that they leave, in the order of their entries.
     pub jobs: Jobs,
     /// What each job came to, in the same order.
@@ -68,12 +68,7 @@ pub fn run_segment<R: Threads + Sync, G: Gate>(
     requires room { length (front_of lanes.old) + commands_in segment.now.lines ≤ MAX_PLACE }
     ensures woven { let d = data_of hub.now.setup in
         let asked = asked_in segment.now.lines frames.now in
-        let after = state_of d lanes.new in
-        IfOk result (λ w. (before : State) × IsReplay d (front_of lanes.old) before
-        × IsWoven d (length lanes.old) asked before after w.entries (jobs_seen w.jobs w.replies)) }
-    ensures jobs { let d = data_of hub.now.setup in
-        IfOk result (λ w. AreJobsOf d w.entries (front_of lanes.new) w.jobs) }
-    ensures front { IfOk result (λ w. front_of lanes.new ≡ front_of lanes.old ++ rows_in w.entries) }
+        IfOk result (HasWoven d asked lanes.old lanes.new) }
     ensures replies { IfOk result (λ w. length w.replies ≡ length w.jobs) }
     ensures ready { let d = data_of hub.now.setup in
         OnOk result (AreReady d hub.now.log.id hub.now.log.lanes lanes.new) }
@@ -85,10 +80,11 @@ pub fn run_segment<R: Threads + Sync, G: Gate>(
         return Err(NoMemory);
     }
     lanes.meet(alloc, hub)?;
-    let (entries, jobs) = lanes.weave(alloc)?;
+    let (trails, marks, jobs) = lanes.weave(alloc)?;
     let replies = run_all(rt, alloc, hub.setup(), &jobs, WORKERS, gate)?;
     Ok(Woven {
-        entries,
+        trails,
+        marks,
         jobs,
         replies,
     })

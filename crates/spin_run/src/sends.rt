@@ -3,13 +3,14 @@
 ghost use Rattle.std.specs.Prelude.{◌≡◌, ◌<◌, ◌≤◌, ◌++◌, ◌∷◌, [], OnOk, IfOk, length, All};
 ghost use Rattle.std.specs.List.{flat_map, filter_map};
 ghost use Rattle.spin_endpoint.specs.declared.ends.TheConstants.{MAX_ENDPOINTS};
-ghost use Rattle.spin_report.specs.Runs.{sent_by, sends_of_reply, sends_of};
-ghost use Rattle.spin_run.specs.Inner.Sending.{sends_made, SendsAll, SendsByCount};
+ghost use Rattle.spin_report.specs.Runs.{sent_by, sends_of_reply};
+ghost use Rattle.spin_run.specs.Inner.Marks.{IsInTrails, sends_in};
+ghost use Rattle.spin_run.specs.Inner.Sending.{SendsAll, SendsByCount};
 
 use crate::end::RunEnd;
+use crate::trail::{Mark, Sending, Trail};
 use spin_endpoint::{Ends, EndsSeen, Lost, Sent};
 use spin_proto::{Reply, Step};
-use spin_report::{Entry, What};
 use spin_values::{NoMemory, Text};
 use std::alloc::Global;
 
@@ -37,23 +38,40 @@ fn add_of_reply<'a>(sends: &mut Vec<Sent<'a>>, reply: &'a Reply) -> Result<(), N
     Ok(())
 }
 
-// Adds the sends of an entry.
-fn add_of_entry<'a>(sends: &mut Vec<Sent<'a>>, entry: &'a Entry) -> Result<(), NoMemory>
-    ensures { OnOk result (sends.new.items ≡ sends.old.items ++ sends_of entry.now.what) }
+// Adds sends that are kept.
+fn add_all<'a>(sends: &mut Vec<Sent<'a>>, kept: &'a [Sending]) -> Result<(), NoMemory>
+    ensures { OnOk result (sends.new.items ≡ sends.old.items ++ kept.now) }
 {
-    match &entry.what {
-        What::Command(..) => Ok(()),
-        What::Deed(_, reply) => add_of_reply(sends, reply),
+    for sending in kept {
+        sends.push(Sent::new(sending.endpoint, sending.bytes.as_slice()))?;
     }
+    Ok(())
 }
 
-// Adds the sends of entries.
-fn add_of_entries<'a>(sends: &mut Vec<Sent<'a>>, entries: &'a [Entry]) -> Result<(), NoMemory>
-    ensures { OnOk result (sends.new.items
-        ≡ sends.old.items ++ flat_map (λ entry. sends_of entry.what) entries.now) }
+// Adds the sends of a mark, from its lane's trail.
+fn add_of_mark<'a>(
+    sends: &mut Vec<Sent<'a>>,
+    trails: &'a [Trail],
+    mark: &Mark,
+) -> Result<(), NoMemory>
+    requires lies { IsInTrails trails.now mark.now }
+    ensures { OnOk result (sends.new.items ≡ sends.old.items ++ sends_in trails.now mark.now) }
 {
-    for entry in entries {
-        add_of_entry(sends, entry)?;
+    let kept = trails[usize::from(mark.lane)].sends.as_slice();
+    add_all(sends, mark.sends.of(kept))
+}
+
+// Adds the sends of entries, of which these are the marks.
+fn add_of_entries<'a>(
+    sends: &mut Vec<Sent<'a>>,
+    trails: &'a [Trail],
+    marks: &[Mark],
+) -> Result<(), NoMemory>
+    requires lie { All (IsInTrails trails.now) marks.now }
+    ensures { OnOk result (sends.new.items ≡ sends.old.items ++ flat_map (sends_in trails.now) marks.now) }
+{
+    for mark in marks {
+        add_of_mark(sends, trails, mark)?;
     }
     Ok(())
 }
@@ -71,34 +89,41 @@ fn add_of_jobs<'a>(sends: &mut Vec<Sent<'a>>, replies: &'a [Reply]) -> Result<()
 // All sends of a segment.
 fn sends_of_segment<'a>(
     alloc: Global,
-    entries: &'a [Entry],
+    trails: &'a [Trail],
+    marks: &[Mark],
     replies: &'a [Reply],
 ) -> Result<Vec<Sent<'a>>, NoMemory>
-    ensures { IfOk result (λ sends. sends.items ≡ sends_made entries.now replies.now) }
+    requires lie { All (IsInTrails trails.now) marks.now }
+    ensures { IfOk result (λ sends. sends.items
+        ≡ flat_map (sends_in trails.now) marks.now ++ flat_map sends_of_reply replies.now) }
 {
     let mut sends = Vec::new(alloc);
-    add_of_entries(&mut sends, entries)?;
+    add_of_entries(&mut sends, trails, marks)?;
     add_of_jobs(&mut sends, replies)?;
     Ok(sends)
 }
 
-// Makes all sends of a segment, by the names of the endpoints' numbers, and answers how many were lost. It stops at
-// the first that fails.
+// Makes all sends of a segment whose entries have these marks, by the names of the endpoints' numbers, and answers how
+// many were lost. It stops at the first that fails.
 pub(crate) fn send_all(
     alloc: Global,
     ends: &mut Ends,
     names: &[Text],
-    entries: &[Entry],
+    trails: &[Trail],
+    marks: &[Mark],
     replies: &[Reply],
 ) -> Result<Lost, RunEnd>
     requires few { length names.now ≤ MAX_ENDPOINTS }
-    requires named { All (λ sent. sent.endpoint < length names.now) (sends_made entries.now replies.now) }
-    ensures sends { SendsAll names.now (sends_made entries.now replies.now) result
+    requires lie { All (IsInTrails trails.now) marks.now }
+    requires named { All (λ sent. sent.endpoint < length names.now)
+        (flat_map (sends_in trails.now) marks.now ++ flat_map sends_of_reply replies.now) }
+    ensures sends { let sends = flat_map (sends_in trails.now) marks.now ++ flat_map sends_of_reply replies.now in
+        SendsAll names.now sends result
         (⟦<Ends as EndsSeen>⟧.all ends.old) (⟦<Ends as EndsSeen>⟧.all ends.new) }
     ensures counts { SendsByCount names.now
         (⟦<Ends as EndsSeen>⟧.all ends.old) (⟦<Ends as EndsSeen>⟧.all ends.new) result }
 {
-    let sends = sends_of_segment(alloc, entries, replies)?;
+    let sends = sends_of_segment(alloc, trails, marks, replies)?;
     match ends.deliver_all(names, sends.as_slice()) {
         Ok(lost) => Ok(lost),
         Err(endpoint) => Err(RunEnd::Endpoint(endpoint)),

@@ -1,13 +1,12 @@
 //! How much was done in a run.
 
-ghost use Rattle.std.specs.Prelude.{◌≡◌, ◌+◌, ◌++◌, ◌∷◌, [], OnOk, IfOk, count_by, decimal};
+ghost use Rattle.std.specs.Prelude.{◌≡◌, ◌+◌, ◌++◌, ◌∷◌, [], OnOk, IfOk, decimal};
 ghost use Rattle.spin_text.specs.Words.{line_of, ended, text_of};
-ghost use Rattle.spin_run.specs.Summaries.{counts_in, is_run, is_send, summary_lines};
+ghost use Rattle.spin_run.specs.Summaries.{counts_in, summary_lines};
+ghost use Rattle.spin_run.specs.Inner.Marks.{counts_by};
 ghost use Rattle.spin_run.specs.Inner.Tallies.{plus};
 
-use spin_proto::{Reply, Step};
-use spin_report::{Entry, What};
-use spin_table::Verdicted;
+use crate::trail::{Kind, Mark};
 use spin_text::{end_line, put_number};
 use spin_values::{NoMemory, Octets};
 use std::alloc::Global;
@@ -46,26 +45,6 @@ fn add(count: &mut u64, more: u64) -> Result<(), NoMemory>
     Ok(())
 }
 
-// How many of the steps run a handler.
-fn runs_in(steps: &[Step]) -> u64
-    ensures { result ≡ count_by is_run steps.now }
-{
-    steps
-        .iter()
-        .filter(|step| matches!(step, Step::Run { .. }))
-        .count() as u64
-}
-
-// How many of the steps send.
-fn sends_in(steps: &[Step]) -> u64
-    ensures { result ≡ count_by is_send steps.now }
-{
-    steps
-        .iter()
-        .filter(|step| matches!(step, Step::Send { .. }))
-        .count() as u64
-}
-
 // Appends a line of a word and a number.
 fn put_count(out: &mut Octets, word: &[u8], count: u64) -> Result<(), NoMemory>
     ensures { OnOk result (out.new ≡ out.old ++ ended (line_of (word.now ∷ decimal count ∷ []))) }
@@ -89,28 +68,26 @@ impl Tally {
         }
     }
 
-    // Counts an entry. After want of memory some of it may be counted.
-    fn add_entry(&mut self, entry: &Entry) -> Result<(), NoMemory>
-        ensures { OnOk result (self.new ≡ plus self.old (counts_in (entry.now ∷ []))) }
+    // Counts the entry of a mark. After want of memory some of it may be counted.
+    fn add_mark(&mut self, mark: &Mark) -> Result<(), NoMemory>
+        ensures { OnOk result (self.new ≡ plus self.old (counts_by (mark.now ∷ []))) }
     {
         add(&mut self.entries, 1)?;
-        match &entry.what {
-            What::Command(_, Verdicted::Accepted) => add(&mut self.accepted, 1),
-            What::Command(_, Verdicted::Refused(_)) => add(&mut self.refused, 1),
-            What::Deed(_, Reply::Ran { trace, .. }) => {
-                add(&mut self.runs, runs_in(trace.as_slice()))?;
-                add(&mut self.sends, sends_in(trace.as_slice()))
-            }
-            What::Deed(..) => Ok(()),
+        match mark.kind {
+            Kind::Accepted => add(&mut self.accepted, 1)?,
+            Kind::Refused => add(&mut self.refused, 1)?,
+            Kind::Deed => {}
         }
+        add(&mut self.runs, u64::from(mark.runs))?;
+        add(&mut self.sends, u64::from(mark.sends.len()))
     }
 
-    // Counts entries, in time linear in their steps. After want of memory some of them may be counted.
-    pub(crate) fn add_entries(&mut self, entries: &[Entry]) -> Result<(), NoMemory>
-        ensures { OnOk result (self.new ≡ plus self.old (counts_in entries.now)) }
+    // Counts the entries of marks, in time linear in them. After want of memory some of them may be counted.
+    pub(crate) fn add_marks(&mut self, marks: &[Mark]) -> Result<(), NoMemory>
+        ensures { OnOk result (self.new ≡ plus self.old (counts_by marks.now)) }
     {
-        for entry in entries {
-            self.add_entry(entry)?;
+        for mark in marks {
+            self.add_mark(mark)?;
         }
         Ok(())
     }

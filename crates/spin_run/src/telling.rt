@@ -1,15 +1,18 @@
 //! What becomes of the segments of a run: a report of them, or a count.
 
 ghost use Rattle.std.specs.Prelude.{◌≡◌, ◌<◌, ◌≤◌, ◌++◌, ◌∷◌, ℕ, map, length, take};
-ghost use Rattle.std.specs.Prelude.{OnOk, IfOk, MatchResult, Option, None, Some};
+ghost use Rattle.std.specs.Prelude.{List, OnOk, IfOk, MatchResult, Option, None, Some, All};
 ghost use Rattle.std.specs.Io.KnownBytes.{Appends};
 ghost use Rattle.spin_endpoint.specs.declared.ends.TheConstants.{MAX_ENDPOINTS};
 ghost use Rattle.spin_outside.specs.Counts.{FailsByCount};
 ghost use Rattle.spin_outside.specs.Seen.{SinkSeen};
 ghost use Rattle.spin_text.specs.Words.{ended};
+ghost use Rattle.spin_report.specs.declared.entry.Entry.{Entry};
 ghost use Rattle.spin_report.specs.Lines.{entry_line, job_line};
 ghost use Rattle.spin_report.specs.Histories.{first_line, segment_line, lost_lines, end_line};
+ghost use Rattle.spin_run.specs.Trails.{AreMarksOf};
 ghost use Rattle.spin_run.specs.Segments.{jobs_seen};
+ghost use Rattle.spin_run.specs.Inner.Marks.{IsInTrails};
 ghost use Rattle.spin_run.specs.Summaries.{Counts, counts_in};
 ghost use Rattle.spin_run.specs.Inner.Lining.{counts_to};
 ghost use Rattle.spin_run.specs.Inner.Writing.{joined};
@@ -19,6 +22,7 @@ use crate::end::RunEnd;
 use crate::lines::{add_segment, put_entries, put_jobs, put_lost};
 use crate::segment::Woven;
 use crate::tally::Tally;
+use crate::trail::Trail;
 use crate::writing::{TextLines, write_pieces};
 use spin_endpoint::Lost;
 use spin_outside::{Failed, Sink, write_all};
@@ -60,13 +64,15 @@ pub(crate) trait Telling {
     ) -> Result<(), RunEnd>
         requires replies { length woven.now.replies ≡ length woven.now.jobs }
         requires few { endpoints ≤ MAX_ENDPOINTS }
-        ensures told { Tells (seen self.old) (seen self.new)
+        requires lie { All (IsInTrails woven.now.trails) woven.now.marks }
+        ensures told { (entries : List Entry) → AreMarksOf woven.now.trails woven.now.marks entries
+            → Tells (seen self.old) (seen self.new)
             (joined (retired ++ map ended (
-            segment_line number start ∷ map entry_line woven.now.entries
+            segment_line number start ∷ map entry_line entries
             ++ map job_line (jobs_seen woven.now.jobs woven.now.replies)
             ++ lost_lines (counts_to lost.now endpoints)))) result }
-        ensures counts { OnOk result
-            (TalliesOn (counts self.old) (counts self.new) (counts_in woven.now.entries)) }
+        ensures counts { (entries : List Entry) → AreMarksOf woven.now.trails woven.now.marks entries
+            → OnOk result (TalliesOn (counts self.old) (counts self.new) (counts_in entries)) }
         ensures same { reference self.new ≡ reference self.old }
         ensures cause { TellsByCount (seen self.old).faults (seen self.new).faults result };
 
@@ -90,6 +96,15 @@ pub(crate) struct Report<'a, K: Sink> {
     pub(crate) out: &'a mut K,
 }
 
+// How many bytes the lines of all entries have, for which there is room from the start.
+fn text_bytes(trails: &[Trail]) -> usize {
+    let mut bytes: usize = 0;
+    for trail in trails {
+        bytes = bytes.saturating_add(trail.text.len());
+    }
+    bytes
+}
+
 // The text of a segment's part of the report, in pieces: the lines of its retired endpoints, the line that begins it,
 // and all that stands behind that, in one.
 fn part_pieces(
@@ -102,15 +117,17 @@ fn part_pieces(
 ) -> Result<TextLines, NoMemory>
     requires replies { length woven.now.replies ≡ length woven.now.jobs }
     requires few { endpoints ≤ MAX_ENDPOINTS }
-    ensures { IfOk result (λ pieces. joined pieces ≡ joined (retired ++ map ended (
-        segment_line number start ∷ map entry_line woven.now.entries
+    requires lie { All (IsInTrails woven.now.trails) woven.now.marks }
+    ensures { (entries : List Entry) → AreMarksOf woven.now.trails woven.now.marks entries
+        → IfOk result (λ pieces. joined pieces ≡ joined (retired ++ map ended (
+        segment_line number start ∷ map entry_line entries
         ++ map job_line (jobs_seen woven.now.jobs woven.now.replies)
         ++ lost_lines (counts_to lost.now endpoints)))) }
 {
     let mut pieces = retired;
     add_segment(&mut pieces, number, start)?;
-    let mut text = Octets::new(pieces.allocator());
-    put_entries(&mut text, woven.entries.as_slice())?;
+    let mut text = Octets::with_capacity(pieces.allocator(), text_bytes(&woven.trails))?;
+    put_entries(&mut text, woven.trails.as_slice(), woven.marks.as_slice())?;
     put_jobs(&mut text, woven.jobs.as_slice(), woven.replies.as_slice())?;
     put_lost(&mut text, lost, endpoints)?;
     pieces.push(text)?;
@@ -191,7 +208,7 @@ impl Telling for Tally {
         _lost: &Lost,
         _endpoints: u8,
     ) -> Result<(), RunEnd> {
-        self.add_entries(woven.entries.as_slice())?;
+        self.add_marks(woven.marks.as_slice())?;
         Ok(())
     }
 

@@ -2,75 +2,78 @@
 
 ghost use Rattle.std.specs.Prelude.{◌≡◌, ◌++◌, [], map, All, IfOk, OnOk};
 ghost use Rattle.std.specs.List.{flat_map};
-ghost use Rattle.spin_report.specs.Segments.{IsInOrder};
 ghost use Rattle.spin_run.specs.Inner.Weaves as weaves;
-ghost use Rattle.spin_run.specs.Inner.Weaves.{AreOfTheirLanes, IsInterleaving, AreJobsInOrder};
-ghost use Rattle.spin_run.specs.Inner.Weaves.{IsEmptied, trails_of, jobs_by_lane};
+ghost use Rattle.spin_run.specs.Inner.Weaves.{AreOfTheirLanes, IsInterleaving, AreMarksInOrder, AreJobsInOrder};
+ghost use Rattle.spin_run.specs.Inner.Weaves.{IsEmptied, unmarked, marks_by_lane, jobs_by_lane};
 
 use crate::lanes::Lanes;
+use crate::trail::{Marks, Trail, Trails};
 use spin_proto::{Job, Jobs};
-use spin_report::Entries;
 use spin_values::NoMemory;
 use std::alloc::Global;
 use std::mem;
 
 impl Lanes {
-    // Takes the entries and the jobs out of all lanes, and puts each in the order of the history: by place; at one
-    // place the accepted command first; and then by lane, line and part. A lane's entries stay in their own order, and
-    // so do its jobs. It moves them, and takes a time linear in their number times the logarithm of the number of
-    // lanes.
-    pub(crate) fn weave(&mut self, alloc: Global) -> Result<(Entries, Jobs), NoMemory>
-        requires trails { AreOfTheirLanes (λ entry. entry.lane) (trails_of self.old) }
-        requires trails_order { All IsInOrder (trails_of self.old) }
+    // Takes the trails and the jobs out of all lanes, and puts the marks of all entries and the jobs in the order of the
+    // history: by place; at one place the accepted command first; and then by lane, line and part. A lane's marks stay
+    // in their own order, and so do its jobs. It moves them, and takes a time linear in their number times the logarithm
+    // of the number of lanes; the lines stay where they are.
+    pub(crate) fn weave(&mut self, alloc: Global) -> Result<(Trails, Marks, Jobs), NoMemory>
+        requires marks { AreOfTheirLanes (λ mark. mark.lane) (marks_by_lane self.old) }
+        requires marks_order { All AreMarksInOrder (marks_by_lane self.old) }
         requires jobs { AreOfTheirLanes (λ job. job.lane) (jobs_by_lane self.old) }
         requires jobs_order { All AreJobsInOrder (jobs_by_lane self.old) }
-        ensures entries { let trails = trails_of self.old in
-            IfOk result (λ woven. IsInterleaving (λ entry. entry.lane) trails woven.0) }
-        ensures entries_order { IfOk result (λ woven. IsInOrder woven.0) }
+        ensures trails { IfOk result (λ woven. woven.0 ≡ map unmarked self.old) }
+        ensures marks { let marks = marks_by_lane self.old in
+            IfOk result (λ woven. IsInterleaving (λ mark. mark.lane) marks woven.1) }
+        ensures marks_order { IfOk result (λ woven. AreMarksInOrder woven.1) }
         ensures jobs { let jobs = jobs_by_lane self.old in
-            IfOk result (λ woven. IsInterleaving (λ job. job.lane) jobs woven.1) }
-        ensures jobs_order { IfOk result (λ woven. AreJobsInOrder woven.1) }
+            IfOk result (λ woven. IsInterleaving (λ job. job.lane) jobs woven.2) }
+        ensures jobs_order { IfOk result (λ woven. AreJobsInOrder woven.2) }
         ensures emptied { OnOk result (All IsEmptied self.new) }
         ensures seats { OnOk result (map (λ lane. lane.seat) self.new ≡ map (λ lane. lane.seat) self.old) }
         ensures stops { OnOk result (map (λ lane. lane.stop) self.new ≡ map (λ lane. lane.stop) self.old) }
     {
-        let (entries, jobs) = self.gather(alloc)?;
-        let mut entries = entries.into_vec();
-        entries.sort_by_key(|entry| entry.moment())?;
+        let (trails, marks, jobs) = self.gather(alloc)?;
+        let mut marks = marks.into_vec();
+        marks.sort_by_key(|mark| mark.moment())?;
         let mut jobs = jobs.into_vec();
         jobs.sort_by_key(|job| job_moment(job))?;
-        Ok((Entries::from_vec(entries), Jobs::from_vec(jobs)))
+        Ok((trails, Marks::from_vec(marks), Jobs::from_vec(jobs)))
     }
 
-    // The entries of all lanes, lane after lane, and so their jobs.
-    fn gather(&mut self, alloc: Global) -> Result<(Entries, Jobs), NoMemory>
-        ensures entries { IfOk result (λ all. all.0 ≡ flat_map (λ trail. trail) (trails_of self.old)) }
-        ensures jobs { IfOk result (λ all. all.1 ≡ flat_map (λ jobs. jobs) (jobs_by_lane self.old)) }
+    // The trails of all lanes, without their marks; these, lane after lane; and so the jobs.
+    fn gather(&mut self, alloc: Global) -> Result<(Trails, Marks, Jobs), NoMemory>
+        ensures trails { IfOk result (λ all. all.0 ≡ map unmarked self.old) }
+        ensures marks { IfOk result (λ all. all.1 ≡ flat_map (λ marks. marks) (marks_by_lane self.old)) }
+        ensures jobs { IfOk result (λ all. all.2 ≡ flat_map (λ jobs. jobs) (jobs_by_lane self.old)) }
         ensures emptied { OnOk result (All IsEmptied self.new) }
         ensures seats { OnOk result (map (λ lane. lane.seat) self.new ≡ map (λ lane. lane.seat) self.old) }
         ensures stops { OnOk result (map (λ lane. lane.stop) self.new ≡ map (λ lane. lane.stop) self.old) }
     {
-        let mut entries = Entries::new(alloc);
+        let mut trails = Trails::new(alloc);
+        let mut marks = Marks::new(alloc);
         let mut jobs = Jobs::new(alloc);
         for lane in self.items.iter_mut() {
-            take_over(&mut entries, &mut lane.trail)?;
+            take_over(&mut marks, &mut lane.trail.marks)?;
+            trails.push(mem::replace(&mut lane.trail, Trail::new(alloc)))?;
             jobs.append(&mut lane.jobs)?;
         }
-        Ok((entries, jobs))
+        Ok((trails, marks, jobs))
     }
 }
 
-// Moves all entries of a trail behind those that are there, and gives its room back. Where none is there the trail's
-// own list is taken, so that of a lone lane is never held twice.
-fn take_over(entries: &mut Entries, trail: &mut Entries) -> Result<(), NoMemory>
-    ensures { OnOk result ((entries.new ≡ entries.old ++ trail.old) × (trail.new ≡ [])) }
+// Moves all marks of a lane behind those that are there, and gives their room back. Where none is there the lane's own
+// list is taken, so that of a lone lane is never held twice.
+fn take_over(marks: &mut Marks, own: &mut Marks) -> Result<(), NoMemory>
+    ensures { OnOk result ((marks.new ≡ marks.old ++ own.old) × (own.new ≡ [])) }
 {
-    if entries.is_empty() {
-        mem::swap(entries, trail);
+    if marks.is_empty() {
+        mem::swap(marks, own);
         return Ok(());
     }
-    entries.append(trail)?;
-    trail.shrink_to_fit();
+    marks.append(own)?;
+    own.shrink_to_fit();
     Ok(())
 }
 

@@ -1,5 +1,5 @@
 -- What the steps of a lane's run say.
-use Rattle.std.specs.Prelude.{◌≡◌, ℕ, List, [], ◌∷◌, ◌++◌, map, length, All, Result, Ok, Err, ⊤}
+use Rattle.std.specs.Prelude.{◌≡◌, ◌+◌, ℕ, List, [], ◌∷◌, ◌++◌, map, length, All, Result, Ok, Err, ⊤}
 use Rattle.std.specs.List.{enumerate_from}
 use Rattle.std.specs.Arc.{arc_value}
 use Rattle.spin_word.specs.declared.command.TheConstants.{MAX_PLACE}
@@ -18,18 +18,23 @@ use Rattle.spin_word.specs.declared.work.Work.{Work}
 use Rattle.spin_report.specs.Asked.{Numbered, asked_of}
 use Rattle.spin_report.specs.Segments.{raise_with}
 use Rattle.spin_run.specs.declared.lane.Lane.{Lane}
+use Rattle.spin_run.specs.Trails.{IsTrailOf}
 use Rattle.spin_run.specs.Lanes.{seat_answer, job_asked, jobs_from, AreJobsOf, BeginsWithCommand, IsFresh}
 
--- Since its pen had that value, the lane has given the entries of its trail and left their jobs.
-pub record HasAnswered (d : SetupData) (before : PenValue) (lane : Lane) : Type 0 where
-  pub ran : Ran d before (map seat_answer lane.trail) lane.seat.pen
-  pub pins : GainsPins before (map seat_answer lane.trail) lane.seat.pen
-  pub jobs_are : AreJobsOf d lane.trail lane.seat.pen.front lane.jobs
+-- Since its pen had that value, the lane has given these entries and left their jobs.
+pub record HasAnswered (d : SetupData) (before : PenValue) (given : List Entry) (lane : Lane) : Type 0 where
+  pub ran : Ran d before (map seat_answer given) lane.seat.pen
+  pub pins : GainsPins before (map seat_answer given) lane.seat.pen
+  pub jobs_are : AreJobsOf d given lane.seat.pen.front lane.jobs
+  pub told : IsTrailOf given lane.trail
 
--- the lane answers these
+-- the lane answers these, by entries that it gives behind those that it has given
 pub record Answers (d : SetupData) (asked : List Numbered) (old new : Lane) : Type 0 where
-  pub asked_are : map asked_of new.trail ≡ map asked_of old.trail ++ asked
-  pub goes_on : (before : PenValue) → HasAnswered d before old → HasAnswered d before new
+  pub added : List Entry
+  pub asked_are : map asked_of added ≡ asked
+  pub count : length new.trail.marks ≡ length old.trail.marks + length added
+  pub goes_on : (before : PenValue) (given : List Entry)
+      → HasAnswered d before given old → HasAnswered d before (given ++ added) new
 
 -- The lane answers the first of these, and ends before a command, since the log is full.
 pub record EndsFull (d : SetupData) (asked : List Numbered) (old new : Lane) : Type 0 where

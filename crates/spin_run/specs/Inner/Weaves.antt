@@ -4,8 +4,11 @@ use Rattle.std.specs.Ordering.{nat_cmp, ordering_then}
 use Rattle.std.specs.declared.cmp.Ordering.{Ordering}
 use Rattle.std.specs.List.Sorted.{IsSortedByKey}
 use Rattle.spin_proto.specs.declared.deed.Job.{Job}
-use Rattle.spin_report.specs.declared.entry.Entry.{Entry}
+use Rattle.spin_report.specs.Segments.{moment_cmp}
+use Rattle.spin_run.specs.declared.trail.Mark.{Mark}
+use Rattle.spin_run.specs.declared.trail.Trail.{Trail}
 use Rattle.spin_run.specs.declared.lane.Lane.{Lane}
+use Rattle.spin_run.specs.Trails.{mark_moment, IsNew}
 
 -- ---- lists by lane
 
@@ -21,7 +24,11 @@ pub record IsInterleaving {X : Type 0} (lane : X → ℕ) (lists : List (List X)
       → filter (λ x. lane x == k) all ≡ slice_index_or lists k d
   pub lanes_are : All (λ x. lane x < length lists) all
 
--- ---- the order of jobs
+-- ---- the order of marks and of jobs
+
+-- the marks stand in the order of their moments
+abbrev pub AreMarksInOrder : List Mark → Type 0
+AreMarksInOrder marks = IsSortedByKey mark_moment moment_cmp marks
 
 -- where a job stands among those of its segment: where its entry does
 abbrev pub job_moment : Job → ℕ × ℕ × ℕ × ℕ
@@ -37,12 +44,16 @@ AreJobsInOrder jobs = IsSortedByKey job_moment job_moment_cmp jobs
 
 -- ---- what the lanes have
 
-abbrev pub trails_of : List Lane → List (List Entry)
-trails_of lanes = map (λ lane. lane.trail) lanes
+-- the trail of a lane, without its marks
+abbrev pub unmarked : Lane → Trail
+unmarked lane = record { text = lane.trail.text; sends = lane.trail.sends; marks = [] }
+
+abbrev pub marks_by_lane : List Lane → List (List Mark)
+marks_by_lane lanes = map (λ lane. lane.trail.marks) lanes
 
 abbrev pub jobs_by_lane : List Lane → List (List Job)
 jobs_by_lane lanes = map (λ lane. lane.jobs) lanes
 
--- the lane has no entries and no jobs
+-- the lane has nothing of entries and no jobs
 abbrev pub IsEmptied : Lane → Type 0
-IsEmptied lane = (lane.trail ≡ []) × (lane.jobs ≡ [])
+IsEmptied lane = IsNew lane.trail × (lane.jobs ≡ [])

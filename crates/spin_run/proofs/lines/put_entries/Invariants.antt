@@ -1,7 +1,7 @@
-use Rattle.std.proofs.Common.{◌≡◌, ◌++◌, map, take}
-use Rattle.spin_text.specs.Words.{text_of}
-use Rattle.spin_report.specs.Lines.{entry_line}
+use Rattle.std.proofs.Common.{◌≡◌, ◌++◌, take}
+use Rattle.std.specs.List.{flat_map}
+use Rattle.spin_run.specs.Inner.Marks.{line_in}
 use Rattle.spin_run.proofs.lines.put_entries.Given as goal
 
-abbrev pub invariant-loop-entry : goal.invariant-loop-entry
-invariant-loop-entry l = l.text ≡ l.fn.text ++ text_of (map entry_line (take l.entry-index l.entries))
+abbrev pub invariant-loop-mark : goal.invariant-loop-mark
+invariant-loop-mark l = l.text ≡ l.fn.text ++ flat_map (line_in l.trails) (take l.mark-index l.marks)

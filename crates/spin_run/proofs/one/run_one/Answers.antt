@@ -1,5 +1,6 @@
 use Rattle.std.proofs.Common.{◌≡◌, ◌<◌, List, ◌∷◌, ◌++◌, ℕ, length, map, Ok, Err, refl, sym, ap, subst, ◌∙◌, ◌⊎◌, inr}
 use Rattle.std.specs.Prelude.{All}
+use Rattle.std.specs.List.{flat_map}
 use Rattle.std.proofs.lemmas.Result.{err_from_is_err_and, on_ok_weaker}
 use Rattle.spin_endpoint.specs.Inner.View.{view_of}
 use Rattle.spin_endpoint.specs.Sends.{SentSeen, all_retired}
@@ -8,29 +9,46 @@ use Rattle.spin_table.specs.SetupOf.{data_of}
 use Rattle.spin_report.specs.Lines.{entry_line, job_line}
 use Rattle.spin_report.specs.Histories.{retire_line, segment_line, lost_lines}
 use Rattle.spin_report.specs.Segments.{wanted_by}
-use Rattle.spin_report.specs.Runs.{retirements}
+use Rattle.spin_report.specs.Runs.{retirements, sends_of_reply}
 use Rattle.spin_run.specs.declared.end.RunEnd.TheVariants as end
 use Rattle.spin_run.specs.Segments.{state_of, jobs_seen}
-use Rattle.spin_run.specs.Inner.Sending.{sends_made}
+use Rattle.spin_run.specs.declared.trail.Mark.{Mark}
+use Rattle.spin_run.specs.declared.trail.Trail.{Trail}
+use Rattle.spin_run.specs.Inner.Marks.{IsInTrails, sends_in}
 use Rattle.spin_run.specs.Inner.Lining.{counts_to}
 use Rattle.spin_run.specs.Inner.Writing.{joined}
 use Rattle.spin_run.specs.Inner.Steps.{moment, setting}
 use Rattle.spin_run.proofs.SentNames.{all_sent}
 use Rattle.spin_run.proofs.FaultCounts.{counts_reading, counts_sending, results_telling}
 use Rattle.spin_run.proofs.SegmentLemmas.{rest_of_ready, woven_ready}
-use Rattle.spin_run.proofs.OneSegment.{HasAnswered, HasLines, sends_are, sends_as, stops_retiring, stops_before, stops_within, stops_behind, stops_sending, one_told}
+use Rattle.spin_run.proofs.MarkOrder.{woven_lie}
+use Rattle.spin_run.proofs.OneSegment.{HasAnswered, HasLines, sends_are, sends_as, marks_sent, stops_retiring, stops_before, stops_within, stops_behind, stops_sending, one_told}
 use Rattle.spin_run.proofs.one.run_one.Goals as goal
 
 pub run_segment-requires-clause-ready : goal.run_segment-requires-clause-ready
 run_segment-requires-clause-ready g c κs within = rest_of_ready (data_of c.args.hub.now.setup) c.args.hub.now.log.id c.args.hub.now.log.lanes c.args.lanes.now c.requires.ready
 
+pub send_all-requires-clause-lie : goal.send_all-requires-clause-lie
+send_all-requires-clause-lie g c =
+    let w = c.in_ok-woven.woven in
+    subst (λ (x : List Trail × List Mark). All (IsInTrails x.0) x.1) (λ i. (sym c.as_slice-trails.ensures i, sym c.as_slice-marks.ensures i))
+    (woven_lie (length c.args.lanes.now) w.trails w.marks c.in_ok-woven.ensures.woven.entries c.in_ok-woven.ensures.woven.trails_are
+    c.in_ok-woven.ensures.woven.marks_are c.in_ok-woven.ensures.woven.answers.lanes_are)
+
 pub send_all-requires-clause-named : goal.send_all-requires-clause-named
 send_all-requires-clause-named g c =
     let w = c.in_ok-woven.woven in
     let woven = c.in_ok-woven.ensures.woven in
-    let same = (λ i. sends_made (c.as_slice-entries.ensures i) (c.as_slice-3.ensures i)) ∙ sends_are w.entries w.jobs w.replies c.in_ok-woven.ensures.replies in
+    let same = marks_sent c.as_slice-trails.result.now w.trails c.as_slice-marks.result.now w.marks woven.entries c.as_slice-3.result.now w.replies
+    c.as_slice-trails.ensures c.as_slice-marks.ensures c.as_slice-3.ensures woven.marks_are ∙ sends_are woven.entries w.jobs w.replies c.in_ok-woven.ensures.replies in
     subst (λ (x : List SentSeen). All (λ (sent : SentSeen). sent.endpoint < length c.args.names.now) x) (sym same)
-    (all_sent (length c.args.names.now) (data_of c.args.hub.now.setup) _ _ w.entries (jobs_seen w.jobs w.replies) c.requires.sent woven.2.legal woven.2.jobs_are)
+    (all_sent (length c.args.names.now) (data_of c.args.hub.now.setup) _ _ woven.entries (jobs_seen w.jobs w.replies) c.requires.sent woven.answers.legal woven.answers.jobs_are)
+
+pub tell-requires-clause-lie : goal.tell-requires-clause-lie
+tell-requires-clause-lie g c =
+    let w = c.in_ok-woven.woven in
+    woven_lie (length c.args.lanes.now) w.trails w.marks c.in_ok-woven.ensures.woven.entries c.in_ok-woven.ensures.woven.trails_are
+    c.in_ok-woven.ensures.woven.marks_are c.in_ok-woven.ensures.woven.answers.lanes_are
 
 pub returns-in_err-retired : goal.returns-in_err-retired
 returns-in_err-retired g c =
@@ -114,20 +132,22 @@ returns-in_err-lost g c =
     c.in_ok-retired.ensures.ends ∙ ap (λ x. all_retired c.args.names.now x (all c.args.ends.now.ends.items)) c.as_slice.ensures in
     let wanted : c.wanted_by-wanted.result ≡ wanted_by c.args.segment.now.lines = c.wanted_by-wanted.ensures ∙ ap wanted_by c.as_slice-2.ensures in
     let w = c.in_ok-woven.woven in
-    let sends = sends_made c.as_slice-entries.result.now c.as_slice-3.result.now in
-    let sent = sends_as c.args.names.now _ w.entries _ w.replies _ _ (all c.send_all.new.ends.ends.items)
-    (Err c.in_err-lost.field-0.0) c.as_slice-entries.ensures c.as_slice-3.ensures retired c.in_err-lost.ensures.sends in
+    let woven = c.in_ok-woven.ensures.woven in
+    let sends = flat_map (sends_in c.as_slice-trails.result.now) c.as_slice-marks.result.now ++ flat_map sends_of_reply c.as_slice-3.result.now in
+    let same = marks_sent c.as_slice-trails.result.now w.trails c.as_slice-marks.result.now w.marks woven.entries c.as_slice-3.result.now w.replies
+    c.as_slice-trails.ensures c.as_slice-marks.ensures c.as_slice-3.ensures woven.marks_are in
+    let sent = sends_as c.args.names.now sends _ _ _ (all c.send_all.new.ends.ends.items) (Err c.in_err-lost.field-0.0) same retired c.in_err-lost.ensures.sends in
     let p = err_from_is_err_and c.from_residual-in_err-lost.result c.from_residual-in_err-lost.ensures.1 in
     rw (p.1, p.2) (record {
       one = stops_behind s c.args.number c.args.segment.now before after (g.T.Telling.counts c.args.out.now)
           (g.T.Telling.counts c.args.out.now) c.in_ok-frames.frames c.wanted_by-wanted.result c.in_err-lost.field-0.0 wanted c.in_ok-frames.ensures.answer (λ left rest front.
-          let answered : HasAnswered s c.args.segment.now before left (state_of d c.run_segment.new.lanes) w.entries w.jobs w.replies c.in_ok-frames.frames = record {
+          let answered : HasAnswered s c.args.segment.now before left (state_of d c.run_segment.new.lanes) woven.entries w.jobs w.replies c.in_ok-frames.frames = record {
             read = front;
-            woven = woven_ready d c.args.hub.now.log.id c.args.hub.now.log.lanes c.args.lanes.now _ _ _ _ c.requires.ready c.in_ok-woven.ensures.woven;
+            woven = woven_ready d c.args.hub.now.log.id c.args.hub.now.log.lanes c.args.lanes.now _ _ _ _ c.requires.ready (woven.start, woven.start_is, woven.answers);
             replies_are = c.in_ok-woven.ensures.replies;
           } in
           stops_sending s c.args.number c.args.segment.now before after left c.in_ok-frames.frames rest
-          (state_of d c.run_segment.new.lanes) w.entries w.jobs w.replies c.in_err-lost.field-0.0 refl answered sent);
+          (state_of d c.run_segment.new.lanes) woven.entries w.jobs w.replies c.in_err-lost.field-0.0 refl answered sent);
       ready = tt;
       taken = tt;
       keep = c.in_ok-frames.ensures.keep;
@@ -149,11 +169,15 @@ returns g c =
     c.in_ok-retired.ensures.ends ∙ ap (λ x. all_retired c.args.names.now x (all c.args.ends.now.ends.items)) c.as_slice.ensures in
     let wanted : c.wanted_by-wanted.result ≡ wanted_by c.args.segment.now.lines = c.wanted_by-wanted.ensures ∙ ap wanted_by c.as_slice-2.ensures in
     let w = c.in_ok-woven.woven in
-    let sent = sends_as c.args.names.now _ w.entries _ w.replies _ _ (all c.send_all.new.ends.ends.items)
-    (Ok c.in_ok-lost.lost) c.as_slice-entries.ensures c.as_slice-3.ensures retired c.in_ok-lost.ensures.sends in
+    let woven = c.in_ok-woven.ensures.woven in
+    let same = marks_sent c.as_slice-trails.result.now w.trails c.as_slice-marks.result.now w.marks woven.entries c.as_slice-3.result.now w.replies
+    c.as_slice-trails.ensures c.as_slice-marks.ensures c.as_slice-3.ensures woven.marks_are in
+    let sent = sends_as c.args.names.now _ _ _ _ (all c.send_all.new.ends.ends.items) (Ok c.in_ok-lost.lost) same retired c.in_ok-lost.ensures.sends in
+    let told = c.tell.ensures.told woven.entries woven.marks_are in
+    let counts = c.tell.ensures.counts woven.entries woven.marks_are in
     let lines_told = c.in_ok-retired.retired ++ map ended
-    (segment_line c.args.number c.place-start.result ∷ map entry_line w.entries ++ map job_line (jobs_seen w.jobs w.replies) ++ lost_lines (counts_to c.in_ok-lost.lost (length c.args.names.now))) in
-    let made : HasLines s c.args.number c.args.segment.now before w.entries w.jobs w.replies c.in_ok-lost.lost c.in_ok-retired.retired lines_told = record {
+    (segment_line c.args.number c.place-start.result ∷ map entry_line woven.entries ++ map job_line (jobs_seen w.jobs w.replies) ++ lost_lines (counts_to c.in_ok-lost.lost (length c.args.names.now))) in
+    let made : HasLines s c.args.number c.args.segment.now before woven.entries w.jobs w.replies c.in_ok-lost.lost c.in_ok-retired.retired lines_told = record {
       few = c.requires.few;
       retired_are = c.in_ok-retired.ensures.lines ∙ ap (λ x. map ended (map retire_line (retirements c.args.names.now x (all c.args.ends.now.ends.items)))) c.as_slice.ensures;
       start = c.place-start.result;
@@ -161,17 +185,17 @@ returns g c =
       lines_are = refl;
     } in
     record {
-      one = one_told s c.args.number c.args.segment.now before after c.in_ok-frames.frames w.entries w.jobs w.replies c.in_ok-lost.lost c.in_ok-retired.retired lines_told c.wanted_by-wanted.result
+      one = one_told s c.args.number c.args.segment.now before after c.in_ok-frames.frames woven.entries w.jobs w.replies c.in_ok-lost.lost c.in_ok-retired.retired lines_told c.wanted_by-wanted.result
           (λ left front. record {
             read = front;
-            woven = woven_ready d c.args.hub.now.log.id c.args.hub.now.log.lanes c.args.lanes.now _ _ _ _ c.requires.ready c.in_ok-woven.ensures.woven;
+            woven = woven_ready d c.args.hub.now.log.id c.args.hub.now.log.lanes c.args.lanes.now _ _ _ _ c.requires.ready (woven.start, woven.start_is, woven.answers);
             replies_are = c.in_ok-woven.ensures.replies;
           })
-          (record { sent = sent }) made wanted c.in_ok-frames.ensures.answer _ _ c.tell.result c.tell.ensures.told c.tell.ensures.counts;
-      ready = on_ok_weaker c.tell.result (λ _. c.in_ok-woven.ensures.ready) c.tell.ensures.counts;
-      taken = on_ok_weaker c.tell.result (λ _. c.in_ok-woven.ensures.taken) c.tell.ensures.counts;
+          (record { sent = sent }) made wanted c.in_ok-frames.ensures.answer _ _ c.tell.result told counts;
+      ready = on_ok_weaker c.tell.result (λ _. c.in_ok-woven.ensures.ready) counts;
+      taken = on_ok_weaker c.tell.result (λ _. c.in_ok-woven.ensures.taken) counts;
       keep = c.in_ok-frames.ensures.keep;
       same = c.tell.ensures.same;
       counts = results_telling c.args.names.now (joined lines_told) c.tell.result before.outside after.outside c.in_ok-frames.ensures.cause
-          (c.in_ok-lost.ensures.counts ∙ c.in_ok-retired.ensures.faults) c.tell.ensures.told c.tell.ensures.cause;
+          (c.in_ok-lost.ensures.counts ∙ c.in_ok-retired.ensures.faults) told c.tell.ensures.cause;
     }

@@ -8,65 +8,84 @@ use Rattle.spin_table.specs.SetupOf.{data_of}
 use Rattle.spin_table.specs.States.{State}
 use Rattle.spin_jobs.specs.Jobs.{CanRun, IsReplyTo}
 use Rattle.spin_report.specs.Segments.{asked_in, IsWoven}
+use Rattle.std.proofs.lemmas.List.{length-map}
+use Rattle.spin_run.specs.declared.trail.Trail.{Trail}
+use Rattle.spin_run.specs.Trails.{AreMarksOf}
+use Rattle.spin_run.specs.Inner.Weaves.{unmarked}
 use Rattle.spin_run.specs.Lanes.{AreJobsOf}
 use Rattle.spin_run.specs.Segments.{front_of, jobs_seen}
-use Rattle.spin_run.proofs.SegmentLemmas.{Facts, Wove, some_lane, known, trails_lanes, trails_order, jobs_lanes, jobs_order, few_jobs, jobs_can_run}
+use Rattle.spin_run.proofs.SegmentLemmas.{Facts, Wove, wove, lifted, marks_under, met_count, some_lane, known, marks_lanes, marks_order, jobs_lanes, jobs_order, few_jobs, jobs_can_run}
 use Rattle.spin_run.proofs.SegmentLemmas.{woven_made, first, replay_first, jobs_left, front_told, front_after, state_after, ready_again, room_taken}
 use Rattle.spin_run.proofs.segment.run_segment.Goals as goal
 use Rattle.spin_script.specs.Soundness.{commands_in}
 
 pub weave-requires : goal.weave-requires
 weave-requires g c =
-    let facts : Facts (data_of c.args.hub.now.setup) c.args.hub.now.log.id c.args.hub.now.log.lanes c.args.segment.now.lines c.args.frames.now c.args.lanes.now c.run_lanes.new.lanes c.meet.new.self
+    let facts : Facts (data_of c.args.hub.now.setup) c.args.hub.now.log.id c.args.hub.now.log.lanes c.args.segment.now.lines c.args.frames.now c.args.lanes.now c.run_lanes.new.lanes c.meet.new.self c.run_lanes.ensures.0
     (some_lane c.args.lanes.now c.requires.ready.some) =
-    known _ _ _ _ _ _ _ _ c.requires.ready c.requires.lines c.requires.room c.run_lanes.ensures (c.lacked_memory.ensures.had c.if-lacked_memory.false) c.in_ok-meet.ensures in
+    known _ _ _ _ _ _ _ _ _ c.requires.ready c.requires.lines c.requires.room c.run_lanes.ensures.1 (c.lacked_memory.ensures.had c.if-lacked_memory.false) c.in_ok-meet.ensures in
     record {
-      trails = trails_lanes _ _ _ _ _ _ _ _ _ facts;
-      trails_order = trails_order _ _ _ _ _ _ _ _ _ facts;
-      jobs = jobs_lanes _ _ _ _ _ _ _ _ _ facts;
-      jobs_order = jobs_order _ _ _ _ _ _ _ _ _ facts;
+      marks = marks_lanes _ _ _ _ _ _ _ _ _ _ facts;
+      marks_order = marks_order _ _ _ _ _ _ _ _ _ _ facts;
+      jobs = jobs_lanes _ _ _ _ _ _ _ _ _ _ facts;
+      jobs_order = jobs_order _ _ _ _ _ _ _ _ _ _ facts;
     }
+
+pub run_all-requires-clause-sincere : goal.run_all-requires-clause-sincere
+run_all-requires-clause-sincere g c κs within = rw c.setup.ensures c.requires.sincere
 
 pub run_all-requires-clause-few : goal.run_all-requires-clause-few
 run_all-requires-clause-few g c κs within =
-    let facts : Facts (data_of c.args.hub.now.setup) c.args.hub.now.log.id c.args.hub.now.log.lanes c.args.segment.now.lines c.args.frames.now c.args.lanes.now c.run_lanes.new.lanes c.meet.new.self
+    let facts : Facts (data_of c.args.hub.now.setup) c.args.hub.now.log.id c.args.hub.now.log.lanes c.args.segment.now.lines c.args.frames.now c.args.lanes.now c.run_lanes.new.lanes c.meet.new.self c.run_lanes.ensures.0
     (some_lane c.args.lanes.now c.requires.ready.some) =
-    known _ _ _ _ _ _ _ _ c.requires.ready c.requires.lines c.requires.room c.run_lanes.ensures (c.lacked_memory.ensures.had c.if-lacked_memory.false) c.in_ok-meet.ensures in
-    let wove : Wove _ _ _ _ _ _ _ _ _ facts c.in_ok-entries.entries c.in_ok-entries.jobs =
-    record { entries_are = c.in_ok-entries.ensures.entries; order = c.in_ok-entries.ensures.entries_order; jobs_are = c.in_ok-entries.ensures.jobs; jobs_rise = c.in_ok-entries.ensures.jobs_order } in
-    few_jobs _ _ _ _ _ _ _ _ _ facts _ _ wove
+    known _ _ _ _ _ _ _ _ _ c.requires.ready c.requires.lines c.requires.room c.run_lanes.ensures.1 (c.lacked_memory.ensures.had c.if-lacked_memory.false) c.in_ok-meet.ensures in
+    let woven = c.in_ok-trails.ensures in
+    let told = lifted _ _ _ _ _ _ _ _ _ _ facts c.in_ok-trails.marks woven.marks in
+    let wove : Wove _ _ _ _ _ _ _ _ _ _ facts told.all c.in_ok-trails.jobs =
+    wove _ _ _ _ _ _ _ _ _ _ facts told.all c.in_ok-trails.jobs c.in_ok-trails.marks told.pairs told.each (marks_under _ _ _ _ _ _ _ _ _ _ facts c.in_ok-trails.marks woven.marks)
+    woven.marks_order woven.jobs woven.jobs_order in
+    few_jobs _ _ _ _ _ _ _ _ _ _ facts _ _ wove
 
 pub run_all-requires-clause-jobs : goal.run_all-requires-clause-jobs
 run_all-requires-clause-jobs g c κs within =
-    let facts : Facts (data_of c.args.hub.now.setup) c.args.hub.now.log.id c.args.hub.now.log.lanes c.args.segment.now.lines c.args.frames.now c.args.lanes.now c.run_lanes.new.lanes c.meet.new.self
+    let facts : Facts (data_of c.args.hub.now.setup) c.args.hub.now.log.id c.args.hub.now.log.lanes c.args.segment.now.lines c.args.frames.now c.args.lanes.now c.run_lanes.new.lanes c.meet.new.self c.run_lanes.ensures.0
     (some_lane c.args.lanes.now c.requires.ready.some) =
-    known _ _ _ _ _ _ _ _ c.requires.ready c.requires.lines c.requires.room c.run_lanes.ensures (c.lacked_memory.ensures.had c.if-lacked_memory.false) c.in_ok-meet.ensures in
-    let wove : Wove _ _ _ _ _ _ _ _ _ facts c.in_ok-entries.entries c.in_ok-entries.jobs =
-    record { entries_are = c.in_ok-entries.ensures.entries; order = c.in_ok-entries.ensures.entries_order; jobs_are = c.in_ok-entries.ensures.jobs; jobs_rise = c.in_ok-entries.ensures.jobs_order } in
-    subst (λ (d : SetupData). All (CanRun d) c.in_ok-entries.jobs) (ap (λ setup. data_of setup) (sym c.setup.ensures)) (jobs_can_run _ _ _ _ _ _ _ _ _ facts _ _ wove)
+    known _ _ _ _ _ _ _ _ _ c.requires.ready c.requires.lines c.requires.room c.run_lanes.ensures.1 (c.lacked_memory.ensures.had c.if-lacked_memory.false) c.in_ok-meet.ensures in
+    let woven = c.in_ok-trails.ensures in
+    let told = lifted _ _ _ _ _ _ _ _ _ _ facts c.in_ok-trails.marks woven.marks in
+    let wove : Wove _ _ _ _ _ _ _ _ _ _ facts told.all c.in_ok-trails.jobs =
+    wove _ _ _ _ _ _ _ _ _ _ facts told.all c.in_ok-trails.jobs c.in_ok-trails.marks told.pairs told.each (marks_under _ _ _ _ _ _ _ _ _ _ facts c.in_ok-trails.marks woven.marks)
+    woven.marks_order woven.jobs woven.jobs_order in
+    subst (λ (d : SetupData). All (CanRun d) c.in_ok-trails.jobs) (ap (λ setup. data_of setup) (sym c.setup.ensures)) (jobs_can_run _ _ _ _ _ _ _ _ _ _ facts _ _ wove)
 
 pub returns : goal.returns
 returns g c =
-    let facts : Facts (data_of c.args.hub.now.setup) c.args.hub.now.log.id c.args.hub.now.log.lanes c.args.segment.now.lines c.args.frames.now c.args.lanes.now c.run_lanes.new.lanes c.meet.new.self
+    let facts : Facts (data_of c.args.hub.now.setup) c.args.hub.now.log.id c.args.hub.now.log.lanes c.args.segment.now.lines c.args.frames.now c.args.lanes.now c.run_lanes.new.lanes c.meet.new.self c.run_lanes.ensures.0
     (some_lane c.args.lanes.now c.requires.ready.some) =
-    known _ _ _ _ _ _ _ _ c.requires.ready c.requires.lines c.requires.room c.run_lanes.ensures (c.lacked_memory.ensures.had c.if-lacked_memory.false) c.in_ok-meet.ensures in
-    let wove : Wove _ _ _ _ _ _ _ _ _ facts c.in_ok-entries.entries c.in_ok-entries.jobs =
-    record { entries_are = c.in_ok-entries.ensures.entries; order = c.in_ok-entries.ensures.entries_order; jobs_are = c.in_ok-entries.ensures.jobs; jobs_rise = c.in_ok-entries.ensures.jobs_order } in
-    let new_front : front_of c.weave.new.self ≡ front_of c.meet.new.self = front_after _ _ _ _ _ _ _ _ _ facts c.weave.new.self c.in_ok-entries.ensures.seats c.in_ok-entries.ensures.stops in
+    known _ _ _ _ _ _ _ _ _ c.requires.ready c.requires.lines c.requires.room c.run_lanes.ensures.1 (c.lacked_memory.ensures.had c.if-lacked_memory.false) c.in_ok-meet.ensures in
+    let woven = c.in_ok-trails.ensures in
+    let told = lifted _ _ _ _ _ _ _ _ _ _ facts c.in_ok-trails.marks woven.marks in
+    let wove : Wove _ _ _ _ _ _ _ _ _ _ facts told.all c.in_ok-trails.jobs =
+    wove _ _ _ _ _ _ _ _ _ _ facts told.all c.in_ok-trails.jobs c.in_ok-trails.marks told.pairs told.each (marks_under _ _ _ _ _ _ _ _ _ _ facts c.in_ok-trails.marks woven.marks)
+    woven.marks_order woven.jobs woven.jobs_order in
+    let new_front : front_of c.weave.new.self ≡ front_of c.meet.new.self = front_after _ _ _ _ _ _ _ _ _ _ facts c.weave.new.self c.in_ok-trails.ensures.seats c.in_ok-trails.ensures.stops in
     record {
-      woven = (
-        first _ _ _ _ _ _ _ _ _ facts,
-        replay_first _ _ _ _ _ _ _ _ _ facts,
-        subst (λ (after : State). IsWoven (data_of c.args.hub.now.setup) (length c.args.lanes.now) (asked_in c.args.segment.now.lines c.args.frames.now)
-            (first _ _ _ _ _ _ _ _ _ facts) after c.in_ok-entries.entries (jobs_seen c.in_ok-entries.jobs c.in_ok-replies.replies))
-            (sym (state_after _ _ _ _ _ _ _ _ _ facts c.weave.new.self c.in_ok-entries.ensures.seats c.in_ok-entries.ensures.stops))
-            (woven_made _ _ _ _ _ _ _ _ _ facts _ _ wove c.in_ok-replies.replies
-            (subst (λ (d : SetupData). AllZip (IsReplyTo d) c.in_ok-entries.jobs c.in_ok-replies.replies) (ap (λ setup. data_of setup) c.setup.ensures) c.in_ok-replies.ensures)),
-      );
-      jobs = subst (λ (front : List Row). AreJobsOf (data_of c.args.hub.now.setup) c.in_ok-entries.entries front c.in_ok-entries.jobs) (sym new_front) (jobs_left _ _ _ _ _ _ _ _ _ facts _ _ wove);
-      front = new_front ∙ front_told _ _ _ _ _ _ _ _ _ facts _ _ wove;
-      replies = AllZip-long (IsReplyTo (data_of c.setup.result.now)) c.in_ok-entries.jobs c.in_ok-replies.replies c.in_ok-replies.ensures;
-      ready = ready_again _ _ _ _ _ _ _ _ _ facts c.weave.new.self c.in_ok-entries.ensures.seats c.in_ok-entries.ensures.stops c.in_ok-entries.ensures.emptied;
+      woven = record {
+        entries = told.all;
+        trails_are = ap length woven.trails ∙ length-map c.meet.new.self unmarked ∙ met_count _ _ _ _ _ _ _ _ _ _ facts;
+        marks_are = subst (λ (trails : List Trail). AreMarksOf trails c.in_ok-trails.marks told.all) (sym woven.trails) told.pairs;
+        start = first _ _ _ _ _ _ _ _ _ _ facts;
+        start_is = replay_first _ _ _ _ _ _ _ _ _ _ facts;
+        answers = subst (λ (after : State). IsWoven (data_of c.args.hub.now.setup) (length c.args.lanes.now) (asked_in c.args.segment.now.lines c.args.frames.now)
+            (first _ _ _ _ _ _ _ _ _ _ facts) after told.all (jobs_seen c.in_ok-trails.jobs c.in_ok-replies.replies))
+            (sym (state_after _ _ _ _ _ _ _ _ _ _ facts c.weave.new.self c.in_ok-trails.ensures.seats c.in_ok-trails.ensures.stops))
+            (woven_made _ _ _ _ _ _ _ _ _ _ facts _ _ wove c.in_ok-replies.replies
+            (subst (λ (d : SetupData). AllZip (IsReplyTo d) c.in_ok-trails.jobs c.in_ok-replies.replies) (ap (λ setup. data_of setup) c.setup.ensures) c.in_ok-replies.ensures));
+        jobs_are = subst (λ (front : List Row). AreJobsOf (data_of c.args.hub.now.setup) told.all front c.in_ok-trails.jobs) (sym new_front) (jobs_left _ _ _ _ _ _ _ _ _ _ facts _ _ wove);
+        front_is = new_front ∙ front_told _ _ _ _ _ _ _ _ _ _ facts _ _ wove;
+      };
+      replies = AllZip-long (IsReplyTo (data_of c.setup.result.now)) c.in_ok-trails.jobs c.in_ok-replies.replies c.in_ok-replies.ensures;
+      ready = ready_again _ _ _ _ _ _ _ _ _ _ facts c.weave.new.self c.in_ok-trails.ensures.seats c.in_ok-trails.ensures.stops c.in_ok-trails.ensures.emptied;
       taken = subst (λ (front : List Row). length front ≤ length (front_of c.args.lanes.now) + commands_in c.args.segment.now.lines)
-          (sym new_front) (room_taken _ _ _ _ _ _ _ _ _ facts);
+          (sym new_front) (room_taken _ _ _ _ _ _ _ _ _ _ facts);
     }

@@ -1,4 +1,4 @@
-use Rattle.std.proofs.Common.{◌≡◌, [], ◌∷◌, ◌++◌, length, refl, sym, ap, ◌∙◌, subst}
+use Rattle.std.proofs.Common.{length, refl, sym, ◌∙◌, subst}
 use Rattle.spin_table.specs.SetupOf.{data_of}
 use Rattle.spin_report.specs.declared.entry.What.TheVariants as what
 use Rattle.spin_report.specs.declared.entry.Entry.{Entry}
@@ -6,6 +6,7 @@ use Rattle.spin_table.specs.States.{State}
 use Rattle.spin_seat.specs.Calls.{GivesFrom, IsFaultAt}
 use Rattle.spin_run.specs.Lanes.{seat_answer}
 use Rattle.spin_run.specs.declared.lane.Lane.{Lane}
+use Rattle.spin_run.specs.Trails.{AddsTo}
 use Rattle.spin_run.specs.Inner.Answering.{Comes, asked_alone}
 use Rattle.spin_run.proofs.LaneAnswers.{verdict_more, command_ends, err_is}
 use Rattle.spin_word.specs.declared.work.Work.TheVariants as work
@@ -25,9 +26,9 @@ returns-in_err-place-clause-comes g c =
 pub returns-clause-comes : goal.returns-clause-comes
 returns-clause-comes g c =
     let old = c.args.self.now in
-    let new : Lane = record { seat = c.command.new.self; trail = c.push.new.self; jobs = old.jobs; stop = old.stop } in
+    let new : Lane = record { seat = c.command.new.self; trail = c.add.new.self; jobs = old.jobs; stop = old.stop } in
     let entry : Entry = record { place = c.in_ok-place.field-0.place; lane = old.seat.pen.lane; line = c.args.line; part = 0; what = what.Command c.args.command.now c.in_ok-place.field-0.verdict } in
-    let trail : new.trail ≡ old.trail ++ entry ∷ [] = c.in_ok-push.ensures.ok ∙ ap (λ n. old.trail ++ record entry { lane = n } ∷ []) c.lane-lane.ensures.lane in
+    let added = subst (λ n. AddsTo old.trail (record entry { lane = n }) new.trail) c.lane-lane.ensures.lane c.in_ok-add.ensures in
     let d = data_of c.args.hub.now.setup in
     let gives = subst (λ (first : State). GivesFrom d first old.seat.pen (seat_answer entry) new.seat.pen) c.requires.seat.1 c.in_ok-place.ensures.answer in
-    verdict_more d old new entry refl trail refl gives (c.command.ensures.seat, c.command.ensures.first ∙ c.requires.seat.1) c.in_ok-place.ensures.whole
+    verdict_more d old new entry refl added refl gives (c.command.ensures.seat, c.command.ensures.first ∙ c.requires.seat.1) c.in_ok-place.ensures.whole

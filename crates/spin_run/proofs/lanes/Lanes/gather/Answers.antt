@@ -1,9 +1,14 @@
-use Rattle.std.proofs.Common.{refl, arith}
+use Rattle.std.proofs.Common.{◌∷◌, ◌++◌, [], get_or, refl, ap, ◌∙◌, arith}
+use Rattle.spin_run.specs.declared.trail.Trail.{Trail}
 use Rattle.spin_run.proofs.GatheredTrails.{gathers}
 use Rattle.spin_run.proofs.lanes.Lanes.gather.Goals as goal
 
 pub loop-lane-preserved : goal.loop-lane-preserved
 loop-lane-preserved c =
-    gathers c.args.self.now c.loop-lane.lane-items c.loop-lane.lane-index c.loop-lane.entries c.take_over.new.entries c.loop-lane.jobs c.append.new.self c.lane-item.result _
-    (omega (arith, c.loop-lane-test.true, c.loop-lane.invariant.count)) c.loop-lane.invariant (c.in_ok-take_over.ensures.1, c.in_ok-append.ensures.ok.1)
+    let own = (get_or c.loop-lane.lane-items c.loop-lane.lane-index c.lane-item.result).trail in
+    let taken : Trail = record { text = own.text; sends = own.sends; marks = c.take_over.new.own } in
+    gathers c.args.self.now c.loop-lane.lane-items c.loop-lane.lane-index c.loop-lane.trails c.push.new.self c.loop-lane.marks c.take_over.new.marks
+    c.loop-lane.jobs c.append.new.self c.lane-item.result _
+    (omega (arith, c.loop-lane-test.true, c.loop-lane.invariant.count)) c.loop-lane.invariant (c.replace.ensures.after ∙ c.new.ensures, c.in_ok-append.ensures.ok.1)
+    (c.in_ok-push.ensures.ok ∙ ap (λ (t : Trail). c.loop-lane.trails ++ t ∷ []) (c.replace.ensures.value ∙ (λ h. record taken { marks = c.in_ok-take_over.ensures.1 h })))
     c.in_ok-take_over.ensures.0 c.in_ok-append.ensures.ok.0 refl refl

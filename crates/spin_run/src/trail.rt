@@ -1,0 +1,210 @@
+//! What is kept of a lane's entries, once their lines are made.
+
+ghost use Rattle.std.specs.Prelude.{◌≡◌, ◌-◌, ◌∷◌, ◌++◌, [], length, count_by, IfOk, OnOk};
+ghost use Rattle.std.specs.List.{filter_map};
+ghost use Rattle.spin_report.specs.Runs.{sent_by};
+ghost use Rattle.spin_run.specs.Summaries.{is_run};
+ghost use Rattle.spin_run.specs.Trails.{IsNew, AddsTo, LiesIn, items_in, kind_of, mark_moment};
+
+use spin_proto::Step;
+use spin_report::{EntryView, LentWhat, Moment, WhatView, view_text};
+use spin_table::Verdicted;
+use spin_values::{NoMemory, Octets, Sequence};
+use std::alloc::Global;
+use std::marker::Model;
+
+/// The items of a list from one place up to another, both counted from 0; the second is not one of them.
+#[derive(Clone, Copy, PartialEq, Eq, Debug)]
+pub struct Stretch {
+    /// The place of the first.
+    pub from: u32,
+    /// The place behind the last.
+    pub to: u32,
+}
+
+impl Stretch {
+    /// How many items it has.
+    pub fn len(&self) -> u32
+        ensures { result ≡ self.now.to - self.now.from }
+    {
+        self.to.saturating_sub(self.from)
+    }
+
+    // Its items, in a list in which it lies.
+    pub(crate) fn of<'a, T>(&self, items: &'a [T]) -> &'a [T]
+        requires lies { LiesIn self.now (length items.now) }
+        ensures { result.now ≡ items_in self.now items.now }
+    {
+        &items[self.from as usize..self.to as usize]
+    }
+}
+
+/// Whether an entry tells a command, and what became of it.
+#[derive(Clone, Copy, PartialEq, Eq, Debug)]
+pub enum Kind {
+    /// A command that was accepted.
+    Accepted,
+    /// A command that was refused.
+    Refused,
+    /// A deed.
+    Deed,
+}
+
+/// What is kept of an entry: where it stands, and which part of its lane's trail is its own.
+#[derive(Clone, Copy, PartialEq, Eq, Debug)]
+pub struct Mark {
+    /// The place: how many commands were accepted up to here, this one included.
+    pub place: u16,
+    /// Whether it tells a command.
+    pub kind: Kind,
+    /// The lane that asked, counted from 0.
+    pub lane: u8,
+    /// The line of the script, counted from 1.
+    pub line: u32,
+    /// Which part of a line of packets it is, counted from 1; 0 for every other line.
+    pub part: u32,
+    /// How many of its steps run a handler.
+    pub runs: u32,
+    /// Its line, in the text of its lane.
+    pub text: Stretch,
+    /// What it sends, among the sends of its lane.
+    pub sends: Stretch,
+}
+
+impl Mark {
+    /// Where its entry stands among the entries of the segment.
+    pub(crate) fn moment(&self) -> Moment
+        ensures { result ≡ mark_moment self.now }
+    {
+        let is_accepted = matches!(self.kind, Kind::Accepted);
+        (self.place, !is_accepted, self.lane, self.line, self.part)
+    }
+}
+
+/// Bytes that a step of an entry sends to the endpoint of a number. Contracts see them as an endpoint does.
+#[derive(Debug, Drop)]
+pub struct Sending {
+    pub(crate) endpoint: u8,
+    pub(crate) bytes: Octets,
+}
+
+impl Model for Sending {
+    ghost use Rattle.spin_endpoint.specs.Sends.{SentSeen};
+
+    ghost Value = { SentSeen };
+
+    ghost view = { λ s. record { endpoint = s.endpoint; bytes = s.bytes } };
+}
+
+/// Marks of entries, in order.
+pub type Marks = Sequence<Mark>;
+
+/// What the entries of a lane leave in a segment: a mark of each, in their order, the lines that tell them, one behind
+/// another, and what they send. An entry takes its line and 32 bytes.
+#[derive(Drop)]
+pub struct Trail {
+    /// The lines, each with its end.
+    pub text: Octets,
+    /// What is sent, in order.
+    pub sends: Sequence<Sending>,
+    /// A mark of each entry.
+    pub marks: Marks,
+}
+
+/// The trails of lanes, in the order of their numbers.
+pub type Trails = Sequence<Trail>;
+
+// What a step sends, if it sends something.
+fn add_step(sends: &mut Sequence<Sending>, step: &Step) -> Result<(), NoMemory>
+    ensures { OnOk result (sends.new ≡ sends.old ++ filter_map sent_by (step.now ∷ [])) }
+{
+    let Step::Send { endpoint, bytes } = step else {
+        return Ok(());
+    };
+    sends.push(Sending {
+        endpoint: *endpoint,
+        bytes: bytes.copy()?,
+    })
+}
+
+// Adds what steps send.
+fn add_steps(sends: &mut Sequence<Sending>, steps: &[Step]) -> Result<(), NoMemory>
+    ensures { OnOk result (sends.new ≡ sends.old ++ filter_map sent_by steps.now) }
+{
+    for step in steps {
+        add_step(sends, step)?;
+    }
+    Ok(())
+}
+
+// The number in 32 bits. One that doesn't fit is want of memory: no run comes so far.
+fn narrow(number: usize) -> Result<u32, NoMemory>
+    ensures { IfOk result (λ narrow. narrow ≡ number) }
+{
+    let Ok(narrow) = u32::try_from(number) else {
+        return Err(NoMemory);
+    };
+    Ok(narrow)
+}
+
+// How many of the steps run a handler.
+fn runs_in(steps: &[Step]) -> usize
+    ensures { result ≡ count_by is_run steps.now }
+{
+    steps
+        .iter()
+        .filter(|step| matches!(step, Step::Run { .. }))
+        .count()
+}
+
+// Whether it is a command, and what became of it.
+fn kind_in(what: &WhatView) -> Kind
+    ensures { result ≡ kind_of what.now }
+{
+    match &what.lent {
+        LentWhat::Command(_, Verdicted::Accepted) => Kind::Accepted,
+        LentWhat::Command(_, Verdicted::Refused(_)) => Kind::Refused,
+        LentWhat::Deed(..) => Kind::Deed,
+    }
+}
+
+impl Trail {
+    /// The trail of no entry, which takes no memory.
+    pub fn new(alloc: Global) -> Trail
+        ensures { IsNew result }
+    {
+        Trail {
+            text: Octets::new(alloc),
+            sends: Sequence::new(alloc),
+            marks: Marks::new(alloc),
+        }
+    }
+
+    // Makes the line of an entry, and keeps its mark and what it sends. After want of memory nothing is known of the
+    // trail. It takes time linear in the line and in the bytes that are sent.
+    pub(crate) fn add(&mut self, entry: &EntryView) -> Result<(), NoMemory>
+        ensures { OnOk result (AddsTo self.old entry.now self.new) }
+    {
+        let line = narrow(self.text.len())?;
+        let sent = narrow(self.sends.len())?;
+        view_text(entry, &mut self.text)?;
+        let steps = entry.what.steps();
+        add_steps(&mut self.sends, steps)?;
+        self.marks.push(Mark {
+            place: entry.place,
+            kind: kind_in(&entry.what),
+            lane: entry.lane,
+            line: entry.line,
+            part: entry.part,
+            runs: narrow(runs_in(steps))?,
+            text: Stretch {
+                from: line,
+                to: narrow(self.text.len())?,
+            },
+            sends: Stretch {
+                from: sent,
+                to: narrow(self.sends.len())?,
+            },
+        })
+    }
+}
