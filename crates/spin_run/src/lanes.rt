@@ -22,9 +22,10 @@ use spin_pcap::Frames;
 use spin_script::{Line, Segment};
 use spin_seat::{Hub, Seats};
 use spin_values::NoMemory;
-use spin_word::MAX_LANES;
+use spin_word::{MAX_LANES, Work};
 use std::alloc::Global;
 use std::marker::Model;
+use std::mem::size_of_val;
 use std::thread;
 use std::thread::Threads;
 
@@ -133,20 +134,38 @@ fn each_seat(alloc: Global, seats: Seats) -> Result<Vec<Lane>, NoMemory>
     Ok(lanes)
 }
 
+/// A segment of at most so many lines, none of them of packets, is short: to start a thread costs more than what a lane
+/// does in it.
+const SHORT: usize = 64;
+
+// Whether a segment of these lines is short.
+fn is_short(lines: &[Line]) -> bool {
+    lines.len() <= SHORT
+        && !lines
+            .iter()
+            .any(|line| matches!(line.work, Work::Packet { .. }))
+}
+
 // How many threads serve a segment of these lines: one where a single lane has them all, since the others have nothing
-// to do. It looks at the lines up to the first of another lane.
-fn threads_for(lines: &[Line]) -> usize
+// to do, or where it is short, unless the gate may hold up lanes until others have passed. For that it needs a value to
+// look at, so a gate without any size can't. It looks at the lines up to the first of another lane.
+fn threads_for<G: Gate>(lines: &[Line], gate: &G) -> usize
     ensures { 0 < result }
 {
+    let may_hold = size_of_val(gate) != 0;
     match lines.first() {
-        Some(first) if lines.iter().any(|line| line.lane != first.lane) => usize::from(MAX_LANES),
+        Some(first)
+            if (may_hold || !is_short(lines)) && lines.iter().any(|line| line.lane != first.lane) =>
+            { usize::from(MAX_LANES) }
         _ => 1,
     }
 }
 
 /// Runs the lanes side by side, each on a thread of its own where one can be started; where one lane has all lines of
-/// the segment, the caller's thread runs them all. Of each lane there is what [`Lane::run`] says of it, and nothing
-/// more. It waits for the end of all lanes.
+/// the segment, the caller's thread runs them all. So it does where the segment has at most 64 lines, none of them of
+/// packets, and the gate's type has no size: such a gate holds up no lane until another has passed, for which it needs
+/// a value to look at. Of each lane there is what [`Lane::run`] says of it, and nothing more. It waits for the end of
+/// all lanes.
 pub fn run_lanes<R: Threads + Sync, G: Gate>(
     rt: &R,
     alloc: Global,
@@ -166,7 +185,7 @@ pub fn run_lanes<R: Threads + Sync, G: Gate>(
     thread::for_each_mut(
         rt,
         lanes.items.as_mut_slice(),
-        threads_for(segment.lines.as_slice()),
+        threads_for(segment.lines.as_slice(), gate),
         &|_, lane: &mut Lane|
             requires sincere { IsSincereBy does asks follows hub.now.setup.catalogue.natives }
             requires ready { let d = data_of hub.now.setup in
