@@ -1,7 +1,7 @@
 //! The jobs that an answer leaves.
 
-ghost use Rattle.std.specs.Prelude.{◌≡◌, ◌<◌, ◌^◌, length, All, OnOk};
-ghost use Rattle.spin_proto.specs.Replies.{BelongsTo, calls_left};
+ghost use Rattle.std.specs.Prelude.{◌<◌, ◌^◌, length, All, OnOk};
+ghost use Rattle.spin_proto.specs.Replies.{BelongsTo};
 ghost use Rattle.spin_report.specs.Jobs.{answer_calls};
 ghost use Rattle.spin_run.specs.Inner.Answering.{AddsJobs};
 

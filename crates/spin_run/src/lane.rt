@@ -1,22 +1,16 @@
 //! One lane of a segment.
 
-ghost use Rattle.std.specs.Prelude.{◌≡◌, ◌+◌, ◌<◌, ◌≤◌, [], ◌∷◌, map, length, All, IsTrue, OnOk};
-ghost use Rattle.std.specs.Prelude.{List, IfOk, OnErr, None};
-ghost use Rattle.std.specs.Arc.{arc_value};
+ghost use Rattle.std.specs.Prelude.{◌≡◌, ◌+◌, ◌<◌, ◌≤◌, List, [], ◌∷◌, length, IsTrue, IfOk, OnOk, None};
 ghost use Rattle.spin_word.specs.Commands.{is_command};
 ghost use Rattle.spin_values.specs.declared.values.Value.TheVariants as value;
 ghost use Rattle.spin_word.specs.declared.work.Work.TheVariants as work;
 ghost use Rattle.spin_word.specs.declared.work.Deed.TheVariants as deed;
-ghost use Rattle.spin_log.specs.Pens.{IsSamePen};
 ghost use Rattle.spin_table.specs.SetupOf.{data_of};
-ghost use Rattle.spin_proto.specs.Replies.{BelongsTo, calls_left};
-ghost use Rattle.spin_seat.specs.Seats.{IsSeat, IsSeatOf};
-ghost use Rattle.spin_seat.specs.Calls.{AddsAtMostAPin, GivesFrom, reply_answer};
-ghost use Rattle.spin_script.specs.States.{deed_count};
+ghost use Rattle.spin_seat.specs.Seats.{IsSeatOf};
 ghost use Rattle.spin_script.specs.Soundness.{IsValidWork};
 ghost use Rattle.spin_script.specs.Segments.{IsOfLane};
 ghost use Rattle.spin_script.specs.declared.lanes.TheConstants.{MAX_DEEDS};
-ghost use Rattle.spin_report.specs.Segments.{raise_with, parts_of, asked_at, asked_in, asked_of_lane};
+ghost use Rattle.spin_report.specs.Segments.{asked_at, asked_in, asked_of_lane};
 ghost use Rattle.spin_report.specs.declared.entry.Entry.{Entry};
 ghost use Rattle.spin_report.specs.declared.entry.What.TheVariants as what;
 ghost use Rattle.spin_run.specs.Lanes.{HasRunLane, IsFresh};
@@ -94,8 +88,9 @@ impl Lane {
     ///
     /// The frames are the records that the segment's packet lines take, in the order of the text and whatever the
     /// lane: this lane skips those of the others' lines. Nothing is known of the other lanes; where this one had
-    /// memory, its entries and jobs are those of its own deeds. It waits for nobody. A deed's arguments and a frame's
-    /// bytes are copied once, into the entry.
+    /// memory, its trail and its jobs are those of the entries that answer its own deeds. It waits for nobody. Each line
+    /// is made as soon as its deed is answered. A deed isn't copied, and a frame's bytes are once, into the argument of
+    /// its raise.
     pub fn run<G: Gate>(
         &mut self,
         alloc: Global,

@@ -1,19 +1,15 @@
 //! One segment of a script.
 
-ghost use Rattle.std.specs.Prelude.{◌≡◌, ◌<◌, ◌≤◌, ◌+◌, ◌∷◌, ◌++◌, [], length, map, sum_by, All, IfOk, OnOk};
+ghost use Rattle.std.specs.Prelude.{◌≡◌, ◌<◌, ◌≤◌, ◌+◌, length, sum_by, All, OnOk};
 ghost use Rattle.spin_word.specs.declared.command.TheConstants.{MAX_PLACE};
 ghost use Rattle.spin_endpoint.specs.declared.ends.TheConstants.{MAX_ENDPOINTS};
-ghost use Rattle.spin_text.specs.Words.{ended};
 ghost use Rattle.spin_table.specs.SetupOf.{data_of};
 ghost use Rattle.spin_script.specs.Segments.{SendsBelow};
-ghost use Rattle.spin_report.specs.Lines.{entry_line, job_line};
-ghost use Rattle.spin_report.specs.Histories.{segment_line, lost_lines};
 ghost use Rattle.spin_report.specs.Segments as specs;
-ghost use Rattle.spin_run.specs.Segments.{AreReady, IsFitSegment, front_of, state_of, jobs_seen};
-ghost use Rattle.spin_script.specs.States.{ScriptData, deed_count};
+ghost use Rattle.spin_run.specs.Segments.{AreReady, IsFitSegment, front_of, state_of};
+ghost use Rattle.spin_script.specs.States.{deed_count};
 ghost use Rattle.spin_script.specs.Checks.{most_deeds};
 ghost use Rattle.spin_script.specs.Soundness.{commands_in};
-ghost use Rattle.spin_run.specs.Inner.Lining.{counts_to};
 ghost use Rattle.spin_run.specs.Inner.Reading.{Reads, TakesFrames};
 ghost use Rattle.spin_run.specs.Ends.{seen};
 ghost use Rattle.spin_run.specs.Inner.Steps.{moment, setting, OneBy, ResultCounts};
