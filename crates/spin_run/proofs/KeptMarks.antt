@@ -2,7 +2,8 @@
 use Rattle.std.proofs.Common.{◌≡◌, ◌<◌, ◌≤◌, ◌+◌, ◌-◌, ℕ, Bool, cond, not, List, [], ◌∷◌, ◌++◌, map, length, take, drop, refl, sym, ap, ◌∙◌, subst, arith, length-append}
 use Rattle.std.specs.Prelude.{All, count_by}
 use Rattle.std.specs.List.{AllZip, flat_map, filter_map}
-use Rattle.std.proofs.lemmas.List.{append-nil, length-take, length-drop, take-append-le, drop-append-le, drop_at, take_all}
+use Rattle.std.proofs.lemmas.List.{append-nil, map-append, length-take, length-drop, take-append-le, drop-append-le, drop_at, take_all}
+use Rattle.std.proofs.lemmas.List.Concat.{flat_map-append}
 use Rattle.std.proofs.lemmas.List.Sums.{sum_by-cons}
 use Rattle.std.proofs.lemmas.List.Elements.{All-nil, All-cons, All-head, All-tail}
 use Rattle.spin_proto.specs.declared.reply.Step.{Step}
@@ -28,6 +29,7 @@ use Rattle.spin_run.specs.Summaries.{Counts, counts_in, is_run, is_send, is_refu
 use Rattle.spin_run.specs.Trails.{items_in, LiesIn, kind_of, is_accepted_kind, mark_moment, IsMarkOf, none_left, IsTrailOf, AddsTo, trail_of, AreMarksOf}
 use Rattle.spin_run.specs.Inner.Marks.{IsInTrails, line_in, sends_in, is_refused_kind, counts_by}
 use Rattle.spin_run.proofs.PartCounts.{same_counts}
+use Rattle.spin_run.proofs.TextLines.{text_of-append}
 
 -- ---- stretches
 
@@ -90,6 +92,17 @@ marks_more old new m e stays last [] (x ∷ entries) h = absurd h
 marks_more old new m e stays last (n ∷ marks) [] h = absurd h
 marks_more old new m e stays last (n ∷ marks) (x ∷ entries) h = (stays n x h.0, marks_more old new m e stays last marks entries h.1)
 
+-- the line of one entry more, and what it sends
+line_more : (entries : List Entry) (e : Entry) → text_of (map entry_line (entries ++ e ∷ [])) ≡ text_of (map entry_line entries) ++ ended (entry_line e)
+line_more entries e =
+    ap text_of (map-append entry_line entries (e ∷ [])) ∙ text_of-append (map entry_line entries) (entry_line e ∷ [])
+    ∙ ap (λ l. text_of (map entry_line entries) ++ l) (append-nil (ended (entry_line e)))
+
+sends_more : (entries : List Entry) (e : Entry) → flat_map (λ (x : Entry). sends_of x.what) (entries ++ e ∷ []) ≡ flat_map (λ (x : Entry). sends_of x.what) entries ++ sends_of e.what
+sends_more entries e =
+    flat_map-append (λ (x : Entry). sends_of x.what) entries (e ∷ [])
+    ∙ ap (λ l. flat_map (λ (x : Entry). sends_of x.what) entries ++ l) (append-nil (sends_of e.what))
+
 -- the mark that is made of an entry
 pub record IsMade (old new : Trail) (e : Entry) (m : Mark) : Type 0 where
   pub place : m.place ≡ e.place
@@ -122,14 +135,18 @@ adds_entry old new e m texts sent marks made =
     } in
     record {
       count = ap length marks ∙ length-append old.marks (m ∷ []);
-      goes_on = λ entries h.
-          subst (λ (l : List Mark). AllZip (IsMarkOf new) l (entries ++ e ∷ [])) (sym marks)
-          (marks_more old new m e (mark_stays old new (ended (entry_line e)) (sends_of e.what) texts sent) last old.marks entries h);
+      goes_on = λ entries h. record {
+        text = texts ∙ (λ i. h.text i ++ ended (entry_line e)) ∙ sym (line_more entries e);
+        sends = sent ∙ (λ i. h.sends i ++ sends_of e.what) ∙ sym (sends_more entries e);
+        marks =
+            subst (λ (l : List Mark). AllZip (IsMarkOf new) l (entries ++ e ∷ [])) (sym marks)
+            (marks_more old new m e (mark_stays old new (ended (entry_line e)) (sends_of e.what) texts sent) last old.marks entries h.marks);
+      };
     }
 
 -- a trail of no entry
 pub new_trail : (trail : Trail) → trail ≡ none_left → IsTrailOf [] trail
-new_trail trail is = subst (IsTrailOf []) (sym is) tt
+new_trail trail is = subst (IsTrailOf []) (sym is) (record { text = refl; sends = refl; marks = tt })
 
 -- ---- what marks tell
 

@@ -263,13 +263,13 @@ module _ (d : SetupData) (log : TableId) (count : ℕ) (lines : List Line) (reco
         let at : k < length before = omega (arith, marks_count) in
         let t = (get_or ran k l).trail in
         subst (All (λ (m : Mark). m.lane ≡ k)) (sym (marks_are k e at))
-        (lanes_of_marks (IsMarkOf t) (λ m e is. is.lane) (λ n. n ≡ k) t.marks (trail_at k) (told_at k at) (trail_lane k at))
+        (lanes_of_marks (IsMarkOf t) (λ m e is. is.lane) (λ n. n ≡ k) t.marks (trail_at k) (told_at k at).marks (trail_lane k at))
 
     pub marks_order : All AreMarksInOrder marks
     marks_order k e lt =
         let at : k < length before = omega (arith, marks_count) in
         let t = (get_or ran k l).trail in
-        subst AreMarksInOrder (sym (marks_are k e at)) (marks_in_order (IsMarkOf t) (moment_is t) t.marks (trail_at k) (told_at k at) (trail_order k at))
+        subst AreMarksInOrder (sym (marks_are k e at)) (marks_in_order (IsMarkOf t) (moment_is t) t.marks (trail_at k) (told_at k at).marks (trail_order k at))
 
     pub jobs_lanes : AreOfTheirLanes (λ (j : Job). j.lane) jobs
     jobs_lanes k e lt =
@@ -313,7 +313,7 @@ module _ (d : SetupData) (log : TableId) (count : ℕ) (lines : List Line) (reco
         let read = (lane_met k lt).read.trail in
         AllZip-weaker (IsMarkOf (get_or ran k l).trail) (IsMarkOf (trail_of trails k))
         (mark_in (get_or ran k l).trail (trail_of trails k) (ap (λ (t : Trail). t.text) at ∙ ap (λ (t : Trail). t.text) read) (ap (λ (t : Trail). t.sends) at ∙ ap (λ (t : Trail). t.sends) read))
-        (get_or ran k l).trail.marks (trail_at k) (told_at k lt)
+        (get_or ran k l).trail.marks (trail_at k) (told_at k lt).marks
 
     module _ (woven_marks : List Mark) (all : IsInterleaving (λ (m : Mark). m.lane) marks woven_marks) where
       pub marks_under : All (λ (m : Mark). m.lane < length before) woven_marks

@@ -1,9 +1,9 @@
 -- What is kept of the entries of a lane, once their lines are made.
-use Rattle.std.specs.Prelude.{◌≡◌, ◌≤◌, ◌+◌, ℕ, Bool, true, false, not, List, [], ◌∷◌, ◌++◌, length, count_by}
+use Rattle.std.specs.Prelude.{◌≡◌, ◌≤◌, ◌+◌, ℕ, Bool, true, false, not, List, [], ◌∷◌, ◌++◌, map, length, count_by}
 use Rattle.std.specs.Prelude.{slice_range, slice_index_or}
-use Rattle.std.specs.List.{AllZip}
+use Rattle.std.specs.List.{AllZip, flat_map}
 use Rattle.spin_table.specs.declared.refusal.Verdicted.TheVariants as verdicted
-use Rattle.spin_text.specs.Words.{ended}
+use Rattle.spin_text.specs.Words.{ended, text_of}
 use Rattle.spin_report.specs.declared.entry.What.{What}
 use Rattle.spin_report.specs.declared.entry.What.TheVariants as what
 use Rattle.spin_report.specs.declared.entry.Entry.{Entry}
@@ -68,9 +68,11 @@ none_left = record { text = []; sends = []; marks = [] }
 abbrev pub IsNew : Trail → Type 0
 IsNew trail = trail ≡ none_left
 
--- the trail is that of these entries
-abbrev pub IsTrailOf : List Entry → Trail → Type 0
-IsTrailOf entries trail = AllZip (IsMarkOf trail) trail.marks entries
+-- The trail is that of these entries: their lines, all that they send, and a mark of each.
+pub record IsTrailOf (entries : List Entry) (trail : Trail) : Type 0 where
+  pub text : trail.text ≡ text_of (map entry_line entries)
+  pub sends : trail.sends ≡ flat_map (λ entry. sends_of entry.what) entries
+  pub marks : AllZip (IsMarkOf trail) trail.marks entries
 
 -- whatever entries the one trail is of, the other is of these and of one more
 pub record AddsTo (before : Trail) (entry : Entry) (after : Trail) : Type 0 where
