@@ -134,16 +134,14 @@ fn each_seat(alloc: Global, seats: Seats) -> Result<Vec<Lane>, NoMemory>
     Ok(lanes)
 }
 
-/// A segment of at most so many lines, none of them of packets, is short: to start a thread costs more than what a lane
-/// does in it.
+/// A segment of at most so many lines, all of them deeds, is short: to start a thread costs more than what a lane does
+/// in it.
 const SHORT: usize = 64;
 
-// Whether a segment of these lines is short.
+// Whether a segment of these lines is short. Without a command no lane sees what another does: each raise stands at the
+// place that all know from the start, so the history is the same one however the lanes go.
 fn is_short(lines: &[Line]) -> bool {
-    lines.len() <= SHORT
-        && !lines
-            .iter()
-            .any(|line| matches!(line.work, Work::Packet { .. }))
+    lines.len() <= SHORT && lines.iter().all(|line| matches!(line.work, Work::Deed(_)))
 }
 
 // How many threads serve a segment of these lines: one where a single lane has them all, since the others have nothing
@@ -162,10 +160,10 @@ fn threads_for<G: Gate>(lines: &[Line], gate: &G) -> usize
 }
 
 /// Runs the lanes side by side, each on a thread of its own where one can be started; where one lane has all lines of
-/// the segment, the caller's thread runs them all. So it does where the segment has at most 64 lines, none of them of
-/// packets, and the gate's type has no size: such a gate holds up no lane until another has passed, for which it needs
-/// a value to look at. Of each lane there is what [`Lane::run`] says of it, and nothing more. It waits for the end of
-/// all lanes.
+/// the segment, the caller's thread runs them all. So it does where the segment has at most 64 lines, all of them deeds,
+/// whose history is the same however the lanes go, and the gate's type has no size: such a gate holds up no lane until
+/// another has passed, for which it needs a value to look at. Of each lane there is what [`Lane::run`] says of it, and
+/// nothing more. It waits for the end of all lanes.
 pub fn run_lanes<R: Threads + Sync, G: Gate>(
     rt: &R,
     alloc: Global,
