@@ -79,7 +79,7 @@ impl Tally {
             Kind::Deed => {}
         }
         add(&mut self.runs, u64::from(mark.runs))?;
-        add(&mut self.sends, u64::from(mark.sends.len()))
+        add(&mut self.sends, mark.sends.len() as u64)
     }
 
     // Counts the entries of marks, in time linear in them. After want of memory some of them may be counted.

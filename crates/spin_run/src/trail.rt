@@ -17,14 +17,14 @@ use std::marker::Model;
 #[derive(Clone, Copy, PartialEq, Eq, Debug)]
 pub struct Stretch {
     /// The place of the first.
-    pub from: u32,
+    pub from: usize,
     /// The place behind the last.
-    pub to: u32,
+    pub to: usize,
 }
 
 impl Stretch {
     /// How many items it has.
-    pub fn len(&self) -> u32
+    pub fn len(&self) -> usize
         ensures { result ≡ self.now.to - self.now.from }
     {
         self.to.saturating_sub(self.from)
@@ -35,7 +35,7 @@ impl Stretch {
         requires lies { LiesIn self.now (length items.now) }
         ensures { result.now ≡ items_in self.now items.now }
     {
-        &items[self.from as usize..self.to as usize]
+        &items[self.from..self.to]
     }
 }
 
@@ -100,7 +100,7 @@ impl Model for Sending {
 pub type Marks = Sequence<Mark>;
 
 /// What the entries of a lane leave in a segment: a mark of each, in their order, the lines that tell them, one behind
-/// another, and what they send. An entry takes its line and 32 bytes.
+/// another, and what they send. An entry takes its line and 48 bytes.
 #[derive(Drop)]
 pub struct Trail {
     /// The lines, each with its end.
@@ -137,24 +137,18 @@ fn add_steps(sends: &mut Sequence<Sending>, steps: &[Step]) -> Result<(), NoMemo
     Ok(())
 }
 
-// The number in 32 bits. One that doesn't fit is want of memory: no run comes so far.
-fn narrow(number: usize) -> Result<u32, NoMemory>
-    ensures { IfOk result (λ narrow. narrow ≡ number) }
+// How many of the steps run a handler. A count that doesn't fit is want of memory: no reply has so many steps.
+fn runs_in(steps: &[Step]) -> Result<u32, NoMemory>
+    ensures { IfOk result (λ runs. runs ≡ count_by is_run steps.now) }
 {
-    let Ok(narrow) = u32::try_from(number) else {
-        return Err(NoMemory);
-    };
-    Ok(narrow)
-}
-
-// How many of the steps run a handler.
-fn runs_in(steps: &[Step]) -> usize
-    ensures { result ≡ count_by is_run steps.now }
-{
-    steps
+    let runs = steps
         .iter()
         .filter(|step| matches!(step, Step::Run { .. }))
-        .count()
+        .count();
+    let Ok(runs) = u32::try_from(runs) else {
+        return Err(NoMemory);
+    };
+    Ok(runs)
 }
 
 // Whether it is a command, and what became of it.
@@ -185,8 +179,7 @@ impl Trail {
     pub(crate) fn add(&mut self, entry: &EntryView) -> Result<(), NoMemory>
         ensures { OnOk result (AddsTo self.old entry.now self.new) }
     {
-        let line = narrow(self.text.len())?;
-        let sent = narrow(self.sends.len())?;
+        let (line, sent) = (self.text.len(), self.sends.len());
         view_text(entry, &mut self.text)?;
         let steps = entry.what.steps();
         add_steps(&mut self.sends, steps)?;
@@ -196,14 +189,14 @@ impl Trail {
             lane: entry.lane,
             line: entry.line,
             part: entry.part,
-            runs: narrow(runs_in(steps))?,
+            runs: runs_in(steps)?,
             text: Stretch {
                 from: line,
-                to: narrow(self.text.len())?,
+                to: self.text.len(),
             },
             sends: Stretch {
                 from: sent,
-                to: narrow(self.sends.len())?,
+                to: self.sends.len(),
             },
         })
     }

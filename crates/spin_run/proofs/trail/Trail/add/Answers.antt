@@ -24,9 +24,9 @@ returns c =
       lane = ap (λ (e : Entry). e.lane) c.entry.view_is;
       line = ap (λ (e : Entry). e.line) c.entry.view_is;
       part = ap (λ (e : Entry). e.part) c.entry.view_is;
-      runs = c.in_ok-narrow.ensures ∙ c.runs_in.ensures ∙ ap (count_by is_run) steps;
-      text_from = c.in_ok-line.ensures ∙ c.len.ensures;
-      text_to = c.in_ok-narrow-2.ensures ∙ c.len-3.ensures;
-      sends_from = c.in_ok-sent.ensures ∙ c.len-2.ensures;
-      sends_to = c.in_ok-narrow-3.ensures ∙ c.len-4.ensures;
+      runs = c.in_ok-runs_in.ensures ∙ ap (count_by is_run) steps;
+      text_from = c.len-line.ensures;
+      text_to = c.len.ensures;
+      sends_from = c.len-sent.ensures;
+      sends_to = c.len-2.ensures;
     })) c.push.ensures.ok
