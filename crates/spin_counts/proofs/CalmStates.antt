@@ -22,6 +22,7 @@ use Rattle.spin_table.specs.Orders.{arranged}
 use Rattle.spin_word.specs.declared.work.Deed.TheVariants as deed
 use Rattle.spin_raise.specs.declared.bound.Runner.TheVariants as runner
 use Rattle.spin_raise.specs.Firing.{bound_of, steps_at}
+use Rattle.spin_proto.specs.Parts.{trace_in}
 use Rattle.spin_proto.specs.Whole.{raised, raised_with, raised_after, reply_of}
 use Rattle.spin_proto.specs.Replies.{are_fit, reply_if_fit, types_in, units_in, IsDeedReply}
 use Rattle.spin_proto.specs.declared.reply.Reply.{Reply}
@@ -29,7 +30,7 @@ use Rattle.spin_proto.specs.declared.reply.Reply.TheVariants as reply
 use Rattle.spin_proto.specs.declared.reply.TheConstants.{MAX_RUNS}
 use Rattle.spin_proto.proofs.BoundEvents.{the_bound}
 use Rattle.spin_proto.proofs.RaiseTurns.{raised_at}
-use Rattle.spin_run.specs.Summaries.{is_run, is_send, steps_of_reply}
+use Rattle.spin_run.specs.Summaries.{is_run, is_send}
 use Rattle.spin_counts.proofs.OrderLemmas.{NamesNone, arranged_count, arranged_all}
 use Rattle.spin_counts.proofs.RaiseCounts.{GivesResult, runs_of, reply_runs}
 use Rattle.spin_counts.proofs.WordSetups.{IsWordEvent, IsWordHandler}
@@ -81,8 +82,8 @@ module _ (d : SetupData) (s : State) (event value : ℕ) (e : IsWordEvent d even
 
   -- as many runs are counted of a raise as guards hold, and no sends
   pub raise_counts : (r : Reply) → IsDeedReply d s (deed.Raise event (Word value ∷ [])) r
-      → (count_by is_run (steps_of_reply r) ≡ runs_of (admitted d value (guards_at s event)))
-      × (count_by is_send (steps_of_reply r) ≡ 0)
+      → (count_by is_run (trace_in r) ≡ runs_of (admitted d value (guards_at s event)))
+      × (count_by is_send (trace_in r) ≡ 0)
   raise_counts r (bounds, are, is) =
       let b = the_bound d.events s.events bounds event e.def t.state are e.there t.there in
       let ns = b.2.0 in
@@ -99,6 +100,6 @@ module _ (d : SetupData) (s : State) (event value : ℕ) (e : IsWordEvent d even
       let guards : admitted d value (guards_at s event) ≡ count_by admits t.state.bindings =
       ap (λ (o : Option EventState). admitted d value (map (λ (x : Binding). x.own_guard) (bindings_if o))) t.there
       ∙ count_mapped (guard_holds (tests_in d) args) (λ (x : Binding). x.own_guard) t.state.bindings in (
-        ap (λ (x : Reply). count_by is_run (steps_of_reply x)) same ∙ counted.0 ∙ ap runs_of (ordered ∙ sym guards),
-        ap (λ (x : Reply). count_by is_send (steps_of_reply x)) same ∙ counted.1,
+        ap (λ (x : Reply). count_by is_run (trace_in x)) same ∙ counted.0 ∙ ap runs_of (ordered ∙ sym guards),
+        ap (λ (x : Reply). count_by is_send (trace_in x)) same ∙ counted.1,
       )

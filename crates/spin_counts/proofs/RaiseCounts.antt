@@ -18,12 +18,13 @@ use Rattle.spin_place.specs.declared.binding.Binding.{Binding}
 use Rattle.spin_plan.specs.Next.{guard_holds}
 use Rattle.spin_raise.specs.declared.bound.Runner.TheVariants as runner
 use Rattle.spin_raise.specs.Firing.{Units, Firing, Did, Apart, bound_of, steps_at, is_async, leaves_jobs, left_by, firings, or_default, items_by}
+use Rattle.spin_proto.specs.Parts.{trace_in}
 use Rattle.spin_proto.specs.Whole.{Mark, Plain, Raised, step_of, calls_of, starts, is_start, marks_of, raised_with, reply_of}
 use Rattle.spin_proto.specs.declared.reply.Step.{Step}
 use Rattle.spin_proto.specs.declared.reply.Step.TheVariants as done
 use Rattle.spin_proto.specs.declared.reply.Reply.TheVariants as reply
 use Rattle.spin_proto.specs.declared.reply.TheConstants.{MAX_RUNS}
-use Rattle.spin_run.specs.Summaries.{is_run, is_send, steps_of_reply}
+use Rattle.spin_run.specs.Summaries.{is_run, is_send}
 
 -- The binding's act is one result, and it is plain, with no guard that is imposed.
 pub record GivesResult (u : Units) (b : Binding) : Type 0 where
@@ -97,24 +98,24 @@ module _ (u : Units) (event : ℕ) (raise : ℕ → List Value → Raised) (args
       let counted = counted_all bs (recursion_from_All (GivesResult u) bs all) in
       subst (λ (fs : List Firing). AreCounted (count_by admits bs) (marks_by fs)) (sym (no_default (firings runner.Raiser u bs args))) counted
 
-  runs_counted : (r : Raised) (count : ℕ) → AreCounted count r.marks → count_by is_run (steps_of_reply (reply_of MAX_RUNS r)) ≡ runs_of count
+  runs_counted : (r : Raised) (count : ℕ) → AreCounted count r.marks → count_by is_run (trace_in (reply_of MAX_RUNS r)) ≡ runs_of count
   runs_counted r count h = go (nat_lt MAX_RUNS (starts r.marks)) ∙ ap (λ (n : ℕ). cond (nat_lt MAX_RUNS n) 0 count) h.starts
     where
-      go : (t : Bool) → count_by is_run (steps_of_reply (if t then reply.Spent else reply.Ran r.answer (map step_of r.marks) (flat_map calls_of r.marks))) ≡ cond t 0 count
+      go : (t : Bool) → count_by is_run (trace_in (if t then reply.Spent else reply.Ran r.answer (map step_of r.marks) (flat_map calls_of r.marks))) ≡ cond t 0 count
       go true = refl
       go false = h.runs
 
-  sends_counted : (r : Raised) (count : ℕ) → AreCounted count r.marks → count_by is_send (steps_of_reply (reply_of MAX_RUNS r)) ≡ 0
+  sends_counted : (r : Raised) (count : ℕ) → AreCounted count r.marks → count_by is_send (trace_in (reply_of MAX_RUNS r)) ≡ 0
   sends_counted r count h = go (nat_lt MAX_RUNS (starts r.marks))
     where
-      go : (t : Bool) → count_by is_send (steps_of_reply (if t then reply.Spent else reply.Ran r.answer (map step_of r.marks) (flat_map calls_of r.marks))) ≡ 0
+      go : (t : Bool) → count_by is_send (trace_in (if t then reply.Spent else reply.Ran r.answer (map step_of r.marks) (flat_map calls_of r.marks))) ≡ 0
       go true = refl
       go false = h.sends
 
   -- of the reply to such a raise as many runs are counted as guards hold, and no sends
   pub reply_runs : (bs : List Binding) (m : Merge) → All (GivesResult u) bs
-      → (count_by is_run (steps_of_reply (reply_of MAX_RUNS (raised_of bs m))) ≡ runs_of (count_by admits bs))
-      × (count_by is_send (steps_of_reply (reply_of MAX_RUNS (raised_of bs m))) ≡ 0)
+      → (count_by is_run (trace_in (reply_of MAX_RUNS (raised_of bs m))) ≡ runs_of (count_by admits bs))
+      × (count_by is_send (trace_in (reply_of MAX_RUNS (raised_of bs m))) ≡ 0)
   reply_runs bs m all =
       let counted = counted_raise bs m all in
       (runs_counted (raised_of bs m) (count_by admits bs) counted, sends_counted (raised_of bs m) (count_by admits bs) counted)

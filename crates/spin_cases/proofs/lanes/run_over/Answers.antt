@@ -24,9 +24,10 @@ returns g c =
     let new = are_new d id 2 c.args.seats lanes (omega arith) (omega arith) c.requires.pens c.requires.seats made.seats made.fresh in
     let after = c.run_lanes.new.lanes in
     let asked = asked_in c.args.segment.now.lines c.new-frames.result in
-    let have = c.run_lanes.ensures in
+    let given = c.run_lanes.ensures.0 in
+    let have = c.run_lanes.ensures.1 in
     record {
-      two = have.0 ∙ new.ready.all;
-      own = still_of_hub d id 2 asked lanes after (rest_of_ready d id 2 lanes new.ready) have;
-      order = still_in_order d asked lanes after new.ready.order have;
+      two = have.count ∙ new.ready.all;
+      own = still_of_hub d id 2 asked lanes after given (rest_of_ready d id 2 lanes new.ready) have;
+      order = still_in_order d asked lanes after given new.ready.order have;
     }
