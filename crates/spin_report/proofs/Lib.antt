@@ -1,4 +1,3 @@
-pub mod Kept
 pub mod PlainWords
 pub mod ReportLines
 pub mod EntryLines

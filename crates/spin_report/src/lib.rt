@@ -4,7 +4,7 @@
 //! - `view` is an entry that is lent;
 //! - `records` are those of a capture that a line takes;
 //! - `verdict` writes what became of a command, and `reply` what a deed or a job came to;
-//! - `words` appends words, and `text` whole lines;
+//! - `text` writes whole lines;
 //! - `law` says that a report tells one history from all others.
 #![tactic(auto)]
 
@@ -15,7 +15,6 @@ mod reply;
 mod text;
 mod verdict;
 mod view;
-mod words;
 
 pub use entry::{Entries, Entry, Moment, What};
 pub use law::{one_history, report_tells};
@@ -24,4 +23,5 @@ pub use reply::reply_text;
 pub use text::{
     CaptureCounts, end_text, entry_text, job_text, lost_text, retire_text, segment_text, view_text,
 };
+pub use verdict::refusal_number;
 pub use view::{EntryView, LentWhat, WhatView};

@@ -5,13 +5,13 @@ ghost use Rattle.std.specs.List.{flat_map};
 ghost use Rattle.spin_text.specs.Words.{spaced};
 ghost use Rattle.spin_report.specs.Replies.{answer_words, fault_word, step_words, reply_words};
 
-use crate::words::{add_number, add_word};
 use spin_headers::HeaderFault;
 use spin_proto::{LentReply, Reply, ReplyView, Step};
 use spin_raise::Answer;
+use spin_text::{put_number, put_word};
 use spin_values::{NoMemory, Octets};
 
-#[tactic(auto, using(crate::proofs::Kept::kept_same, crate::proofs::Kept::kept_more, crate::proofs::Kept::kept_on))]
+#[tactic(auto, using(spin_text::proofs::Kept::kept_same, spin_text::proofs::Kept::kept_more, spin_text::proofs::Kept::kept_on))]
 fn put_answer(out: &mut Octets, answer: Answer) -> Result<(), NoMemory>
     ensures ok { OnOk result (out.new ≡ out.old ++ spaced (answer_words answer)) }
     ensures err { OnErr result (take (length out.old) out.new ≡ out.old) }
@@ -19,13 +19,13 @@ fn put_answer(out: &mut Octets, answer: Answer) -> Result<(), NoMemory>
     match answer {
         Answer::Value(value) => {
             out.extend_from_slice(b" value")?;
-            add_number(out, value)
+            put_number(out, value)
         }
         Answer::Done => out.extend_from_slice(b" done"),
         Answer::Default(None) => out.extend_from_slice(b" default"),
         Answer::Default(Some(value)) => {
             out.extend_from_slice(b" default")?;
-            add_number(out, value)
+            put_number(out, value)
         }
         Answer::NoHandler => out.extend_from_slice(b" nohandler"),
     }
@@ -46,18 +46,18 @@ fn fault_word(fault: HeaderFault) -> &'static [u8]
 }
 
 // Appends a word and two numbers.
-#[tactic(auto, using(crate::proofs::Kept::kept_same, crate::proofs::Kept::kept_more, crate::proofs::Kept::kept_on))]
+#[tactic(auto, using(spin_text::proofs::Kept::kept_same, spin_text::proofs::Kept::kept_more, spin_text::proofs::Kept::kept_on))]
 fn put_pair(out: &mut Octets, word: &[u8], first: u64, second: u64) -> Result<(), NoMemory>
     ensures ok { let words = word.now ∷ decimal first ∷ decimal second ∷ [] in
         OnOk result (out.new ≡ out.old ++ spaced words) }
     ensures err { OnErr result (take (length out.old) out.new ≡ out.old) }
 {
-    add_word(out, word)?;
-    add_number(out, first)?;
-    add_number(out, second)
+    put_word(out, word)?;
+    put_number(out, first)?;
+    put_number(out, second)
 }
 
-#[tactic(auto, using(crate::proofs::Kept::kept_same, crate::proofs::Kept::kept_more, crate::proofs::Kept::kept_on))]
+#[tactic(auto, using(spin_text::proofs::Kept::kept_same, spin_text::proofs::Kept::kept_more, spin_text::proofs::Kept::kept_on))]
 fn put_step(out: &mut Octets, step: &Step) -> Result<(), NoMemory>
     ensures ok { OnOk result (out.new ≡ out.old ++ spaced (step_words step.now)) }
     ensures err { OnErr result (take (length out.old) out.new ≡ out.old) }
@@ -66,14 +66,14 @@ fn put_step(out: &mut Octets, step: &Step) -> Result<(), NoMemory>
         Step::Run { event, number } => put_pair(out, b"run", u64::from(*event), u64::from(*number)),
         Step::Result(value) => {
             out.extend_from_slice(b" result")?;
-            add_number(out, *value)
+            put_number(out, *value)
         }
         Step::Send { endpoint, bytes } => {
             put_pair(out, b"send", u64::from(*endpoint), bytes.len() as u64)
         }
         Step::Up(event) => {
             out.extend_from_slice(b" up")?;
-            add_number(out, u64::from(*event))
+            put_number(out, u64::from(*event))
         }
         Step::Back(answer) => {
             out.extend_from_slice(b" back")?;
@@ -81,13 +81,13 @@ fn put_step(out: &mut Octets, step: &Step) -> Result<(), NoMemory>
         }
         Step::Dropped(fault) => {
             out.extend_from_slice(b" drop")?;
-            add_word(out, fault_word(*fault))
+            put_word(out, fault_word(*fault))
         }
         Step::Job { event, number } => put_pair(out, b"job", u64::from(*event), u64::from(*number)),
     }
 }
 
-#[tactic(auto, using(crate::proofs::Kept::kept_same, crate::proofs::Kept::kept_more, crate::proofs::Kept::kept_on))]
+#[tactic(auto, using(spin_text::proofs::Kept::kept_same, spin_text::proofs::Kept::kept_more, spin_text::proofs::Kept::kept_on))]
 fn put_trace(out: &mut Octets, trace: &[Step]) -> Result<(), NoMemory>
     ensures ok { OnOk result (out.new ≡ out.old ++ spaced (flat_map step_words trace.now)) }
     ensures err { OnErr result (take (length out.old) out.new ≡ out.old) }
@@ -99,7 +99,7 @@ fn put_trace(out: &mut Octets, trace: &[Step]) -> Result<(), NoMemory>
 }
 
 // Appends the steps of a deed or a job that was done, and its answer.
-#[tactic(auto, using(crate::proofs::Kept::kept_same, crate::proofs::Kept::kept_more, crate::proofs::Kept::kept_on))]
+#[tactic(auto, using(spin_text::proofs::Kept::kept_same, spin_text::proofs::Kept::kept_more, spin_text::proofs::Kept::kept_on))]
 fn put_ran(out: &mut Octets, trace: &[Step], answer: Answer) -> Result<(), NoMemory>
     ensures ok { OnOk result (out.new
         ≡ out.old ++ spaced (flat_map step_words trace.now ++ (codes "=" ∷ answer_words answer))) }
@@ -111,7 +111,7 @@ fn put_ran(out: &mut Octets, trace: &[Step], answer: Answer) -> Result<(), NoMem
 }
 
 // Appends what a deed or a job came to.
-#[tactic(auto, using(crate::proofs::Kept::kept_same, crate::proofs::Kept::kept_more, crate::proofs::Kept::kept_on))]
+#[tactic(auto, using(spin_text::proofs::Kept::kept_same, spin_text::proofs::Kept::kept_more, spin_text::proofs::Kept::kept_on))]
 pub(crate) fn put_reply(out: &mut Octets, reply: &Reply) -> Result<(), NoMemory>
     ensures ok { OnOk result (out.new ≡ out.old ++ spaced (reply_words reply.now)) }
     ensures err { OnErr result (take (length out.old) out.new ≡ out.old) }
@@ -126,7 +126,7 @@ pub(crate) fn put_reply(out: &mut Octets, reply: &Reply) -> Result<(), NoMemory>
 }
 
 // Appends what a deed came to whose reply is lent.
-#[tactic(auto, using(crate::proofs::Kept::kept_same, crate::proofs::Kept::kept_more, crate::proofs::Kept::kept_on))]
+#[tactic(auto, using(spin_text::proofs::Kept::kept_same, spin_text::proofs::Kept::kept_more, spin_text::proofs::Kept::kept_on))]
 pub(crate) fn put_reply_view(out: &mut Octets, reply: &ReplyView<'_>) -> Result<(), NoMemory>
     ensures ok { OnOk result (out.new ≡ out.old ++ spaced (reply_words reply.now)) }
     ensures err { OnErr result (take (length out.old) out.new ≡ out.old) }

@@ -9,7 +9,6 @@ use crate::entry::Entry;
 use crate::reply::{put_reply, put_reply_view};
 use crate::verdict::put_verdict;
 use crate::view::{EntryView, LentWhat, WhatView};
-use crate::words::{add_number, add_word};
 use spin_proto::{Job, Reply};
 use spin_script::op_word;
 use spin_text::{put_decimal, put_line, put_number, put_word};
@@ -40,12 +39,12 @@ fn cut_back(out: &mut Octets, kept: usize)
 }
 
 // Appends the number of a line, and of its part where it is a line of packets.
-#[tactic(auto, using(crate::proofs::Kept::kept_same, crate::proofs::Kept::kept_more, crate::proofs::Kept::kept_on))]
+#[tactic(auto, using(spin_text::proofs::Kept::kept_same, spin_text::proofs::Kept::kept_more, spin_text::proofs::Kept::kept_on))]
 fn put_line_word(out: &mut Octets, line: u32, part: u32) -> Result<(), NoMemory>
     ensures ok { OnOk result (out.new ≡ out.old ++ spaced (line_word line part ∷ [])) }
     ensures err { OnErr result (take (length out.old) out.new ≡ out.old) }
 {
-    add_number(out, u64::from(line))?;
+    put_number(out, u64::from(line))?;
     if part != 0 {
         out.push(b'.')?;
         put_decimal(out, u64::from(part))?;
@@ -53,14 +52,14 @@ fn put_line_word(out: &mut Octets, line: u32, part: u32) -> Result<(), NoMemory>
     Ok(())
 }
 
-#[tactic(auto, using(crate::proofs::Kept::kept_same, crate::proofs::Kept::kept_more, crate::proofs::Kept::kept_on))]
+#[tactic(auto, using(spin_text::proofs::Kept::kept_same, spin_text::proofs::Kept::kept_more, spin_text::proofs::Kept::kept_on))]
 fn put_what(out: &mut Octets, part: u32, what: &WhatView<'_>) -> Result<(), NoMemory>
     ensures ok { OnOk result (out.new ≡ out.old ++ spaced (what_words part what.now)) }
     ensures err { OnErr result (take (length out.old) out.new ≡ out.old) }
 {
     match &what.lent {
         LentWhat::Command(command, verdict) => {
-            add_word(out, op_word(command.op))?;
+            put_word(out, op_word(command.op))?;
             put_verdict(out, verdict)
         }
         LentWhat::Deed(Deed::Later { .. }, reply) => {
@@ -78,19 +77,19 @@ fn put_what(out: &mut Octets, part: u32, what: &WhatView<'_>) -> Result<(), NoMe
     }
 }
 
-#[tactic(auto, using(crate::proofs::Kept::kept_same, crate::proofs::Kept::kept_more, crate::proofs::Kept::kept_on))]
+#[tactic(auto, using(spin_text::proofs::Kept::kept_same, spin_text::proofs::Kept::kept_more, spin_text::proofs::Kept::kept_on))]
 fn put_entry(out: &mut Octets, entry: &EntryView<'_>) -> Result<(), NoMemory>
     ensures ok { OnOk result (out.new ≡ out.old ++ entry_line entry.now) }
     ensures err { OnErr result (take (length out.old) out.new ≡ out.old) }
 {
     put_decimal(out, u64::from(entry.place))?;
-    add_number(out, u64::from(entry.lane))?;
+    put_number(out, u64::from(entry.lane))?;
     put_line_word(out, entry.line, entry.part)?;
     put_what(out, entry.part, &entry.what)
 }
 
 // Appends the line of an entry, with its end.
-#[tactic(auto, using(crate::proofs::Kept::kept_same, crate::proofs::Kept::kept_more, crate::proofs::Kept::kept_on))]
+#[tactic(auto, using(spin_text::proofs::Kept::kept_same, spin_text::proofs::Kept::kept_more, spin_text::proofs::Kept::kept_on))]
 fn put_entry_line(out: &mut Octets, entry: &EntryView<'_>) -> Result<(), NoMemory>
     ensures ok { OnOk result (out.new ≡ out.old ++ ended (entry_line entry.now)) }
     ensures err { OnErr result (take (length out.old) out.new ≡ out.old) }
@@ -99,21 +98,21 @@ fn put_entry_line(out: &mut Octets, entry: &EntryView<'_>) -> Result<(), NoMemor
     out.push(b'\n')
 }
 
-#[tactic(auto, using(crate::proofs::Kept::kept_same, crate::proofs::Kept::kept_more, crate::proofs::Kept::kept_on))]
+#[tactic(auto, using(spin_text::proofs::Kept::kept_same, spin_text::proofs::Kept::kept_more, spin_text::proofs::Kept::kept_on))]
 fn put_job(out: &mut Octets, job: &Job, reply: &Reply) -> Result<(), NoMemory>
     ensures ok { OnOk result (out.new ≡ out.old ++ job_line (job_seen job.now reply.now)) }
     ensures err { OnErr result (take (length out.old) out.new ≡ out.old) }
 {
     out.extend_from_slice(b"job")?;
-    add_number(out, u64::from(job.place))?;
-    add_number(out, u64::from(job.lane))?;
+    put_number(out, u64::from(job.place))?;
+    put_number(out, u64::from(job.lane))?;
     put_line_word(out, job.line, job.part)?;
-    add_number(out, u64::from(job.index))?;
+    put_number(out, u64::from(job.index))?;
     put_reply(out, reply)
 }
 
 // Appends the line of a job, with its end.
-#[tactic(auto, using(crate::proofs::Kept::kept_same, crate::proofs::Kept::kept_more, crate::proofs::Kept::kept_on))]
+#[tactic(auto, using(spin_text::proofs::Kept::kept_same, spin_text::proofs::Kept::kept_more, spin_text::proofs::Kept::kept_on))]
 fn put_job_line(out: &mut Octets, job: &Job, reply: &Reply) -> Result<(), NoMemory>
     ensures ok { OnOk result (out.new ≡ out.old ++ ended (job_line (job_seen job.now reply.now))) }
     ensures err { OnErr result (take (length out.old) out.new ≡ out.old) }

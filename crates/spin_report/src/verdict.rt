@@ -4,11 +4,12 @@ ghost use Rattle.std.specs.Prelude.{◌≡◌, ◌++◌, take, length, OnOk, OnE
 ghost use Rattle.spin_text.specs.Words.{spaced};
 ghost use Rattle.spin_report.specs.Verdicts.{refusal_told, refusal_words, verdict_words};
 
-use crate::words::{add_number, add_numbers, add_word};
 use spin_table::{Refusal, Verdicted};
+use spin_text::{put_number, put_numbers, put_word};
 use spin_values::{NoMemory, Octets};
 
-fn refusal_number(refusal: &Refusal) -> u8
+/// The number of a refusal, from 1 to 12, as the lines of a report tell it.
+pub fn refusal_number(refusal: &Refusal) -> u8
     ensures { result ≡ (refusal_told refusal.now).0 }
 {
     match refusal {
@@ -46,22 +47,22 @@ fn refusal_name(refusal: &Refusal) -> &'static [u8]
     }
 }
 
-#[tactic(auto, using(crate::proofs::Kept::kept_same, crate::proofs::Kept::kept_more, crate::proofs::Kept::kept_on))]
+#[tactic(auto, using(spin_text::proofs::Kept::kept_same, spin_text::proofs::Kept::kept_more, spin_text::proofs::Kept::kept_on))]
 fn put_refusal(out: &mut Octets, refusal: &Refusal) -> Result<(), NoMemory>
     ensures ok { OnOk result (out.new ≡ out.old ++ spaced (refusal_words refusal.now)) }
     ensures err { OnErr result (take (length out.old) out.new ≡ out.old) }
 {
-    add_number(out, u64::from(refusal_number(refusal)))?;
-    add_word(out, refusal_name(refusal))?;
+    put_number(out, u64::from(refusal_number(refusal)))?;
+    put_word(out, refusal_name(refusal))?;
     match refusal {
-        Refusal::Denied(rule) | Refusal::ForcedMode(rule) => add_number(out, u64::from(*rule)),
-        Refusal::Conflict(cycle) => add_numbers(out, cycle.as_slice()),
+        Refusal::Denied(rule) | Refusal::ForcedMode(rule) => put_number(out, u64::from(*rule)),
+        Refusal::Conflict(cycle) => put_numbers(out, cycle.as_slice()),
         _ => Ok(()),
     }
 }
 
 // Appends what became of a command.
-#[tactic(auto, using(crate::proofs::Kept::kept_same, crate::proofs::Kept::kept_more, crate::proofs::Kept::kept_on))]
+#[tactic(auto, using(spin_text::proofs::Kept::kept_same, spin_text::proofs::Kept::kept_more, spin_text::proofs::Kept::kept_on))]
 pub(crate) fn put_verdict(out: &mut Octets, verdict: &Verdicted) -> Result<(), NoMemory>
     ensures ok { OnOk result (out.new ≡ out.old ++ spaced (verdict_words verdict.now)) }
     ensures err { OnErr result (take (length out.old) out.new ≡ out.old) }

@@ -1,6 +1,6 @@
 //! Numbers and bytes in digits.
 
-ghost use Rattle.std.specs.Prelude.{◌≡◌, ◌++◌, ◌<◌, decimal, OnOk, OnErr};
+ghost use Rattle.std.specs.Prelude.{◌≡◌, ◌++◌, ◌<◌, decimal, take, length, OnOk, OnErr};
 ghost use Rattle.std.specs.Char.{digit_char};
 ghost use Rattle.spin_text.specs.Digits.{hex_digits};
 
@@ -34,8 +34,10 @@ fn hex_digit(value: u8) -> u8
 
 /// Appends bytes, two hexadecimal digits in lower case for each. After want of memory a front of them may stand
 /// behind what was there. It takes time linear in their number.
+#[tactic(auto, using(crate::proofs::Kept::kept_same, crate::proofs::Kept::kept_more, crate::proofs::Kept::kept_on))]
 pub fn put_hex(out: &mut Octets, bytes: &[u8]) -> Result<(), NoMemory>
-    ensures { OnOk result (out.new ≡ out.old ++ hex_digits bytes.now) }
+    ensures ok { OnOk result (out.new ≡ out.old ++ hex_digits bytes.now) }
+    ensures err { OnErr result (take (length out.old) out.new ≡ out.old) }
 {
     for byte in bytes {
         out.push(hex_digit(*byte / 16))?;
