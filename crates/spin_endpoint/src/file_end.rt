@@ -1,8 +1,8 @@
 //! An endpoint over a file, which tells nothing.
 
-ghost use Rattle.std.specs.Prelude.{◌≡◌, IfOk, OnOk};
+ghost use Rattle.std.specs.Prelude.{◌≡◌, IfOk, OnOk, None};
 ghost use Rattle.std.specs.Io.KnownBytes.{Appends};
-ghost use Rattle.spin_endpoint.specs.Endpoints.{Takes};
+ghost use Rattle.spin_endpoint.specs.Endpoints.{Takes, finished_once};
 ghost use Rattle.spin_endpoint.specs.Framing.{framed, file_seen, IsAppended};
 
 use crate::endpoint::Endpoint;
@@ -34,6 +34,7 @@ impl<R: Files + Drop> FileEnd<R> {
     /// An endpoint over the file of that name, which it doesn't open yet. It takes the memory for a piece of 65,536
     /// bytes now; a longer one is `Failed` where there is no memory for it.
     pub fn new(alloc: Global, runtime: R, name: Text) -> Result<FileEnd<R>, NoMemory>
+        ensures fresh { IfOk result (λ end. (end.name ≡ name) × (end.file ≡ None)) }
         ensures finishes { IfOk result (λ end. end.finishes ≡ 0) }
         ensures faults { IfOk result (λ end. end.faults.number ≡ 0) }
     {
@@ -112,7 +113,11 @@ impl<R: Files + Drop> Endpoint for FileEnd<R> {
     }
 
     /// Closes the file.
-    fn finish(&mut self) {
+    fn finish(&mut self)
+        ensures seen { file_seen self.new.finishes self.new.faults.number
+            ≡ finished_once (file_seen self.old.finishes self.old.faults.number) }
+        ensures closed { self.new.file ≡ None }
+    {
         self.finishes = self.finishes.saturating_add(1);
         self.file = None;
     }

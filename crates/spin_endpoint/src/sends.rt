@@ -126,7 +126,7 @@ impl Ends {
     /// Retires the endpoints of the numbers in their order, `names` being the names of the numbers, and notes of
     /// each number whether an endpoint stood under its name then. It takes no memory. Its time is that of a search
     /// by name for each number.
-    pub fn retire_all(&mut self, names: &[Text], numbers: &[u8], stood: &mut [bool])
+    pub fn retire_all(&mut self, names: &[Text], numbers: &[u16], stood: &mut [bool])
         requires named { All (λ number. number < length names.now) numbers.now }
         requires room { length stood.old ≡ length numbers.now }
         ensures ends { ⟦<Ends as EndsSeen>⟧.all self.new

@@ -1,6 +1,6 @@
 //! Lines, by their kinds: what the words behind the first say.
 
-ghost use Rattle.std.specs.Prelude.{◌≡◌, ◌<◌, ◌^◌, [], ℕ, length, Ok, Err, IfOk, MatchResult};
+ghost use Rattle.std.specs.Prelude.{◌≡◌, ◌<◌, ◌^◌, [], ℕ, length, Ok, Err, IfOk, OnOk, MatchResult};
 ghost use Rattle.spin_grammar.specs.Grammar.{reads};
 ghost use Rattle.spin_grammar.specs.Lines.{GivesLine, IsInRange};
 ghost use Rattle.spin_grammar.specs.Inner.Fronts.{GivesFront};
@@ -111,7 +111,7 @@ pub enum Said {
     /// The end of a segment.
     Barrier,
     /// An endpoint that is retired, by number.
-    Retire(u8),
+    Retire(u16),
 }
 
 #[tactic(auto, using(crate::proofs::ReadingParts::failing))]
@@ -233,7 +233,7 @@ fn retire_line(words: &mut Words) -> Result<Said, Fault>
     ensures gives { (version : ℕ) → GivesFront version kind.Retire result words.old words.new }
     ensures ranges { IfOk result IsInRange }
 {
-    Ok(Said::Retire(number_from(words, 0, LAST_ENDPOINT)? as u8))
+    Ok(Said::Retire(number_from(words, 0, LAST_ENDPOINT)? as u16))
 }
 
 // Reads a line of this kind up to what it has to say.
@@ -260,8 +260,9 @@ fn read_front(alloc: Global, words: &mut Words, version: u8, kind: Kind) -> Resu
 // The end of a line.
 #[tactic(auto, unfolding(crate::specs::Grammar::reads))]
 fn finish(words: &mut Words) -> Result<(), Cause>
-    ensures { MatchResult result (λ _. reads [] words.old ≡ Ok [])
+    ensures reads { MatchResult result (λ _. reads [] words.old ≡ Ok [])
         (λ c. reads [] words.old ≡ Err c) }
+    ensures end { OnOk result (words.new ≡ []) }
 {
     match words.next() {
         None => Ok(()),
@@ -271,13 +272,13 @@ fn finish(words: &mut Words) -> Result<(), Cause>
 
 /// Reads the words behind the first of a line of this kind, in a script of this version.
 ///
-/// The refusal is the cause of the first word that can't stand at its place, or of the line's end.
-/// It takes time
-/// and memory linear in the line, and no stack that grows with it.
+/// The refusal is the cause of the first word that can't stand at its place, or of the line's end. Where the line is
+/// read no word is left. It takes time and memory linear in the line, and no stack that grows with it.
 pub fn read_line(alloc: Global, words: &mut Words, version: u8, kind: Kind) -> Result<Said, Fault>
     requires { length words.old < 2 ^ 31 }
     ensures gives { GivesLine version kind words.old result }
     ensures ranges { IfOk result IsInRange }
+    ensures end { OnOk result (words.new ≡ []) }
 {
     let said = read_front(alloc, words, version, kind)?;
     match finish(words) {

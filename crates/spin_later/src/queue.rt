@@ -119,10 +119,10 @@ impl<A: Agreement> Queue<A> {
         taker
     }
 
-    /// The tasks that are left, from the front, once all parties have ended. There is one history of the queue that
-    /// has what each party did and leaves these tasks: so each task that was sent was taken by one party, once, or is
-    /// left once, and each task taken or left is the one that its sender sent under its number. Each is as agreed.
-    /// After want of memory queue, parties and tasks are gone.
+    /// The tasks that are left once all parties have ended, each sender's in its order. There is one history of the
+    /// queue that has what each party did and leaves these tasks, from the front: so each task that was sent was taken
+    /// by one party, once, or is left once, and each task taken or left is the one that its sender sent under its
+    /// number. Each is as agreed. After want of memory queue, parties and tasks are gone.
     pub fn close<W: Wait + Sync>(
         self,
         wait: &W,

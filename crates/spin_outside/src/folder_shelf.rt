@@ -1,6 +1,6 @@
 //! The files of the working folder as a shelf, which tells what a file has left where std does.
 
-ghost use Rattle.std.specs.Prelude.{◌≡◌, ℕ, List, Option, None};
+ghost use Rattle.std.specs.Prelude.{◌≡◌, ℕ, List, Option, None, []};
 ghost use Rattle.spin_outside.specs.Folders.{left_in};
 
 use crate::count::Count;
@@ -23,8 +23,9 @@ pub struct FolderShelf<'a, R: Files> {
 }
 
 impl<'a, R: Files> FolderShelf<'a, R> {
-    /// A shelf over the files that the runtime reaches.
+    /// A shelf over the files that the runtime reaches, of which none is open.
     pub fn new(alloc: Global, folder: &'a R) -> FolderShelf<'a, R>
+        ensures none { result.opened.items ≡ [] }
         ensures faults { result.faults.number ≡ 0 }
         ensures absences { result.absences.number ≡ 0 }
     {

@@ -31,7 +31,6 @@ use Rattle.spin_grammar.proofs.LineEnds.{lines_count}
 use Rattle.spin_script.specs.declared.script.Line.{Line}
 use Rattle.spin_script.specs.declared.script.Segment.{Segment}
 use Rattle.spin_word.specs.declared.work.Work.{Work}
-use Rattle.spin_word.specs.declared.work.Work.TheVariants as work
 use Rattle.spin_grammar.specs.Tasks.{work_of}
 use Rattle.spin_script.specs.States.{NativeData, ScriptState, ScriptData, empty_segment, start, after, with_handler}
 use Rattle.spin_script.specs.States.{with_guard, with_authority, with_work, native_at, command_count, deed_count, script_in}

@@ -27,6 +27,7 @@ pub mod CanonicalPlaces
 pub mod CanonicalRoundTrip
 pub mod CatalogueBodies
 pub mod DeclaredUnits
+pub mod TextDeclarations
 pub mod LaneLines
 pub mod SayableWords
 mod SayableLines

@@ -1,14 +1,11 @@
 -- Words that can stand behind the first of a line say such a line.
-use Rattle.std.proofs.Common.{◌≡◌, ℕ, zero, suc, ◌+◌, ◌≤◌, ◌⊎◌, inl, inr, Bool, true, false, cond, eqb, leb, List, [], ◌∷◌, ◌++◌, length, map, Option, Ok, Err, codes, refl, sym, ap, subst, ◌∙◌, arith}
+use Rattle.std.proofs.Common.{◌≡◌, ℕ, zero, suc, ◌≤◌, ◌⊎◌, inl, inr, Bool, true, false, cond, eqb, leb, List, [], ◌∷◌, ◌++◌, length, map, Option, Ok, Err, codes, refl, sym, ap, subst, ◌∙◌, arith}
 use Rattle.std.specs.Prelude.{slice_index, drop}
 use Rattle.std.specs.Str.{bytes_eq}
 use Rattle.spin_values.specs.declared.types.EventType.{EventType}
 use Rattle.spin_values.specs.declared.values.Value.{Value}
 use Rattle.spin_values.specs.declared.values.Value.TheVariants as value
-use Rattle.spin_code.specs.declared.test.Test.{Test}
 use Rattle.spin_code.specs.declared.merge.Merge.{Merge}
-use Rattle.spin_word.specs.declared.command.Op.{Op}
-use Rattle.spin_word.specs.declared.command.Op.TheVariants as op
 use Rattle.spin_word.specs.declared.command.Place.{Place}
 use Rattle.spin_word.specs.declared.command.Place.TheVariants as place
 use Rattle.spin_word.specs.declared.command.Mode.{Mode}

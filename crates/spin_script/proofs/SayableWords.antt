@@ -1,13 +1,12 @@
 -- Words that can stand where they do say a line.
 use Rattle.std.proofs.Common.{◌≡◌, ℕ, zero, suc, ◌+◌, ◌-◌, ◌≤◌, ◌⊎◌, inl, inr, Bool, true, false, cond, List, [], ◌∷◌, ◌++◌, length, map}
-use Rattle.std.proofs.Common.{replicate, Option, Some, None, Result, Ok, Err, Box, Global, codes, refl, sym, ap, subst, ◌∙◌, append_assoc, arith}
+use Rattle.std.proofs.Common.{replicate, Option, Some, None, Ok, Err, Box, Global, codes, refl, sym, ap, subst, ◌∙◌, append_assoc, arith}
 use denote.RawPtr.{null_ptr}
 use Rattle.std.specs.Prelude.{slice_index}
 use Rattle.std.specs.Str.{bytes_eq}
 use Rattle.std.specs.List.{flat_map}
 use Rattle.std.proofs.lemmas.Slice.Eq.{bytes_eq-Decides}
 use Rattle.spin_values.specs.declared.types.EventType.{EventType}
-use Rattle.spin_values.specs.declared.values.Value.TheVariants as value
 use Rattle.spin_code.specs.declared.expr.Expr.{Expr}
 use Rattle.spin_code.specs.declared.expr.Expr.TheVariants as expr
 use Rattle.spin_code.specs.declared.test.Cmp.{Cmp}
@@ -20,9 +19,7 @@ use Rattle.spin_code.specs.declared.act.Layer.{Layer}
 use Rattle.spin_code.specs.declared.act.Layer.TheVariants as layer
 use Rattle.spin_code.specs.declared.act.ActStep.{ActStep}
 use Rattle.spin_code.specs.declared.act.ActStep.TheVariants as step
-use Rattle.spin_code.specs.declared.merge.Merge.{Merge}
 use Rattle.spin_code.specs.declared.merge.Merge.TheVariants as merge
-use Rattle.spin_word.specs.declared.command.Op.{Op}
 use Rattle.spin_word.specs.declared.command.Op.TheVariants as op
 use Rattle.spin_word.specs.declared.command.Place.{Place}
 use Rattle.spin_word.specs.declared.command.Place.TheVariants as place

@@ -120,13 +120,17 @@ rewritten n text d h =
     let v : eqb c.last.version 0 ≡ false = ap (λ (x : ℕ). eqb x 0) c.version ∙ some_version o.version o.is in
     let was = made n c.last d v c.ends in
     let version : d.version ≡ o.version = ap (λ (x : ScriptData). x.version) was ∙ c.version in
-    let w : eqb c.other.version 0 ≡ false = sym (ap (λ (x : ScriptState). eqb x.version 0) c.alike) ∙ v in (
+    let w : eqb c.other.version 0 ≡ false = sym (ap (λ (x : ScriptState). eqb x.version 0) c.alike) ∙ v in
+    let same : unnumbered (script_in n c.other) ≡ unnumbered d = sym (scripts_alike n c.last c.other c.alike) ∙ sym (ap unnumbered was) in (
       c.said,
+      c.other,
+      subst (λ (x : ℕ). LeadTo n (record start { version = x }) 2 c.said c.other) (sym version) c.leads,
+      same,
       λ small. (
         script_in n c.other,
         subst (λ (x : ℕ). IsScript n (version_text x ++ text_of_lines c.said) (Ok (script_in n c.other))) (sym version)
             (lines_read n o.version c.said c.other (Ok (script_in n c.other)) o.is c.leads (makes n c.other w)
             (subst (λ (x : ℕ). length (version_text x ++ text_of_lines c.said) ≤ 1048576) version small)),
-        sym (scripts_alike n c.last c.other c.alike) ∙ sym (ap unnumbered was),
+        same,
       ),
     )

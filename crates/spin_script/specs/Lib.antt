@@ -3,6 +3,7 @@ pub mod States
 pub mod Checks
 pub mod Language
 pub mod Scripts
+pub mod Declarations
 pub mod Soundness
 pub mod Segments
 pub mod Laws

@@ -16,7 +16,7 @@ use Rattle.spin_script.specs.declared.script.Line as script
 use Rattle.spin_script.specs.declared.script.Segment.{Segment}
 use Rattle.spin_script.specs.Sections.{is_out_of_order}
 use Rattle.spin_grammar.specs.Tasks.{work_of}
-use Rattle.spin_script.specs.States.{ScriptState, NativeData, ScriptData, native_at, start, after}
+use Rattle.spin_script.specs.States.{ScriptState, NativeData, ScriptData, native_at, start, after, script_in}
 use Rattle.spin_values.specs.First.{first_of}
 use Rattle.spin_script.specs.Checks.{checks}
 use Rattle.spin_script.specs.Language.{Outcome, outcome_at_end, most_bytes, IsScript}
@@ -85,11 +85,15 @@ abbrev pub ComesBack : NativeData → (text : List ℕ) → ScriptData → Type 
 ComesBack n text d = length text ≤ most_bytes
     → (e : ScriptData) × IsScript n text (Ok e) × (unnumbered e ≡ unnumbered d)
 
--- Each script that is read can be written: some lines, written so, are read as it, but for the numbers of its lines.
+-- Each script that is read can be written: lines that can stand behind one another lead to it, and what is written of
+-- them is read as it, unless that is too large; both but for the numbers of its lines.
 abbrev pub ScriptsCanBeWritten : Type 0
 ScriptsCanBeWritten =
     (n : NativeData) (text : List ℕ) (d : ScriptData) → IsScript n text (Ok d)
-    → (ls : List LineMeaning) × ComesBack n (version_text d.version ++ text_of_lines ls) d
+    → (ls : List LineMeaning) × (t : ScriptState)
+    × LeadTo n (record start { version = d.version }) 2 ls t
+    × (unnumbered (script_in n t) ≡ unnumbered d)
+    × ComesBack n (version_text d.version ++ text_of_lines ls) d
 
 -- The handlers and guards of each script that is read are of such bodies and checks that its canonical text is read as
 -- that script, but for the numbers of its lines.

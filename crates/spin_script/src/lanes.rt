@@ -39,7 +39,7 @@ pub(crate) fn add_barrier(alloc: Global, draft: &mut Draft) -> Result<(), Fault>
 }
 
 // Adds the retirement of an endpoint.
-pub(crate) fn add_retire(draft: &mut Draft, endpoint: u8) -> Result<(), Fault>
+pub(crate) fn add_retire(draft: &mut Draft, endpoint: u16) -> Result<(), Fault>
     ensures { (n : NativeData) (handlers : List HandlerUnit) (guards : List GuardUnit) (number : ℕ)
         → Adds n (state draft.old handlers guards) number (said.Retire endpoint) result
         (state draft.new handlers guards) }
@@ -47,7 +47,7 @@ pub(crate) fn add_retire(draft: &mut Draft, endpoint: u8) -> Result<(), Fault>
     if usize::from(endpoint) >= draft.endpoints.len() {
         return Err(Fault::Bad(Cause::Undeclared));
     }
-    draft.segment.retires.push(u16::from(endpoint))?;
+    draft.segment.retires.push(endpoint)?;
     draft.section = 8;
     draft.begins = true;
     Ok(())

@@ -1,6 +1,6 @@
 //! Reading whole scripts.
 
-ghost use Rattle.std.specs.Prelude.{◌≡◌, false, ◌<◌, ◌≤◌, ◌^◌, ◌==◌, [], length, IfOk};
+ghost use Rattle.std.specs.Prelude.{◌≡◌, false, ◌<◌, ◌≤◌, ◌^◌, ◌==◌, [], length, Ok, IfOk};
 ghost use Rattle.spin_word.specs.declared.command.TheConstants.{MAX_PLACE};
 ghost use Rattle.spin_grammar.specs.declared.limits.TheConstants.{MAX_TEXT};
 ghost use Rattle.spin_script.specs.Sections.{is_out_of_order};
@@ -15,7 +15,9 @@ ghost use Rattle.spin_script.specs.Segments.{IsOrderly};
 ghost use Rattle.spin_grammar.specs.Lines.{LineMeaning, Stands, IsInRange};
 ghost use Rattle.spin_script.specs.Canonical.{canonical};
 ghost use Rattle.spin_script.specs.RoundTrip.{ComesBack};
-ghost use Rattle.spin_script.specs.Inner.Declaring.{Grows, IsDeclared};
+ghost use Rattle.spin_script.specs.Language.{Says, head};
+ghost use Rattle.spin_script.specs.Declarations.{Declares};
+ghost use Rattle.spin_script.specs.Inner.Declaring.{Grows, DeclaresMore, IsDeclared};
 
 use crate::declare::{add_endpoint, add_event, add_modules};
 use crate::draft::Draft;
@@ -94,6 +96,9 @@ fn say(
         (so_far draft.new catalogue.new)) }
     ensures declared { IfOk result (λ _. IsDeclared (natives_seen catalogue.old.natives)
         (so_far draft.new catalogue.new) catalogue.new.bodies catalogue.new.checks) }
+    ensures grows { IfOk result (λ _. DeclaresMore (natives_seen catalogue.old.natives)
+        (so_far draft.old catalogue.old) (Ok (Says kind words.old)) catalogue.old.bodies
+        catalogue.old.checks catalogue.new.bodies catalogue.new.checks) }
     ensures gives { GivesSaid (natives_seen catalogue.old.natives)
         (so_far draft.old catalogue.old) number kind words.old result
         (so_far draft.new catalogue.new) }
@@ -122,6 +127,9 @@ fn take_line(
         (so_far draft.new catalogue.new)) }
     ensures declared { IfOk result (λ _. IsDeclared (natives_seen catalogue.old.natives)
         (so_far draft.new catalogue.new) catalogue.new.bodies catalogue.new.checks) }
+    ensures grows { IfOk result (λ _. DeclaresMore (natives_seen catalogue.old.natives)
+        (so_far draft.old catalogue.old) (head (so_far draft.old catalogue.old) line.now)
+        catalogue.old.bodies catalogue.old.checks catalogue.new.bodies catalogue.new.checks) }
     ensures gives { GivesState (natives_seen catalogue.old.natives)
         (so_far draft.old catalogue.old) number line.now result (so_far draft.new catalogue.new) }
 {
@@ -154,7 +162,7 @@ fn bad(line: u32, cause: Cause) -> ScriptFault
 }
 
 // Reads all lines behind an empty draft.
-#[tactic(auto, using(crate::proofs::ScriptReading::comes_on, crate::proofs::ScriptReading::comes_bad, crate::proofs::ScriptReading::comes_end, crate::proofs::ScriptReading::is_script, crate::proofs::DeclaredUnits::start_declared))]
+#[tactic(auto, using(crate::proofs::ScriptReading::comes_on, crate::proofs::ScriptReading::comes_bad, crate::proofs::ScriptReading::comes_end, crate::proofs::ScriptReading::is_script, crate::proofs::DeclaredUnits::start_declared, crate::proofs::TextDeclarations::declares_start, crate::proofs::TextDeclarations::declares_all))]
 fn read_lines(
     alloc: Global,
     text: &[u8],
@@ -172,6 +180,8 @@ fn read_lines(
         (so_far draft.new catalogue.new)) }
     ensures declared { IfOk result (λ _. IsDeclared (natives_seen catalogue.old.natives)
         (so_far draft.new catalogue.new) catalogue.new.bodies catalogue.new.checks) }
+    ensures said { IfOk result (λ _. Declares (natives_seen catalogue.old.natives) text.now
+        catalogue.new.bodies catalogue.new.checks) }
     ensures gives { GivesDraft (natives_seen catalogue.old.natives) text.now result
         (so_far draft.new catalogue.new) }
 {
@@ -238,6 +248,9 @@ fn build(draft: Draft, catalogue: Catalogue) -> Result<Script, NoMemory>
 /// those that are retired or sent to are there. After a refusal the natives are dropped. It takes time and memory
 /// linear in the text, and no stack that grows with it.
 ///
+/// Of each handler and guard line of the text, in order, the script has the native of the name that it gives, or else
+/// what it codes itself.
+///
 /// What [`write_script`](crate::write_script) writes of the script is read again as that script, but for the numbers of
 /// its lines, unless it is over [`MAX_TEXT`].
 pub fn read_script(alloc: Global, text: &[u8], natives: Natives) -> Result<Script, ScriptFault>
@@ -245,6 +258,8 @@ pub fn read_script(alloc: Global, text: &[u8], natives: Natives) -> Result<Scrip
     ensures script { GivesScript (natives_seen natives) text.now result }
     ensures natives { IfOk result (λ s. s.setup.catalogue.natives ≡ natives) }
     ensures sincere { IfOk result (λ s. ⟦<Catalogue as Sincere>⟧.sincere s.setup.catalogue) }
+    ensures declared { IfOk result (λ s. Declares (natives_seen natives) text.now
+        s.setup.catalogue.bodies s.setup.catalogue.checks) }
     ensures valid { IfOk result (λ s. AreValid s.segments) }
     ensures few { IfOk result (λ s. command_lines s.segments ≤ MAX_PLACE) }
     ensures orderly { IfOk result (λ s. IsOrderly (script_seen s)) }

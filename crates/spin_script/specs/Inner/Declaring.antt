@@ -7,6 +7,9 @@ use Rattle.spin_objects.specs.declared.unit.Check.TheVariants as check
 use Rattle.spin_grammar.specs.declared.fault.Fault.{Fault}
 use Rattle.spin_grammar.specs.Lines as line
 use Rattle.spin_script.specs.States.{ScriptState, NativeData, native_at, start, after}
+use Rattle.spin_grammar.specs.declared.cause.Cause.{Cause}
+use Rattle.spin_script.specs.Language.{Head}
+use Rattle.spin_script.specs.Declarations.{IsSaid, bodies_of, checks_of}
 use Rattle.spin_script.specs.RoundTrip.{Fits}
 
 -- with the native of that index, if there is one
@@ -36,6 +39,13 @@ abbrev pub Grows : {A : Type 0} → NativeData → List Body → List Check → 
     → List Body → List Check → Type 0
 Grows n hs gs l (Ok a) ks cs = (ks ≡ bodies_after n hs l) × (cs ≡ checks_after n gs l)
 Grows n hs gs l (Err f) ks cs = Unit {0}
+
+-- the line that is this as a whole declares what ks and cs have more than the bodies hs and the checks gs
+abbrev pub DeclaresMore : NativeData → ScriptState → Result Head Cause → List Body → List Check → List Body → List Check
+    → Type 0
+DeclaresMore n s h hs gs ks cs =
+    (said : List line.LineMeaning) × IsSaid s h said × (ks ≡ hs ++ bodies_of n said)
+    × (cs ≡ gs ++ checks_of n said)
 
 -- So many lines, one behind the other, come to s, with these bodies and checks.
 abbrev pub HasCome : NativeData → ℕ → ScriptState → List Body → List Check → Type 0

@@ -8,7 +8,8 @@ pub fn written_lines_are_read()
     ensures { WrittenLinesAreRead }
 {}
 
-/// Each script that is read can be written: some lines, written so, are read as it, but for the numbers of its lines.
+/// To each script that is read lead lines that can stand behind one another, and what is written of them is read as it.
+/// Both are so but for the numbers of its lines, and what is written isn't read where it is too large.
 pub fn scripts_can_be_written()
     ensures { ScriptsCanBeWritten }
 {}

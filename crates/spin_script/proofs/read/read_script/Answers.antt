@@ -6,6 +6,7 @@ use Rattle.spin_script.specs.Inner.Drafts.{so_far}
 use Rattle.spin_script.proofs.ScriptReading.{bad_at, too_large, bad_version}
 use Rattle.spin_script.specs.Inner.Declaring.{IsDeclared}
 use Rattle.spin_script.proofs.DeclaredUnits.{script_back}
+use Rattle.spin_script.proofs.TextDeclarations.{script_declares}
 use Rattle.spin_script.proofs.LaneLines.{orderly_read}
 use Rattle.spin_script.proofs.read.read_script.Goals as goal
 
@@ -30,6 +31,14 @@ returns-clause-back g c =
     script_back (natives_seen c.args.natives) s read c.in_ok-build.field-0
     (ap natives_seen c.in_ok-read_lines.ensures.natives ∙ given) c.in_ok-build.ensures.catalogue c.in_ok-build.ensures.script c.if-draft-eq0.false
     (subst (λ (n : NativeData). IsDeclared n s read.bodies read.checks) given c.in_ok-read_lines.ensures.declared)
+
+pub returns-clause-declared : goal.returns-clause-declared
+returns-clause-declared g c =
+    let read = c.read_lines.new.catalogue in
+    let kept = c.in_ok-build.field-0.setup.catalogue in
+    script_declares (natives_seen c.args.natives) (natives_seen c.new-catalogue.result.natives) c.args.text.now read.bodies kept.bodies read.checks kept.checks
+    (ap natives_seen c.new-catalogue.ensures.natives) (ap (λ k. k.bodies) c.in_ok-build.ensures.catalogue) (ap (λ k. k.checks) c.in_ok-build.ensures.catalogue)
+    c.in_ok-read_lines.ensures.said
 
 pub returns-clause-orderly : goal.returns-clause-orderly
 returns-clause-orderly g c =

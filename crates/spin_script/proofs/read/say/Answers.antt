@@ -2,6 +2,7 @@ use Rattle.spin_script.specs.States.{natives_seen}
 use Rattle.spin_script.specs.Inner.Drafts.{so_far}
 use Rattle.spin_script.proofs.ReadLineSoundness.{said_sound}
 use Rattle.spin_script.proofs.DeclaredUnits.{said_declared}
+use Rattle.spin_script.proofs.TextDeclarations.{said_more}
 use Rattle.spin_script.proofs.read.say.Goals as goal
 
 pub returns-clause-sound : goal.returns-clause-sound
@@ -21,3 +22,10 @@ returns-clause-declared g c =
     let t = so_far c.add.new.draft new in
     said_declared n s t old.bodies new.bodies old.checks new.checks c.args.number c.args.kind c.args.words.now c.in_ok-said.said
     c.add.result c.in_ok-said.ensures.gives c.add.ensures.adds c.add.ensures.grows c.requires.order c.requires.begun c.requires.declared
+
+pub returns-clause-grows : goal.returns-clause-grows
+returns-clause-grows g c =
+    let old = c.args.catalogue.now in
+    let new = c.add.new.catalogue in
+    said_more (natives_seen old.natives) (so_far c.args.draft.now old) old.bodies new.bodies old.checks new.checks c.args.kind c.args.words.now
+    c.in_ok-said.said c.add.result c.in_ok-said.ensures.gives c.add.ensures.grows
