@@ -44,5 +44,6 @@ pub threads_have_run : (d : SetupData) (asked : List Numbered) (before items aft
     → (given : List (List Entry)) × HaveRun d asked before (take len (after ++ drop (length after) items)) given
 threads_have_run d asked before items after len same whole long each =
     let none : drop (length after) items ≡ [] = drop_all (length after) items (omega (arith, long)) in
-    let all : take len (after ++ drop (length after) items) ≡ after = ap (λ (l : List Lane). take len (after ++ l)) none ∙ ap (take len) (append-nil after) ∙ take_all len after (omega (arith, whole, long)) in
+    let all : take len (after ++ drop (length after) items) ≡ after = ap (λ (l : List Lane). take len (after ++ l)) none ∙ ap (take len) (append-nil after)
+    ∙ take_all len after (omega (arith, whole, long)) in
     subst (λ (x : List Lane × List Lane). (given : List (List Entry)) × HaveRun d asked x.0 x.1 given) (λ i. (same i, sym all i)) (all_have_run d asked items after long each)

@@ -44,7 +44,7 @@ use Rattle.spin_run.specs.Segments.{front_of, state_of, IsAtRest, AreAtRest, IsR
 use Rattle.spin_run.specs.Meetings.{IsOfHub, HasMet, HaveMet}
 use Rattle.spin_run.specs.declared.trail.Mark.{Mark}
 use Rattle.spin_run.specs.declared.trail.Trail.{Trail}
-use Rattle.spin_run.specs.Trails.{IsMarkOf, IsTrailOf, none_left, trail_of, AreMarksOf}
+use Rattle.spin_run.specs.Trails.{IsMarkOf, IsTrailOf, none_left, trail_of, unmarked_trail, AreMarksOf}
 use Rattle.spin_run.specs.Inner.Weaves.{AreOfTheirLanes, IsInterleaving, AreMarksInOrder, AreJobsInOrder, IsEmptied, unmarked, marks_by_lane, jobs_by_lane}
 use Rattle.spin_run.proofs.EntryOrder.{trail_in_order}
 use Rattle.spin_run.proofs.JobOrder.{jobs_in_order, jobs_have, jobs_woven, filter_beyond}
@@ -306,6 +306,13 @@ module _ (d : SetupData) (log : TableId) (count : ℕ) (lines : List Line) (reco
     trails_are : (k : ℕ) → k < length before → trail_of trails k ≡ unmarked (get_or met k l)
     trails_are k lt = get_or-map unmarked met k l none_left (omega (arith, met_count))
 
+    -- each has the lines and the sends of its lane's entries, and nothing more
+    pub trails_told : (k : ℕ) → k < length before → trail_of trails k ≡ unmarked_trail (trail_at k)
+    trails_told k lt =
+        let read : (get_or met k l).trail ≡ (get_or ran k l).trail = (lane_met k lt).read.trail in
+        let told = told_at k lt in
+        trails_are k lt ∙ (λ i. record { text = (ap (λ (t : Trail). t.text) read ∙ told.text) i; sends = (ap (λ (t : Trail). t.sends) read ∙ told.sends) i; marks = [] })
+
     -- the marks of each lane are those of its entries in the trails, too
     told_in : (k : ℕ) → k < length before → AllZip (IsMarkOf (trail_of trails k)) (get_or ran k l).trail.marks (trail_at k)
     told_in k lt =
@@ -329,7 +336,11 @@ module _ (d : SetupData) (log : TableId) (count : ℕ) (lines : List Line) (reco
           go false e =
               let le = ltb-false k (length before) e in
               subst (λ (x : List Mark × List Entry). AllZip (IsMarkOf (trail_of trails k)) x.0 x.1)
-              (λ i. (sym (filter_beyond (λ (m : Mark). m.lane) (length before) k woven_marks (λ lt. absurd (omega (arith, lt, le))) marks_under) i, sym (get_or_past given k [] (omega (arith, le, f.have_run.given_count))) i)) tt
+              (λ i. (
+                sym (filter_beyond (λ (m : Mark). m.lane) (length before) k woven_marks (λ lt. absurd (omega (arith, lt, le))) marks_under) i,
+                sym
+                    (get_or_past given k [] (omega (arith, le, f.have_run.given_count))) i,
+              )) tt
 
       pub lifted : Lifted (λ (m : Mark). m.lane) (λ (e : Entry). e.lane) (λ k. IsMarkOf (trail_of trails k)) (λ k m e is. sym is.lane) trail_at woven_marks
       lifted = lift (λ (m : Mark). m.lane) (λ (e : Entry). e.lane) (λ k. IsMarkOf (trail_of trails k)) (λ k m e is. sym is.lane) woven_marks trail_at each_lane

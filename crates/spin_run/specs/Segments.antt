@@ -17,11 +17,11 @@ use Rattle.spin_script.specs.Checks.{most_deeds}
 use Rattle.spin_report.specs.Asked.{Numbered}
 use Rattle.spin_report.specs.Lines.{JobSeen, job_seen}
 use Rattle.spin_report.specs.declared.entry.Entry.{Entry}
-use Rattle.spin_report.specs.Segments.{IsWoven}
+use Rattle.spin_report.specs.Segments.{IsWoven, of_lane}
 use Rattle.spin_run.specs.declared.lane.Lane.{Lane}
 use Rattle.spin_run.specs.declared.segment.Woven.{Woven}
 use Rattle.spin_run.specs.Lanes.{HasRunLane, AreJobsOf, rows_in}
-use Rattle.spin_run.specs.Trails.{IsNew, AreMarksOf}
+use Rattle.spin_run.specs.Trails.{IsNew, AreMarksOf, trail_of, unmarked_trail}
 use Rattle.spin_seat.specs.Replay.{IsReplay}
 
 -- the front of the first lane's seat, and the state of its version
@@ -92,12 +92,13 @@ abbrev pub jobs_seen : List Job → List Reply → List JobSeen
 jobs_seen jobs replies = map (λ done. job_seen done.0 done.1) (zip jobs replies)
 
 -- What a segment came to, in which the lanes are asked these: these entries of all lanes, of which the marks are kept,
--- answer that, from the state of the front that all lanes know before it to the one in which they stand afterwards; the
--- jobs are those that they leave, each with the version of its entry's place; and the front has grown by the rows that
--- they published.
+-- answer that, from the state of the front that all lanes know before it to the one in which they stand afterwards; each
+-- lane's trail has the lines and the sends of its own entries, and nothing more; the jobs are those that they leave, each
+-- with the version of its entry's place; and the front has grown by the rows that they published.
 pub record HasWoven (d : SetupData) (asked : List Numbered) (before after : List Lane) (woven : Woven) : Type 0 where
   pub entries : List Entry
-  pub trails_are : length woven.trails ≡ length before
+  pub trail_count : length woven.trails ≡ length before
+  pub trails_are : (k : ℕ) → k < length before → trail_of woven.trails k ≡ unmarked_trail (of_lane k entries)
   pub marks_are : AreMarksOf woven.trails woven.marks entries
   pub start : State
   pub start_is : IsReplay d (front_of before) start

@@ -74,6 +74,14 @@ pub record IsTrailOf (entries : List Entry) (trail : Trail) : Type 0 where
   pub sends : trail.sends ≡ flat_map (λ entry. sends_of entry.what) entries
   pub marks : AllZip (IsMarkOf trail) trail.marks entries
 
+-- the lines of these entries and all that they send, without marks
+abbrev pub unmarked_trail : List Entry → Trail
+unmarked_trail entries = record {
+  text = text_of (map entry_line entries);
+  sends = flat_map (λ entry. sends_of entry.what) entries;
+  marks = [];
+}
+
 -- whatever entries the one trail is of, the other is of these and of one more
 pub record AddsTo (before : Trail) (entry : Entry) (after : Trail) : Type 0 where
   pub count : length after.marks ≡ length before.marks + 1

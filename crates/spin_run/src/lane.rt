@@ -89,8 +89,8 @@ impl Lane {
     /// The frames are the records that the segment's packet lines take, in the order of the text and whatever the
     /// lane: this lane skips those of the others' lines. Nothing is known of the other lanes; where this one had
     /// memory, its trail and its jobs are those of the entries that answer its own deeds. It waits for nobody. Each line
-    /// is made as soon as its deed is answered. A deed isn't copied, and a frame's bytes are once, into the argument of
-    /// its raise.
+    /// is made as soon as its deed is answered. No deed is copied but for its arguments, which handlers may change; a
+    /// frame's bytes are copied before that into the argument of its raise.
     pub fn run<G: Gate>(
         &mut self,
         alloc: Global,

@@ -1,8 +1,7 @@
 //! The endpoints that are retired before a segment.
 
-ghost use Rattle.std.specs.Prelude.{◌≡◌, ◌⊎◌, ◌<◌, ◌≤◌, length, map, All, IfOk, OnOk, OnErr};
+ghost use Rattle.std.specs.Prelude.{◌≡◌, ◌⊎◌, ◌<◌, length, map, All, IfOk, OnOk, OnErr};
 ghost use Rattle.spin_text.specs.Words.{ended};
-ghost use Rattle.spin_endpoint.specs.declared.ends.TheConstants.{MAX_ENDPOINTS};
 ghost use Rattle.spin_endpoint.specs.Sends.{all_retired};
 ghost use Rattle.spin_report.specs.Histories.{retire_line};
 ghost use Rattle.spin_report.specs.Runs.{retirements};
@@ -11,20 +10,8 @@ ghost use Rattle.spin_run.specs.Ends.{faults_of};
 use crate::lines::add_retired;
 use crate::writing::TextLines;
 use spin_endpoint::{Ends, EndsSeen};
-use spin_values::{NoMemory, Octets, Text};
+use spin_values::{NoMemory, Text};
 use std::alloc::Global;
-
-// The numbers of endpoints, in one byte each.
-fn in_bytes(alloc: Global, numbers: &[u16]) -> Result<Octets, NoMemory>
-    requires { All (λ number. number < MAX_ENDPOINTS) numbers.now }
-    ensures { IfOk result (λ bytes. bytes ≡ numbers.now) }
-{
-    let mut bytes = Octets::new(alloc);
-    for number in numbers {
-        bytes.push(*number as u8)?;
-    }
-    Ok(bytes)
-}
 
 // So many flags, none of them set.
 fn unset(alloc: Global, count: usize) -> Result<Vec<bool>, NoMemory>
@@ -45,7 +32,6 @@ pub(crate) fn retire(
     names: &[Text],
     numbers: &[u16],
 ) -> Result<TextLines, NoMemory>
-    requires few { length names.now ≤ MAX_ENDPOINTS }
     requires named { All (λ number. number < length names.now) numbers.now }
     ensures lines { IfOk result (λ lines. lines ≡ map ended (map retire_line
         (retirements names.now numbers.now (⟦<Ends as EndsSeen>⟧.all ends.old)))) }
@@ -57,9 +43,8 @@ pub(crate) fn retire(
     ensures faults { faults_of (⟦<Ends as EndsSeen>⟧.all ends.new)
         ≡ faults_of (⟦<Ends as EndsSeen>⟧.all ends.old) }
 {
-    let bytes = in_bytes(alloc, numbers)?;
     let mut stood = unset(alloc, numbers.len())?;
-    ends.retire_all(names, bytes.as_slice(), stood.as_mut_slice());
+    ends.retire_all(names, numbers, stood.as_mut_slice());
     let mut lines = TextLines::new(alloc);
     add_retired(&mut lines, numbers, stood.as_slice())?;
     Ok(lines)

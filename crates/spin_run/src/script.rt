@@ -220,8 +220,8 @@ pub(crate) fn walk<R: Threads + Sync, S: Source, T: Telling, G: Gate>(
 
 /// Runs a script whole: writes the report's first line; then segment by segment retires its endpoints, reads the
 /// records that its packet lines want, runs its lanes side by side, does its jobs, makes its sends in the order of its
-/// entries and then of its jobs, and writes its text, each line by one call; and last reads the capture to its end and
-/// writes the last line.
+/// entries and then of its jobs, and writes its text by few calls; and last reads the capture to its end and writes the
+/// last line.
 ///
 /// A run stops at the first thing that fails, and [`RunEnd`] says which. What has been done by then stays: whole lines
 /// are written, but where the sink failed. A failed read comes only where the source's count of faults rose, a failed

@@ -96,6 +96,22 @@ impl Model for Sending {
     ghost view = { λ s. record { endpoint = s.endpoint; bytes = s.bytes } };
 }
 
+impl Sending {
+    /// The number of the endpoint.
+    pub fn endpoint(&self) -> u8
+        ensures { result ≡ self.now.endpoint }
+    {
+        self.endpoint
+    }
+
+    /// The bytes.
+    pub fn bytes(&self) -> &[u8]
+        ensures { result.now ≡ self.now.bytes }
+    {
+        self.bytes.as_slice()
+    }
+}
+
 /// Marks of entries, in order.
 pub type Marks = Sequence<Mark>;
 

@@ -32,7 +32,7 @@ pub send_all-requires-clause-lie : goal.send_all-requires-clause-lie
 send_all-requires-clause-lie g c =
     let w = c.in_ok-woven.woven in
     subst (λ (x : List Trail × List Mark). All (IsInTrails x.0) x.1) (λ i. (sym c.as_slice-trails.ensures i, sym c.as_slice-marks.ensures i))
-    (woven_lie (length c.args.lanes.now) w.trails w.marks c.in_ok-woven.ensures.woven.entries c.in_ok-woven.ensures.woven.trails_are
+    (woven_lie (length c.args.lanes.now) w.trails w.marks c.in_ok-woven.ensures.woven.entries c.in_ok-woven.ensures.woven.trail_count
     c.in_ok-woven.ensures.woven.marks_are c.in_ok-woven.ensures.woven.answers.lanes_are)
 
 pub send_all-requires-clause-named : goal.send_all-requires-clause-named
@@ -47,7 +47,7 @@ send_all-requires-clause-named g c =
 pub tell-requires-clause-lie : goal.tell-requires-clause-lie
 tell-requires-clause-lie g c =
     let w = c.in_ok-woven.woven in
-    woven_lie (length c.args.lanes.now) w.trails w.marks c.in_ok-woven.ensures.woven.entries c.in_ok-woven.ensures.woven.trails_are
+    woven_lie (length c.args.lanes.now) w.trails w.marks c.in_ok-woven.ensures.woven.entries c.in_ok-woven.ensures.woven.trail_count
     c.in_ok-woven.ensures.woven.marks_are c.in_ok-woven.ensures.woven.answers.lanes_are
 
 pub returns-in_err-retired : goal.returns-in_err-retired
@@ -176,7 +176,8 @@ returns g c =
     let told = c.tell.ensures.told woven.entries woven.marks_are in
     let counts = c.tell.ensures.counts woven.entries woven.marks_are in
     let lines_told = c.in_ok-retired.retired ++ map ended
-    (segment_line c.args.number c.place-start.result ∷ map entry_line woven.entries ++ map job_line (jobs_seen w.jobs w.replies) ++ lost_lines (counts_to c.in_ok-lost.lost (length c.args.names.now))) in
+    (segment_line c.args.number c.place-start.result ∷ map entry_line woven.entries ++ map job_line (jobs_seen w.jobs w.replies) ++ lost_lines
+    (counts_to c.in_ok-lost.lost (length c.args.names.now))) in
     let made : HasLines s c.args.number c.args.segment.now before woven.entries w.jobs w.replies c.in_ok-lost.lost c.in_ok-retired.retired lines_told = record {
       few = c.requires.few;
       retired_are = c.in_ok-retired.ensures.lines ∙ ap (λ x. map ended (map retire_line (retirements c.args.names.now x (all c.args.ends.now.ends.items)))) c.as_slice.ensures;

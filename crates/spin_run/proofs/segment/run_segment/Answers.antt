@@ -10,18 +10,19 @@ use Rattle.spin_jobs.specs.Jobs.{CanRun, IsReplyTo}
 use Rattle.spin_report.specs.Segments.{asked_in, IsWoven}
 use Rattle.std.proofs.lemmas.List.{length-map}
 use Rattle.spin_run.specs.declared.trail.Trail.{Trail}
-use Rattle.spin_run.specs.Trails.{AreMarksOf}
+use Rattle.spin_run.specs.Trails.{AreMarksOf, trail_of, unmarked_trail}
 use Rattle.spin_run.specs.Inner.Weaves.{unmarked}
 use Rattle.spin_run.specs.Lanes.{AreJobsOf}
 use Rattle.spin_run.specs.Segments.{front_of, jobs_seen}
-use Rattle.spin_run.proofs.SegmentLemmas.{Facts, Wove, wove, lifted, marks_under, met_count, some_lane, known, marks_lanes, marks_order, jobs_lanes, jobs_order, few_jobs, jobs_can_run}
+use Rattle.spin_run.proofs.SegmentLemmas.{Facts, Wove, wove, lifted, marks_under, trails_told, met_count, some_lane, known, marks_lanes, marks_order, jobs_lanes, jobs_order, few_jobs, jobs_can_run}
 use Rattle.spin_run.proofs.SegmentLemmas.{woven_made, first, replay_first, jobs_left, front_told, front_after, state_after, ready_again, room_taken}
 use Rattle.spin_run.proofs.segment.run_segment.Goals as goal
 use Rattle.spin_script.specs.Soundness.{commands_in}
 
 pub weave-requires : goal.weave-requires
 weave-requires g c =
-    let facts : Facts (data_of c.args.hub.now.setup) c.args.hub.now.log.id c.args.hub.now.log.lanes c.args.segment.now.lines c.args.frames.now c.args.lanes.now c.run_lanes.new.lanes c.meet.new.self c.run_lanes.ensures.0
+    let facts : Facts (data_of c.args.hub.now.setup) c.args.hub.now.log.id c.args.hub.now.log.lanes c.args.segment.now.lines c.args.frames.now c.args.lanes.now c.run_lanes.new.lanes
+    c.meet.new.self c.run_lanes.ensures.0
     (some_lane c.args.lanes.now c.requires.ready.some) =
     known _ _ _ _ _ _ _ _ _ c.requires.ready c.requires.lines c.requires.room c.run_lanes.ensures.1 (c.lacked_memory.ensures.had c.if-lacked_memory.false) c.in_ok-meet.ensures in
     record {
@@ -36,7 +37,8 @@ run_all-requires-clause-sincere g c κs within = rw c.setup.ensures c.requires.s
 
 pub run_all-requires-clause-few : goal.run_all-requires-clause-few
 run_all-requires-clause-few g c κs within =
-    let facts : Facts (data_of c.args.hub.now.setup) c.args.hub.now.log.id c.args.hub.now.log.lanes c.args.segment.now.lines c.args.frames.now c.args.lanes.now c.run_lanes.new.lanes c.meet.new.self c.run_lanes.ensures.0
+    let facts : Facts (data_of c.args.hub.now.setup) c.args.hub.now.log.id c.args.hub.now.log.lanes c.args.segment.now.lines c.args.frames.now c.args.lanes.now c.run_lanes.new.lanes
+    c.meet.new.self c.run_lanes.ensures.0
     (some_lane c.args.lanes.now c.requires.ready.some) =
     known _ _ _ _ _ _ _ _ _ c.requires.ready c.requires.lines c.requires.room c.run_lanes.ensures.1 (c.lacked_memory.ensures.had c.if-lacked_memory.false) c.in_ok-meet.ensures in
     let woven = c.in_ok-trails.ensures in
@@ -48,7 +50,8 @@ run_all-requires-clause-few g c κs within =
 
 pub run_all-requires-clause-jobs : goal.run_all-requires-clause-jobs
 run_all-requires-clause-jobs g c κs within =
-    let facts : Facts (data_of c.args.hub.now.setup) c.args.hub.now.log.id c.args.hub.now.log.lanes c.args.segment.now.lines c.args.frames.now c.args.lanes.now c.run_lanes.new.lanes c.meet.new.self c.run_lanes.ensures.0
+    let facts : Facts (data_of c.args.hub.now.setup) c.args.hub.now.log.id c.args.hub.now.log.lanes c.args.segment.now.lines c.args.frames.now c.args.lanes.now c.run_lanes.new.lanes
+    c.meet.new.self c.run_lanes.ensures.0
     (some_lane c.args.lanes.now c.requires.ready.some) =
     known _ _ _ _ _ _ _ _ _ c.requires.ready c.requires.lines c.requires.room c.run_lanes.ensures.1 (c.lacked_memory.ensures.had c.if-lacked_memory.false) c.in_ok-meet.ensures in
     let woven = c.in_ok-trails.ensures in
@@ -60,7 +63,8 @@ run_all-requires-clause-jobs g c κs within =
 
 pub returns : goal.returns
 returns g c =
-    let facts : Facts (data_of c.args.hub.now.setup) c.args.hub.now.log.id c.args.hub.now.log.lanes c.args.segment.now.lines c.args.frames.now c.args.lanes.now c.run_lanes.new.lanes c.meet.new.self c.run_lanes.ensures.0
+    let facts : Facts (data_of c.args.hub.now.setup) c.args.hub.now.log.id c.args.hub.now.log.lanes c.args.segment.now.lines c.args.frames.now c.args.lanes.now c.run_lanes.new.lanes
+    c.meet.new.self c.run_lanes.ensures.0
     (some_lane c.args.lanes.now c.requires.ready.some) =
     known _ _ _ _ _ _ _ _ _ c.requires.ready c.requires.lines c.requires.room c.run_lanes.ensures.1 (c.lacked_memory.ensures.had c.if-lacked_memory.false) c.in_ok-meet.ensures in
     let woven = c.in_ok-trails.ensures in
@@ -72,7 +76,9 @@ returns g c =
     record {
       woven = record {
         entries = told.all;
-        trails_are = ap length woven.trails ∙ length-map c.meet.new.self unmarked ∙ met_count _ _ _ _ _ _ _ _ _ _ facts;
+        trail_count = ap length woven.trails ∙ length-map c.meet.new.self unmarked ∙ met_count _ _ _ _ _ _ _ _ _ _ facts;
+        trails_are = λ k lt. ap (λ (trails : List Trail). trail_of trails k) woven.trails ∙ trails_told _ _ _ _ _ _ _ _ _ _ facts k lt
+            ∙ ap unmarked_trail (sym (told.each k));
         marks_are = subst (λ (trails : List Trail). AreMarksOf trails c.in_ok-trails.marks told.all) (sym woven.trails) told.pairs;
         start = first _ _ _ _ _ _ _ _ _ _ facts;
         start_is = replay_first _ _ _ _ _ _ _ _ _ _ facts;
