@@ -2,6 +2,7 @@ pub mod BadCaptures
 pub mod CaptureStops
 pub mod LargeTexts
 pub mod OpenedCaptures
+pub mod OtherReads
 pub mod ReadingUniqueness
 pub mod SaidScripts
 pub mod SaidSignatures

@@ -1,7 +1,7 @@
 -- What a call does to the shelf.
-use Rattle.std.specs.Prelude.{◌≡◌, ℕ, List, IfSome}
+use Rattle.std.specs.Prelude.{◌≡◌, ℕ, List, Option, Some, None, IfSome}
 use Rattle.spin_outside.specs.Counts.{Rose}
-use Rattle.spin_outside.specs.Files.{OthersKeep}
+use Rattle.spin_outside.specs.Files.{AllKeep, OthersKeep}
 use Rattle.spin_outside.specs.Seen.{ShelfSeen}
 
 -- The shelf's files and counts are as before.
@@ -25,3 +25,8 @@ pub record ShelfLacked (before after : ShelfSeen) : Type 0 where
 -- Where the shelf tells its files, nothing was read under any other name.
 abbrev pub ReadsOnly : ShelfSeen → ShelfSeen → List ℕ → Type 0
 ReadsOnly before after name = IfSome before.files (λ _. OthersKeep before.reads after.reads name)
+
+-- The same where a name is given; where none is, nothing was read under any name.
+abbrev pub ReadsNamed : ShelfSeen → ShelfSeen → Option (List ℕ) → Type 0
+ReadsNamed before after None = IfSome before.files (λ _. AllKeep before.reads after.reads)
+ReadsNamed before after (Some name) = ReadsOnly before after name

@@ -3,7 +3,7 @@
 ghost use Rattle.std.specs.Prelude.{◌≡◌, IfOk, IfErr, IfSome, Some};
 ghost use Rattle.spin_outside.specs.Files.{AllKeep, IsWholeFile, OthersKeep};
 ghost use Rattle.spin_stages.specs.Captures.{IsOpened, NoCaptureBy, NoWholeBy};
-ghost use Rattle.spin_stages.specs.Shelves.{ShelfStood};
+ghost use Rattle.spin_stages.specs.Shelves.{ShelfStood, ReadsOnly};
 
 use crate::end::{End, Input, end_at};
 use spin_outside::{FindFault, Shelf, ShelfSource};
@@ -43,10 +43,12 @@ pub fn find_packets<F: Shelf>(shelf: &mut F, name: &Text) -> Result<u32, End>
     }
 }
 
-/// Finds the capture of that name and reads its header. It takes at most 65,536 bytes past that.
+/// Finds the capture of that name and reads its header. It takes at most 65,536 bytes past that. However it ends, it
+/// reads no other file.
 pub fn open<F: Shelf>(alloc: Global, shelf: &mut F, name: &Text) -> Result<Capture, End>
     ensures opened { IfOk result (λ capture.
         IsOpened (F.seen shelf.old) (F.seen shelf.new) name.now capture.file capture.reader) }
+    ensures reads { ReadsOnly (F.seen shelf.old) (F.seen shelf.new) name.now }
     ensures refused { IfErr result
         (NoCaptureBy (F.seen shelf.old) (F.seen shelf.new) (Some name.now)) }
 {

@@ -1,6 +1,6 @@
 //! Files that are read whole, and the script among them.
 
-ghost use Rattle.std.specs.Prelude.{◌≤◌, length, IfOk, IfErr, OnOk, IsErrOf, ◌≡◌};
+ghost use Rattle.std.specs.Prelude.{◌≤◌, length, IfOk, IfErr, IsErrOf, ◌≡◌};
 ghost use Rattle.spin_outside.specs.Files.{IsLacking};
 ghost use Rattle.spin_word.specs.declared.command.TheConstants.{MAX_PLACE};
 ghost use Rattle.spin_script.specs.States.{natives_seen};
@@ -38,7 +38,8 @@ pub enum LoadFault {
 }
 
 /// The bytes of the file of that name, which has at most so many. `TooLarge` comes only where a longer one stands
-/// under the name. It takes time linear in the bytes, and reads little more than the limit.
+/// under the name. It takes time linear in the bytes, and reads little more than the limit. However it ends, it reads
+/// no other file.
 pub fn load<F: Shelf>(
     alloc: Global,
     shelf: &mut F,
@@ -52,7 +53,7 @@ pub fn load<F: Shelf>(
     ensures absent { IsErrOf result LoadFault.Absent
         → IsLacking (F.seen shelf.old).files name.now }
     ensures files { (F.seen shelf.new).files ≡ (F.seen shelf.old).files }
-    ensures reads { OnOk result (ReadsOnly (F.seen shelf.old) (F.seen shelf.new) name.now) }
+    ensures reads { ReadsOnly (F.seen shelf.old) (F.seen shelf.new) name.now }
     ensures cause { LoadsByCount (F.seen shelf.old) (F.seen shelf.new) result }
 {
     let file = match shelf.find(name) {
@@ -82,7 +83,7 @@ fn end_by(fault: ScriptFault) -> End
     }
 }
 
-/// The script of that name.
+/// The script of that name. No other file is read.
 pub fn script_of<F: Shelf>(
     alloc: Global,
     shelf: &mut F,
@@ -91,7 +92,7 @@ pub fn script_of<F: Shelf>(
 ) -> Result<Script, End>
     requires sincere { ⟦<Natives as Sincere>⟧.sincere natives }
     ensures stood { IfOk result (λ _. ShelfStood (F.seen shelf.old) (F.seen shelf.new)) }
-    ensures reads { OnOk result (ReadsOnly (F.seen shelf.old) (F.seen shelf.new) name.now) }
+    ensures reads { ReadsOnly (F.seen shelf.old) (F.seen shelf.new) name.now }
     ensures loaded { IfOk result (λ script.
         IsLoaded (natives_seen natives) (F.seen shelf.old).files name.now (script_seen script)) }
     ensures sincere { IfOk result

@@ -5,17 +5,20 @@
 //! - [`files`] reads a file whole ([`load`]), and the script ([`script_of`]);
 //! - [`capture`] finds and opens a capture ([`open`]), [`records`] reads one whole ([`captured_of`]);
 //! - [`held`] is a source over bytes in memory ([`HeldSource`]), and reads the header of a capture there
-//!   ([`behind_header`]).
+//!   ([`behind_header`]);
+//! - [`limits_are_stated`] states the limits in numbers.
 #![tactic(auto)]
 
 mod capture;
 mod end;
 mod files;
 mod held;
+mod limits;
 mod records;
 
 pub use capture::{Capture, find_packets, open};
 pub use end::{End, Input, end_at, status_of, stop};
 pub use files::{LoadFault, TEXT_LIMIT, load, script_of};
 pub use held::{HeldCapture, HeldSource, behind_header};
+pub use limits::limits_are_stated;
 pub use records::captured_of;

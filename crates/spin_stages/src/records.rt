@@ -3,7 +3,7 @@
 ghost use Rattle.std.specs.Prelude.{◌≤◌, IfOk, IfErr, IfSome, length, option_map};
 ghost use Rattle.spin_pcap.specs.declared.limits.TheConstants.{MAX_RECORDS};
 ghost use Rattle.spin_stages.specs.Captures.{capture_of, IsCaptured, NoWholeBy};
-ghost use Rattle.spin_stages.specs.Shelves.{ShelfStood};
+ghost use Rattle.spin_stages.specs.Shelves.{ShelfStood, ReadsNamed};
 
 use crate::capture::find_packets;
 use crate::end::{End, end_at};
@@ -13,7 +13,7 @@ use spin_values::Text;
 use std::alloc::Global;
 
 /// The capture of that name, read whole, if one is named. It takes time linear in its bytes, and holds those of its
-/// records.
+/// records. However it ends, it reads no other file.
 pub fn captured_of<F: Shelf>(
     alloc: Global,
     shelf: &mut F,
@@ -24,6 +24,7 @@ pub fn captured_of<F: Shelf>(
         IsCaptured (F.seen shelf.old).files packets.now (option_map capture_of capture)) }
     ensures few { IfOk result (λ capture.
         IfSome capture (λ c. length c.frames ≤ MAX_RECORDS)) }
+    ensures reads { ReadsNamed (F.seen shelf.old) (F.seen shelf.new) packets.now }
     ensures refused { IfErr result (NoWholeBy (F.seen shelf.old) (F.seen shelf.new) packets.now) }
 {
     let Some(name) = packets else {

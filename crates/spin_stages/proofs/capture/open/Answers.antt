@@ -1,7 +1,9 @@
 use Rattle.std.proofs.Common.{Some, ap, rules}
 use Rattle.spin_stages.specs.Captures.{IsOpened, NoCaptureBy}
 use Rattle.spin_stages.proofs.CaptureStops.{header_stops}
+use Rattle.spin_stages.specs.Shelves.{ReadsOnly}
 use Rattle.spin_stages.proofs.OpenedCaptures.{opened}
+use Rattle.spin_stages.proofs.OtherReads.{reads_one}
 use Rattle.spin_stages.proofs.capture.open.Goals as goal
 
 pub returns-in-Ok-clause-opened : goal.returns-in-Ok-clause-opened
@@ -20,3 +22,21 @@ returns-in-Err-clause-refused g c =
     rw (c.end_at.ensures, c.at.ensures) (header_stops _ (g.F.Shelf.seen c.find_packets.new.shelf) (g.F.Shelf.seen c.start.new.source.shelf.now) c.args.name.now _ found.stood found.found
     (ap (λ k. k.files) kept) (ap (λ k. k.absences) kept) c.in-Err.fault c.in-Err.ensures.answer c.in-Err.ensures.cause) in
     search (rules, stop)
+
+pub returns-in-Ok-clause-reads : goal.returns-in-Ok-clause-reads
+returns-in-Ok-clause-reads g c =
+    let seen = g.F.Shelf.seen in
+    let found = c.in_ok-file.ensures in
+    let only : ReadsOnly (seen c.args.shelf.now) (seen c.start.new.source.shelf.now) c.args.name.now =
+    reads_one (seen c.args.shelf.now) (seen c.find_packets.new.shelf) (seen c.start.new.source.shelf.now) c.args.name.now _ c.start.new.source.file _ _
+    found.named found.under found.stood c.in-Ok.ensures.keep in
+    search (rules, only)
+
+pub returns-in-Err-clause-reads : goal.returns-in-Err-clause-reads
+returns-in-Err-clause-reads g c =
+    let seen = g.F.Shelf.seen in
+    let found = c.in_ok-file.ensures in
+    let only : ReadsOnly (seen c.args.shelf.now) (seen c.start.new.source.shelf.now) c.args.name.now =
+    reads_one (seen c.args.shelf.now) (seen c.find_packets.new.shelf) (seen c.start.new.source.shelf.now) c.args.name.now _ c.start.new.source.file _ _
+    found.named found.under found.stood c.in-Err.ensures.keep in
+    search (rules, only)
