@@ -31,9 +31,9 @@ enum spin_error {
     SPIN_CLOSED = 4,       /* the handle is closed */
     SPIN_OPEN = 5,         /* the handle is open already */
     SPIN_NO_COMMAND = 6,   /* the row stands for no command of the handle's lane */
-    SPIN_FULL = 7,         /* the log has as many commands as it holds */
+    SPIN_FULL = 7,         /* the row stands for a command of the lane, and the log has as many as it holds */
     SPIN_REFUSED = 8,      /* the command is refused: its place, and the number of the refusal, are told */
-    SPIN_NO_REPLY = 9,     /* no reply is kept: nothing was raised yet, or a command was done since */
+    SPIN_NO_REPLY = 9,     /* no reply is kept: nothing was raised yet, or a command or a renewal was done since */
     SPIN_NO_STEP = 10,     /* the reply has no step of that index */
     SPIN_TOO_SMALL = 11,   /* the bytes don't fit the buffer; how many they are is told */
     SPIN_NO_ARGUMENT = 12, /* an argument is neither a word nor a range within the bytes: nothing is done */
@@ -171,7 +171,7 @@ static inline uint32_t spin_lane_open(struct spin_lane *lane, const void *text, 
 }
 
 /* Opens a closed handle over a script with a hub of so many lanes, 1 to 8. The handle is that of lane 0, and the seats
- * of the others wait at it for spin_lane_seat. */
+ * of the others wait at it for spin_lane_seat. Another number of lanes is SPIN_NO_LANE, whatever the text is. */
 static inline uint32_t spin_lane_open_hub(struct spin_lane *lane, uint8_t lanes, const void *text, size_t length,
                                           struct spin_answer *answer) {
     const uint8_t *bytes = spin_bytes(text, length);
@@ -226,7 +226,7 @@ static inline uint32_t spin_lane_raise_args(struct spin_lane *lane, uint8_t even
 }
 
 /* Tells the step at an index, counted from 0, of the reply to the last raise. It is kept until the next raise, and the
- * next row that stands for a command. */
+ * next row that stands for a command, or a renewal. */
 static inline uint32_t spin_lane_step(struct spin_lane *lane, uint64_t index, struct spin_step *step) {
     if (lane == NULL || step == NULL) {
         return SPIN_NULL;
@@ -247,7 +247,8 @@ static inline uint32_t spin_lane_step_bytes(struct spin_lane *lane, uint64_t ind
 
 /* Renews the hub of a handle with which it was opened, and no seat of which was handed out: it goes on over a new log,
  * so that its bindings may change again, and nothing is lost that is bound. The live bindings are numbered anew, from 1
- * on in the order of their numbers. Where no memory is left for the renewed lane, the handle is closed. */
+ * on in the order of their numbers. Where a seat was handed out, and only there, this is SPIN_TAKEN. Where no memory is
+ * left for the renewed lane, the handle is closed. */
 static inline uint32_t spin_lane_renew(struct spin_lane *lane, struct spin_answer *answer) {
     if (lane == NULL || answer == NULL) {
         return SPIN_NULL;
@@ -313,7 +314,8 @@ static inline struct spin_row spin_row_of(const struct spin_command_words *comma
     return row;
 }
 
-/* Does a command. */
+/* Does a command. SPIN_NO_COMMAND says that it is none of the handle's lane, however full the log is, and the reply to
+ * the last raise is kept then. */
 static inline uint32_t spin_lane_command(struct spin_lane *lane, const struct spin_command_words *command,
                                          struct spin_answer *answer) {
     if (lane == NULL || command == NULL || answer == NULL) {

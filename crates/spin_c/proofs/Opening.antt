@@ -1,5 +1,5 @@
 -- The lane of the first seat of a hub, at which the others wait; and all seats of a hub, from a lane at which they wait.
-use Rattle.std.proofs.Common.{◌≡◌, ◌+◌, ◌<◌, ℕ, List, [], ◌∷◌, arith, refl, sym, ap, subst, inl, inr, length, drop}
+use Rattle.std.proofs.Common.{◌≡◌, ◌+◌, ℕ, List, [], ◌∷◌, arith, refl, sym, ap, subst, inl, inr, length, drop}
 use Rattle.std.specs.Prelude.{All, None, Option, Some, map}
 use Rattle.std.proofs.lemmas.List.{length-map}
 use Rattle.std.proofs.lemmas.List.Elements.{All-head, All-tail}
@@ -10,6 +10,7 @@ use Rattle.spin_table.specs.Setups.{SetupData}
 use Rattle.spin_table.specs.States.{State}
 use Rattle.spin_seat.specs.Seats.{SeatValue, AreOfLanes, IsSeatFrom}
 use Rattle.spin_seat.specs.RenewedHubs.{AreAllSeats}
+use Rattle.spin_c.specs.Renewing.{AreHome}
 use Rattle.spin_c.specs.Waiting.{AreWaiting, IsHome, IsWellAt, IsWhole, present}
 
 -- seats of a hub, in the order of its lanes from this one on, wait as they should
@@ -59,17 +60,17 @@ all_home log d first lane (Some seat ∷ slots) waits home =
     }
 
 -- a lane's seat and those that wait are all seats of its hub, where none is handed out
-pub home_all : (log : LogValue) (d : SetupData) (seat : SeatValue) (waiting : List (Option SeatValue)) → IsWellAt log d seat waiting → 0 < length waiting
-    → All IsHome (drop 1 waiting) → AreAllSeats d log (seat ∷ present waiting)
-home_all log d seat waiting well some home = go well.1.1
+pub home_all : (log : LogValue) (d : SetupData) (seat : SeatValue) (waiting : List (Option SeatValue)) → IsWellAt log d seat waiting → AreHome waiting
+    → AreAllSeats d log (seat ∷ present waiting)
+home_all log d seat waiting well home = go well.1.1
   where
     go : IsWhole log.lanes seat waiting → AreAllSeats d log (seat ∷ present waiting)
-    go (inl none) = absurd (omega (arith, some, ap length none))
+    go (inl none) = absurd (home.0 none)
     go (inr w) =
         let others = w.1.0 in
         let is = w.1.1 in
         let waits = subst (AreWaiting log.id d seat.first 0) is well.1.0 in
-        let all = all_home log.id d seat.first 1 others waits (subst (λ (ws : List (Option SeatValue)). All IsHome (drop 1 ws)) is home) in
+        let all = all_home log.id d seat.first 1 others waits (subst (λ (ws : List (Option SeatValue)). All IsHome (drop 1 ws)) is home.1) in
         subst (λ (ws : List (Option SeatValue)). AreAllSeats d log (seat ∷ present ws)) (sym is) (record {
           some = omega (arith, w.1.2);
           own = all_cons (λ (s : SeatValue). s.pen.log ≡ log.id) seat (present others) well.0.0 all.own;

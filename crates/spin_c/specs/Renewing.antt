@@ -1,5 +1,5 @@
 -- What becomes of a lane whose hub is renewed.
-use Rattle.std.specs.Prelude.{◌≡◌, ◌⊎◌, ℕ, List, ◌∷◌, [], Option, None, Some, map, slice_get, ⊤}
+use Rattle.std.specs.Prelude.{◌≡◌, ◌≢◌, ◌⊎◌, ℕ, List, ◌∷◌, [], All, Option, None, Some, drop, map, slice_get, ⊤}
 use Rattle.std.specs.Arc.{arc_value}
 use Rattle.spin_word.specs.declared.row.Row.{Row}
 use Rattle.spin_log.specs.Pens.{LogValue, new_pens}
@@ -12,7 +12,7 @@ use Rattle.spin_seat.specs.Weaves.{AnswersAreLegalFrom}
 use Rattle.spin_seat.specs.RenewedHubs.{IsFaultOf, IsRenewal, KnowMore}
 use Rattle.spin_seat.specs.declared.renewal.RenewFault.{RenewFault}
 use Rattle.spin_seat.specs.declared.renewal.RenewFault.TheVariants as fault
-use Rattle.spin_c.specs.Waiting.{IsLaid, present}
+use Rattle.spin_c.specs.Waiting.{IsHome, IsLaid, present}
 use Rattle.spin_c.specs.declared.lane.Lane.{Lane}
 use Rattle.spin_c.specs.declared.ask.Outcome.{Outcome}
 use Rattle.spin_c.specs.declared.ask.Outcome.TheVariants as outcome
@@ -52,11 +52,18 @@ RenewsAll d log seats before (Some after) outcome.NoMemory = IsUnrenewed d log s
 RenewsAll d log seats before None outcome.NoMemory = ⊤
 RenewsAll d log seats before after other = ⊥
 
--- why a lane is left as it is: it has no others, or it is told that a seat is handed out
+-- Why a lane is left as it is: no others came with it, or the seat of one is handed out. Want of memory comes at any
+-- time. It is told, too, where the library doesn't hand the hub out of what its handles share, since no statement says
+-- when that succeeds; such a lane is as it was.
 abbrev pub IsNotHome : List (Option SeatValue) → Outcome → Type 0
 IsNotHome waiting outcome.NoLane = waiting ≡ []
-IsNotHome waiting outcome.Taken = ⊤
+IsNotHome waiting outcome.Taken = (waiting ≢ []) × (All IsHome (drop 1 waiting) → ⊥)
+IsNotHome waiting outcome.NoMemory = ⊤
 IsNotHome waiting other = ⊥
+
+-- all others of the hub's seats wait at the lane with which it was opened
+abbrev pub AreHome : List (Option SeatValue) → Type 0
+AreHome waiting = (waiting ≢ []) × All IsHome (drop 1 waiting)
 
 -- of a lane: its seat and those that wait are all, or it is left as it is
 abbrev pub RenewsTo : {A C E : Type 0} {B : A → Type 0} {D : C → Type 0} {F : E → Type 0}
@@ -64,7 +71,7 @@ abbrev pub RenewsTo : {A C E : Type 0} {B : A → Type 0} {D : C → Type 0} {F 
 RenewsTo l after told =
     let hub = arc_value l.hub in
     ((after ≡ Some l) × IsNotHome l.waiting told)
-    ⊎ RenewsAll (data_of hub.setup) hub.log (l.seat ∷ present l.waiting) l.before after told
+    ⊎ (AreHome l.waiting × RenewsAll (data_of hub.setup) hub.log (l.seat ∷ present l.waiting) l.before after told)
 
 abbrev pub fault_told : RenewFault → Outcome
 fault_told fault.Full = outcome.Full

@@ -1,19 +1,21 @@
 -- What a call does to what a handle holds, and what it comes to.
-use Rattle.std.specs.Prelude.{◌≡◌, ◌≢◌, ◌<◌, ◌⊎◌, ℕ, List, Option, None, Some, Result, Ok, Err, length, ⊤}
+use Rattle.std.specs.Prelude.{◌≡◌, ◌≢◌, ◌<◌, ◌≤◌, ◌⊎◌, ℕ, List, Option, None, Some, Result, Ok, Err, length, ⊤}
 use Rattle.std.specs.Arc.{arc_value}
 use Rattle.spin_word.specs.declared.command.Command.{Command}
-use Rattle.spin_word.specs.declared.command.TheConstants.{MAX_LANES}
+use Rattle.spin_word.specs.declared.command.TheConstants.{MAX_LANES, MAX_PLACE}
 use Rattle.spin_word.specs.declared.row.Row.{Row}
 use Rattle.spin_word.specs.declared.work.Deed.TheVariants as deed
-use Rattle.spin_word.specs.Rows.{StandsFor, StandsForNone, lane_of}
+use Rattle.spin_word.specs.Rows.{IsCommand, StandsFor, StandsForNone, lane_of}
 use Rattle.spin_values.specs.declared.values.Value.{Value}
 use Rattle.spin_proto.specs.declared.reply.Reply.{Reply}
 use Rattle.spin_table.specs.SetupOf.{data_of}
+use Rattle.spin_table.specs.declared.refusal.Verdicted.{Verdicted}
 use Rattle.spin_script.specs.Language.{IsScript}
 use Rattle.spin_script.specs.Scripts.{IsBad}
 use Rattle.spin_script.specs.States.{NativeData, ScriptData}
 use Rattle.spin_script.specs.declared.script.ScriptFault.TheVariants as fault
 use Rattle.spin_seat.specs.declared.answer.SeatFault.TheVariants as seat_fault
+use Rattle.spin_seat.specs.Answers.{place_before}
 use Rattle.spin_seat.specs.Calls.{GivesFrom, AddsAtMostAPin, IsFaultAt, ReadsOn, reply_answer, verdict_answer}
 use Rattle.spin_c.specs.Renewing.{RenewsTo, number_before}
 use Rattle.spin_c.specs.Trails.{IsHanded, IsTold, step_at, told_of}
@@ -39,10 +41,12 @@ pub record IsOpened {A C E : Type 0} {B : A → Type 0} {D : C → Type 0}
   pub setup : data_of (arc_value l.hub).setup ≡ script.setup
   pub started : IsStarted lanes l
 
--- why there is no lane over this text: no hub has so many lanes, it is no script, or there was no memory
+-- Why there is no lane over this text: no hub has so many lanes; or one has, and it is no script; or there was no
+-- memory.
 abbrev pub NotOpened : NativeData → List ℕ → ℕ → Outcome → Type 0
 NotOpened natives text lanes outcome.NoLane = (lanes ≡ 0) ⊎ (MAX_LANES < lanes)
-NotOpened natives text lanes (outcome.Bad line cause) = IsBad natives text (fault.Bad line cause)
+NotOpened natives text lanes (outcome.Bad line cause) =
+    IsBad natives text (fault.Bad line cause) × (0 < lanes) × (lanes ≤ MAX_LANES)
 NotOpened natives text lanes outcome.NoMemory = ⊤
 NotOpened natives text lanes other = ⊥
 
@@ -79,19 +83,33 @@ Raises l event args after other = ⊥
 
 -- ---- commands
 
--- What the command of a row comes to. A reply isn't kept where the row stands for a command.
+-- the row stands for a command, of this lane
+abbrev pub IsOfLane : ℕ → Row → Type 0
+IsOfLane lane row = IsCommand row × (lane_of row ≡ lane)
+
+-- The command of the row has this verdict, that of the plain dispatcher at that place; and the log had room before it.
+pub record IsDecided {A C E : Type 0} {B : A → Type 0} {D : C → Type 0}
+    {F : E → Type 0} (l : Lane A C E B D F) (row : Row)
+    (after : Lane A C E B D F) (place : ℕ) (verdict : Verdicted) : Type 0 where
+  pub command : Command
+  pub stands : StandsFor row command
+  pub gives : GivesFrom (data_of (arc_value l.hub).setup) l.seat.first l.seat.pen
+      (verdict_answer l.seat.pen.lane command place verdict) after.seat.pen
+  pub room : place_before (verdict_answer l.seat.pen.lane command place verdict) < MAX_PLACE
+
+-- What the command of a row comes to. Only where the row stands for one of the lane it is judged, or the log told to be
+-- full, and no reply is kept then.
 abbrev pub Commands : {A C E : Type 0} {B : A → Type 0} {D : C → Type 0} {F : E → Type 0}
     → Lane A C E B D F → Row → Lane A C E B D F → Outcome → Type 0
 Commands l row after (outcome.Judged judged) =
-    KeepsHub l after × ((c : Command) × StandsFor row c
-    × GivesFrom (data_of (arc_value l.hub).setup) l.seat.first l.seat.pen
-    (verdict_answer l.seat.pen.lane c judged.place judged.verdict) after.seat.pen) × (after.reply ≡ None)
+    KeepsHub l after × IsOfLane l.seat.pen.lane row
+    × IsDecided l row after judged.place judged.verdict × (after.reply ≡ None)
 Commands l row after outcome.NoCommand = (after ≡ l) × (StandsForNone row ⊎ (lane_of row ≢ l.seat.pen.lane))
 Commands l row after outcome.Full =
-    KeepsHub l after × ReadsOn l.seat.pen after.seat.pen
+    KeepsHub l after × IsOfLane l.seat.pen.lane row × ReadsOn l.seat.pen after.seat.pen
     × IsFaultAt l.seat.first.place (length after.seat.pen.front) seat_fault.Full × (after.reply ≡ None)
 Commands l row after outcome.NoMemory =
-    KeepsHub l after × ReadsOn l.seat.pen after.seat.pen × (after.reply ≡ None)
+    KeepsHub l after × IsOfLane l.seat.pen.lane row × ReadsOn l.seat.pen after.seat.pen × (after.reply ≡ None)
 Commands l row after other = ⊥
 
 -- ---- a call

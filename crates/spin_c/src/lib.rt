@@ -130,7 +130,7 @@ pub extern "C" fn spin_open(
 
 /// Opens a closed handle over a script as [`spin_open`] does, over a hub with so many lanes: the handle is that of lane
 /// 0, and the seats of the others wait at it for [`spin_seat`]. It answers as `spin_open`, and 13 where it was closed
-/// and no hub has so many lanes: a hub has 1 to 8.
+/// and no hub has so many lanes: a hub has 1 to 8. Where the text is no script besides, it is 13 that it answers.
 #[unsafe(no_mangle)]
 pub extern "C" fn spin_open_lanes(
     alloc: Global,
@@ -204,7 +204,7 @@ pub extern "C" fn spin_raise(
 
 /// Tells the step at an index, counted from 0, of the reply to the last raise. It answers 0 where it is told, and zeros
 /// beside another number: 1 where there was no memory, 4 where the handle is closed, 9 where no reply is kept, since
-/// nothing was raised or a command was done since, and 10 where the reply has no step of that index.
+/// nothing was raised or a command or a renewal was done since, and 10 where the reply has no step of that index.
 #[unsafe(no_mangle)]
 pub extern "C" fn spin_step(
     alloc: Global,
@@ -235,7 +235,8 @@ pub extern "C" fn spin_step_bytes(
 
 /// Does the command of a row, and tells the place of its verdict and the number of its refusal. It answers 0 where it
 /// is accepted, 1 where there was no memory, 4 where the handle is closed, 6 where the row stands for no command of the
-/// handle's lane, 7 where the log is full, and 8 where the command is refused.
+/// handle's lane, and where it stands for one 7 where the log is full, and 8 where the command is refused. Beside 6 the
+/// reply to the last raise is still kept.
 #[unsafe(no_mangle)]
 pub extern "C" fn spin_command(
     alloc: Global,
@@ -253,7 +254,7 @@ pub extern "C" fn spin_command(
 /// live bindings are numbered anew, from 1 on in the order of their numbers; [`spin_before`] tells what they were. No
 /// reply is kept then. It answers 0 where it is renewed; 1 where there was no memory, and where there was none to put
 /// the lane back the handle is closed; 4 where the handle is closed, 7 where 4,096 bindings are live, 13 where the
-/// handle's seat was handed out by another, and 14 where another handle has a seat of the hub.
+/// handle's seat was handed out by another, and 14 where it handed a seat of the hub out.
 #[unsafe(no_mangle)]
 pub extern "C" fn spin_renew(alloc: Global, lane: &mut SpinLane, answer: &mut SpinAnswer) -> u32
     ensures { TellsOf lane.old.kept asked.Renew lane.new.kept result answer.new }

@@ -1,11 +1,11 @@
 //! Renewing the hub of a lane at which all its other seats wait.
 
-ghost use Rattle.std.specs.Prelude.{◌≡◌, ◌<◌, ◌↔◌, ◌∷◌, All, IfOk, IsTrue, MatchOption, drop, length};
+ghost use Rattle.std.specs.Prelude.{◌≡◌, ◌↔◌, ◌∷◌, IfOk, IsTrue, MatchOption};
 ghost use Rattle.std.specs.Arc.{arc_value};
 ghost use Rattle.spin_table.specs.SetupOf.{data_of};
 ghost use Rattle.spin_seat.specs.RenewedHubs.{AreAllSeats};
 ghost use Rattle.spin_c.specs.Waiting.{IsHome, IsWell, IsWellLane, IsLaid, present};
-ghost use Rattle.spin_c.specs.Renewing.{IsNotHome, RenewsAll, RenewsTo, fault_told, number_before};
+ghost use Rattle.spin_c.specs.Renewing.{AreHome, IsNotHome, RenewsAll, RenewsTo, fault_told, number_before};
 
 use crate::ask::Outcome;
 use crate::handing::waiting_of;
@@ -57,7 +57,7 @@ fn is_home(slot: &Option<Seat>) -> bool
 
 // Why a hub can't be renewed at a lane where these wait, if it can't.
 fn why_not(waiting: &[Option<Seat>]) -> Option<Outcome>
-    ensures { MatchOption result ((0 < length waiting.now) × All IsHome (drop 1 waiting.now))
+    ensures { MatchOption result (AreHome waiting.now)
         (λ why. IsNotHome waiting.now why) }
 {
     if waiting.is_empty() {
@@ -129,8 +129,7 @@ fn renew(alloc: Global, hub: Hub, seats: Seats, before: Numbers) -> (Option<Lane
 fn renew_lane(alloc: Global, lane: Lane) -> (Option<Lane>, Outcome)
     requires sincere { ⟦<Catalogue as Sincere>⟧.sincere (arc_value lane.hub).setup.catalogue }
     requires well { IsWellLane lane }
-    requires some { 0 < length lane.waiting }
-    requires home { All IsHome (drop 1 lane.waiting) }
+    requires home { AreHome lane.waiting }
     ensures well { IsWell result.0 }
     ensures renews { RenewsTo lane result.0 result.1 }
 {
@@ -143,6 +142,8 @@ fn renew_lane(alloc: Global, lane: Lane) -> (Option<Lane>, Outcome)
     } = lane;
     let hub = match Arc::try_unwrap(hub) {
         Ok(hub) => hub,
+        // All seats are home, so no other handle has the hub. Of when this call succeeds the library says nothing, so
+        // that no proof can tell that this never comes; it is told as want of memory, and the lane is as it was.
         Err(hub) => {
             let lane = Lane {
                 hub,
@@ -151,7 +152,7 @@ fn renew_lane(alloc: Global, lane: Lane) -> (Option<Lane>, Outcome)
                 waiting,
                 before,
             };
-            return (Some(lane), Outcome::Taken);
+            return (Some(lane), Outcome::NoMemory);
         }
     };
     match gathered(alloc, seat, waiting) {

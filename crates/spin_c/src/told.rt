@@ -1,7 +1,6 @@
 //! What is told in numbers.
 
 ghost use Rattle.std.specs.Prelude.{◌≡◌};
-ghost use Rattle.spin_report.specs.Verdicts.{refusal_told};
 ghost use Rattle.spin_c.specs.Tellings.{answer_of, code_of, step_of, verdict_code, verdict_kind};
 ghost use Rattle.spin_c.specs.Verdicts.{fault_of, number_of};
 
@@ -9,7 +8,8 @@ use crate::ask::Outcome;
 use crate::step::SpinStep;
 use crate::trail::blank;
 use crate::verdict::Verdict;
-use spin_table::{Refusal, Verdicted};
+use spin_report::refusal_number;
+use spin_table::Verdicted;
 
 /// Where a text is no script, or a capture is refused, and why; zeros where nothing is told.
 #[repr(C)]
@@ -66,33 +66,13 @@ pub struct SpinAnswer {
     pub steps: u64,
 }
 
-// The number of a refusal, as reports tell it.
-fn refusal_number(refusal: &Refusal) -> u32
-    ensures { result ≡ (refusal_told refusal.now).0 }
-{
-    match refusal {
-        Refusal::UnknownEvent => 1,
-        Refusal::UnknownModule => 2,
-        Refusal::UnknownHandler => 3,
-        Refusal::UnknownGuard => 4,
-        Refusal::UnknownBinding => 5,
-        Refusal::WrongType => 6,
-        Refusal::Downward => 7,
-        Refusal::WrongMode => 8,
-        Refusal::Denied(_) => 9,
-        Refusal::TooMany => 10,
-        Refusal::Conflict(_) => 11,
-        Refusal::ForcedMode(_) => 12,
-    }
-}
-
 // The number of a verdict's refusal, and 0 where there is none.
 fn verdict_kind(verdict: &Verdicted) -> u32
     ensures { result ≡ verdict_kind verdict.now }
 {
     match verdict {
         Verdicted::Accepted => 0,
-        Verdicted::Refused(refusal) => refusal_number(refusal),
+        Verdicted::Refused(refusal) => u32::from(refusal_number(refusal)),
     }
 }
 

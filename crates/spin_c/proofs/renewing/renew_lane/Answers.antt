@@ -14,7 +14,7 @@ pub renew-requires-clause-all : goal.renew-requires-clause-all
 renew-requires-clause-all g c =
     let lane = c.args.lane in
     let hub = arc_value lane.hub in
-    rw c.in-Ok.ensures.ok (rw c.in-Ok-gathered.ensures (home_all hub.log (data_of hub.setup) lane.seat lane.waiting c.requires.well c.requires.some c.requires.home))
+    rw c.in-Ok.ensures.ok (rw c.in-Ok-gathered.ensures (home_all hub.log (data_of hub.setup) lane.seat lane.waiting c.requires.well c.requires.home))
 
 pub returns-in-Ok-gathered-clause-renews : goal.returns-in-Ok-gathered-clause-renews
-returns-in-Ok-gathered-clause-renews g c = inr (rw c.in-Ok.ensures.ok at (rw c.in-Ok-gathered.ensures at c.renew.ensures.renews))
+returns-in-Ok-gathered-clause-renews g c = inr (c.requires.home, rw c.in-Ok.ensures.ok at (rw c.in-Ok-gathered.ensures at c.renew.ensures.renews))

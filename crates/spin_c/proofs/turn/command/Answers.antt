@@ -1,4 +1,4 @@
-use Rattle.std.proofs.Common.{refl}
+use Rattle.std.proofs.Common.{refl, ◌∙◌}
 use Rattle.std.specs.Arc.{arc_value}
 use Rattle.spin_table.specs.SetupOf.{data_of}
 use Rattle.spin_c.proofs.Turning.{stays_well}
@@ -19,7 +19,13 @@ returns-in-Ok-clause-well g c =
 pub returns-in-Ok-clause-commands : goal.returns-in-Ok-clause-commands
 returns-in-Ok-clause-commands g c = (
   (refl, c.command.ensures.first, refl, refl),
-  (c.in-Some.command, c.in-Some.ensures.command, rw c.deref.ensures at c.in-Ok.ensures.answer),
+  (c.in-Some.ensures.stands.0, c.in-Some.ensures.stands.1 ∙ c.if-command-lane.false ∙ c.lane.ensures.lane),
+  record {
+    command = c.in-Some.command;
+    stands = c.in-Some.ensures.command;
+    gives = rw c.deref.ensures at c.in-Ok.ensures.answer;
+    room = c.in-Ok.ensures.room;
+  },
   c.forget.ensures,
 )
 
@@ -38,6 +44,7 @@ returns-in-Err-NoMemory-clause-well g c =
 pub returns-in-Err-Full-clause-commands : goal.returns-in-Err-Full-clause-commands
 returns-in-Err-Full-clause-commands g c = (
   (refl, c.command.ensures.first, refl, refl),
+  (c.in-Some.ensures.stands.0, c.in-Some.ensures.stands.1 ∙ c.if-command-lane.false ∙ c.lane.ensures.lane),
   c.in-Err-Full.ensures.read,
   rw c.in-Err-Full.field-0-is at c.in-Err-Full.ensures.fault,
   c.forget.ensures,
