@@ -376,6 +376,12 @@ def traces():
     yield "largest.trace", b"vm 1\n" + b"#" * 1_048_571
 
 
+def reports():
+    """The reports that are too long to lie beside their cases, each with its name."""
+    yield "largest.report", b"#" * 67_108_864
+    yield "large.report", b"#" * 67_108_865
+
+
 if __name__ == "__main__":
     before, _, behind = shown_table()
     FORMATS.write_text(before + MARKS[0] + table() + MARKS[1] + behind)
