@@ -118,7 +118,8 @@ first_pair (a ∷ (b ∷ (c ∷ (d ∷ rest)))) h =
     (256 * a + b, 256 * c + d, omega arith, four_bytes a b c d)
 
 -- two words more
-pub pair_step : (total next all : ℕ) (bytes after : List ℕ) → 4 ≤ length bytes → next % 65535 ≡ (total + big_number 4 bytes) % 65535 → (0 < total + big_number 4 bytes → 0 < next) → next ≤ total + big_number 4 bytes
+pub pair_step : (total next all : ℕ) (bytes after : List ℕ) → 4 ≤ length bytes → next % 65535 ≡ (total + big_number 4 bytes) % 65535 → (0 < total + big_number 4 bytes → 0 < next)
+    → next ≤ total + big_number 4 bytes
     → folded (total + word_total bytes) ≡ all → after ≡ drop 4 bytes → folded (next + word_total after) ≡ all
 pair_step total next all bytes after h same some few known is =
     let pair = first_pair bytes h in

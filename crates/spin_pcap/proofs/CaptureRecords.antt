@@ -130,7 +130,8 @@ by_fault P at (fault.Spoilt first) fact bad failed none is = bad is
 by_fault P at fault.NoMemory fact bad failed none is = none
 
 -- of a record
-pub stops_read : (way : Order) (bytes : List ℕ) (reader : ReaderState) (wrong : PcapFault) (at : ℕ) (end : BadRecord) (left left' : Option (List ℕ)) (frames : List (List ℕ)) (frame : List ℕ) (A : Type 0)
+pub stops_read : (way : Order) (bytes : List ℕ) (reader : ReaderState) (wrong : PcapFault) (at : ℕ) (end : BadRecord) (left left' : Option (List ℕ)) (frames : List (List ℕ)) (frame : List ℕ)
+    (A : Type 0)
     → reader.state ≡ state.Reading → reader.order ≡ way → reader.given ≡ length frames → at ≡ length frames + 1 → end ≡ bad_at at wrong
     → IfReading reader.state (IfSome (left_for reader.held left) (λ bs. IsAnswer reader.order reader.given bs (Err wrong) frame left')) A
     → HasRead way bytes frames (left_for reader.held left) → ReadsBody way bytes (Err end)

@@ -57,7 +57,8 @@ apart b c h g t =
 rising_order : (R : ℕ → ℕ → Type 0) → ((m n : ℕ) → R m n → ⊥) → (ns : List ℕ) → AllPairs (λ m n. m < n) ns → IsLeastOrder R ns ns
 rising_order R none [] rising = IsLeastOrder-nil R
 rising_order R none (n ∷ ns) rising =
-    IsLeastOrder-cons R (λ m. none m m) (n ∷ ns) ns ns n (IsPermutation-refl (n ∷ ns)) (λ k d l. none (get_or (n ∷ ns) k d) n) (λ y there ready. least y there) (rising_order R none ns (AllPairs-tail (λ a b. a < b) n ns rising))
+    IsLeastOrder-cons R (λ m. none m m) (n ∷ ns) ns ns n (IsPermutation-refl (n ∷ ns)) (λ k d l. none (get_or (n ∷ ns) k d) n) (λ y there ready. least y there)
+    (rising_order R none ns (AllPairs-tail (λ a b. a < b) n ns rising))
   where
     least : (y : ℕ) → Contains (n ∷ ns) y → n ≤ y
     least y there =
@@ -86,7 +87,8 @@ AreRising-nil bs = record {
 }
 
 -- one binding more
-pub AreRising-more : (bs : List Binding) (at least : ℕ) (b : Binding) → AreRising bs at least → at < length bs → b ≡ get_or bs at b → least ≤ b.number → asks_nothing b ≡ true → AreRising bs (at + 1) (b.number + 1)
+pub AreRising-more : (bs : List Binding) (at least : ℕ) (b : Binding) → AreRising bs at least → at < length bs → b ≡ get_or bs at b → least ≤ b.number → asks_nothing b ≡ true
+    → AreRising bs (at + 1) (b.number + 1)
 AreRising-more bs at least b h l is low bare =
     let here : (k : ℕ) (d : Binding) → k ≡ at → get_or bs k d ≡ b = λ k d e. ap (λ n. get_or bs n d) e ∙ get_or_default bs at d b l ∙ sym is in
     record {

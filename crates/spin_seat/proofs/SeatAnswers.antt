@@ -265,11 +265,13 @@ ran_on {first} d before middle after answers more r same front none =
     }
 
 -- a call of a seat with a fault
-pub ran_reads : {first : State} (d : SetupData) (before middle after : PenValue) (answers : List Answer) → RanFrom d first before answers middle → ReadsOn middle after → RanFrom d first before answers after
+pub ran_reads : {first : State} (d : SetupData) (before middle after : PenValue) (answers : List Answer) → RanFrom d first before answers middle → ReadsOn middle after
+    → RanFrom d first before answers after
 ran_reads d before middle after answers r h =
     ran_on d before middle after answers h.0 r (ap (λ (p : PenValue). p.log) h.1, ap (λ (p : PenValue). p.lanes) h.1, ap (λ (p : PenValue). p.lane) h.1) (ap (λ (p : PenValue). p.front) h.1) h.2
 
-pub ran_pins : {first : State} (d : SetupData) (before middle after : PenValue) (answers : List Answer) → RanFrom d first before answers middle → AddsAtMostAPin middle after → RanFrom d first before answers after
+pub ran_pins : {first : State} (d : SetupData) (before middle after : PenValue) (answers : List Answer) → RanFrom d first before answers middle → AddsAtMostAPin middle after
+    → RanFrom d first before answers after
 ran_pins d before middle after answers r h =
     ⊎_elim (λ (e : ReadsOn middle after). ran_reads d before middle after answers r e)
     (λ (e : ReadsToPin middle after). ran_on d before middle after answers e.0 r

@@ -288,7 +288,8 @@ new_know_nothing id lanes from (suc n) =
 -- one pen more gives a seat
 pub seats_more : (d : SetupData) (first : State) (seats seats' : List SeatValue) (pens rest all : List PenValue) (pen : PenValue) (head state : State)
     → (map (λ (s : SeatValue). s.pen) seats ++ pens ≡ all) × All (IsSeatFrom d first) seats × All (λ (p : PenValue). p.front ≡ []) pens
-    → pens ≡ pen ∷ rest → seats' ≡ seats ++ record { pen = pen; first = head; state = state; kept = None } ∷ [] → head ≡ first → state ≡ head → first.place ≤ MAX_PLACE → IsSound d first → NameGiven first
+    → pens ≡ pen ∷ rest → seats' ≡ seats ++ record { pen = pen; first = head; state = state; kept = None } ∷ [] → head ≡ first → state ≡ head → first.place ≤ MAX_PLACE → IsSound d first
+    → NameGiven first
     → (map (λ (s : SeatValue). s.pen) seats' ++ rest ≡ all) × All (IsSeatFrom d first) seats' × All (λ (p : PenValue). p.front ≡ []) rest
 seats_more d first seats seats' pens rest all pen head state h is more same equal fits sound given =
     let every : All (λ (p : PenValue). p.front ≡ []) (pen ∷ rest) = subst (All (λ (p : PenValue). p.front ≡ [])) is h.2 in

@@ -21,6 +21,7 @@ loop-seat-preserved c =
     let more = length-append c.loop-seat.pens.items (c.in-Some.seat.pen ∷ []) in
     let room = c.loop-seat.invariant.1 in
     let capacity = c.push_reserved.ensures.capacity in (
-      pens_more c.loop-seat.pens.items c.push_reserved.new.self.items (map (λ (s : SeatValue). s.pen) c.args.seats) c.in-Some.seat c.loop-seat.seats c.take_first.new.self c.loop-seat.invariant.0 c.in-Some.ensures pushed,
+      pens_more c.loop-seat.pens.items c.push_reserved.new.self.items (map (λ (s : SeatValue). s.pen) c.args.seats) c.in-Some.seat c.loop-seat.seats c.take_first.new.self
+          c.loop-seat.invariant.0 c.in-Some.ensures pushed,
       omega (arith, room, capacity, more, ap length pushed, ap length c.in-Some.ensures),
     )

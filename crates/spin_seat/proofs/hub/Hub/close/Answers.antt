@@ -37,7 +37,8 @@ returns-clause-legal g c = λ first are.
     let d = data_of c.args.self.setup in
     let lanes = c.args.self.log.lanes in
     let nobody : SeatValue = record { pen = record { log = c.args.self.log.id; lanes = 0; lane = 0; front = []; own = []; pins = [] }; first = first; state = first; kept = None } in
-    if_ok_both c.close.result (λ log. All (λ (s : SeatValue). StandsIn log s.pen) c.args.seats) (λ log. All (IsCommandBelow lanes) log × (length log ≤ MAX_PLACE)) (λ log. AnswersAreLegalFrom d first c.args.seats log)
+    if_ok_both c.close.result (λ log. All (λ (s : SeatValue). StandsIn log s.pen) c.args.seats) (λ log. All (IsCommandBelow lanes) log × (length log ≤ MAX_PLACE))
+    (λ log. AnswersAreLegalFrom d first c.args.seats log)
     (λ log each rows. closed_legal d first lanes c.args.seats log nobody c.requires.seats are (record { all = c.requires.all; order = c.requires.order; each = each; rows = rows.0 }))
     (returns-clause-each g c) c.close.ensures.rows
 

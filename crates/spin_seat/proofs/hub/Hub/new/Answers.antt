@@ -14,7 +14,8 @@ use Rattle.spin_seat.proofs.SeatInvariants.{new_know_nothing, new_of_log, new_co
 use Rattle.spin_seat.proofs.hub.Hub.new.Goals as goal
 
 pub seats_of-requires-clause-new : goal.seats_of-requires-clause-new
-seats_of-requires-clause-new g c = subst (λ (pens : List PenValue). All (λ (p : PenValue). p.front ≡ []) pens) (sym c.in_ok-log.ensures.pens) (new_know_nothing c.in_ok-log.log.id c.args.lanes 0 c.args.lanes)
+seats_of-requires-clause-new g c = subst (λ (pens : List PenValue). All (λ (p : PenValue). p.front ≡ []) pens) (sym c.in_ok-log.ensures.pens)
+    (new_know_nothing c.in_ok-log.log.id c.args.lanes 0 c.args.lanes)
 
 pub seats_of-requires-clause-fits : goal.seats_of-requires-clause-fits
 seats_of-requires-clause-fits g c =

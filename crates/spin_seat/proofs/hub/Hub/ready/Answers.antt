@@ -11,13 +11,23 @@ use Rattle.spin_seat.proofs.hub.Hub.ready.Goals as goal
 
 pub renewed-requires-clause-given : goal.renewed-requires-clause-given
 renewed-requires-clause-given g c =
-    let is : ◌≡◌ {A = SeatValue} (record { pen = c.seat.inside.pen; first = arc_value c.seat.inside.first; state = arc_value c.seat.inside.version; kept = c.seat.inside.kept }) c.args.seat.now = c.seat.view_is in
+    let is : ◌≡◌ {A = SeatValue} (record {
+      pen = c.seat.inside.pen;
+      first = arc_value c.seat.inside.first;
+      state = arc_value c.seat.inside.version;
+      kept = c.seat.inside.kept;
+    }) c.args.seat.now = c.seat.view_is in
     let state : c.deref.result.now ≡ c.args.seat.now.state = c.deref.ensures ∙ ap (λ (s : SeatValue). s.state) is in
     subst NameGiven (sym state) c.requires.seat.given
 
 pub renewed-requires-clause-room : goal.renewed-requires-clause-room
 renewed-requires-clause-room g c =
-    let is : ◌≡◌ {A = SeatValue} (record { pen = c.seat.inside.pen; first = arc_value c.seat.inside.first; state = arc_value c.seat.inside.version; kept = c.seat.inside.kept }) c.args.seat.now = c.seat.view_is in
+    let is : ◌≡◌ {A = SeatValue} (record {
+      pen = c.seat.inside.pen;
+      first = arc_value c.seat.inside.first;
+      state = arc_value c.seat.inside.version;
+      kept = c.seat.inside.kept;
+    }) c.args.seat.now = c.seat.view_is in
     let state : c.deref.result.now ≡ c.args.seat.now.state = c.deref.ensures ∙ ap (λ (s : SeatValue). s.state) is in
     let old = c.args.seat.now in
     let fits = place_fits (data_of c.args.self.now.setup) old c.requires.seat in
@@ -25,14 +35,20 @@ renewed-requires-clause-room g c =
     omega (arith, past)
 
 pub seats_of-requires-clause-new : goal.seats_of-requires-clause-new
-seats_of-requires-clause-new g c = subst (λ (pens : List PenValue). All (λ (p : PenValue). p.front ≡ []) pens) (sym c.in_ok-log.ensures.pens) (new_know_nothing c.in_ok-log.log.id c.args.lanes 0 c.args.lanes)
+seats_of-requires-clause-new g c = subst (λ (pens : List PenValue). All (λ (p : PenValue). p.front ≡ []) pens) (sym c.in_ok-log.ensures.pens)
+    (new_know_nothing c.in_ok-log.log.id c.args.lanes 0 c.args.lanes)
 
 pub seats_of-requires-clause-given : goal.seats_of-requires-clause-given
 seats_of-requires-clause-given g c = subst NameGiven (sym c.in_ok-first.ensures.ok) c.in_ok-renewed.ensures.given
 
 pub returns-clause-seats : goal.returns-clause-seats
 returns-clause-seats g c =
-    let seat : ◌≡◌ {A = SeatValue} (record { pen = c.seat.inside.pen; first = arc_value c.seat.inside.first; state = arc_value c.seat.inside.version; kept = c.seat.inside.kept }) c.args.seat.now = c.seat.view_is in
+    let seat : ◌≡◌ {A = SeatValue} (record {
+      pen = c.seat.inside.pen;
+      first = arc_value c.seat.inside.first;
+      state = arc_value c.seat.inside.version;
+      kept = c.seat.inside.kept;
+    }) c.args.seat.now = c.seat.view_is in
     let state : c.deref.result.now ≡ c.args.seat.now.state = c.deref.ensures ∙ ap (λ (s : SeatValue). s.state) seat in
     let is : arc_value c.in_ok-first.first ≡ renewed c.args.seat.now.state = c.in_ok-first.ensures.ok ∙ (c.in_ok-renewed.ensures.renewed ∙ ap renewed state) in
     subst (λ (s : State). All (IsSeatFrom (data_of c.args.self.now.setup) s) c.in_ok-seats.seats) is c.in_ok-seats.ensures.seats

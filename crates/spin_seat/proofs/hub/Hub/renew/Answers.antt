@@ -15,14 +15,20 @@ renewed_into-requires-clause-own g c =
     let more = c.in-Ok.ensures.more in
     let len = c.as_mut_slice.ensures.len in
     let now : c.as_mut_slice.result.now ≡ c.args.seats = c.as_mut_slice.ensures.value ∙ c.into_vec-items.ensures in
-    let same : c.from_vec-seats.result ≡ c.prepare-ready.new.seats = taken c.into_vec-items.result.len c.from_vec-seats.result c.prepare-ready.new.seats _ c.from_vec-seats.ensures (omega (arith, more.0, len)) in
+    let same : c.from_vec-seats.result ≡ c.prepare-ready.new.seats = taken c.into_vec-items.result.len c.from_vec-seats.result c.prepare-ready.new.seats _ c.from_vec-seats.ensures
+    (omega (arith, more.0, len)) in
     let know : KnowMore d c.args.seats c.from_vec-seats.result = know_taken d c.args.seats c.as_mut_slice.result.now c.prepare-ready.new.seats c.from_vec-seats.result now same more in
     still_own d c.args.seats c.from_vec-seats.result (λ (p : PenValue). p.log) c.args.self.log.id (λ p front. refl) know c.requires.all.own
 
 pub returns-in-Ok-clause-all : goal.returns-in-Ok-clause-all
 returns-in-Ok-clause-all g c =
     let d = data_of c.args.self.setup in
-    let nobody : SeatValue = record { pen = record { log = c.args.self.log.id; lanes = 0; lane = 0; front = []; own = []; pins = [] }; first = c.requires.all.first; state = c.requires.all.first; kept = None } in
+    let nobody : SeatValue = record {
+      pen = record { log = c.args.self.log.id; lanes = 0; lane = 0; front = []; own = []; pins = [] };
+      first = c.requires.all.first;
+      state = c.requires.all.first;
+      kept = None;
+    } in
     let ready = c.in-Ok.ready in
     let done = c.renewed_into.result in
     let is = c.renewed_into.ensures in
@@ -38,9 +44,15 @@ returns-in-Ok-clause-renewed g c = λ first from.
     let more = c.in-Ok.ensures.more in
     let len = c.as_mut_slice.ensures.len in
     let now : c.as_mut_slice.result.now ≡ c.args.seats = c.as_mut_slice.ensures.value ∙ c.into_vec-items.ensures in
-    let same : c.from_vec-seats.result ≡ c.prepare-ready.new.seats = taken c.into_vec-items.result.len c.from_vec-seats.result c.prepare-ready.new.seats _ c.from_vec-seats.ensures (omega (arith, more.0, len)) in
+    let same : c.from_vec-seats.result ≡ c.prepare-ready.new.seats = taken c.into_vec-items.result.len c.from_vec-seats.result c.prepare-ready.new.seats _ c.from_vec-seats.ensures
+    (omega (arith, more.0, len)) in
     let know : KnowMore d c.args.seats c.from_vec-seats.result = know_taken d c.args.seats c.as_mut_slice.result.now c.prepare-ready.new.seats c.from_vec-seats.result now same more in
-    let nobody : SeatValue = record { pen = record { log = c.args.self.log.id; lanes = 0; lane = 0; front = []; own = []; pins = [] }; first = c.requires.all.first; state = c.requires.all.first; kept = None } in
+    let nobody : SeatValue = record {
+      pen = record { log = c.args.self.log.id; lanes = 0; lane = 0; front = []; own = []; pins = [] };
+      first = c.requires.all.first;
+      state = c.requires.all.first;
+      kept = None;
+    } in
     let all = c.requires.all in
     let some = all.some in
     let met = c.prepare-ready.new.seats in
@@ -59,9 +71,15 @@ returns-in-Ok-clause-clean g c = λ first from.
     let more = c.in-Ok.ensures.more in
     let len = c.as_mut_slice.ensures.len in
     let now : c.as_mut_slice.result.now ≡ c.args.seats = c.as_mut_slice.ensures.value ∙ c.into_vec-items.ensures in
-    let same : c.from_vec-seats.result ≡ c.prepare-ready.new.seats = taken c.into_vec-items.result.len c.from_vec-seats.result c.prepare-ready.new.seats _ c.from_vec-seats.ensures (omega (arith, more.0, len)) in
+    let same : c.from_vec-seats.result ≡ c.prepare-ready.new.seats = taken c.into_vec-items.result.len c.from_vec-seats.result c.prepare-ready.new.seats _ c.from_vec-seats.ensures
+    (omega (arith, more.0, len)) in
     let know : KnowMore d c.args.seats c.from_vec-seats.result = know_taken d c.args.seats c.as_mut_slice.result.now c.prepare-ready.new.seats c.from_vec-seats.result now same more in
-    let nobody : SeatValue = record { pen = record { log = c.args.self.log.id; lanes = 0; lane = 0; front = []; own = []; pins = [] }; first = c.requires.all.first; state = c.requires.all.first; kept = None } in
+    let nobody : SeatValue = record {
+      pen = record { log = c.args.self.log.id; lanes = 0; lane = 0; front = []; own = []; pins = [] };
+      first = c.requires.all.first;
+      state = c.requires.all.first;
+      kept = None;
+    } in
     let all = c.requires.all in
     let rows = c.renewed_into.result.rows in
     let lanes = c.args.self.log.lanes in
@@ -76,9 +94,15 @@ returns-in-Ok-clause-legal g c = λ first from.
     let more = c.in-Ok.ensures.more in
     let len = c.as_mut_slice.ensures.len in
     let now : c.as_mut_slice.result.now ≡ c.args.seats = c.as_mut_slice.ensures.value ∙ c.into_vec-items.ensures in
-    let same : c.from_vec-seats.result ≡ c.prepare-ready.new.seats = taken c.into_vec-items.result.len c.from_vec-seats.result c.prepare-ready.new.seats _ c.from_vec-seats.ensures (omega (arith, more.0, len)) in
+    let same : c.from_vec-seats.result ≡ c.prepare-ready.new.seats = taken c.into_vec-items.result.len c.from_vec-seats.result c.prepare-ready.new.seats _ c.from_vec-seats.ensures
+    (omega (arith, more.0, len)) in
     let know : KnowMore d c.args.seats c.from_vec-seats.result = know_taken d c.args.seats c.as_mut_slice.result.now c.prepare-ready.new.seats c.from_vec-seats.result now same more in
-    let nobody : SeatValue = record { pen = record { log = c.args.self.log.id; lanes = 0; lane = 0; front = []; own = []; pins = [] }; first = c.requires.all.first; state = c.requires.all.first; kept = None } in
+    let nobody : SeatValue = record {
+      pen = record { log = c.args.self.log.id; lanes = 0; lane = 0; front = []; own = []; pins = [] };
+      first = c.requires.all.first;
+      state = c.requires.all.first;
+      kept = None;
+    } in
     let all = c.requires.all in
     let rows = c.renewed_into.result.rows in
     let lanes = c.args.self.log.lanes in
@@ -93,7 +117,8 @@ returns-in-Ok-clause-each g c =
     let more = c.in-Ok.ensures.more in
     let len = c.as_mut_slice.ensures.len in
     let now : c.as_mut_slice.result.now ≡ c.args.seats = c.as_mut_slice.ensures.value ∙ c.into_vec-items.ensures in
-    let same : c.from_vec-seats.result ≡ c.prepare-ready.new.seats = taken c.into_vec-items.result.len c.from_vec-seats.result c.prepare-ready.new.seats _ c.from_vec-seats.ensures (omega (arith, more.0, len)) in
+    let same : c.from_vec-seats.result ≡ c.prepare-ready.new.seats = taken c.into_vec-items.result.len c.from_vec-seats.result c.prepare-ready.new.seats _ c.from_vec-seats.ensures
+    (omega (arith, more.0, len)) in
     let know : KnowMore d c.args.seats c.from_vec-seats.result = know_taken d c.args.seats c.as_mut_slice.result.now c.prepare-ready.new.seats c.from_vec-seats.result now same more in
     let all = c.requires.all in
     let rows = c.renewed_into.result.rows in
@@ -108,7 +133,8 @@ returns-in-Ok-clause-history g c =
     let more = c.in-Ok.ensures.more in
     let len = c.as_mut_slice.ensures.len in
     let now : c.as_mut_slice.result.now ≡ c.args.seats = c.as_mut_slice.ensures.value ∙ c.into_vec-items.ensures in
-    let same : c.from_vec-seats.result ≡ c.prepare-ready.new.seats = taken c.into_vec-items.result.len c.from_vec-seats.result c.prepare-ready.new.seats _ c.from_vec-seats.ensures (omega (arith, more.0, len)) in
+    let same : c.from_vec-seats.result ≡ c.prepare-ready.new.seats = taken c.into_vec-items.result.len c.from_vec-seats.result c.prepare-ready.new.seats _ c.from_vec-seats.ensures
+    (omega (arith, more.0, len)) in
     let know : KnowMore d c.args.seats c.from_vec-seats.result = know_taken d c.args.seats c.as_mut_slice.result.now c.prepare-ready.new.seats c.from_vec-seats.result now same more in
     let h = c.renewed_into.ensures.history in
     (h.0, history_before d c.args.seats c.from_vec-seats.result c.renewed_into.result.rows h.0 know h.1)
@@ -119,7 +145,8 @@ returns-in-Err-clause-all g c =
     let more = c.in-Err.ensures.more in
     let len = c.as_mut_slice.ensures.len in
     let now : c.as_mut_slice.result.now ≡ c.args.seats = c.as_mut_slice.ensures.value ∙ c.into_vec-items.ensures in
-    let same : c.from_vec-seats.result ≡ c.prepare-ready.new.seats = taken c.into_vec-items.result.len c.from_vec-seats.result c.prepare-ready.new.seats _ c.from_vec-seats.ensures (omega (arith, more.0, len)) in
+    let same : c.from_vec-seats.result ≡ c.prepare-ready.new.seats = taken c.into_vec-items.result.len c.from_vec-seats.result c.prepare-ready.new.seats _ c.from_vec-seats.ensures
+    (omega (arith, more.0, len)) in
     let know : KnowMore d c.args.seats c.from_vec-seats.result = know_taken d c.args.seats c.as_mut_slice.result.now c.prepare-ready.new.seats c.from_vec-seats.result now same more in
     still_all d c.args.self.log c.args.seats c.from_vec-seats.result know c.requires.all
 
@@ -129,7 +156,8 @@ returns-in-Err-clause-more g c =
     let more = c.in-Err.ensures.more in
     let len = c.as_mut_slice.ensures.len in
     let now : c.as_mut_slice.result.now ≡ c.args.seats = c.as_mut_slice.ensures.value ∙ c.into_vec-items.ensures in
-    let same : c.from_vec-seats.result ≡ c.prepare-ready.new.seats = taken c.into_vec-items.result.len c.from_vec-seats.result c.prepare-ready.new.seats _ c.from_vec-seats.ensures (omega (arith, more.0, len)) in
+    let same : c.from_vec-seats.result ≡ c.prepare-ready.new.seats = taken c.into_vec-items.result.len c.from_vec-seats.result c.prepare-ready.new.seats _ c.from_vec-seats.ensures
+    (omega (arith, more.0, len)) in
     let know : KnowMore d c.args.seats c.from_vec-seats.result = know_taken d c.args.seats c.as_mut_slice.result.now c.prepare-ready.new.seats c.from_vec-seats.result now same more in
     know
 
@@ -139,6 +167,7 @@ returns-in-Err-clause-fault g c = λ first from.
     let more = c.in-Err.ensures.more in
     let len = c.as_mut_slice.ensures.len in
     let now : c.as_mut_slice.result.now ≡ c.args.seats = c.as_mut_slice.ensures.value ∙ c.into_vec-items.ensures in
-    let same : c.from_vec-seats.result ≡ c.prepare-ready.new.seats = taken c.into_vec-items.result.len c.from_vec-seats.result c.prepare-ready.new.seats _ c.from_vec-seats.ensures (omega (arith, more.0, len)) in
+    let same : c.from_vec-seats.result ≡ c.prepare-ready.new.seats = taken c.into_vec-items.result.len c.from_vec-seats.result c.prepare-ready.new.seats _ c.from_vec-seats.ensures
+    (omega (arith, more.0, len)) in
     let know : KnowMore d c.args.seats c.from_vec-seats.result = know_taken d c.args.seats c.as_mut_slice.result.now c.prepare-ready.new.seats c.from_vec-seats.result now same more in
     subst (λ (l : List SeatValue). IsFaultOf d first l c.in-Err.fault) (sym same) (c.in-Err.ensures.fault first (subst (AreFrom first) (sym now) from))

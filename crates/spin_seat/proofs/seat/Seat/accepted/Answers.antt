@@ -11,7 +11,12 @@ use Rattle.spin_seat.proofs.seat.Seat.accepted.Goals as goal
 
 pub returns-clause-seat : goal.returns-clause-seat
 returns-clause-seat g c =
-    let is : ◌≡◌ {A = SeatValue} (record { pen = c.self.inside.pen; first = arc_value c.self.inside.first; state = arc_value c.self.inside.version; kept = c.self.inside.kept }) c.args.self.now = c.self.view_is in
+    let is : ◌≡◌ {A = SeatValue} (record {
+      pen = c.self.inside.pen;
+      first = arc_value c.self.inside.first;
+      state = arc_value c.self.inside.version;
+      kept = c.self.inside.kept;
+    }) c.args.self.now = c.self.view_is in
     subst (λ (x : PenValue × State). IsSeat (data_of c.args._hub.now.setup) (record { pen = x.0; first = x.1; state = arc_value c.args.after; kept = None })) (λ i. ((sym is i).pen, (sym is i).first))
     (applies (data_of c.args._hub.now.setup) c.args.self.now c.args._row.now c.args._c.now verdicted.Accepted
     (arc_value c.args.after) c.requires.seat c.requires.kept c.requires.stands c.requires.step c.requires.sound)

@@ -33,8 +33,13 @@ loop-alloc-preserved g c =
     let said = subst (λ r. Tries (data_of c.args.hub.now.setup) c.apply.new.self c.args.c.now r c.judge.new.self) c.in_default.is c.in_ok-judged.ensures.tries in
     let before = c.loop-alloc.invariant.3 in
     let same = ap (λ (p : PenValue). length p.front) c.in_ok-apply.ensures.pen in
-    let tick = c.tick.ensures in
-    (reads_further c.args.self.now.pen c.apply.new.self.pen c.judge.new.self.pen read said.0, c.in_ok-judged.ensures.seat, c.judge.ensures.first ∙ c.in_ok-apply.ensures.first ∙ c.loop-alloc.invariant.2, omega (arith, before, same, tick, said.1))
+    let tick = c.tick.ensures in (
+      reads_further c.args.self.now.pen c.apply.new.self.pen c.judge.new.self.pen read said.0,
+      c.in_ok-judged.ensures.seat,
+      c.judge.ensures.first ∙ c.in_ok-apply.ensures.first
+          ∙ c.loop-alloc.invariant.2,
+      omega (arith, before, same, tick, said.1),
+    )
 
 pub returns-clause-fault : goal.returns-clause-fault
 returns-clause-fault g c =

@@ -8,15 +8,26 @@ use Rattle.spin_seat.proofs.seat.Seat.judge.Goals as goal
 
 pub next_version-requires-clause-room : goal.next_version-requires-clause-room
 next_version-requires-clause-room g c =
-    let is : ◌≡◌ {A = SeatValue} (record { pen = c.self.inside.pen; first = arc_value c.self.inside.first; state = arc_value c.self.inside.version; kept = c.self.inside.kept }) c.args.self.now = c.self.view_is in
+    let is : ◌≡◌ {A = SeatValue} (record {
+      pen = c.self.inside.pen;
+      first = arc_value c.self.inside.first;
+      state = arc_value c.self.inside.version;
+      kept = c.self.inside.kept;
+    }) c.args.self.now = c.self.view_is in
     let fits = place_fits (data_of c.args.hub.now.setup) c.args.self.now c.requires.seat in
     let room = c.requires.room in
     let old = c.args.self.now in
-    next_room old.state.place old.first.place (length old.pen.front) (arc_value c.self.inside.version).place fits c.requires.seat.fits (omega (arith, room, place_past_is old.first.place (length old.pen.front)))
+    next_room old.state.place old.first.place (length old.pen.front) (arc_value c.self.inside.version).place fits c.requires.seat.fits
+    (omega (arith, room, place_past_is old.first.place (length old.pen.front)))
     (ap (λ (s : SeatValue). s.state.place) is)
 
 pub refuse-requires-clause-step : goal.refuse-requires-clause-step
 refuse-requires-clause-step g c =
-    let is : ◌≡◌ {A = SeatValue} (record { pen = c.self.inside.pen; first = arc_value c.self.inside.first; state = arc_value c.self.inside.version; kept = c.self.inside.kept }) c.args.self.now = c.self.view_is in
+    let is : ◌≡◌ {A = SeatValue} (record {
+      pen = c.self.inside.pen;
+      first = arc_value c.self.inside.first;
+      state = arc_value c.self.inside.version;
+      kept = c.self.inside.kept;
+    }) c.args.self.now = c.self.view_is in
     is_refused (data_of c.args.hub.now.setup) (arc_value c.self.inside.version) c.args.self.now.state c.args.c.now c.in-Err-Refused.field-0 c.in-Err-Refused.refusal c.in-Err-Refused.field-0-is
     (ap (λ (s : SeatValue). s.state) is) c.in-Err-Refused.ensures.answer

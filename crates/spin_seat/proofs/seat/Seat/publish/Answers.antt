@@ -18,7 +18,12 @@ use Rattle.spin_seat.proofs.seat.Seat.publish.Goals as goal
 
 pub returns-in-Done-clause-seat : goal.returns-in-Done-clause-seat
 returns-in-Done-clause-seat g c =
-    let is : ◌≡◌ {A = SeatValue} (record { pen = c.self.inside.pen; first = arc_value c.self.inside.first; state = arc_value c.self.inside.version; kept = c.self.inside.kept }) c.args.self.now = c.self.view_is in
+    let is : ◌≡◌ {A = SeatValue} (record {
+      pen = c.self.inside.pen;
+      first = arc_value c.self.inside.first;
+      state = arc_value c.self.inside.version;
+      kept = c.self.inside.kept;
+    }) c.args.self.now = c.self.view_is in
     let none : c.self.inside.kept ≡ None = ap (λ (s : SeatValue). s.kept) is ∙ c.requires.whole in
     let pen = c.in-Done.ensures.answer.0 ∙ (ap (λ r. written c.self.inside.pen r) c.pack.ensures.row ∙ ap (λ (s : SeatValue). written s.pen (row_of c.args.c.now)) is) in
     let d = data_of c.args.hub.now.setup in
@@ -30,7 +35,12 @@ pub returns-in-Done-clause-tries : goal.returns-in-Done-clause-tries
 returns-in-Done-clause-tries g c =
     let d = data_of c.args.hub.now.setup in
     let row = row_of c.args.c.now in
-    let is : ◌≡◌ {A = SeatValue} (record { pen = c.self.inside.pen; first = arc_value c.self.inside.first; state = arc_value c.self.inside.version; kept = c.self.inside.kept }) c.args.self.now = c.self.view_is in
+    let is : ◌≡◌ {A = SeatValue} (record {
+      pen = c.self.inside.pen;
+      first = arc_value c.self.inside.first;
+      state = arc_value c.self.inside.version;
+      kept = c.self.inside.kept;
+    }) c.args.self.now = c.self.view_is in
     let none : c.self.inside.kept ≡ None = ap (λ (s : SeatValue). s.kept) is ∙ c.requires.whole in
     let pen : c.publish.new.pen ≡ written c.args.self.now.pen row =
     c.in-Done.ensures.answer.0 ∙ (ap (λ r. written c.self.inside.pen r) c.pack.ensures.row ∙ ap (λ (s : SeatValue). written s.pen row) is) in

@@ -9,7 +9,12 @@ use Rattle.spin_seat.proofs.seat.Seat.refused.Goals as goal
 
 pub returns-clause-seat : goal.returns-clause-seat
 returns-clause-seat g c =
-    let is : ◌≡◌ {A = SeatValue} (record { pen = c.self.inside.pen; first = arc_value c.self.inside.first; state = arc_value c.self.inside.version; kept = c.self.inside.kept }) c.args.self.now = c.self.view_is in
+    let is : ◌≡◌ {A = SeatValue} (record {
+      pen = c.self.inside.pen;
+      first = arc_value c.self.inside.first;
+      state = arc_value c.self.inside.version;
+      kept = c.self.inside.kept;
+    }) c.args.self.now = c.self.view_is in
     subst (λ (x : SeatValue). IsSeat (data_of c.args._hub.now.setup) (record { pen = x.pen; first = x.first; state = x.state; kept = None })) (sym is)
     (applies (data_of c.args._hub.now.setup) c.args.self.now c.args._row.now c.args._c.now
     (verdicted.Refused c.args._refusal.now) c.args.self.now.state c.requires.seat c.requires.kept c.requires.stands c.requires.step c.requires.seat.sound)

@@ -13,13 +13,23 @@ use Rattle.spin_seat.proofs.seat.Seat.step.Goals as goal
 
 pub unreachable-requires : goal.unreachable-requires
 unreachable-requires g c =
-    let is : ◌≡◌ {A = SeatValue} (record { pen = c.self.inside.pen; first = arc_value c.self.inside.first; state = arc_value c.self.inside.version; kept = c.self.inside.kept }) c.args.self.now = c.self.view_is in
+    let is : ◌≡◌ {A = SeatValue} (record {
+      pen = c.self.inside.pen;
+      first = arc_value c.self.inside.first;
+      state = arc_value c.self.inside.version;
+      kept = c.self.inside.kept;
+    }) c.args.self.now = c.self.view_is in
     let pens = subst (λ (p : PenValue). All (IsCommandBelow p.lanes) p.front) (ap (λ (s : SeatValue). s.pen) is) c.front-front.ensures.pen.commands in
     absurd_command c.args.row (kept_is_command (data_of c.args.hub.now.setup) c.args.self.now c.args.row c.args.self.now.pen.lanes c.requires.seat c.requires.kept pens) c.in_default.ensures.command
 
 pub next_version-requires-clause-room : goal.next_version-requires-clause-room
 next_version-requires-clause-room g c =
-    let is : ◌≡◌ {A = SeatValue} (record { pen = c.self.inside.pen; first = arc_value c.self.inside.first; state = arc_value c.self.inside.version; kept = c.self.inside.kept }) c.args.self.now = c.self.view_is in
+    let is : ◌≡◌ {A = SeatValue} (record {
+      pen = c.self.inside.pen;
+      first = arc_value c.self.inside.first;
+      state = arc_value c.self.inside.version;
+      kept = c.self.inside.kept;
+    }) c.args.self.now = c.self.view_is in
     let fits = place_fits (data_of c.args.hub.now.setup) c.args.self.now c.requires.seat in
     let room = c.front-front.ensures.pen.room in
     let old = c.args.self.now in
@@ -28,11 +38,21 @@ next_version-requires-clause-room g c =
 
 pub accepted-requires-clause-step : goal.accepted-requires-clause-step
 accepted-requires-clause-step g c =
-    let is : ◌≡◌ {A = SeatValue} (record { pen = c.self.inside.pen; first = arc_value c.self.inside.first; state = arc_value c.self.inside.version; kept = c.self.inside.kept }) c.args.self.now = c.self.view_is in
+    let is : ◌≡◌ {A = SeatValue} (record {
+      pen = c.self.inside.pen;
+      first = arc_value c.self.inside.first;
+      state = arc_value c.self.inside.version;
+      kept = c.self.inside.kept;
+    }) c.args.self.now = c.self.view_is in
     subst (λ (s : SeatValue). IsStep (data_of c.args.hub.now.setup) s.state c.in-Some.command verdicted.Accepted (arc_value c.in-Ok.next)) is c.in-Ok.ensures.answer
 
 pub refused-requires-clause-step : goal.refused-requires-clause-step
 refused-requires-clause-step g c =
-    let is : ◌≡◌ {A = SeatValue} (record { pen = c.self.inside.pen; first = arc_value c.self.inside.first; state = arc_value c.self.inside.version; kept = c.self.inside.kept }) c.args.self.now = c.self.view_is in
+    let is : ◌≡◌ {A = SeatValue} (record {
+      pen = c.self.inside.pen;
+      first = arc_value c.self.inside.first;
+      state = arc_value c.self.inside.version;
+      kept = c.self.inside.kept;
+    }) c.args.self.now = c.self.view_is in
     is_refused (data_of c.args.hub.now.setup) (arc_value c.self.inside.version) c.args.self.now.state c.in-Some.command c.in-Err-Refused.field-0 c.in-Err-Refused.refusal c.in-Err-Refused.field-0-is
     (ap (λ (s : SeatValue). s.state) is) c.in-Err-Refused.ensures.answer
