@@ -1,4 +1,4 @@
-# Two lanes run side by side, each on a thread of its own. A barrier ends a segment: all lanes do what stands before it
+# Two lanes run side by side, as if on two threads. A barrier ends a segment: all lanes do what stands before it
 # first.
 spin 1
 event 0 0 w:w last
@@ -9,7 +9,7 @@ handler 2 w:w result + a0 2
 lane 0 install 0 0 1 0 free plain
 barrier
 
-# Both lanes raise at the same time. Nobody changes a binding meanwhile, so each raise stands at place 1, whoever comes
+# Both lanes raise in this segment. Nobody changes a binding meanwhile, so each raise stands at place 1, whoever comes
 # first, and the report has the entries of one place lane by lane.
 lane 1 raise 0 10
 lane 0 raise 0 20

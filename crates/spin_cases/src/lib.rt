@@ -1,7 +1,7 @@
 //! What only calls of a library show, and no script: headers and captures by themselves, pens that share a log, seats
 //! that share a hub, jobs, whole runs whose lanes are held up at a gate, reports that are judged, endpoints and sinks
 //! that fail, natives that are asked and dropped. Each public call that may want memory is made once with ample memory,
-//! here or by the program on a worked case.
+//! here, by the program on a worked case or, for hosts in C, by `bindings/check`.
 //!
 //! There is no code here but tests. The definitions that say what the calls mean are those of the crates below.
 //!

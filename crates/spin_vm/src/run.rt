@@ -70,7 +70,7 @@ fn end_of(written: Result<(), Stop>) -> VmEnd
 /// value or default, if that is below 65,536. Sends and jobs of a raise are written and go no further.
 ///
 /// [`VmEnd::WriteFault`] comes only where the sink's count of faults rose; the sink has then taken a front of the
-/// output, and not all of it, and so it has after want of memory. Each line is written by one call.
+/// output, and not all of it, and so it has after want of memory.
 ///
 /// The script is suited, and one that [`read_script`](spin_script::read_script) gives; the catalogue's objects do what
 /// they were handed in with. Beside the raises it takes time linear in the trace and in what is written, times
