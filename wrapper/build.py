@@ -23,6 +23,9 @@ HOSTS = ("host_filter", "host_logger", "host_plugins", "host_renewal", "host_wor
 # What has to be free before a build begins, in bytes.
 MEMORY, DISK = 3_000_000_000, 6_000_000_000
 
+# How long a build from nothing takes.
+TIME = "this takes 20 minutes on four fast processors that do nothing else, and up to an hour on slower ones"
+
 # How long it is between two looks at what runs, and between two lines that say how far it is, in seconds.
 LOOK, SAY = 0.2, 60
 
@@ -191,7 +194,7 @@ def build(tops):
     began, since = time.time(), time.monotonic()
     listed = crates_listed()
     crates = {name: listed[name] for name in stands_on(listed, tops)}
-    tell(f"{len(crates)} crates are proved and built, those of the longest chain first; this takes 20 minutes on four idle processors")
+    tell(f"{len(crates)} crates are proved and built, those of the longest chain first; {TIME}")
     if not build_all(crates):
         tell("the program could not be built; what was built stays, and the next ./spin build goes on from there")
         return NOT_RUN
