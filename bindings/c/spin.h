@@ -247,8 +247,8 @@ static inline uint32_t spin_lane_step_bytes(struct spin_lane *lane, uint64_t ind
 
 /* Renews the hub of a handle with which it was opened, and no seat of which was handed out: it goes on over a new log,
  * so that its bindings may change again, and nothing is lost that is bound. The live bindings are numbered anew, from 1
- * on in the order of their numbers. Where a seat was handed out, and only there, this is SPIN_TAKEN. Where no memory is
- * left for the renewed lane, the handle is closed. */
+ * on in the order of their numbers. SPIN_TAKEN comes only where a seat was handed out. Where no memory is left for the
+ * renewed lane, the handle is closed. */
 static inline uint32_t spin_lane_renew(struct spin_lane *lane, struct spin_answer *answer) {
     if (lane == NULL || answer == NULL) {
         return SPIN_NULL;
