@@ -9,6 +9,9 @@ from wrapper.program import sources
 # The memory that a job takes of a large crate, and of any other, in bytes.
 LARGE, SMALL = 3_000_000_000, 1_500_000_000
 
+# The share of the heaviest chain from which on a chain is held for nearly as heavy.
+NEARLY = 0.9
+
 # A crate is large where its code or its proofs have more lines than this.
 LARGE_CODE, LARGE_PROOFS = 1_000, 3_000
 
@@ -48,21 +51,25 @@ def chosen(ready, running, processors, memory, chain, need):
     """The crates of `ready` to begin now, each with its number of jobs.
 
     `running` has the number of jobs of each crate that is being built. In all there are at most as many crates as
-    processors, and their jobs take no more than this memory, which is what was free when none was running; but where
-    none is running one always begins. Those of the heaviest chains come first. A crate keeps its jobs to its end, so
-    each gets two where there are two processors, though others may want the second one for a while, and more where no
-    other crate wants them.
+    processors, at most one job more than these, since a crate's second job has often nothing to do, and the jobs take no
+    more than this memory, which is what was free when none was running; but where none is running one always begins.
+    Those of the heaviest chains come first. Each job loads the crate, so a second one costs more than it takes off the
+    others: a crate gets it only where its chain is nearly the heaviest that is left, and more jobs where no other crate
+    wants them.
     """
     left = memory - sum(taken(need[name], jobs) for name, jobs in running.items())
+    free = processors + 1 - sum(running.values())
     spare = processors - len(running) - len(ready) + 1
+    heaviest = max((chain[name] for name in (*ready, *running)), default=0)
     begin = {}
     for name in sorted(ready, key=lambda it: -chain[it]):
-        if len(running) + len(begin) == processors:
+        if free <= 0 or len(running) + len(begin) == processors:
             break
-        fitting = [jobs for jobs in range(1, min(processors, max(2, spare)) + 1) if taken(need[name], jobs) <= left]
+        wanted = max(2 if chain[name] >= NEARLY * heaviest else 1, spare)
+        fitting = [jobs for jobs in range(1, min(processors, wanted, free) + 1) if taken(need[name], jobs) <= left]
         if fitting or not (running or begin):
             begin[name] = max(fitting, default=1)
-            left -= taken(need[name], begin[name])
+            left, free = left - taken(need[name], begin[name]), free - begin[name]
     return begin
 
 

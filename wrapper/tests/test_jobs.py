@@ -20,11 +20,11 @@ class Chains(unittest.TestCase):
 class Chosen(unittest.TestCase):
     """What begins when."""
 
-    chain = {"a": 30, "b": 20, "c": 10}
+    chain = {"a": 30, "b": 20, "c": 10, "d": 5}
 
     def chosen(self, ready, running=None, processors=4, memory=100 * GB, need=SMALL):
         """What begins of these where each takes so much memory."""
-        return chosen(ready, running or {}, processors, memory, self.chain, dict.fromkeys("abc", need))
+        return chosen(ready, running or {}, processors, memory, self.chain, dict.fromkeys("abcd", need))
 
     def test_the_heaviest_chain_comes_first(self):
         self.assertEqual(list(self.chosen("cba", processors=2)), ["a", "b"])
@@ -33,14 +33,27 @@ class Chosen(unittest.TestCase):
         self.assertEqual(self.chosen("b"), {"b": 4})
         self.assertEqual(self.chosen("b", processors=1), {"b": 1})
 
-    def test_each_gets_what_no_other_wants_and_two_at_least(self):
-        self.assertEqual(self.chosen("bc"), {"b": 3, "c": 3})
-        self.assertEqual(self.chosen("abc"), {"a": 2, "b": 2, "c": 2})
-        self.assertEqual(self.chosen("c", {"a": 2, "b": 2}), {"c": 2})
+    def test_each_gets_what_no_other_wants(self):
+        self.assertEqual(self.chosen("bc"), {"b": 3, "c": 2})
+        self.assertEqual(self.chosen("c", {"a": 1}), {"c": 3})
+
+    def test_two_are_for_the_heaviest_chain_and_one_for_others(self):
+        self.assertEqual(self.chosen("abc", processors=3), {"a": 2, "b": 1, "c": 1})
+        self.assertEqual(self.chosen("c", {"a": 2, "b": 2}), {"c": 1})
+        self.assertEqual(self.chosen("abc", {"d": 1}), {"a": 2, "b": 1, "c": 1})
+
+    def test_a_chain_that_is_nearly_the_heaviest_counts_as_such(self):
+        heavy = {"a": 30, "b": 27, "c": 26}
+        begin = chosen("abc", {"d": 1}, 4, 100 * GB, {**heavy, "d": 1}, dict.fromkeys("abcd", SMALL))
+        self.assertEqual(begin, {"a": 2, "b": 2})
 
     def test_no_more_begin_than_there_are_processors(self):
-        self.assertEqual(self.chosen("abc", processors=2), {"a": 2, "b": 2})
+        self.assertEqual(self.chosen("abc", processors=2), {"a": 2, "b": 1})
         self.assertEqual(self.chosen("c", {"a": 1, "b": 1}, processors=2), {})
+
+    def test_there_is_at_most_one_job_more_than_processors(self):
+        self.assertEqual(self.chosen("c", {"a": 4}), {"c": 1})
+        self.assertEqual(self.chosen("c", {"a": 4, "b": 1}), {})
 
     def test_no_more_begins_than_memory_is_there_for(self):
         self.assertEqual(self.chosen("abc", memory=8 * GB, need=LARGE), {"a": 2, "b": 1})
