@@ -24,7 +24,7 @@ HOSTS = ("host_filter", "host_logger", "host_plugins", "host_renewal", "host_wor
 MEMORY, DISK = 3_000_000_000, 6_000_000_000
 
 # How long a build from nothing takes.
-TIME = "this takes 20 to 45 minutes on four processors that do nothing else, by their kind"
+TIME = "this took 20 minutes on four fast processors that did nothing else, and more than 40 on slower ones"
 
 # How long it is between two looks at what runs, and between two lines that say how far it is, in seconds.
 LOOK, SAY = 0.2, 60

@@ -53,9 +53,9 @@ def chosen(ready, running, processors, memory, chain, need):
     `running` has the number of jobs of each crate that is being built. In all there are at most as many crates as
     processors, at most one job more than these, since a crate's second job has often nothing to do, and the jobs take no
     more than this memory, which is what was free when none was running; but where none is running one always begins.
-    Those of the heaviest chains come first. Each job loads the crate, so a second one costs more than it takes off the
-    others: a crate gets it only where its chain is nearly the heaviest that is left, and more jobs where no other crate
-    wants them.
+    Those of the heaviest chains come first. Each job loads the crate and what it stands on, which is time that another
+    crate could use: so a second one is for crates whose chain is nearly the heaviest that is left, and more are for those
+    that begin where no other wants them.
     """
     left = memory - sum(taken(need[name], jobs) for name, jobs in running.items())
     free = processors + 1 - sum(running.values())
