@@ -1,100 +1,61 @@
-"""Tests of `./spin build` on a small repository, in which a script stands in for rt: it sleeps, and says what it did."""
+"""Tests of `./spin build`, which has the gate's command prove the crates and build the program."""
 
-import os
-import shutil
 import signal
 import subprocess
-import tempfile
-import time
 import unittest
-from pathlib import Path
 from unittest import mock
 
 from wrapper import build
-from wrapper.tests import make_repository, stand_in
-
-CRATES = {"low": [], "left": ["low"], "right": ["low"], "spin_main": ["left", "right"], "aside": ["low"]}
-
-RT = """#!/bin/sh
-[ "$1" = version ] && exit 0
-name=$(basename "$PWD")
-for it in $(sed "s/:.*//" ../../crates.txt); do [ -d ../$it/src ] || exit 2; done
-[ "$name" = low ] || { exec 8< ../low && flock 8; }
-echo "begin $name $*" >> "$JOURNAL"
-echo "the checker on $name"
-sleep "${SLEEP:-0.1}"
-[ "$name" = "$FAILS" ] && exit 1
-[ "$1" = run ] && mkdir -p out && printf '#!/bin/sh\\n' > out/$name && chmod +x out/$name
-echo "end $name" >> "$JOURNAL"
-"""
+from wrapper.tests.building import Building
 
 
-class Build(unittest.TestCase):
-    """One build after another in a folder of its own."""
+class Build(Building):
+    """The program."""
 
-    def setUp(self):
-        self.top = Path(tempfile.mkdtemp())
-        self.addCleanup(shutil.rmtree, self.top)
-        make_repository(self.top, CRATES)
-        stand_in(self.top, "rt", RT)
-        self.journal = self.top / "journal"
-
-    def begin(self, *words, **environment):
-        """Begins a build."""
-        path = f"{self.top}/bin:{os.environ['PATH']}"
-        environment = {**os.environ, "PATH": path, "JOURNAL": str(self.journal), **environment}
-        how = {"stdout": subprocess.PIPE, "stderr": subprocess.PIPE, "text": True, "start_new_session": True}
-        return subprocess.Popen([self.top / "spin", "build", *words], env=environment, **how)
-
-    def build(self, *words, **environment):
-        """The status of a build, and what it says."""
-        child = self.begin(*words, **environment)
-        _, told = child.communicate(timeout=60)
-        return child.returncode, told
-
-    def lines(self):
-        """What rt did."""
-        return self.journal.read_text().splitlines() if self.journal.is_file() else []
-
-    def wait_for(self, word):
-        """Waits until rt did something."""
-        for _ in range(200):
-            if any(word in line for line in self.lines()):
-                return
-            time.sleep(0.05)
-        self.fail(f"{word} didn't come")
-
-    def test_each_crate_waits_for_those_below_and_no_other_is_built(self):
+    def test_what_the_program_stands_on_is_proved_and_the_program_put_in_its_place(self):
         status, told = self.build()
         self.assertEqual(status, 0, told)
-        begun = [line.split()[1] for line in self.lines() if line.startswith("begin")]
-        self.assertEqual((begun[0], sorted(begun[1:3]), begun[3:]), ("low", ["left", "right"], ["spin_main"]))
-        for name, below in CRATES.items():
-            for other in below if name in begun else []:
-                places = [next(at for at, line in enumerate(self.lines()) if line.startswith(it)) for it in (f"end {other}", f"begin {name}")]
-                self.assertLess(*places)
+        self.assertEqual(sorted(self.begun()), ["left", "low", "right", "spin_main"])
+        self.assert_in_order()
+        self.assertTrue((self.top / "crates" / "spin_main" / "out" / "spin_main").is_file())
         self.assertIn("left begins", told)
         self.assertIn("spin_main is built", told)
         self.assertIn("spin: built: crates/spin_main/out/spin_main", told)
 
     def test_crates_that_share_one_below_them_do_not_wait_for_each_other(self):
         self.assertEqual(self.build(SLEEP="1")[0], 0)
-        begun = [at for at, line in enumerate(self.lines()) if line.startswith(("begin left", "begin right"))]
-        ended = [at for at, line in enumerate(self.lines()) if line.startswith(("end left", "end right"))]
-        self.assertLess(max(begun), min(ended))
+        self.assert_side_by_side()
+
+    def test_where_nothing_is_kept_one_call_proves_all(self):
+        status, told = self.build(FULL="1")
+        self.assertEqual(status, 0, told)
+        self.assertEqual(self.begun(), ["low", "low", "left", "right", "spin_main"])
+        self.assertIn("one call of rt ci proves all crates", told)
 
     def test_what_is_built_is_not_built_again(self):
         self.build()
-        status, told = self.build()
-        self.assertEqual((status, told), (0, "spin: the proved program is built\n"))
+        self.assertEqual(self.build(), (0, "spin: the proved program is built\n"))
+
+    def test_the_copy_is_removed_and_that_of_a_killed_build_too(self):
+        left = self.top / "tmp" / "spin-build-999999999-x" / "crates"
+        left.mkdir(parents=True)
+        child = self.begin(SLEEP="30")
+        self.wait_for("begin low")
+        self.assertEqual(len(list((self.top / "tmp").iterdir())), 1)
+        child.terminate()
+        child.communicate(timeout=20)
+        self.assertEqual(list((self.top / "tmp").iterdir()), [])
 
     def test_a_crate_that_fails_is_named_with_what_the_checker_said(self):
         status, told = self.build(FAILS="left")
         self.assertEqual(status, 126)
         self.assertIn("the checker on left\n", told)
-        self.assertIn("spin: left isn't proved or built: status 1", told)
-        self.assertNotIn("begin spin_main", "\n".join(self.lines()))
-        self.assertEqual(self.build()[0], 0)
+        self.assertIn("spin: left can't be built: status 1; all that rt said is in out/build/left.log", told)
+        self.assertNotIn("spin_main", self.begun())
+
+    def test_the_next_build_goes_on_from_what_was_proved(self):
+        self.build(FAILS="spin_main")
+        self.assertEqual((self.build()[0], self.begun().count("low"), self.begun().count("spin_main")), (0, 1, 2))
 
     def test_an_interrupt_ends_in_one_line_and_kills_what_runs(self):
         child = self.begin(SLEEP="30.25")
@@ -124,8 +85,7 @@ class Build(unittest.TestCase):
         self.wait_for("end low")
         (self.top / "crates" / "low" / "src" / "lib.rt").write_text("\n")
         child.communicate(timeout=60)
-        status, told = self.build()
-        self.assertIn("begins", told)
+        self.assertIn("are proved and built", self.build()[1])
 
     def test_too_little_memory_or_disk_is_told_before_it_begins(self):
         for what, small in [("memory", ("jobs.memory_free", 10**9)), ("disk", ("shutil.disk_usage", mock.Mock(free=10**9)))]:

@@ -1,0 +1,106 @@
+"""The gate's own proofs of some crates, and the programs that it builds of them.
+
+Each crate is proved by `rt ci NAME`, which loads of the crates below it no more than the statements, and what that has
+proved the kit keeps: so the next build goes on from there, and the gate, also in another clone on this machine, doesn't
+prove it again. It's done over a copy of the crates' files without the edits that must fail, which the gate tries besides.
+The copy stands among the temporary files, since the gate wants no crates.txt but the one at the top of its clone.
+"""
+
+import contextlib
+import os
+import re
+import shutil
+import tempfile
+from pathlib import Path
+
+from wrapper import queue
+from wrapper.program import TOP, tell
+from wrapper.trial import each_minute, passed
+
+# What a build doesn't read of a crate's folder.
+LEFT_OUT = ("out", "must-fail", "README.md")
+
+# How the names of copies begin; the number of the process comes next.
+COPIED = "spin-build-"
+
+# What rt says where it has kept what it proved.
+KEPT = b"passed, and that is kept"
+
+
+class NothingKept(Exception):
+    """The kit can't keep what it has proved."""
+
+
+class Proof(queue.Run):
+    """A crate that is being proved; the kit says how many jobs it takes, where it is to have more than one."""
+
+    def __init__(self, name, count, copy):
+        # under CI=true rt ci takes no names, since with names it isn't the gate; neither is this
+        super().__init__(name, count, ["rt", "ci", name], copy, {"CI": "", **({"RT_JOBS": "1"} if count == 1 else {})})
+
+    def close(self):
+        """Answers whether the crate was proved."""
+        if super().close() and KEPT not in self.log.read_bytes():
+            raise NothingKept
+        return super().close()
+
+
+def copy_to(copy, names):
+    """Makes the copy, with these crates and no others."""
+    for name in names:
+        crate = TOP / "crates" / name
+        shutil.copytree(crate, copy / "crates" / name, ignore=lambda at, _: LEFT_OUT if at == str(crate) else [])
+    lines = (TOP / "crates.txt").read_text().splitlines()
+    listed = [line for line in lines if re.split(r"[\s:]", line)[0] in names]
+    (copy / "crates.txt").write_text("".join(f"{line}\n" for line in listed))
+    shutil.copy2(TOP / "HANDLES", copy)
+    # the gate wants crates.txt at the top of its repository, which is where this is
+    (copy / ".git").mkdir()
+
+
+@contextlib.contextmanager
+def copied(names):
+    """The folder of a copy with these crates, which is removed at the end; those of builds that were killed are, too."""
+    for other in Path(tempfile.gettempdir()).glob(f"{COPIED}*"):
+        process = other.name.removeprefix(COPIED).partition("-")[0]
+        if process.isdigit() and not os.path.exists(f"/proc/{process}"):
+            shutil.rmtree(other, ignore_errors=True)
+    copy = Path(tempfile.mkdtemp(prefix=f"{COPIED}{os.getpid()}-"))
+    try:
+        copy_to(copy, names)
+        yield copy
+    finally:
+        shutil.rmtree(copy, ignore_errors=True)
+
+
+def give(file, place):
+    """Puts a program that was built in its place, also where the one that was there runs."""
+    place.parent.mkdir(exist_ok=True)
+    shutil.copy2(file, place.with_suffix(".new"))
+    place.with_suffix(".new").replace(place)
+
+
+def build(crates, programs):
+    """Proves these crates, puts the programs among them into their folders, and answers whether all went well.
+
+    `crates` has for each crate those that it stands on, lowest first.
+    """
+    with copied(crates) as copy:
+        try:
+            if not queue.build_all(crates, lambda name, count: Proof(name, count, copy)):
+                return False
+        except NothingKept:
+            tell("the kit can't keep what it proves on this machine, so one call of rt ci proves all crates")
+        # with no name it builds the programs of what was proved, and runs them
+        whole = queue.Run("program", 0, ["rt", "ci"], copy, {})
+        try:
+            with each_minute(lambda: tell(f"rt ci is at work, {passed(whole.began)}")):
+                whole.child.wait()
+        finally:
+            whole.stop()
+        if not whole.close():
+            whole.tell_failure()
+            return False
+        for name in programs:
+            give(copy / "crates" / name / "out" / name, TOP / "crates" / name / "out" / name)
+    return True

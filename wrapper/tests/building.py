@@ -1,0 +1,95 @@
+"""What the tests of `./spin build` share: a small repository, in which a script stands in for rt, sleeps, and says what it did."""
+
+import os
+import shutil
+import subprocess
+import tempfile
+import time
+import unittest
+from pathlib import Path
+
+from wrapper.tests import make_repository, stand_in
+
+CRATES = {"low": [], "left": ["low"], "right": ["low"], "spin_main": ["left", "right"], "aside": ["low"]}
+
+# `rt ci NAME` proves a crate and keeps that in $KEPT; `rt ci` finds all kept, and makes the program; `rt lib` builds a crate.
+RT = """#!/bin/sh
+prove() {
+    echo "begin $1" >> "$JOURNAL"
+    echo "the checker on $1"
+    sleep "${SLEEP:-0.1}"
+    [ "$1" = "$FAILS" ] && return 1
+    echo "end $1" >> "$JOURNAL"
+}
+case $1 in
+ci)
+    [ -d .git ] && [ ! -e crates/low/must-fail ] && { [ "$CI" != true ] || [ -z "$2" ]; } || exit 2
+    for it in ${2:-$(sed "s/:.*//" crates.txt)}; do
+        [ -e "$KEPT/$it" ] && continue
+        prove $it || { echo "1 failed"; exit 1; }
+        [ -n "$FULL" ] || { mkdir -p "$KEPT" && touch "$KEPT/$it"; }
+    done
+    [ -n "$FULL" ] || echo "rt: $2 and the crates below passed, and that is kept."
+    [ -n "$2" ] && exit
+    mkdir -p crates/spin_main/out && printf '#!/bin/sh\\n' > crates/spin_main/out/spin_main
+    chmod +x crates/spin_main/out/spin_main ;;
+lib)
+    name=$(basename "$PWD")
+    for it in $(sed "s/:.*//" ../../crates.txt); do [ -d ../$it/src ] || exit 2; done
+    [ "$name" = low ] || { exec 8< ../low && flock 8; }
+    prove "$name"
+esac
+"""
+
+
+class Building(unittest.TestCase):
+    """One build after another in a folder of its own."""
+
+    def setUp(self):
+        self.top = Path(tempfile.mkdtemp())
+        self.addCleanup(shutil.rmtree, self.top)
+        make_repository(self.top, CRATES)
+        (self.top / "crates" / "low" / "must-fail").mkdir()
+        (self.top / "tmp").mkdir()
+        stand_in(self.top, "rt", RT)
+        self.journal = self.top / "journal"
+
+    def begin(self, *words, **environment):
+        """Begins a build."""
+        given = {"PATH": f"{self.top}/bin:{os.environ['PATH']}", "JOURNAL": str(self.journal),
+                 "KEPT": f"{self.top}/kept", "TMPDIR": f"{self.top}/tmp", "CI": "true", **environment}
+        how = {"stdout": subprocess.PIPE, "stderr": subprocess.PIPE, "text": True, "start_new_session": True}
+        return subprocess.Popen([self.top / "spin", "build", *words], env={**os.environ, **given}, **how)
+
+    def build(self, *words, **environment):
+        """The status of a build, and what it says."""
+        child = self.begin(*words, **environment)
+        _, told = child.communicate(timeout=60)
+        return child.returncode, told
+
+    def lines(self):
+        """What rt did."""
+        return self.journal.read_text().splitlines() if self.journal.is_file() else []
+
+    def begun(self):
+        """The crates at which rt was at work, in order."""
+        return [line.split()[1] for line in self.lines() if line.startswith("begin")]
+
+    def assert_in_order(self):
+        """Each crate began when those below it had ended."""
+        for name in self.begun():
+            for other in CRATES[name]:
+                self.assertLess(self.lines().index(f"end {other}"), self.lines().index(f"begin {name}"))
+
+    def assert_side_by_side(self):
+        """Two crates that share one below them didn't wait for each other."""
+        begun, ended = ([self.lines().index(f"{word} {name}") for name in ("left", "right")] for word in ("begin", "end"))
+        self.assertLess(max(begun), min(ended))
+
+    def wait_for(self, word):
+        """Waits until rt did something."""
+        for _ in range(200):
+            if any(word in line for line in self.lines()):
+                return
+            time.sleep(0.05)
+        self.fail(f"{word} didn't come")
