@@ -8,7 +8,7 @@ _spin() {
         return
     fi
     case ${COMP_WORDS[at]} in
-        build) words='--all' ;;
+        build) words='--all --libraries' ;;
         picture) words='run climb --html --out' ;;
         filter) words='--jobs --out --pcap --piece --part' ;;
         help) words='run check join vm gen build session picture filter help version' ;;

@@ -1,4 +1,4 @@
-"""build [--all | --libraries]: proves the crates that the program stands on and builds it; with --all the hosts too.
+"""build [--all|--libraries]: proves the crates that the program stands on and builds it; with --all the hosts too.
 
 The proofs are the gate's own (proofs.py). With --libraries it builds instead, of the crates that the program stands on, the
 libraries that `rt check` goes on from (libraries.py), which takes longer and is for who changes a crate. What was proved or
@@ -94,7 +94,7 @@ def build_libraries():
 def main(words):
     """Proves and builds what is asked for, and answers the exit status."""
     if words not in ([], ["--all"], ["--libraries"]):
-        tell("usage: ./spin build [--all | --libraries]")
+        tell("usage: ./spin build [--all|--libraries]")
         return NOT_RUN
     if not is_ready_to_build():
         return NOT_RUN

@@ -25,7 +25,7 @@ PROGRAM = [
 ]
 
 WRAPPER = [
-    Command("build", "[--all]", "proves and builds the program; with --all the hosts too", "build"),
+    Command("build", "[--all|--libraries]", "proves and builds the program; with --all the hosts too", "build"),
     Command("session", "[SCRIPT]", "a prompt that keeps a script growing and tells what each line did",
             "session examples/first.spin"),
     Command("picture", "run|climb SCRIPT REPORT [PACKETS] [--html] [--out FILE]",

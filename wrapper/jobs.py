@@ -2,6 +2,7 @@
 
 import os
 import re
+from collections import namedtuple
 from pathlib import Path
 
 from wrapper.program import sources
@@ -11,6 +12,9 @@ LARGE, SMALL = 3_000_000_000, 1_500_000_000
 
 # The share of the heaviest chain from which on a chain is held for nearly as heavy.
 NEARLY = 0.9
+
+# What there is of processors and of free memory in bytes, and how many jobs a call takes at most.
+Limits = namedtuple("Limits", "processors memory jobs")
 
 # A crate is large where its code or its proofs have more lines than this.
 LARGE_CODE, LARGE_PROOFS = 1_000, 3_000
@@ -47,26 +51,28 @@ def taken(need, jobs):
     return need * (1 + 0.6 * (jobs - 1))
 
 
-def chosen(ready, running, processors, memory, chain, need):
+def chosen(ready, running, limits, chain, need):
     """The crates of `ready` to begin now, each with its number of jobs.
 
     `running` has the number of jobs of each crate that is being built. In all there are at most as many crates as
     processors, at most one job more than these, since a crate's second job has often nothing to do, and the jobs take no
-    more than this memory, which is what was free when none was running; but where none is running one always begins.
-    Those of the heaviest chains come first. Each job loads the crate and what it stands on, which is time that another
-    crate could use: so a second one is for crates whose chain is nearly the heaviest that is left, and more are for those
-    that begin where no other wants them.
+    more than the memory that was free when none was running; but where none is running one always begins. Those of the
+    heaviest chains come first. Each job loads the crate and what it stands on, which is time that another crate could
+    use: so a second one is for crates whose chain is nearly the heaviest that is left, and more are for those that begin
+    where no other wants them. That of the heaviest chain, for which all others wait in the end, may be one job more.
     """
-    left = memory - sum(taken(need[name], jobs) for name, jobs in running.items())
-    free = processors + 1 - sum(running.values())
-    spare = processors - len(running) - len(ready) + 1
+    left = limits.memory - sum(taken(need[name], jobs) for name, jobs in running.items())
+    free = limits.processors + 1 - sum(running.values())
+    spare = limits.processors - len(running) - len(ready) + 1
     heaviest = max((chain[name] for name in (*ready, *running)), default=0)
     begin = {}
     for name in sorted(ready, key=lambda it: -chain[it]):
-        if free <= 0 or len(running) + len(begin) == processors:
+        most = free + (chain[name] == heaviest)
+        if most <= 0 or len(running) + len(begin) == limits.processors:
             break
         wanted = max(2 if chain[name] >= NEARLY * heaviest else 1, spare)
-        fitting = [jobs for jobs in range(1, min(processors, wanted, free) + 1) if taken(need[name], jobs) <= left]
+        wanted = min(wanted, limits.jobs, limits.processors, most)
+        fitting = [jobs for jobs in range(1, wanted + 1) if taken(need[name], jobs) <= left]
         if fitting or not (running or begin):
             begin[name] = max(fitting, default=1)
             left, free = left - taken(need[name], begin[name]), free - begin[name]

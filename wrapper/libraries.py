@@ -3,7 +3,7 @@
 What was built stays: a build that was killed is gone on with by the next.
 """
 
-from wrapper import queue, rooms
+from wrapper import jobs, queue, rooms
 
 
 class Library(queue.Run):
@@ -25,4 +25,5 @@ class Library(queue.Run):
 
 def build(crates):
     """Builds these libraries, and answers whether all are built."""
-    return queue.build_all(crates, lambda name, count: Library(name, count, rooms.below_all(crates, name)))
+    begin = lambda name, count: Library(name, count, rooms.below_all(crates, name))
+    return queue.build_all(crates, begin, jobs.processors_there())

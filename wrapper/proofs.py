@@ -13,7 +13,7 @@ import shutil
 import tempfile
 from pathlib import Path
 
-from wrapper import queue
+from wrapper import jobs, queue
 from wrapper.program import TOP, tell
 from wrapper.trial import each_minute, passed
 
@@ -87,7 +87,9 @@ def build(crates, programs):
     """
     with copied(crates) as copy:
         try:
-            if not queue.build_all(crates, lambda name, count: Proof(name, count, copy)):
+            begin = lambda name, count: Proof(name, count, copy)
+            # rt gives a crate half of the processors, and the other half to its tests, of which none here has any
+            if not queue.build_all(crates, begin, max(1, jobs.processors_there() // 2), in_advance=True):
                 return False
         except NothingKept:
             tell("the kit can't keep what it proves on this machine, so one call of rt ci proves all crates")

@@ -26,9 +26,10 @@ class Run:
         self.name, self.count, self.began = name, count, time.monotonic()
         self.log = LOGS / f"{name}.log"
         with open(self.log, "wb") as log:
+            # a group and no session of its own, since the system may share the processors out by sessions, whatever runs in them
             self.child = subprocess.Popen(
                 words, cwd=folder, env={**os.environ, **environment}, stdin=subprocess.DEVNULL,
-                stdout=log, stderr=subprocess.STDOUT, start_new_session=True,
+                stdout=log, stderr=subprocess.STDOUT, preexec_fn=os.setpgrp,
             )
 
     def close(self):
@@ -55,44 +56,82 @@ class Run:
         tell(f"{self.name} can't be built: status {self.child.returncode}; all that rt said is in {self.log.relative_to(TOP)}")
 
 
-def times(running):
-    """When each of these began."""
-    return {name: run.began for name, run in running.items()}
+class Queue:
+    """Crates that wait, that are being built, and that are built."""
+
+    def __init__(self, crates, begin, jobs_at_most, in_advance):
+        self.crates, self.begin, self.in_advance = crates, begin, in_advance
+        self.waiting, self.running, self.early, self.built = list(crates), {}, {}, set()
+        self.progress = Progress(len(crates))
+        lines = {name: jobs.line_counts(name) for name in crates}
+        self.need = {name: jobs.memory_of(*counts) for name, counts in lines.items()}
+        self.chain = jobs.chains(crates, {name: sum(counts) for name, counts in lines.items()})
+        self.limits = jobs.Limits(jobs.processors_there(), jobs.memory_free(), jobs_at_most)
+
+    def times(self):
+        """When each that is being built began."""
+        return {name: run.began for name, run in self.running.items()}
+
+    def stand_on(self, names):
+        """The crates that wait and stand on none but these."""
+        return [name for name in self.waiting if set(self.crates[name]) <= names]
+
+    def start(self, name, count):
+        """Begins the crate, unless it was begun in advance."""
+        self.waiting.remove(name)
+        run = self.running[name] = self.early.pop(name, None) or self.begin(name, count)
+        run.began = time.monotonic()
+        self.progress.event(f"{name} begins, {run.count} job{'s' * (run.count > 1)}", self.times())
+
+    def start_all(self):
+        """Begins the crates that may begin now, and one in advance."""
+        for name in self.stand_on(self.built):
+            if name in self.early:
+                self.start(name, 0)
+        counts = {name: run.count for name, run in self.running.items()}
+        for name, count in jobs.chosen(self.stand_on(self.built), counts, self.limits, self.chain, self.need).items():
+            self.start(name, count)
+        soon = self.stand_on(self.built | self.running.keys())
+        if self.in_advance and not self.early and soon:
+            name = max(soon, key=self.chain.get)
+            if not self.built.issuperset(self.crates[name]):
+                self.early[name] = self.begin(name, min(2, self.limits.jobs))
+
+    def look(self):
+        """Notes which have ended, and answers one that wasn't built, if there is one."""
+        for run in [run for run in self.running.values() if run.child.poll() is not None]:
+            del self.running[run.name]
+            if not run.close():
+                return run
+            self.built.add(run.name)
+            self.progress.done += 1
+            self.progress.event(f"{run.name} is built, after {passed(run.began)}", self.times())
+        self.progress.look(self.times())
+        return None
+
+    def stop(self):
+        """Ends what is being built."""
+        self.progress.close()
+        for run in (*self.running.values(), *self.early.values()):
+            run.stop()
 
 
-def build_all(crates, begin):
+def build_all(crates, begin, jobs_at_most, in_advance=False):
     """Builds these crates, each when those that it stands on are built, and answers whether all are.
 
     `crates` has for each crate those that it stands on, lowest first, and `begin(name, count)` begins the call that
-    builds one with so many jobs.
+    builds one with so many jobs. With `in_advance` such a call itself waits for the crates below its own, and reads their
+    sources meanwhile: so that of the heaviest chain begins while these are being built.
     """
-    weights, need = {}, {}
-    for name in crates:
-        code, proofs = jobs.line_counts(name)
-        weights[name], need[name] = code + proofs, jobs.memory_of(code, proofs)
-    chain, memory, processors = jobs.chains(crates, weights), jobs.memory_free(), jobs.processors_there()
-    waiting, built, running, progress = dict(crates), set(), {}, Progress(len(crates))
+    queue = Queue(crates, begin, jobs_at_most, in_advance)
+    failed = None
     try:
-        while waiting or running:
-            ready = [name for name, below in waiting.items() if built.issuperset(below)]
-            counts = {name: run.count for name, run in running.items()}
-            for name, count in jobs.chosen(ready, counts, processors, memory, chain, need).items():
-                del waiting[name]
-                running[name] = begin(name, count)
-                progress.event(f"{name} begins, {count} job{'s' * (count > 1)}", times(running))
-            for run in [run for run in running.values() if run.child.poll() is not None]:
-                del running[run.name]
-                if not run.close():
-                    progress.close()
-                    run.tell_failure()
-                    return False
-                built.add(run.name)
-                progress.done += 1
-                progress.event(f"{run.name} is built, after {passed(run.began)}", times(running))
-            progress.look(times(running))
+        while failed is None and (queue.waiting or queue.running):
+            queue.start_all()
             time.sleep(LOOK)
+            failed = queue.look()
     finally:
-        progress.close()
-        for run in running.values():
-            run.stop()
-    return True
+        queue.stop()
+    if failed:
+        failed.tell_failure()
+    return failed is None

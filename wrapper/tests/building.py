@@ -12,7 +12,7 @@ from wrapper.tests import make_repository, stand_in
 
 CRATES = {"low": [], "left": ["low"], "right": ["low"], "spin_main": ["left", "right"], "aside": ["low"]}
 
-# `rt ci NAME` proves a crate and keeps that in $KEPT; `rt ci` finds all kept, and makes the program; `rt lib` builds a crate.
+# `rt ci NAME` waits for the crates below, proves one, and keeps that in $KEPT; `rt ci` finds all kept, and makes the program; `rt lib` builds a crate.
 RT = """#!/bin/sh
 prove() {
     echo "begin $1" >> "$JOURNAL"
@@ -24,6 +24,10 @@ prove() {
 case $1 in
 ci)
     [ -d .git ] && [ ! -e crates/low/must-fail ] && { [ "$CI" != true ] || [ -z "$2" ]; } || exit 2
+    for it in $([ -n "$2" ] && sed -n "s/^$2://p" crates.txt); do
+        echo "wait $it" >> "$JOURNAL"
+        while [ ! -e "$KEPT/$it" ]; do sleep 0.05; done
+    done
     for it in ${2:-$(sed "s/:.*//" crates.txt)}; do
         [ -e "$KEPT/$it" ] && continue
         prove $it || { echo "1 failed"; exit 1; }

@@ -2,7 +2,7 @@
 
 import unittest
 
-from wrapper.jobs import LARGE, SMALL, chains, chosen, memory_of
+from wrapper.jobs import LARGE, SMALL, Limits, chains, chosen, memory_of
 
 GB = 10**9
 
@@ -22,9 +22,9 @@ class Chosen(unittest.TestCase):
 
     chain = {"a": 30, "b": 20, "c": 10, "d": 5}
 
-    def chosen(self, ready, running=None, processors=4, memory=100 * GB, need=SMALL):
+    def chosen(self, ready, running=None, processors=4, memory=100 * GB, need=SMALL, jobs=4):
         """What begins of these where each takes so much memory."""
-        return chosen(ready, running or {}, processors, memory, self.chain, dict.fromkeys("abcd", need))
+        return chosen(ready, running or {}, Limits(processors, memory, jobs), self.chain, dict.fromkeys("abcd", need))
 
     def test_the_heaviest_chain_comes_first(self):
         self.assertEqual(list(self.chosen("cba", processors=2)), ["a", "b"])
@@ -44,7 +44,7 @@ class Chosen(unittest.TestCase):
 
     def test_a_chain_that_is_nearly_the_heaviest_counts_as_such(self):
         heavy = {"a": 30, "b": 27, "c": 26}
-        begin = chosen("abc", {"d": 1}, 4, 100 * GB, {**heavy, "d": 1}, dict.fromkeys("abcd", SMALL))
+        begin = chosen("abc", {"d": 1}, Limits(4, 100 * GB, 4), {**heavy, "d": 1}, dict.fromkeys("abcd", SMALL))
         self.assertEqual(begin, {"a": 2, "b": 2})
 
     def test_no_more_begin_than_there_are_processors(self):
@@ -54,6 +54,14 @@ class Chosen(unittest.TestCase):
     def test_there_is_at_most_one_job_more_than_processors(self):
         self.assertEqual(self.chosen("c", {"a": 4}), {"c": 1})
         self.assertEqual(self.chosen("c", {"a": 4, "b": 1}), {})
+
+    def test_that_of_the_heaviest_chain_may_be_one_more(self):
+        self.assertEqual(self.chosen("a", {"b": 2, "c": 1, "d": 1}, processors=5), {"a": 2})
+        self.assertEqual(self.chosen("ab", {"c": 2, "d": 2}), {"a": 2})
+
+    def test_none_gets_more_than_its_call_takes(self):
+        self.assertEqual(self.chosen("b", jobs=2), {"b": 2})
+        self.assertEqual(self.chosen("b", jobs=1), {"b": 1})
 
     def test_no_more_begins_than_memory_is_there_for(self):
         self.assertEqual(self.chosen("abc", memory=8 * GB, need=LARGE), {"a": 2, "b": 1})
