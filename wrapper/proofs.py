@@ -15,7 +15,6 @@ from pathlib import Path
 
 from wrapper import jobs, queue
 from wrapper.program import TOP, tell
-from wrapper.trial import each_minute, passed
 
 # What a build doesn't read of a crate's folder.
 LEFT_OUT = ("out", "must-fail", "README.md")
@@ -43,6 +42,13 @@ class Proof(queue.Run):
         if super().close() and KEPT not in self.log.read_bytes():
             raise NothingKept
         return super().close()
+
+
+class Programs(queue.Run):
+    """The call without a name, which proves what isn't proved yet, builds the programs of the copy, and runs them."""
+
+    def __init__(self, name, count, copy):
+        super().__init__(name, count, ["rt", "ci"], copy, {})
 
 
 def copy_to(copy, names):
@@ -80,28 +86,26 @@ def give(file, place):
     place.with_suffix(".new").replace(place)
 
 
+def prove_all(crates, last, copy):
+    """Proves these crates, `last` in the end with a call that builds all programs, and answers whether all went well."""
+    # rt gives a crate half of the processors, and the other half to its tests, of which none here has any
+    most = max(1, jobs.processors_there() // 2)
+    begin = lambda name, count: (Programs if name == last else Proof)(name, count, copy)
+    others = [name for name in crates if name != last]
+    try:
+        return queue.build_all({**crates, last: others}, begin, most, in_advance=True)
+    except NothingKept:
+        tell("the kit can't keep what it proves on this machine, so one call of rt ci proves all crates")
+        return queue.build_all({last: []}, begin, most)
+
+
 def build(crates, programs):
     """Proves these crates, puts the programs among them into their folders, and answers whether all went well.
 
-    `crates` has for each crate those that it stands on, lowest first.
+    `crates` has for each crate those that it stands on, lowest first; the first of the programs is proved last.
     """
     with copied(crates) as copy:
-        try:
-            begin = lambda name, count: Proof(name, count, copy)
-            # rt gives a crate half of the processors, and the other half to its tests, of which none here has any
-            if not queue.build_all(crates, begin, max(1, jobs.processors_there() // 2), in_advance=True):
-                return False
-        except NothingKept:
-            tell("the kit can't keep what it proves on this machine, so one call of rt ci proves all crates")
-        # with no name it builds the programs of what was proved, and runs them
-        whole = queue.Run("program", 0, ["rt", "ci"], copy, {})
-        try:
-            with each_minute(lambda: tell(f"rt ci is at work, {passed(whole.began)}")):
-                whole.child.wait()
-        finally:
-            whole.stop()
-        if not whole.close():
-            whole.tell_failure()
+        if not prove_all(crates, programs[0], copy):
             return False
         for name in programs:
             give(copy / "crates" / name / "out" / name, TOP / "crates" / name / "out" / name)

@@ -12,7 +12,7 @@ from wrapper.tests import make_repository, stand_in
 
 CRATES = {"low": [], "left": ["low"], "right": ["low"], "spin_main": ["left", "right"], "aside": ["low"]}
 
-# `rt ci NAME` waits for the crates below, proves one, and keeps that in $KEPT; `rt ci` finds all kept, and makes the program; `rt lib` builds a crate.
+# `rt ci NAME` waits for the crates below, proves one, and keeps that in $KEPT; `rt ci` proves the rest, and makes the program; `rt lib` builds a crate.
 RT = """#!/bin/sh
 prove() {
     echo "begin $1" >> "$JOURNAL"
@@ -29,9 +29,12 @@ ci)
         while [ ! -e "$KEPT/$it" ]; do sleep 0.05; done
     done
     for it in ${2:-$(sed "s/:.*//" crates.txt)}; do
-        [ -e "$KEPT/$it" ] && continue
-        prove $it || { echo "1 failed"; exit 1; }
-        [ -n "$FULL" ] || { mkdir -p "$KEPT" && touch "$KEPT/$it"; }
+        exec 9> "$JOURNAL.$it" && flock 9
+        if [ ! -e "$KEPT/$it" ]; then
+            prove $it || { echo "1 failed"; exit 1; }
+            [ -n "$FULL" ] || { mkdir -p "$KEPT" && touch "$KEPT/$it"; }
+        fi
+        exec 9>&-
     done
     [ -n "$FULL" ] || echo "rt: $2 and the crates below passed, and that is kept."
     [ -n "$2" ] && exit

@@ -28,9 +28,7 @@ class Build(Building):
 
     def test_that_of_the_heaviest_chain_begins_in_advance(self):
         self.build(SLEEP="1")
-        lines = self.lines()
-        self.assertLess(lines.index("wait low"), lines.index("end low"))
-        self.assertLess(lines.index("wait left"), max(lines.index("end left"), lines.index("end right")))
+        self.assertLess(self.lines().index("wait low"), self.lines().index("end low"))
 
     def test_where_nothing_is_kept_one_call_proves_all(self):
         status, told = self.build(FULL="1")
