@@ -54,29 +54,30 @@ def taken(need, jobs):
 def chosen(ready, running, limits, chain, need):
     """The crates of `ready` to begin now, each with its number of jobs.
 
-    `running` has the number of jobs of each crate that is being built. In all there are at most as many crates as
-    processors, at most one job more than these, since a crate's second job has often nothing to do, and the jobs take no
-    more than the memory that was free when none was running; but where none is running one always begins. Those of the
-    heaviest chains come first. Each job loads the crate and what it stands on, which is time that another crate could
-    use: so a second one is for crates whose chain is nearly the heaviest that is left, and more are for those that begin
-    where no other wants them. That of the heaviest chain, for which all others wait in the end, may be one job more.
+    `running` has the number of jobs of each crate that is being built. In all there are at most twice as many jobs as
+    processors, of which those of lighter chains yield to the others, and they take no more than the memory that was free
+    when none was running; but where none is running one always begins. Those of the heaviest chains come first. Two jobs
+    take more time in all than one: so a second one is for crates whose chain is nearly the heaviest that is left, and more
+    are for those that begin where no other wants them.
     """
     left = limits.memory - sum(taken(need[name], jobs) for name, jobs in running.items())
-    free = limits.processors + 1 - sum(running.values())
-    spare = limits.processors - len(running) - len(ready) + 1
+    used = sum(running.values())
     heaviest = max((chain[name] for name in (*ready, *running)), default=0)
     begin = {}
-    for name in sorted(ready, key=lambda it: -chain[it]):
-        most = free + (chain[name] == heaviest)
-        if most <= 0 or len(running) + len(begin) == limits.processors:
-            break
+    for others, name in reversed([*enumerate(sorted(ready, key=chain.get))]):
+        spare = limits.processors - used - others
         wanted = max(2 if chain[name] >= NEARLY * heaviest else 1, spare)
-        wanted = min(wanted, limits.jobs, limits.processors, most)
+        wanted = min(wanted, limits.jobs, limits.processors, 2 * limits.processors - used)
         fitting = [jobs for jobs in range(1, wanted + 1) if taken(need[name], jobs) <= left]
         if fitting or not (running or begin):
             begin[name] = max(fitting, default=1)
-            left, free = left - taken(need[name], begin[name]), free - begin[name]
+            left, used = left - taken(need[name], begin[name]), used + begin[name]
     return begin
+
+
+def niceness(chain, heaviest):
+    """How far a crate of such a chain yields to others, as the system counts it, where this is the heaviest that is left."""
+    return min(19, round(20 * (1 - chain / heaviest))) if heaviest else 0
 
 
 def processors_there():

@@ -9,8 +9,8 @@ from wrapper import jobs, queue, rooms
 class Library(queue.Run):
     """A library that is being built."""
 
-    def __init__(self, name, count, below):
-        super().__init__(name, count, ["rt", "lib", "--jobs", str(count)], rooms.furnish(name, below), {})
+    def __init__(self, name, count, niceness, below):
+        super().__init__(name, count, niceness, ["rt", "lib", "--jobs", str(count)], rooms.furnish(name, below), {})
 
     def close(self):
         """Gives the crate's folder what was built, and answers whether it was."""
@@ -25,5 +25,5 @@ class Library(queue.Run):
 
 def build(crates):
     """Builds these libraries, and answers whether all are built."""
-    begin = lambda name, count: Library(name, count, rooms.below_all(crates, name))
+    begin = lambda name, *how: Library(name, *how, rooms.below_all(crates, name))
     return queue.build_all(crates, begin, jobs.processors_there())

@@ -33,9 +33,10 @@ class NothingKept(Exception):
 class Proof(queue.Run):
     """A crate that is being proved; the kit says how many jobs it takes, where it is to have more than one."""
 
-    def __init__(self, name, count, copy):
+    def __init__(self, name, count, niceness, copy):
         # under CI=true rt ci takes no names, since with names it isn't the gate; neither is this
-        super().__init__(name, count, ["rt", "ci", name], copy, {"CI": "", **({"RT_JOBS": "1"} if count == 1 else {})})
+        environment = {"CI": "", **({"RT_JOBS": "1"} if count == 1 else {})}
+        super().__init__(name, count, niceness, ["rt", "ci", name], copy, environment)
 
     def close(self):
         """Answers whether the crate was proved."""
@@ -47,8 +48,8 @@ class Proof(queue.Run):
 class Programs(queue.Run):
     """The call without a name, which proves what isn't proved yet, builds the programs of the copy, and runs them."""
 
-    def __init__(self, name, count, copy):
-        super().__init__(name, count, ["rt", "ci"], copy, {})
+    def __init__(self, name, count, niceness, copy):
+        super().__init__(name, count, niceness, ["rt", "ci"], copy, {})
 
 
 def copy_to(copy, names):
@@ -90,7 +91,7 @@ def prove_all(crates, last, copy):
     """Proves these crates, `last` in the end with a call that builds all programs, and answers whether all went well."""
     # rt gives a crate half of the processors, and the other half to its tests, of which none here has any
     most = max(1, jobs.processors_there() // 2)
-    begin = lambda name, count: (Programs if name == last else Proof)(name, count, copy)
+    begin = lambda name, *how: (Programs if name == last else Proof)(name, *how, copy)
     others = [name for name in crates if name != last]
     try:
         return queue.build_all({**crates, last: others}, begin, most, in_advance=True)

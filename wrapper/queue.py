@@ -20,16 +20,16 @@ LOOK = 0.2
 
 
 class Run:
-    """A call of rt that builds a crate with so many jobs."""
+    """A call of rt that builds a crate with so many jobs, and yields to others as far as `niceness` says."""
 
-    def __init__(self, name, count, words, folder, environment):
+    def __init__(self, name, count, niceness, words, folder, environment):
         self.name, self.count, self.began = name, count, time.monotonic()
         self.log = LOGS / f"{name}.log"
         with open(self.log, "wb") as log:
-            # a group and no session of its own, since the system may share the processors out by sessions, whatever runs in them
+            # of its own it gets a group and no session, since the system may share the processors out by sessions first
             self.child = subprocess.Popen(
                 words, cwd=folder, env={**os.environ, **environment}, stdin=subprocess.DEVNULL,
-                stdout=log, stderr=subprocess.STDOUT, preexec_fn=os.setpgrp,
+                stdout=log, stderr=subprocess.STDOUT, preexec_fn=lambda: (os.setpgrp(), os.nice(niceness)),
             )
 
     def close(self):
@@ -76,10 +76,15 @@ class Queue:
         """The crates that wait and stand on none but these."""
         return [name for name in self.waiting if set(self.crates[name]) <= names]
 
+    def call(self, name, count):
+        """Begins the call that builds the crate."""
+        heaviest = max(self.chain[it] for it in (name, *self.waiting, *self.running))
+        return self.begin(name, count, jobs.niceness(self.chain[name], heaviest))
+
     def start(self, name, count):
         """Begins the crate, unless it was begun in advance."""
         self.waiting.remove(name)
-        run = self.running[name] = self.early.pop(name, None) or self.begin(name, count)
+        run = self.running[name] = self.early.pop(name, None) or self.call(name, count)
         run.began = time.monotonic()
         self.progress.event(f"{name} begins, {run.count} job{'s' * (run.count > 1)}", self.times())
 
@@ -95,7 +100,7 @@ class Queue:
         if self.in_advance and not self.early and soon:
             name = max(soon, key=self.chain.get)
             if not self.built.issuperset(self.crates[name]):
-                self.early[name] = self.begin(name, min(2, self.limits.jobs))
+                self.early[name] = self.call(name, min(2, self.limits.jobs))
 
     def look(self):
         """Notes which have ended, and answers one that wasn't built, if there is one."""
@@ -119,8 +124,8 @@ class Queue:
 def build_all(crates, begin, jobs_at_most, in_advance=False):
     """Builds these crates, each when those that it stands on are built, and answers whether all are.
 
-    `crates` has for each crate those that it stands on, lowest first, and `begin(name, count)` begins the call that
-    builds one with so many jobs. With `in_advance` such a call itself waits for the crates below its own, and reads their
+    `crates` has for each crate those that it stands on, lowest first, and `begin(name, count, niceness)` begins the call
+    that builds one with so many jobs. With `in_advance` such a call itself waits for the crates below its own, and reads their
     sources meanwhile: so that of the heaviest chain begins while these are being built.
     """
     queue = Queue(crates, begin, jobs_at_most, in_advance)

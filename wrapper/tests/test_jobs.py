@@ -2,7 +2,7 @@
 
 import unittest
 
-from wrapper.jobs import LARGE, SMALL, Limits, chains, chosen, memory_of
+from wrapper.jobs import LARGE, SMALL, Limits, chains, chosen, memory_of, niceness
 
 GB = 10**9
 
@@ -27,14 +27,14 @@ class Chosen(unittest.TestCase):
         return chosen(ready, running or {}, Limits(processors, memory, jobs), self.chain, dict.fromkeys("abcd", need))
 
     def test_the_heaviest_chain_comes_first(self):
-        self.assertEqual(list(self.chosen("cba", processors=2)), ["a", "b"])
+        self.assertEqual(list(self.chosen("cba", processors=1)), ["a", "b"])
 
     def test_one_alone_gets_all_processors(self):
         self.assertEqual(self.chosen("b"), {"b": 4})
         self.assertEqual(self.chosen("b", processors=1), {"b": 1})
 
     def test_each_gets_what_no_other_wants(self):
-        self.assertEqual(self.chosen("bc"), {"b": 3, "c": 2})
+        self.assertEqual(self.chosen("bc"), {"b": 3, "c": 1})
         self.assertEqual(self.chosen("c", {"a": 1}), {"c": 3})
 
     def test_two_are_for_the_heaviest_chain_and_one_for_others(self):
@@ -45,19 +45,12 @@ class Chosen(unittest.TestCase):
     def test_a_chain_that_is_nearly_the_heaviest_counts_as_such(self):
         heavy = {"a": 30, "b": 27, "c": 26}
         begin = chosen("abc", {"d": 1}, Limits(4, 100 * GB, 4), {**heavy, "d": 1}, dict.fromkeys("abcd", SMALL))
-        self.assertEqual(begin, {"a": 2, "b": 2})
+        self.assertEqual(begin, {"a": 2, "b": 2, "c": 1})
 
-    def test_no_more_begin_than_there_are_processors(self):
-        self.assertEqual(self.chosen("abc", processors=2), {"a": 2, "b": 1})
-        self.assertEqual(self.chosen("c", {"a": 1, "b": 1}, processors=2), {})
-
-    def test_there_is_at_most_one_job_more_than_processors(self):
-        self.assertEqual(self.chosen("c", {"a": 4}), {"c": 1})
-        self.assertEqual(self.chosen("c", {"a": 4, "b": 1}), {})
-
-    def test_that_of_the_heaviest_chain_may_be_one_more(self):
-        self.assertEqual(self.chosen("a", {"b": 2, "c": 1, "d": 1}, processors=5), {"a": 2})
-        self.assertEqual(self.chosen("ab", {"c": 2, "d": 2}), {"a": 2})
+    def test_there_are_at_most_twice_as_many_jobs_as_processors(self):
+        self.assertEqual(self.chosen("abc", processors=2), {"a": 2, "b": 1, "c": 1})
+        self.assertEqual(self.chosen("bc", {"a": 2, "d": 1}, processors=2), {"b": 1})
+        self.assertEqual(self.chosen("c", {"a": 4, "b": 4}), {})
 
     def test_none_gets_more_than_its_call_takes(self):
         self.assertEqual(self.chosen("b", jobs=2), {"b": 2})
@@ -73,6 +66,10 @@ class Chosen(unittest.TestCase):
 
     def test_nothing_begins_where_nothing_is_ready(self):
         self.assertEqual(self.chosen(""), {})
+
+    def test_the_lighter_a_chain_the_further_it_yields(self):
+        self.assertEqual([niceness(chain, 100) for chain in (100, 95, 50, 0)], [0, 1, 10, 19])
+        self.assertEqual(niceness(0, 0), 0)
 
     def test_a_crate_is_large_by_its_code_or_its_proofs(self):
         sizes = [(1_000, 3_000), (1_001, 0), (0, 3_001)]
