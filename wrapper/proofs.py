@@ -8,12 +8,11 @@ The copy stands among the temporary files, since the gate wants no crates.txt bu
 
 import contextlib
 import os
-import re
 import shutil
 import tempfile
 from pathlib import Path
 
-from wrapper import jobs, queue
+from wrapper import jobs, queue, rooms
 from wrapper.program import TOP, tell
 
 # What a build doesn't read of a crate's folder.
@@ -34,7 +33,8 @@ class Proof(queue.Run):
     """A crate that is being proved; the kit says how many jobs it takes, where it is to have more than one."""
 
     def __init__(self, name, count, niceness, copy):
-        # under CI=true rt ci takes no names, since with names it isn't the gate; neither is this
+        # under CI=true rt ci takes no names, since with names it isn't the gate; neither is this. RT_JOBS is read by
+        # rt ci alone, and one that doesn't know it gives each crate as many jobs as it likes
         environment = {"CI": "", **({"RT_JOBS": "1"} if count == 1 else {})}
         super().__init__(name, count, niceness, ["rt", "ci", name], copy, environment)
 
@@ -57,10 +57,7 @@ def copy_to(copy, names):
     for name in names:
         crate = TOP / "crates" / name
         shutil.copytree(crate, copy / "crates" / name, ignore=lambda at, _: LEFT_OUT if at == str(crate) else [])
-    lines = (TOP / "crates.txt").read_text().splitlines()
-    listed = [line for line in lines if re.split(r"[\s:]", line)[0] in names]
-    (copy / "crates.txt").write_text("".join(f"{line}\n" for line in listed))
-    shutil.copy2(TOP / "HANDLES", copy)
+    rooms.copy_top(copy, names)
     # the gate wants crates.txt at the top of its repository, which is where this is
     (copy / ".git").mkdir()
 
@@ -92,9 +89,9 @@ def prove_all(crates, last, copy):
     # rt gives a crate half of the processors, and the other half to its tests, of which none here has any
     most = max(1, jobs.processors_there() // 2)
     begin = lambda name, *how: (Programs if name == last else Proof)(name, *how, copy)
-    others = [name for name in crates if name != last]
+    others = {name: below for name, below in crates.items() if name != last}
     try:
-        return queue.build_all({**crates, last: others}, begin, most, in_advance=True)
+        return queue.build_all({**others, last: [*others]}, begin, most, in_advance=True)
     except NothingKept:
         tell("the kit can't keep what it proves on this machine, so one call of rt ci proves all crates")
         return queue.build_all({last: []}, begin, most)

@@ -26,6 +26,14 @@ def link(source, target):
         shutil.copy2(source, target)
 
 
+def copy_top(folder, names):
+    """Copies what the top of the repository says of these crates: their lines of crates.txt, and HANDLES."""
+    lines = (TOP / "crates.txt").read_text().splitlines()
+    listed = [line for line in lines if re.split(r"[\s:]", line)[0] in names]
+    (folder / "crates.txt").write_text("".join(f"{line}\n" for line in listed))
+    shutil.copy2(TOP / "HANDLES", folder)
+
+
 def copy_below(name, room):
     """Copies a crate that the room's crate stands on: its sources, and what was built of it."""
     crate, copied = TOP / "crates" / name, room / "crates" / name
@@ -41,10 +49,7 @@ def furnish(name, below):
     room = ROOMS / name
     shutil.rmtree(room, ignore_errors=True)
     room.mkdir(parents=True)
-    shutil.copy2(TOP / "HANDLES", room / "HANDLES")
-    lines = (TOP / "crates.txt").read_text().splitlines()
-    listed = [line for line in lines if re.split(r"[\s:]", line)[0] in (name, *below)]
-    (room / "crates.txt").write_text("".join(f"{line}\n" for line in listed))
+    copy_top(room, (name, *below))
     for other in below:
         copy_below(other, room)
     crate, copied = TOP / "crates" / name, room / "crates" / name
