@@ -17,7 +17,7 @@ import time
 from collections import Counter
 from pathlib import Path
 
-from wrapper import commands, help, reasons
+from wrapper import commands, expression, help, reasons
 from wrapper.counts import summary
 from wrapper.pieces import Refused, Walk, find_capture
 from wrapper.program import NOT_RUN, TOP, command, tell
@@ -55,13 +55,15 @@ def read_words(words):
     """What the words ask for."""
     usage = help.usage(commands.named("filter")).rstrip()
     parser = Words(usage=usage, add_help=False, allow_abbrev=False)
-    parser.add_argument("script", metavar="SCRIPT")
-    parser.add_argument("captures", metavar="CAPTURE", nargs="+")
     parser.add_argument("--jobs", type=positive, default=len(os.sched_getaffinity(0)))
     parser.add_argument("--out", type=Path, default=Path("filtered"))
     parser.add_argument("--pcap", action="store_true")
     parser.add_argument("--piece", type=positive, default=PIECE)
     parser.add_argument("--part", type=part)
+    if "-e" in words:
+        return expression.read_words(words, parser)
+    parser.add_argument("script", metavar="SCRIPT")
+    parser.add_argument("captures", metavar="CAPTURE", nargs="+")
     return parser.parse_intermixed_args(words)
 
 
@@ -305,7 +307,8 @@ class Filter:
 def main(words):
     """Filters captures as the words ask for, and answers the exit status."""
     try:
-        lines = Filter(read_words(words)).run()
+        options, run = read_words(words), lambda options: Filter(options).run()
+        lines = expression.run(options, run) if "-e" in words else run(options)
     except Refused as refused:
         for line in refused.lines:
             tell(line) if not line.startswith(" ") else print(line, file=sys.stderr)
