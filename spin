@@ -37,9 +37,9 @@ def main(words):
     words = words[1:] if quiet else words
     name = commands.FLAGS.get(words[0], words[0]) if words else ""
     if commands.is_programs(name) and not commands.asks_help(words):
-        from wrapper import explain
+        from wrapper import ending
 
-        explain.main(words, quiet)
+        return ending.main(words, quiet)
     if commands.named(name) and not commands.asks_help(words):
         return importlib.import_module(f"wrapper.{name}").main(words[1:])
     from wrapper import help

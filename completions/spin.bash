@@ -8,6 +8,9 @@ _spin() {
         return
     fi
     case ${COMP_WORDS[at]} in
+        run) words='--out --append' ;;
+        join) words='--out --append' ;;
+        gen) words='--out --append' ;;
         build) words='--all --libraries' ;;
         picture) words='run climb --html --out' ;;
         filter) words='--jobs --out --pcap --piece --part' ;;

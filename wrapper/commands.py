@@ -12,15 +12,15 @@ from wrapper.program import TOP
 Command = namedtuple("Command", "name words line example")
 
 PROGRAM = [
-    Command("run", "SCRIPT [PACKETS]", "runs a script, over a capture or none, and writes its report",
-            "run examples/first.spin"),
+    Command("run", "SCRIPT [PACKETS] [--out FOLDER] [--append]",
+            "runs a script, over a capture or none, and writes its report", "run examples/first.spin"),
     Command("check", "SCRIPT REPORT [PACKETS]", "judges a report: yes where it is some run's, no where it is none's",
             "check examples/first.spin examples/first.report"),
-    Command("join", "SCRIPT PACKETS", "runs a script over a capture whose fragments are made whole",
-            "join examples/packets.spin packets.pcap"),
+    Command("join", "SCRIPT PACKETS [--out FOLDER] [--append]",
+            "runs a script over a capture whose fragments are made whole", "join examples/packets.spin packets.pcap"),
     Command("vm", "SCRIPT TRACE", "runs a trace of memory accesses, whose faults are events",
             "vm pager.spin accesses.trace"),
-    Command("gen", "NUMBER", "runs a large script made from a number, and writes six counts",
+    Command("gen", "NUMBER [--out FOLDER] [--append]", "runs a large script made from a number, and writes six counts",
             "gen 1"),
 ]
 
@@ -75,7 +75,12 @@ def asks_help(words):
     return any(word in ("-h", "--help") for word in words[1:])
 
 
+def operands(command):
+    """The words of a command without the flags, which are the wrapper's own."""
+    return command.words.partition(" [--")[0]
+
+
 def how_many(command):
     """The least and the greatest number of words behind a command of the program's."""
-    words = command.words.split()
+    words = operands(command).split()
     return sum(not word.startswith("[") for word in words), len(words)

@@ -19,6 +19,8 @@ from pathlib import Path
 
 from wrapper import commands, expression, help, reasons
 from wrapper.counts import summary
+from wrapper.keeping import PIECES, Made
+from wrapper.outputs import tell_lost
 from wrapper.pieces import Refused, Walk, find_capture
 from wrapper.program import NOT_RUN, TOP, command, tell
 from wrapper.rounds import InTheWay, read_rounds
@@ -161,7 +163,7 @@ class Filter:
         self.counts = Counter(accepted=accepted, refused=self.rounds.commands - accepted)
         self.captures = [find_capture(name) for name in options.captures]
         self.pieces = []  # how many each capture has
-        self.folder = options.out.absolute() / "pieces"
+        self.folder, self.made = options.out.absolute() / PIECES, Made(options.out)
         self.second = max(capture.second for capture in self.captures) if options.pcap else None
 
     def read_script(self):
@@ -268,20 +270,21 @@ class Filter:
             for suffix, is_wanted in (("pcap", is_pcap), ("bin", not is_pcap)):
                 self.join_files(f"{name}.{suffix}", found if is_wanted else [])
         shutil.rmtree(self.folder, ignore_errors=True)
+        self.made.end()
 
     def join_files(self, name, folders):
         """Writes the files of that name in the folders as one; without folders there is none."""
-        whole = self.options.out / name
+        whole = self.folder / name
         if not folders:
-            whole.unlink(missing_ok=True)
+            self.made.take_away(name)
             return
-        with open(f"{whole}.part", "wb") as out:
+        with open(whole, "wb") as out:
             if name.endswith(".pcap"):
                 out.write(self.header())
             for folder in folders:
                 with open(folder / name, "rb") as file:
                     shutil.copyfileobj(file, out)
-        os.replace(f"{whole}.part", whole)
+        self.made.put(whole, name)
 
     def header(self):
         """The header of a capture of frames that were received."""
@@ -291,16 +294,19 @@ class Filter:
 
     def run(self):
         """Runs the pieces and, if not only a part of them is asked for, joins them; the lines to be written."""
-        self.folder.mkdir(parents=True, exist_ok=True)
-        with open(self.options.out / "lock", "w") as lock:
+        self.options.out.mkdir(parents=True, exist_ok=True)
+        with open(self.options.out / "lock", "a") as lock:
             try:
                 fcntl.flock(lock, (fcntl.LOCK_SH if self.options.part else fcntl.LOCK_EX) | fcntl.LOCK_NB)
             except BlockingIOError:
                 raise Refused(NOT_RUN, f"another call works in {self.options.out}") from None
+            self.made.begin(f"{name}.{suffix}" for name in (*PLAIN_NAMES, "echo") for suffix in ("bin", "pcap"))
+            self.folder.mkdir(exist_ok=True)
             self.run_pieces()
             if self.options.part:
                 return []
             self.join()
+            tell_lost(["run", self.options.script])
             return summary(self.counts, self.rounds.endpoints)
 
 

@@ -12,7 +12,7 @@ import sys
 import tempfile
 from pathlib import Path
 
-from wrapper import climb_picture, explain, program, run_picture
+from wrapper import climb_picture, ending, program, run_picture
 from wrapper.reading import read_report, read_script
 from wrapper.svg import TooLarge, page
 
@@ -121,6 +121,6 @@ def main(words):
     except Refused as refused:
         program.tell(str(refused))
         if refused.judged:
-            explain.tell_reasons(program.command(), ["check", *refused.judged], refused.status)
+            ending.tell_reasons(program.command(), ["check", *refused.judged], refused.status)
         return refused.status
     return 0

@@ -10,7 +10,7 @@ import select
 import stat
 import subprocess
 
-from wrapper import causes, commands, faults, marks, strays
+from wrapper import causes, commands, faults, marks, outputs, strays
 
 WIDTH = 96
 
@@ -185,7 +185,7 @@ def of_words(command, words, status):
     """A faulty command line."""
     called, given = commands.named(words[0]), words[1:]
     least, most = commands.how_many(called)
-    told = [f"{called.name} takes {called.words}"]
+    told = [f"{called.name} takes {commands.operands(called)}"]
     if not least <= len(given) <= most:
         told[0] += f"; {len(given)} word{'s are' if len(given) != 1 else ' is'} given"
     for word in given:
@@ -239,18 +239,19 @@ def of_unwritten(command, words, status):
     return ["standard output took no more bytes; is the disk full?", meaning(status)]
 
 
-def of_endpoint(command, words, status):
-    """An endpoint that failed."""
-    told = []
-    for name in ("out0.bin", "out1.bin", "out2.bin", "out3.bin", "echo.bin"):
-        if os.path.isdir(name):
+def of_endpoint(status, folder):
+    """An endpoint that failed, whose file is in that folder."""
+    told, where = [], "this folder" if folder == "." else folder
+    for name in outputs.standing(outputs.NAMES, folder):
+        file = os.path.join(folder, name)
+        if os.path.isdir(file):
             told.append(f"    {name} is a folder")
-        elif os.path.exists(name) and not os.access(name, os.W_OK):
+        elif os.path.exists(file) and not os.access(file, os.W_OK):
             told.append(f"    {name} may not be written")
-    if not os.access(".", os.W_OK):
-        told.append("    no file may be made in this folder")
+    if not os.access(folder, os.W_OK):
+        told.append(f"    no file may be made in {where}")
     why = meaning(status).replace("endpoint P", "the endpoint of that number")
-    return ["what a handler sends to an endpoint goes to the file NAME.bin in this folder", *told, why]
+    return [f"what a handler sends to an endpoint goes to the file NAME.bin in {where}", *told, why]
 
 
 def of_no(command, words, status):
@@ -286,13 +287,15 @@ def of_capture_named(text, script, report, packets):
 
 
 REASONS = {
-    1: of_words, 2: of_script, 3: of_capture, 4: of_unread, 5: of_unwritten, 6: of_missing, 8: of_endpoint, 9: of_no,
-    11: of_trace, 12: of_unsuited,
+    1: of_words, 2: of_script, 3: of_capture, 4: of_unread, 5: of_unwritten, 6: of_missing, 9: of_no, 11: of_trace,
+    12: of_unsuited,
 }
 
 
-def of(command, words, status):
-    """The lines that are told of a status of the program, which ended so on these words."""
+def of(command, words, status, folder="."):
+    """The lines that are told of a status of the program, which ended so on these words and wrote in that folder."""
+    if status == 8:
+        return of_endpoint(status, folder)
     if status in REASONS:
         return REASONS[status](command, words, status)
     return [meaning(status)] if status in (7, 10) else []

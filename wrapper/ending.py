@@ -1,4 +1,4 @@
-"""Runs the program, and tells on standard error what its status means where that isn't 0.
+"""Runs the program where its flags say, and tells on standard error what its status means where that isn't 0.
 
 Standard output is the program's own, which no byte of it passes through here. What is told is found afterwards: the
 program is asked by `check`, which sends nothing, why it stopped. Nothing is proved of what is told.
@@ -9,7 +9,7 @@ import os
 import signal
 import sys
 
-from wrapper import program
+from wrapper import outputs, program
 from wrapper.program import tell
 
 FORWARDED = (signal.SIGINT, signal.SIGTERM, signal.SIGHUP, signal.SIGQUIT)
@@ -55,12 +55,27 @@ def wrapped(lines, columns):
     return told
 
 
-def tell_reasons(command, words, status):
-    """Tells what the status means; where that fails, the status stays the program's all the same."""
+@contextlib.contextmanager
+def inside(folder):
+    """What stands below this is done in that folder, where one is named."""
+    if folder is None:
+        yield
+        return
+    here = os.open(".", os.O_RDONLY | os.O_CLOEXEC)
+    try:
+        os.chdir(folder)
+        yield
+    finally:
+        os.fchdir(here)
+        os.close(here)
+
+
+def tell_reasons(command, words, status, folder="."):
+    """Tells what the status means of words that ran in a folder; where that fails, the status stays the program's."""
     from wrapper import reasons
 
     try:
-        lines = reasons.of(command, words, status)
+        lines = reasons.of(command, words, status, folder)
     except Exception as why:  # a mistake in what is told must not hide the program's answer
         lines = [f"what status {status} means can't be told: {why!r}"]
     if sys.stderr.isatty():
@@ -69,20 +84,40 @@ def tell_reasons(command, words, status):
         tell(line) if line[:1] != " " else print(line, file=sys.stderr)
 
 
-def main(words, quiet):
-    """Runs the program on these words, tells what its status means unless that isn't wanted, and ends with the status."""
-    command = program.command()
-    if command is None:
-        status = program.run(words).returncode
-    elif quiet:
-        os.execv(command[0], [*command, *words])
+def run(command, words, flags, quiet):
+    """Runs the program where the flags say, and answers its status, or less a signal."""
+    outputs.prepare(flags, words, quiet)
+    elsewhere = words if flags.out is None else outputs.from_elsewhere(words)
+    with inside(flags.out):
+        # with nothing to be told the program takes this process over
+        line = [*command, *elsewhere]
+        return os.execv(line[0], line) if quiet else waited_for(line)
+
+
+def tell_end(command, words, status, flags):
+    """Tells what the status means, and of a whole run what it has lost."""
+    if status:
+        tell_reasons(command, words, status, flags.out or ".")
     else:
-        status = waited_for([*command, *words])
+        outputs.tell_lost(words)
+
+
+def main(words, quiet):
+    """Runs the program on these words, tells what its status means unless that isn't wanted, and ends with it."""
+    command = program.command()
+    try:
+        flags, words = outputs.read_flags(words)
+        if command is None and flags.out is not None:
+            raise outputs.Refused("the program isn't built, and a trial keeps no endpoint's file", program.NOT_RUN)
+        status = run(command, words, flags, quiet) if command else program.run(words).returncode
+    except outputs.Refused as refused:
+        tell(str(refused))
+        return refused.status
     if status < 0:
         end_by(-status)
-    if status and not quiet:
+    if not quiet:
         # standard error may take no more bytes
         with contextlib.suppress(OSError):
-            tell_reasons(command, words, status)
+            tell_end(command, words, status, flags)
     # nothing is left to be done, and an interpreter that ends in order takes as long as a small run
     os._exit(status)
