@@ -8,12 +8,13 @@ _spin() {
         return
     fi
     case ${COMP_WORDS[at]} in
-        run) words='--out --append' ;;
-        join) words='--out --append' ;;
+        run) words='--out --append --convert' ;;
+        check) words='--convert' ;;
+        join) words='--out --append --convert' ;;
         gen) words='--out --append' ;;
         build) words='--all --libraries' ;;
         picture) words='run climb --html --out' ;;
-        filter) words='--jobs --out --pcap --piece --part' ;;
+        filter) words='--script --jobs --out --pcap --piece --part --convert' ;;
         help) words='run check join vm gen build session picture filter help version' ;;
     esac
     COMPREPLY=($(compgen -W "$words" -- "${COMP_WORDS[COMP_CWORD]}"))

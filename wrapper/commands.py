@@ -12,11 +12,11 @@ from wrapper.program import TOP
 Command = namedtuple("Command", "name words line example")
 
 PROGRAM = [
-    Command("run", "SCRIPT [PACKETS] [--out FOLDER] [--append]",
+    Command("run", "SCRIPT [PACKETS] [--out FOLDER] [--append] [--convert]",
             "runs a script, over a capture or none, and writes its report", "run examples/first.spin"),
-    Command("check", "SCRIPT REPORT [PACKETS]", "judges a report: yes where it is some run's, no where it is none's",
+    Command("check", "SCRIPT REPORT [PACKETS] [--convert]", "judges a report: yes where it is some run's, no where it is none's",
             "check examples/first.spin examples/first.report"),
-    Command("join", "SCRIPT PACKETS [--out FOLDER] [--append]",
+    Command("join", "SCRIPT PACKETS [--out FOLDER] [--append] [--convert]",
             "runs a script over a capture whose fragments are made whole", "join examples/packets.spin packets.pcap"),
     Command("vm", "SCRIPT TRACE", "runs a trace of memory accesses, whose faults are events",
             "vm pager.spin accesses.trace"),
@@ -31,7 +31,8 @@ WRAPPER = [
     Command("picture", "run|climb SCRIPT REPORT [PACKETS] [--html] [--out FILE]",
             "draws a run, or the climb of its packets, as SVG",
             "picture run examples/first.spin examples/first.report"),
-    Command("filter", "SCRIPT CAPTURE.. [--jobs N] [--out FOLDER] [--pcap] [--piece N] [--part K/N]",
+    Command("filter", "SCRIPT CAPTURE.. [-e EXPRESSION] [-w FILE] [--script] [--jobs N] [--out FOLDER] [--pcap] [--piece N]"
+            " [--part K/N] [--convert]",
             "runs a script over captures of any length, in pieces side by side",
             "filter examples/packets.spin monday.pcap tuesday.pcap"),
     Command("help", "[COMMAND]", "tells of the commands, or of one", "help run"),

@@ -84,14 +84,12 @@ def tell_reasons(command, words, status, folder="."):
         tell(line) if line[:1] != " " else print(line, file=sys.stderr)
 
 
-def run(command, words, flags, quiet):
-    """Runs the program where the flags say, and answers its status, or less a signal."""
-    outputs.prepare(flags, words, quiet)
+def run(command, words, flags, is_last):
+    """Runs the program where the flags say, and answers its status, or less a signal; as the last thing in its place."""
     elsewhere = words if flags.out is None else outputs.from_elsewhere(words)
     with inside(flags.out):
-        # with nothing to be told the program takes this process over
         line = [*command, *elsewhere]
-        return os.execv(line[0], line) if quiet else waited_for(line)
+        return os.execv(line[0], line) if is_last else waited_for(line)
 
 
 def tell_end(command, words, status, flags):
@@ -102,22 +100,36 @@ def tell_end(command, words, status, flags):
         outputs.tell_lost(words)
 
 
+def run_to_its_end(command, words, quiet):
+    """Runs the program as flags and words say, tells what its status means unless that isn't wanted, and answers it."""
+    from wrapper import convert
+
+    flags, words = outputs.read_flags(words)
+    if command is None and flags.out is not None:
+        raise outputs.Refused("the program isn't built, and a trial keeps no endpoint's file", program.NOT_RUN)
+    outputs.prepare(flags, words, quiet)
+    with convert.in_words(words) as read:
+        if command is None:
+            status = program.run(read).returncode
+        else:
+            # with nothing to be told, and nothing to be taken away, the program takes this process over
+            status = run(command, read, flags, quiet and read is words)
+        if not quiet and status >= 0:
+            # standard error may take no more bytes
+            with contextlib.suppress(OSError):
+                tell_end(command, read, status, flags)
+    return status
+
+
 def main(words, quiet):
-    """Runs the program on these words, tells what its status means unless that isn't wanted, and ends with it."""
+    """Runs the program on these words, and ends with its status."""
     command = program.command()
     try:
-        flags, words = outputs.read_flags(words)
-        if command is None and flags.out is not None:
-            raise outputs.Refused("the program isn't built, and a trial keeps no endpoint's file", program.NOT_RUN)
-        status = run(command, words, flags, quiet) if command else program.run(words).returncode
+        status = run_to_its_end(command, words, quiet)
     except outputs.Refused as refused:
         tell(str(refused))
         return refused.status
     if status < 0:
         end_by(-status)
-    if not quiet:
-        # standard error may take no more bytes
-        with contextlib.suppress(OSError):
-            tell_end(command, words, status, flags)
     # nothing is left to be done, and an interpreter that ends in order takes as long as a small run
     os._exit(status)

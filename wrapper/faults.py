@@ -30,9 +30,7 @@ OTHERS = [
     (b"snoop\x00\x00\x00", "snoop", "editcap -F pcap {0} {1}"),
 ]
 
-# Link types that are met. Of a cooked frame the last 14 of the 16 first bytes read as an Ethernet header, with the type
-# in its place and no addresses.
-COOKED = 113
+# Link types that are met.
 LINKS = {
     0: "loopback of BSD", 12: "raw IP", 101: "raw IP", 105: "802.11", 108: "loopback of OpenBSD", 113: "Linux cooked",
     127: "802.11 with radiotap", 220: "USB", 228: "raw IPv4", 229: "raw IPv6", 276: "Linux cooked 2, as of tcpdump -i any",
@@ -62,26 +60,28 @@ def of_magic(name, head):
     begins = f"its first 4 bytes are {head[:4].hex(' ')}, where a classic pcap has d4 c3 b2 a1 or a like magic"
     for magic, what, command in OTHERS:
         if head.startswith(magic):
-            return [f"{begins}: it is {what}", made_by(command, name)]
+            return [f"{name} is {what}", made_by(command, name), begins]
     if all(byte in b"\t\n\r" or 0x20 <= byte <= 0x7E for byte in head):
-        return [f"{begins}: it is a text; is it SCRIPT, and the words in another order?"]
-    return [begins]
+        return [f"{name} is a text; is it SCRIPT, and the words in another order?", begins]
+    return [f"{name} is no capture that is known", begins]
 
 
 def of_version(name, head):
     """What is told of a capture of another version."""
     major, minor = struct.unpack(f"{MAGICS[head[:4]]}HH", head[4:8])
-    return [f"at offset 4 stands version {major}.{minor}, where 2.4 is read", made_by("editcap -F pcap {0} {1}", name)]
+    is_one = f"{name} is a pcap of version {major}.{minor}, by offset 4, where 2.4 is read"
+    return [is_one, made_by("editcap -F pcap {0} {1}", name)]
 
 
 def of_link(name, head):
     """What is told of a capture of another link type."""
+    from wrapper import convert
+
     (link,) = struct.unpack(f"{MAGICS[head[:4]]}I", head[20:24])
     known = f" ({LINKS[link]})" if link in LINKS else ""
-    told = [f"at offset 20 stands link type {link}{known}, where 1 is read, Ethernet"]
-    if link == COOKED:
-        made = made_by("editcap -F pcap -T ether -C 2 {0} {1}", name)
-        return [*told, made, "its frames have the type in its place, but no addresses"]
+    told = [f"{name} has frames of link type {link}{known}, by offset 20, where 1 is read, Ethernet"]
+    if link in convert.FRAMES:
+        return [*told, "with --convert each gets a header of Ethernet without addresses"]
     return [*told, "capture on an interface of Ethernet, as tcpdump -i eth0 -w does"]
 
 
@@ -112,18 +112,23 @@ def of_length(name, record):
 def explain(name, record, fault):
     """The lines that tell of a fault of the capture of this name."""
     called, where = causes.capture_fault(fault)
-    told = [f"{name}, record {record}, fault {fault} ({called}): {where}"]
+    by_grammar = f"{name}, record {record}, fault {fault} ({called}): {where}"
+    return [*what_it_is(name, record, fault), by_grammar]
+
+
+def what_it_is(name, record, fault):
+    """What the capture is in place of a good one, as far as its bytes tell, and what helps."""
     try:
         with open(name, "rb") as file:
             head = file.read(24)
         if fault == 5:
-            return [*told, f"the file has {os.path.getsize(name)} bytes, where the header alone has 24"]
+            return [f"{name} is no whole header: it has {os.path.getsize(name)} bytes, where the header alone has 24"]
         if fault in (2, 3, 4):
-            return told + {2: of_magic, 3: of_version, 4: of_link}[fault](name, head)
+            return {2: of_magic, 3: of_version, 4: of_link}[fault](name, head)
         if fault == 6:
-            return told + of_length(name, record)
+            return of_length(name, record)
         if fault == 7:
-            return [*told, f"./spin filter takes longer captures; this makes pieces: {made_of(PIECES, name)}"]
+            return [f"{name} is too long; ./spin filter takes longer captures, and this makes pieces: {made_of(PIECES, name)}"]
     except (OSError, KeyError, struct.error):
-        return told
-    return told
+        return []
+    return []

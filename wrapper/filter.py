@@ -17,10 +17,9 @@ import time
 from collections import Counter
 from pathlib import Path
 
-from wrapper import commands, expression, help, reasons
+from wrapper import commands, convert, expression, help, outputs, reasons
 from wrapper.counts import summary
 from wrapper.keeping import PIECES, Made
-from wrapper.outputs import tell_lost
 from wrapper.pieces import Refused, Walk, find_capture
 from wrapper.program import NOT_RUN, TOP, command, tell
 from wrapper.rounds import InTheWay, read_rounds
@@ -62,6 +61,7 @@ def read_words(words):
     parser.add_argument("--pcap", action="store_true")
     parser.add_argument("--piece", type=positive, default=PIECE)
     parser.add_argument("--part", type=part)
+    parser.add_argument("--convert", action="store_true")
     if "-e" in words:
         return expression.read_words(words, parser)
     parser.add_argument("script", metavar="SCRIPT")
@@ -306,7 +306,7 @@ class Filter:
             if self.options.part:
                 return []
             self.join()
-            tell_lost(["run", self.options.script])
+            outputs.tell_lost(["run", self.options.script])
             return summary(self.counts, self.rounds.endpoints)
 
 
@@ -314,7 +314,11 @@ def main(words):
     """Filters captures as the words ask for, and answers the exit status."""
     try:
         options, run = read_words(words), lambda options: Filter(options).run()
-        lines = expression.run(options, run) if "-e" in words else run(options)
+        with convert.all_converted(options.captures, options.convert) as options.captures:
+            lines = expression.run(options, run) if "-e" in words else run(options)
+    except outputs.Refused as refused:
+        tell(str(refused))
+        return refused.status
     except Refused as refused:
         for line in refused.lines:
             tell(line) if not line.startswith(" ") else print(line, file=sys.stderr)
