@@ -35,6 +35,8 @@ def main(words):
     """Runs a command of the wrapper's own, or the program, and answers the exit status."""
     quiet = words[:1] == [commands.QUIET]
     words = words[1:] if quiet else words
+    if quiet:
+        program.told.add("plain")
     name = commands.FLAGS.get(words[0], words[0]) if words else ""
     if commands.is_programs(name) and not commands.asks_help(words):
         from wrapper import ending

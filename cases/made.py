@@ -346,7 +346,7 @@ def example_capture():
 
 
 def captures():
-    """The captures, each with its name. That of an example lies beside it, as `python3 cases/made.py` writes it."""
+    """The captures, each with its name. Those of examples lie beside them, as `python3 cases/made.py` writes them."""
     mixed = list(records([ARP, TCP, QUERY, ANSWER] * 10))
     yield "packets.pcap", example_capture()
     short = [bytes([number]) * number for number in range(1, 5)]
@@ -385,4 +385,6 @@ def reports():
 if __name__ == "__main__":
     before, _, behind = shown_table()
     FORMATS.write_text(before + MARKS[0] + table() + MARKS[1] + behind)
-    (Path(__file__).resolve().parent.parent / "examples" / "packets.pcap").write_bytes(example_capture())
+    examples, made = Path(__file__).resolve().parent.parent / "examples", dict(captures())
+    for name in ("packets.pcap", "join/fragments.pcap"):
+        (examples / name).write_bytes(made[Path(name).name])

@@ -17,9 +17,9 @@ PROGRAM = [
     Command("check", "SCRIPT REPORT [PACKETS] [--convert]", "judges a report: yes where it is some run's, no where it is none's",
             "check examples/first.spin examples/first.report"),
     Command("join", "SCRIPT PACKETS [--out FOLDER] [--append] [--convert]",
-            "runs a script over a capture whose fragments are made whole", "join examples/packets.spin packets.pcap"),
+            "runs a script over a capture whose fragments are made whole", "join examples/join/fragments.spin examples/join/fragments.pcap"),
     Command("vm", "SCRIPT TRACE", "runs a trace of memory accesses, whose faults are events",
-            "vm pager.spin accesses.trace"),
+            "vm examples/vm/pager.spin examples/vm/accesses.trace"),
     Command("gen", "NUMBER [--out FOLDER] [--append]", "runs a large script made from a number, and writes six counts",
             "gen 1"),
 ]
@@ -34,7 +34,7 @@ WRAPPER = [
     Command("filter", "SCRIPT CAPTURE.. [-e EXPRESSION] [-w FILE] [--script] [--jobs N] [--out FOLDER] [--pcap] [--piece N]"
             " [--part K/N] [--convert]",
             "runs a script over captures of any length, in pieces side by side",
-            "filter examples/packets.spin monday.pcap tuesday.pcap"),
+            "filter examples/packets.spin examples/packets.pcap"),
     Command("help", "[COMMAND]", "tells of the commands, or of one", "help run"),
     Command("version", "", "tells what this is, and which program would run", "version"),
 ]

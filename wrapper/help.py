@@ -3,13 +3,13 @@
 import difflib
 import sys
 
-from wrapper import commands
+from wrapper import commands, flags
 from wrapper.program import tell
 
 FLAGS_LINES = [
     ("-h, --help", "this text; behind a command the text of that command"),
     ("--version", "as version"),
-    ("--quiet", "before a command: nothing is told of what its status means"),
+    ("--quiet", "before a command: nothing is told beside what it writes"),
 ]
 
 BELOW = """\
@@ -50,7 +50,9 @@ def usage(command):
 
 def of_one(command):
     """The text of one command."""
-    return f"{usage(command)}\n{command.name}: {command.line}\n\nExample:\n  ./spin {command.example}\n"
+    known = flags.FLAGS.get(command.name)
+    told = f"{columns(known)}\n" if known else ""
+    return f"{usage(command)}\n{command.name}: {command.line}\n\n{told}Example:\n  ./spin {command.example}\n"
 
 
 def nearest(word, among):

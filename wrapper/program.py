@@ -1,5 +1,6 @@
 """Where the program is, whether it is built, and the best way there is to run it."""
 
+import contextlib
 import errno
 import os
 import sys
@@ -93,10 +94,21 @@ def command():
     if file is None:
         told.add("no plain program")
         return None
-    if "plain" not in told:
-        told.add("plain")
-        tell("the plain program, of which nothing is proved; ./spin build makes the proved one")
+    tell_plain()
     return [str(file)]
+
+
+def tell_plain():
+    """Says that it is the plain program that runs: once in a process, and once a day in this clone."""
+    import time
+
+    day, noted = time.strftime("%Y-%m-%d"), TOP / "out" / "plain" / "told"
+    if "plain" in told or noted.is_file() and noted.read_text() == day:
+        return
+    told.add("plain")
+    tell("the plain program, of which nothing is proved; ./spin build makes the proved one; that is told once a day")
+    with contextlib.suppress(OSError):
+        noted.write_text(day)
 
 
 def run(words, **how):

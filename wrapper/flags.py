@@ -1,0 +1,32 @@
+"""What each flag of a command means, in a line: for the help and for the man page."""
+
+# Of each command of the table in commands.py its flags in their order, each with what stands behind it.
+FLAGS = {
+    "run": [
+        ("--out FOLDER", "what is sent goes to files in this folder, which must have none of them yet"),
+        ("--append", "what is sent may be added to files that are there"),
+        ("--convert", "a capture that is packed, of another form or of other frames is made readable first"),
+    ],
+    "check": [("--convert", "as under run")],
+    "join": [("--out FOLDER", "as under run"), ("--append", "as under run"), ("--convert", "as under run")],
+    "gen": [("--out FOLDER", "as under run"), ("--append", "as under run")],
+    "build": [
+        ("--all", "the hosts are proved and built too"),
+        ("--libraries", "the libraries are built that rt check goes on from, and no program"),
+    ],
+    "picture": [
+        ("--html", "the picture stands in a page, in which a lane, an event or a binding can be made to stand out"),
+        ("--out FILE", "the picture goes to this file, else to standard output"),
+    ],
+    "filter": [
+        ("-e EXPRESSION", "in the place of SCRIPT: the frames that tcpdump lets through with this expression"),
+        ("-w FILE", "with -e: the capture that is written; without it out0.pcap of the folder"),
+        ("--script", "with -e: the script that says the expression is printed, and nothing is run"),
+        ("--jobs N", "so many pieces side by side; else as many as there are processors"),
+        ("--out FOLDER", "where the endpoints' files are written; else filtered"),
+        ("--pcap", "frames that endpoints received are written as captures"),
+        ("--piece N", "a piece has at most N records; else 32,768"),
+        ("--part K/N", "every Nth piece alone, from the Kth on, and nothing is joined"),
+        ("--convert", "as under run"),
+    ],
+}
