@@ -4,7 +4,7 @@ _spin() {
     COMPREPLY=()
     [[ ${COMP_WORDS[1]} == --quiet ]] && at=2
     if ((COMP_CWORD <= at)) && [[ ${COMP_WORDS[COMP_CWORD]} != --quiet ]]; then
-        COMPREPLY=($(compgen -W 'run check join vm gen build session picture filter help version --quiet -h --help --version' -- "${COMP_WORDS[COMP_CWORD]}"))
+        COMPREPLY=($(compgen -W 'run check join vm gen build session explain picture filter help version --quiet -h --help --version' -- "${COMP_WORDS[COMP_CWORD]}"))
         return
     fi
     case ${COMP_WORDS[at]} in
@@ -13,9 +13,10 @@ _spin() {
         join) words='--out --append --convert' ;;
         gen) words='--out --append' ;;
         build) words='--all --libraries' ;;
+        explain) words='--report' ;;
         picture) words='run climb --html --out' ;;
         filter) words='--script --jobs --out --pcap --piece --part --convert' ;;
-        help) words='run check join vm gen build session picture filter help version' ;;
+        help) words='run check join vm gen build session explain picture filter help version' ;;
     esac
     COMPREPLY=($(compgen -W "$words" -- "${COMP_WORDS[COMP_CWORD]}"))
     compopt -o default

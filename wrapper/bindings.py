@@ -94,11 +94,12 @@ class Bindings:
         """Begins with the script's first defaults and no binding."""
         self.script = script
         self.events = {event: Event(default=script.defaults.get(event, 0)) for event in script.events}
-        self.past = {}
+        self.past, self.orders = {}, {}
 
     def take(self, place, words):
         """Follows the accepted command that has this place, and answers its event's number."""
         kind, event, module = words[0], number(words[1]), number(words[2])
+        self.orders.pop(event, None)
         if kind == "install":
             self.install(place, event, module, words)
         elif kind == "remove":
@@ -138,7 +139,9 @@ class Bindings:
 
     def order(self, event):
         """The event's live bindings in the order in which they run."""
-        return least_order(list(self.events[event].live.values()))
+        if event not in self.orders:
+            self.orders[event] = least_order(list(self.events[event].live.values()))
+        return self.orders[event]
 
 
 def precedes(one, other):

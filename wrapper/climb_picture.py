@@ -8,7 +8,7 @@ from dataclasses import dataclass, field
 
 from wrapper.bindings import Bindings
 from wrapper.reading import COMMANDS, number, read_reply
-from wrapper.svg import LINE, Sheet, legend, marks, width_of, wrapped
+from wrapper.svg import LINE, Drawn, Sheet, legend, marks, width_of, wrapped
 from wrapper.told import refusal_words
 
 WIDTH, HIGH, EDGE = 1180, 26, 10
@@ -189,10 +189,10 @@ class ClimbPicture:
         return y
 
 
-def draw(script, lines):
-    """The picture of all packets of a report's lines, which are read one by one, and the values of its filter."""
+def draw(script, lines, _=None):
+    """The picture of all packets of a report's lines, which are read one by one."""
     climb = Climb(script)
     for line in lines:
         climb.take(line)
     picture = ClimbPicture(climb)
-    return picture.draw(), picture.values
+    return Drawn(picture.draw(), picture.values)

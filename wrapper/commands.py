@@ -28,6 +28,8 @@ WRAPPER = [
     Command("build", "[--all|--libraries]", "proves and builds the program; with --all the hosts too", "build"),
     Command("session", "[SCRIPT]", "a prompt that keeps a script growing and tells what each line did",
             "session examples/first.spin"),
+    Command("explain", "SCRIPT [LINE] [PACKETS] [--report REPORT]",
+            "tells why each raise and command came to what it did", "explain examples/filters.spin 19"),
     Command("picture", "run|climb SCRIPT REPORT [PACKETS] [--html] [--out FILE]",
             "draws a run, or the climb of its packets, as SVG",
             "picture run examples/first.spin examples/first.report"),

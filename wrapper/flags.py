@@ -14,6 +14,7 @@ FLAGS = {
         ("--all", "the hosts are proved and built too"),
         ("--libraries", "the libraries are built that rt check goes on from, and no program"),
     ],
+    "explain": [("--report REPORT", "the report that is explained; else the script is run for one, and nothing is sent")],
     "picture": [
         ("--html", "the picture stands in a page, in which a lane, an event or a binding can be made to stand out"),
         ("--out FILE", "the picture goes to this file, else to standard output"),

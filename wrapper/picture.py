@@ -14,6 +14,7 @@ from pathlib import Path
 
 from wrapper import climb_picture, ending, program, run_picture
 from wrapper.reading import read_report, read_script
+from wrapper.records import Records
 from wrapper.svg import TooLarge, page
 
 USAGE = (
@@ -75,16 +76,24 @@ def judge(folder, files):
         raise Refused(f"the report can't be judged, so it isn't drawn: {said}", ran.returncode, files)
 
 
-def drawn(kind, folder, title, is_page):
+def records_of(script, files):
+    """The records of the capture; None where there is none that can be read twice."""
+    if len(files) < 3 or not os.path.isfile(files[2]):
+        return None
+    return Records(script, Path(files[2]).read_bytes())
+
+
+def drawn(kind, folder, files, is_page):
     """The picture of the copied script and report."""
+    title = f"{kind} of {files[0]}"
     script = read_script((Path(folder) / "script").read_text("ascii"))
     with open(Path(folder) / "report", encoding="ascii") as stream:
         try:
-            picture, values = KINDS[kind][0].draw(script, read_report(stream))
+            drawing = KINDS[kind][0].draw(script, read_report(stream), records_of(script, files))
         except TooLarge:
             why = "the run is too long for one picture; `picture climb` draws any number of packets"
             raise Refused(why, program.NOT_RUN)
-    return page(picture, title, values) if is_page else picture
+    return page(drawing, title) if is_page else drawing.text
 
 
 def hush():
@@ -116,7 +125,7 @@ def main(words):
         with tempfile.TemporaryDirectory() as folder:
             copied(files, folder)
             judge(folder, files)
-            text = drawn(kind, folder, f"{kind} of {files[0]}", is_page)
+            text = drawn(kind, folder, files, is_page)
         write(text, out)
     except Refused as refused:
         program.tell(str(refused))

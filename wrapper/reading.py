@@ -48,6 +48,10 @@ class Script:
     retired: dict = field(default_factory=dict)
     segments: int = 1
 
+    def called(self, kind, which):
+        """What a thing of this kind and number is called."""
+        return f"{kind} {which}"
+
 
 def numbered_lines(text):
     """The lines of a script that aren't skipped: each one's number and its words."""

@@ -1,12 +1,14 @@
 """A run as one picture: lanes side by side, time downwards, a band for each segment and place, bindings in their order.
 
-It draws what the report says, and needs a report that was judged a run's.
+It draws what the report says, and needs a report that was judged a run's. Beside that it draws what is found where an
+entry is worked anew: guards that didn't hold, and arguments that changed.
 """
 
 from wrapper.bindings import Bindings
 from wrapper.reading import COMMANDS, all_steps, number, reply_of
-from wrapper.svg import CHAR, KINDS, LINE, PAD, Sheet, legend, marks, width_of, wrapped
+from wrapper.svg import CHAR, KINDS, LINE, PAD, Drawn, Sheet, legend, marks, width_of, wrapped
 from wrapper.told import Teller
+from wrapper.why import explain
 
 GUTTER, SIDE, TRACK, TRACKS = 58, 430, 5, 6
 STEP = 9            # how far each level of a reply stands to the right
@@ -39,9 +41,11 @@ def short_chip(one):
 class RunPicture:
     """The drawing of one run."""
 
-    def __init__(self, script, lines):
-        """Lays out the columns for the lanes that have entries."""
+    def __init__(self, script, lines, records=None):
+        """Lays out the columns for the lanes that have entries; without records nothing is worked anew of packets."""
         self.script, self.lines = script, lines
+        self.because = {found.line.text: found for found in explain(script, lines, records)}
+        self.whys = []
         self.bindings = Bindings(script)
         self.teller = Teller(script, self.bindings)
         self.lanes = sorted({line.lane for line in lines if line.kind in ("entry", "job")}) or [0]
@@ -211,14 +215,15 @@ class RunPicture:
         for name, of in found.items():
             self.values[name] |= of
         x, wide = x + TRACK * TRACKS + 4, self.each - TRACK * TRACKS - 12
-        rows = []
+        rows, why = [], self.because[line.text]
         lead = "" if line.kind == "job" else f"{line.source} "
-        for row in self.teller.entry(line):
+        for row in self.teller.entry(line, why.outcome and why.agrees and why.outcome.root or None):
             indent = row.depth * STEP + (width_of(lead) if not row.depth else 0)
             for at, text in enumerate(wrapped(row.text, wide - 2 * PAD - indent - 2 * CHAR)):
                 rows.append((indent + (2 * CHAR if at else 0), text, row))
         high = LINE * len(rows) + PAD
-        self.sheet.begin(f"item {line.kind}", line.text, marks(found))
+        self.sheet.begin(f"item {line.kind}", line.text, f'{marks(found)} data-why="{len(self.whys)}"')
+        self.whys.append("\n".join(why.lines))
         self.sheet.box(x, y, wide, high, f"{self.kind_of(line)} fill")
         if lead:
             self.sheet.text(x + PAD, y + LINE - 1, line.source, "faint")
@@ -340,7 +345,7 @@ def middle_height(rows, middle):
     return LINE * max(first, second)
 
 
-def draw(script, lines):
-    """The picture of a run and the values of its filter."""
-    picture = RunPicture(script, list(lines))
-    return picture.draw(), picture.values
+def draw(script, lines, records=None):
+    """The picture of a run, with what each box did and why."""
+    picture = RunPicture(script, list(lines), records)
+    return Drawn(picture.draw(), picture.values, picture.whys)

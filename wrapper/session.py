@@ -16,6 +16,7 @@ from wrapper.reading import COMMANDS, read_line, read_script
 from wrapper.run_picture import chip_text
 from wrapper.svg import TooLarge, page
 from wrapper.told import Teller
+from wrapper.why import explain
 
 USAGE = "usage: spin session [SCRIPT]"
 ORDER = ("spin", "modules", "event", "endpoint", "handler", "guard", "rule", "default", "lane")
@@ -27,6 +28,7 @@ HELP = """a line of a script (docs/FORMATS.md) is added where its section stands
 `spin 3` takes the place of the first line, `spin 2`. Words of the session:
   undo        takes back the line that was added last
   show        shows the script
+  why N       tells why line N came to what it did: guards with values, filters, rules, jobs and merges
   save FILE   writes the script
   draw FILE   draws the run as SVG, or as a page where FILE ends in .html
   help        this text
@@ -172,6 +174,15 @@ class Session:
         """The script with its lines' numbers."""
         return [f"{at:>4}  {line}" for at, line in enumerate(self.lines, 1)]
 
+    def why(self, line):
+        """Why a line of the script came to what it did."""
+        number, _, part = line.partition(".")
+        if not number.isdecimal() or part and not part.isdecimal():
+            return ["why takes the number of a line, as `show` has it"]
+        is_wanted = lambda one: one.line == int(number) and (not part or one.part == int(part))
+        found = explain(read_script("\n".join(self.lines)), self.report, None, is_wanted)
+        return [text for one in found for text in one.lines] or [f"line {line} has no entry"]
+
     def save(self, file):
         """Writes the script."""
         text = "".join(f"{line}\n" for line in self.lines)
@@ -180,11 +191,10 @@ class Session:
     def draw(self, file):
         """Draws the run as it is now."""
         try:
-            text, values = run_picture.draw(read_script("\n".join(self.lines)), self.report)
+            drawing = run_picture.draw(read_script("\n".join(self.lines)), self.report)
         except TooLarge:
             return ["the run is too long for one picture"]
-        if file.endswith(".html"):
-            text = page(text, "a session", values)
+        text = page(drawing, "a session") if file.endswith(".html") else drawing.text
         return [written(file, text) or f"drawn: {file}"]
 
 
@@ -215,13 +225,13 @@ def answer(session, line):
     if words in (["quit"], ["exit"]):
         return None
     alone = {"undo": session.undo, "show": session.show, "help": HELP.splitlines}
-    with_file = {"save": session.save, "draw": session.draw}
+    with_word = {"save": session.save, "draw": session.draw, "why": session.why}
     if len(words) == 1 and words[0] in alone:
         return alone[words[0]]()
-    if words[0] in with_file:
+    if words[0] in with_word:
         if len(words) != 2:
-            return [f"{words[0]} takes the name of a file"]
-        return with_file[words[0]](words[1])
+            return [f"{words[0]} takes the {'number of a line' if words[0] == 'why' else 'name of a file'}"]
+        return with_word[words[0]](words[1])
     return session.take(line)
 
 

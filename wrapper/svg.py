@@ -4,6 +4,8 @@ The colours are those of Okabe and Ito, which colour-blind readers tell apart; n
 each box says its kind in words or by a mark. A dark scheme is used where the reader's system asks for one.
 """
 
+import json
+from collections import namedtuple
 from html import escape
 
 CHAR, LINE, PAD = 6.65, 15, 6
@@ -20,6 +22,10 @@ KINDS = {
     "retire": ("#000000", "#F0E442", "retirement"),
 }
 MOST_PARTS = 400_000
+
+
+# A picture, the values of its filter, and of each box by its number why it says what it does.
+Drawn = namedtuple("Drawn", "text values whys", defaults=((),))
 
 
 class TooLarge(Exception):
@@ -154,10 +160,20 @@ PAGE = """<!DOCTYPE html>
 <html lang="en"><head><meta charset="utf-8"><meta name="viewport" content="width=device-width"><title>%(title)s</title>
 <style>:root{color-scheme:light dark}body{margin:0;font:13px sans-serif}
 form{position:sticky;top:0;left:0;padding:8px;background:Canvas;border-bottom:1px solid GrayText;z-index:1}
-label{margin-right:14px}output{color:GrayText}</style></head><body>
+label{margin-right:14px}output{color:GrayText}
+pre{position:fixed;bottom:0;left:0;right:0;max-height:45vh;overflow:auto;margin:0;padding:10px;background:Canvas;
+border-top:2px solid GrayText;z-index:2}pre:empty{display:none}[data-why]{cursor:pointer}</style></head><body>
 <form>%(choices)s<button type="reset">all</button> <output></output></form>
 %(picture)s
+<pre></pre>
+<script type="application/json" id="whys">%(whys)s</script>
 <script>
+const whys = JSON.parse(document.getElementById("whys").textContent), told = document.querySelector("pre");
+document.addEventListener("click", event => {
+  const box = event.target.closest("[data-why]");
+  if (box || !event.target.closest("pre, form")) told.textContent = box ? whys[box.dataset.why] : "";
+});
+document.addEventListener("keydown", event => { if (event.key === "Escape") told.textContent = ""; });
 const form = document.querySelector("form"), items = [...document.querySelectorAll(".item")];
 const boxes = items.filter(item => item.tagName === "g");
 const names = [...form.querySelectorAll("select")].map(one => one.name);
@@ -183,7 +199,8 @@ def choice(name, values):
     return f'<label>{name} <select name="{name}"><option value="">all</option>{options}</select></label>'
 
 
-def page(picture, title, values):
-    """The picture in a page with a filter by these names, each with the numbers that there are."""
-    choices = "".join(choice(name, of) for name, of in values.items() if of)
-    return PAGE % {"title": escape(title), "choices": choices, "picture": picture}
+def page(drawn, title):
+    """The picture in a page with a filter by the names of its values; a click on a box tells why."""
+    choices = "".join(choice(name, of) for name, of in drawn.values.items() if of)
+    whys = json.dumps(list(drawn.whys)).replace("<", "\\u003c")
+    return PAGE % {"title": escape(title), "choices": choices, "picture": drawn.text, "whys": whys}

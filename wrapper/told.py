@@ -2,9 +2,11 @@
 
 from dataclasses import dataclass
 
-from wrapper.reading import number, reply_of
+from wrapper.reading import Step, number, reply_of
 from wrapper.svg import shortened
 
+# So many bindings whose guards don't hold are told one by one.
+MOST_PASSED = 3
 
 
 @dataclass
@@ -16,10 +18,15 @@ class Row:
     look: str = ""
 
 
-def binding_words(one):
+def value_text(value):
+    """An argument."""
+    return str(value) if isinstance(value, int) else shortened(f"x{value.hex()}").replace("(", " (")
+
+
+def binding_words(script, one):
     """A binding's handler, and its mode where it isn't plain."""
     mode = "" if one.mode == "plain" else f" {one.mode}"
-    return f"#{one.number} handler {one.handler}{mode}"
+    return f"#{one.number} {script.called('handler', one.handler)}{mode}"
 
 
 def rule_words(script, event, which):
@@ -56,7 +63,7 @@ class Teller:
         event, which = map(int, words)
         if not which:
             return f"event {event}: its default"
-        return binding_words(self.bindings.at(place, which))
+        return binding_words(self.script, self.bindings.at(place, which))
 
     def endpoint(self, which):
         """An endpoint with its name."""
@@ -88,6 +95,47 @@ class Teller:
                 rows.append(Row(self.step(place, step), depth + (step.kind not in ("run", "job"))))
         return rows
 
+    def raised(self, raised, depth=1):
+        """The rows of a raise that was worked anew: as those of its steps, with what the report doesn't tell."""
+        rows, passed = [], []
+        for met in raised.met:
+            if met.runs:
+                rows += self.passed_over(passed, depth) + self.met(met, depth)
+                passed = []
+            else:
+                passed.append(met)
+        return rows + self.passed_over(passed, depth)
+
+    def met(self, met, depth):
+        """The rows of a binding, or a default, that runs or is left to a job."""
+        event = self.script.called("event", met.event)
+        name = binding_words(self.script, met.binding) if met.binding else f"{event}: its default"
+        rows = [Row(f"{name}: left to a job" if met.is_left else name, depth)]
+        for kind, *more in met.did:
+            if kind == "result" and len(rows) == 1:
+                rows[0].text += f" gives {more[0]}"
+            elif kind == "set":
+                rows.append(Row(f"a{more[0]}: {value_text(more[1])} → {value_text(more[2])}", depth + 1, "b"))
+            else:
+                words = [more[1]] if kind == "drop" else list(map(str, more))
+                rows.append(Row(self.step(0, Step(kind, words)), depth + 1))
+        for up in met.ups:
+            rows.append(Row(f"↑ raises {self.script.called('event', up.event)}", depth + 1))
+            rows += [*self.raised(up, depth + 2), Row(f"= {up.answer}", depth + 2, "faint")]
+        return rows
+
+    def passed_over(self, passed, depth):
+        """The rows of bindings, one after another, of which a guard didn't hold; many are told in one row."""
+        if len(passed) > MOST_PASSED:
+            numbers = " ".join(f"#{met.number}" for met in passed)
+            return [Row(f"✗ no guard holds of {len(passed)} bindings: {numbers}", depth, "faint")]
+        rows = []
+        for met in passed:
+            failed = next(guard for guard in met.tested if not guard.holds)
+            name = f"{'imposed ' if failed.is_imposed else ''}{self.script.called('guard', failed.number)}"
+            rows.append(Row(f"✗ {binding_words(self.script, met.binding)}: {name}: {failed.text}: no", depth, "faint"))
+        return rows
+
     def reply(self, line):
         """The rows of a reply and of its answer."""
         steps, answer = reply_of(line)
@@ -105,8 +153,8 @@ class Teller:
         # constraints that name nobody say nothing
         return text.replace(" before 0 after 0", "") if deed[0] == "install" else text
 
-    def entry(self, line):
-        """The rows of an entry or a job, its head first."""
+    def entry(self, line, root=None):
+        """The rows of an entry or a job, its head first; with the raise that was worked anew, they tell more."""
         deed = self.script.deeds[line.line].words
         head = Row(self.head(line), 0, "b")
         if line.is_refused:
@@ -117,4 +165,6 @@ class Teller:
             return [head]
         if line.kind == "entry" and line.words[0] == "later":
             return [head, Row("left to a job", 1)]
+        if root is not None:
+            return [head, *self.raised(root), Row(f"= {root.answer}", 1, "b")]
         return [head, *self.reply(line)]

@@ -1,0 +1,103 @@
+"""explain SCRIPT [LINE] [PACKETS] [--report REPORT]: why each raise and each command of a run came to what it did.
+
+The script is run, in a folder of its own, so nothing that is sent stays; with `--report` a report that was written before
+is judged instead. Then each entry and each job is worked anew, by Python and not by the program, and compared with the
+report: where the two disagree that is told, and the status is 9. Nothing is proved of what is told.
+"""
+
+import re
+import shutil
+import subprocess
+import tempfile
+from collections import namedtuple
+from pathlib import Path
+
+from wrapper import ending, program, why
+from wrapper.picture import ABSENT, NO_RUN, NOT_READ, WRONG_WORDS, Refused
+from wrapper.reading import read_line, read_script
+from wrapper.records import Records
+
+USAGE = "usage: spin explain SCRIPT [LINE] [PACKETS] [--report REPORT]"
+
+# What is to be explained: the script, the number of one line, empty for all, the capture and the report, None for none.
+Asked = namedtuple("Asked", "script line packets report")
+
+
+def read_words(words):
+    """What the words ask for."""
+    files, line, report, rest = [], "", None, list(words)
+    while rest:
+        word = rest.pop(0)
+        if word == "--report" and rest:
+            report = rest.pop(0)
+        elif files and not line and re.fullmatch(r"[0-9]+(\.[0-9]+)?", word):
+            line = word
+        elif word.startswith("-") or len(files) == 2:
+            raise Refused(USAGE, WRONG_WORDS)
+        else:
+            files.append(word)
+    if not files:
+        raise Refused(USAGE, WRONG_WORDS)
+    return Asked(files[0], line, *(files[1:] or [None]), report)
+
+
+def copied(asked, folder):
+    """Copies the files, so that what is explained is what was run, also where they are pipes; the copies that there are."""
+    named = {"script": asked.script, "packets": asked.packets, "report": asked.report}
+    for name, file in named.items():
+        try:
+            if file is not None:
+                with open(file, "rb") as source, open(Path(folder) / name, "wb") as target:
+                    shutil.copyfileobj(source, target)
+        except OSError as error:
+            status = ABSENT if isinstance(error, FileNotFoundError) else NOT_READ
+            raise Refused(f"the {name} {file} can't be read: {error.strerror}", status) from None
+    return {name for name, file in named.items() if file is not None}
+
+
+def report_of(asked, folder):
+    """The text of the report: that of a run, or one that is judged."""
+    there = copied(asked, folder)
+    capture = ["packets"] * ("packets" in there)
+    how = {"cwd": folder, "stdin": subprocess.DEVNULL, "stdout": subprocess.PIPE}
+    words = ["check", "script", "report", *capture] if asked.report else ["run", "script", *capture]
+    ran = program.run(words, **how)
+    named = [asked.script, *([asked.report] if asked.report else []), *([asked.packets] if capture else [])]
+    if ran.returncode == NO_RUN:
+        raise Refused("the report is that of no run of the script, so it isn't explained", NO_RUN, [words[0], *named])
+    if ran.returncode:
+        said = ran.stdout.decode("ascii", "replace").strip().rpartition("\n")[2] or "the program said nothing"
+        raise Refused(f"there is no whole run, so nothing is explained: {said}", ran.returncode, [words[0], *named])
+    text = (Path(folder) / "report").read_bytes() if asked.report else ran.stdout
+    return text.decode("ascii")
+
+
+def explained(asked, folder):
+    """The script's entries and jobs that are asked for, each with why it says what it does."""
+    lines = [read_line(text) for text in report_of(asked, folder).splitlines()]
+    script = read_script((Path(folder) / "script").read_text("ascii"))
+    records = Records(script, (Path(folder) / "packets").read_bytes()) if asked.packets else None
+    number, _, part = asked.line.partition(".")
+    is_wanted = lambda line: not number or line.line == int(number) and (not part or line.part == int(part))
+    return [*why.explain(script, lines, records, is_wanted)]
+
+
+def main(words):
+    """Explains what the words ask for, and answers the exit status."""
+    try:
+        asked = read_words(words)
+        with tempfile.TemporaryDirectory() as folder:
+            found = explained(asked, folder)
+    except Refused as refused:
+        program.tell(str(refused))
+        if refused.judged:
+            ending.tell_reasons(program.command(), refused.judged, refused.status)
+        return refused.status
+    if asked.line and not found:
+        program.tell(f"line {asked.line} of {asked.script} has no entry in the report")
+        return WRONG_WORDS
+    print("".join(f"{line}\n" for one in found for line in one.lines), end="")
+    odd = [one.line.source for one in found if not one.agrees]
+    if odd:
+        program.tell(f"worked anew {len(odd)} lines come to something else than the report says, the first of line {odd[0]}")
+    return NO_RUN if odd else 0
