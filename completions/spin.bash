@@ -12,7 +12,7 @@ _spin() {
         check) words='--convert' ;;
         join) words='--out --append --convert' ;;
         gen) words='--out --append' ;;
-        build) words='--all --libraries' ;;
+        build) words='--all --libraries --any-logic' ;;
         explain) words='--report' ;;
         picture) words='run climb --html --out' ;;
         filter) words='--script --jobs --out --pcap --piece --part --convert' ;;

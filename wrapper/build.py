@@ -1,8 +1,10 @@
-"""build [--all|--libraries]: proves the crates that the program stands on and builds it; with --all the hosts too.
+"""build [--all|--libraries] [--any-logic]: proves the crates that the program stands on and builds it; with --all the hosts.
 
-The proofs are the gate's own (proofs.py). With --libraries it builds instead, of the crates that the program stands on, the
-libraries that `rt check` goes on from (libraries.py), which takes longer and is for who changes a crate. What was proved or
-built stays: a build that was killed is gone on with by the next.
+The kit says how (kit.py): where it keeps what it proves of a crate by itself, the proofs are the gate's own (proofs.py),
+else the libraries are built, and the programs over them (libraries.py). With --libraries these are the libraries that the
+program stands on and no more: `rt check` goes on from them, which is for who changes a crate. What was proved or built
+stays: a build that was killed is gone on with by the next. A kit of another logic than the one that proved these sources
+begins only with --any-logic.
 """
 
 import contextlib
@@ -14,10 +16,10 @@ import sys
 import tempfile
 import time
 
-from wrapper import jobs, libraries, proofs
+from wrapper import jobs, kit, libraries, proofs
 from wrapper.program import CRATE, NOT_RUN, PROGRAM, TOP, crates_listed, is_built, stands_on, tell
 from wrapper.queue import LOGS
-from wrapper.trial import has_toolchain, passed
+from wrapper.trial import passed
 
 HOSTS = ("host_filter", "host_logger", "host_plugins", "host_renewal", "host_workers")
 
@@ -30,8 +32,6 @@ TIME = "that takes some 40 minutes on four processors at 2.5 GHz that do nothing
 
 def is_ready_to_build():
     """Whether a build can begin; where it can't, a line says why."""
-    if not has_toolchain():
-        return False
     if jobs.memory_free() < MEMORY:
         tell(f"a build wants {MEMORY // 10**9} GB of free memory, and there are {jobs.memory_free() / 1e9:.1f}")
         return False
@@ -67,12 +67,22 @@ def stand_below(tops):
     return {name: listed[name] for name in stands_on(listed, tops)}
 
 
-def build_programs(tops):
-    """Builds these programs, and answers whether they are built."""
+def prove(way, crates, programs):
+    """Proves these crates as the kit can, with the programs among them, and answers whether they are built."""
+    if way is kit.Way.KEPT:
+        try:
+            return proofs.build(crates, programs)
+        except proofs.NothingKept:
+            tell("the kit can't keep what it proves here, so rt lib builds the libraries, and rt run the program")
+    return libraries.build(crates, programs)
+
+
+def build_programs(its, tops):
+    """Builds these programs by this kit, and answers whether they are built."""
     began, since = time.time(), time.monotonic()
     crates = stand_below(tops)
-    tell(f"{len(crates)} crates are proved and built, those of the longest chain first; {TIME}")
-    if not proofs.build(crates, tops):
+    tell(f"{len(crates)} crates are proved and built by {its.name}, those of the longest chain first; {TIME}")
+    if not prove(its.way, crates, tops):
         return False
     # a source that was written since is newer than what was built of it
     os.utime(PROGRAM, (began, began))
@@ -80,35 +90,51 @@ def build_programs(tops):
     return True
 
 
-def build_libraries():
-    """Builds the libraries that the program stands on, and answers whether they are built."""
+def build_libraries(its):
+    """Builds the libraries that the program stands on by this kit, and answers whether they are built."""
     since, crates = time.monotonic(), stand_below((CRATE.name,))
     del crates[CRATE.name]
-    tell(f"{len(crates)} libraries are proved and built for rt check, which takes longer than the program")
+    tell(f"{len(crates)} libraries are proved and built by {its.name}, from which rt check goes on")
     if not libraries.build(crates):
         return False
     tell(f"built: {len(crates)} libraries, {passed(since)}")
     return True
 
 
+def build(words, its):
+    """Builds what is asked for by this kit, unless it is there, and answers whether it is there now."""
+    with locked():
+        if is_built() and not words:
+            tell("the proved program is built")
+            return True
+        if words == ["--libraries"]:
+            return build_libraries(its)
+        return build_programs(its, (CRATE.name, *HOSTS) if words else (CRATE.name,))
+
+
+def where_and_why(fault):
+    """What the system couldn't do, and why; of many files that couldn't be copied it tells the first."""
+    if isinstance(fault, shutil.Error):
+        _, place, why = fault.args[0][0]
+        return f"{place}: {why}"
+    return f"{fault.filename}: {fault.strerror}" if fault.filename else str(fault)
+
+
 def main(words):
     """Proves and builds what is asked for, and answers the exit status."""
-    if words not in ([], ["--all"], ["--libraries"]):
-        tell("usage: ./spin build [--all|--libraries]")
+    wanted = [word for word in words if word != kit.ANY_LOGIC]
+    if wanted not in ([], ["--all"], ["--libraries"]):
+        tell(f"usage: ./spin build [--all|--libraries] [{kit.ANY_LOGIC}]")
         return NOT_RUN
-    if not is_ready_to_build():
+    its = kit.found()
+    if its is None or not its.is_allowed(words) or not is_ready_to_build():
         return NOT_RUN
     signal.signal(signal.SIGTERM, lambda *_: sys.exit(143))
     try:
-        with locked():
-            if is_built() and not words:
-                tell("the proved program is built")
-                return 0
-            tops = (CRATE.name, *HOSTS) if words else (CRATE.name,)
-            if build_libraries() if words == ["--libraries"] else build_programs(tops):
-                return 0
+        return 0 if build(wanted, its) else NOT_RUN
     except KeyboardInterrupt:
         tell("interrupted; the next ./spin build goes on from here")
         return 130
-    tell("not everything could be built; what was proved stays, and the next ./spin build goes on from there")
-    return NOT_RUN
+    except OSError as fault:
+        tell(f"nothing more could be built: {where_and_why(fault)}; the next ./spin build goes on from here")
+        return NOT_RUN

@@ -25,7 +25,8 @@ PROGRAM = [
 ]
 
 WRAPPER = [
-    Command("build", "[--all|--libraries]", "proves and builds the program; with --all the hosts too", "build"),
+    Command("build", "[--all|--libraries] [--any-logic]",
+            "proves and builds the program; with --all the hosts too", "build"),
     Command("session", "[SCRIPT]", "a prompt that keeps a script growing and tells what each line did",
             "session examples/first.spin"),
     Command("explain", "SCRIPT [LINE] [PACKETS] [--report REPORT]",

@@ -13,6 +13,7 @@ FLAGS = {
     "build": [
         ("--all", "the hosts are proved and built too"),
         ("--libraries", "the libraries are built that rt check goes on from, and no program"),
+        ("--any-logic", "also with a kit of another logic than the one that proved these sources"),
     ],
     "explain": [("--report REPORT", "the report that is explained; else the script is run for one, and nothing is sent")],
     "picture": [

@@ -1,7 +1,11 @@
-"""The libraries that `rt check` goes on from, each built by `rt lib` in a room of its own, whence it goes into its folder.
+"""The libraries that `rt check` goes on from, each built by `rt lib`, and the programs over them, each by `rt run`.
 
-What was built stays: a build that was killed is gone on with by the next.
+Each is built in a room of its own, whence it goes into its folder. What was built stays: a build that was killed is gone
+on with by the next.
 """
+
+import os
+import time
 
 from wrapper import jobs, queue, rooms
 
@@ -10,7 +14,12 @@ class Library(queue.Run):
     """A library that is being built."""
 
     def __init__(self, name, count, niceness, below):
-        super().__init__(name, count, niceness, ["rt", "lib", "--jobs", str(count)], rooms.furnish(name, below), {})
+        self.furnished, self.room = time.time(), rooms.furnish(name, below)
+        super().__init__(name, count, niceness, self.words(count), self.room, {})
+
+    def words(self, count):
+        """The call that builds it, with so many jobs."""
+        return ["rt", "lib", "--jobs", str(count)]
 
     def close(self):
         """Gives the crate's folder what was built, and answers whether it was."""
@@ -23,7 +32,29 @@ class Library(queue.Run):
         rooms.clear(self.name, False)
 
 
-def build(crates):
-    """Builds these libraries, and answers whether all are built."""
-    begin = lambda name, *how: Library(name, *how, rooms.below_all(crates, name))
+class Program(Library):
+    """A program that is being proved and linked; it is then run as the gate runs it, but in the folder above its data."""
+
+    def words(self, count):
+        """The call that builds and runs it, with so many jobs."""
+        file = self.room / "args"
+        given = file.read_text().splitlines() if file.is_file() else []
+        beside = [f"data/{word}" if (self.room / "data" / word).is_file() else word for word in given]
+        return ["rt", "run", "--jobs", str(count), "--", *beside]
+
+    def close(self):
+        """Gives the crate's folder the program, dated so that a source which was written since is newer."""
+        program = self.room / "out" / self.name
+        if program.is_file():
+            os.utime(program, (self.furnished, self.furnished))
+        return super().close()
+
+
+def build(crates, programs=()):
+    """Builds these crates, of which those that aren't among the programs are libraries, and answers whether all are built.
+
+    `crates` has for each crate those that it stands on, lowest first.
+    """
+    kind = lambda name: Program if name in programs else Library
+    begin = lambda name, *how: kind(name)(name, *how, rooms.below_all(crates, name))
     return queue.build_all(crates, begin, jobs.processors_there())

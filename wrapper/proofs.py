@@ -1,4 +1,4 @@
-"""The gate's own proofs of some crates, and the programs that it builds of them.
+"""The gate's own proofs of some crates, and the programs that it builds of them, by a kit that keeps what it has proved.
 
 Each crate is proved by `rt ci NAME`, which loads of the crates below it no more than the statements, and what that has
 proved the kit keeps: so the next build goes on from there, and the gate, also in another clone on this machine, doesn't
@@ -13,7 +13,7 @@ import tempfile
 from pathlib import Path
 
 from wrapper import jobs, queue, rooms
-from wrapper.program import TOP, tell
+from wrapper.program import TOP
 
 # What a build doesn't read of a crate's folder.
 LEFT_OUT = ("out", "must-fail", "README.md")
@@ -26,7 +26,7 @@ KEPT = b"passed, and that is kept"
 
 
 class NothingKept(Exception):
-    """The kit can't keep what it has proved."""
+    """The kit can't keep what it has proved on this machine."""
 
 
 class Proof(queue.Run):
@@ -90,17 +90,14 @@ def prove_all(crates, last, copy):
     most = max(1, jobs.processors_there() // 2)
     begin = lambda name, *how: (Programs if name == last else Proof)(name, *how, copy)
     others = {name: below for name, below in crates.items() if name != last}
-    try:
-        return queue.build_all({**others, last: [*others]}, begin, most, in_advance=True)
-    except NothingKept:
-        tell("the kit can't keep what it proves on this machine, so one call of rt ci proves all crates")
-        return queue.build_all({last: []}, begin, most)
+    return queue.build_all({**others, last: [*others]}, begin, most, in_advance=True)
 
 
 def build(crates, programs):
     """Proves these crates, puts the programs among them into their folders, and answers whether all went well.
 
-    `crates` has for each crate those that it stands on, lowest first; the first of the programs is proved last.
+    `crates` has for each crate those that it stands on, lowest first; the first of the programs is proved last. Where what
+    was proved isn't kept, `NothingKept` is raised as soon as that is seen.
     """
     with copied(crates) as copy:
         if not prove_all(crates, programs[0], copy):

@@ -2,9 +2,9 @@
 
 import contextlib
 import os
+import shutil
 import signal
 import subprocess
-import sys
 import time
 
 from wrapper import jobs
@@ -14,6 +14,9 @@ from wrapper.trial import passed
 
 # The outcome of each call of rt lies here, in NAME.log.
 LOGS = TOP / "out" / "build"
+
+# The disk is full where less than this is free, in bytes.
+LEAST_DISK = 10_000_000
 
 # How long it is between two looks at what runs, in seconds.
 LOOK = 0.2
@@ -49,11 +52,21 @@ class Run:
         self.kill(signal.SIGKILL)
         self.child.wait()
 
+    def why(self):
+        """Why the crate wasn't built, as far as it can be seen without knowing what the checker says."""
+        status = self.child.returncode
+        # rt ends so where its checker was killed
+        killed = -status if status < 0 else 256 - status if status > 192 else 0
+        if b"No space left on device" in self.log.read_bytes() or shutil.disk_usage(LOGS).free < LEAST_DISK:
+            return "the disk is full"
+        if killed:
+            return f"rt was killed by signal {killed}" + ", as where memory runs out" * (killed == signal.SIGKILL)
+        return f"status {status}"
+
     def tell_failure(self):
-        """Names the crate, which wasn't built, and shows what the checker said."""
-        lines = self.log.read_bytes().splitlines()
-        sys.stderr.buffer.write(b"".join(line + b"\n" for line in lines[-40:]))
-        tell(f"{self.name} can't be built: status {self.child.returncode}; all that rt said is in {self.log.relative_to(TOP)}")
+        """Names the crate, which wasn't built, and the file with what the checker said."""
+        log = self.log.relative_to(TOP)
+        tell(f"{self.name} can't be built: {self.why()}; what rt said is in {log}, and the next ./spin build goes on from here")
 
 
 class Queue:

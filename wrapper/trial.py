@@ -15,14 +15,14 @@ import threading
 import time
 from pathlib import Path
 
-from wrapper import plain
+from wrapper import kit, plain
 from wrapper.program import CRATE, NOT_RUN, tell
 
 # The commands whose further words name files.
 READERS = ("run", "check", "join", "vm")
 
 
-def has_toolchain(otherwise="the command rt isn't found: install the Rattle toolchain and put rt on the PATH"):
+def has_toolchain(otherwise=kit.NOT_FOUND):
     """Whether the toolchain is installed; where it isn't, this line is told."""
     try:
         subprocess.run(["rt", "version"], stdout=subprocess.DEVNULL, stderr=subprocess.DEVNULL)

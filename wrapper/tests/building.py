@@ -8,21 +8,45 @@ import time
 import unittest
 from pathlib import Path
 
+from wrapper import kit
 from wrapper.tests import make_repository, stand_in
 
 CRATES = {"low": [], "left": ["low"], "right": ["low"], "spin_main": ["left", "right"], "aside": ["low"]}
 
-# `rt ci NAME` waits for the crates below, proves one, and keeps that in $KEPT; `rt ci` proves the rest, and makes the program; `rt lib` builds a crate.
+# What it is by $KIND: a kit that keeps what `rt ci NAME` proved, one that doesn't, or one that knows a plain `rt ci` alone.
+#
+# `rt ci NAME` waits for the crates below, proves one, and keeps that in $KEPT; `rt ci` proves the rest, and makes the
+# program. `rt lib` builds a crate, over what was built of those below it; `rt run` makes a program, and runs it.
 RT = """#!/bin/sh
 prove() {
     echo "begin $1" >> "$JOURNAL"
     echo "the checker on $1"
     sleep "${SLEEP:-0.1}"
-    [ "$1" = "$FAILS" ] && return 1
+    [ "$1" = "$FAILS" ] && { ${ENDS:-return 1}; }
     echo "end $1" >> "$JOURNAL"
 }
+make() {
+    mkdir -p "$1/out" && printf '#!/bin/sh\\necho "given $*" >> "$JOURNAL"\\n' > "$1/out/$2"
+    chmod +x "$1/out/$2"
+}
+over() {
+    for it in $(sed "s/:.*//" ../../crates.txt); do
+        [ -d "../$it/src" ] || exit 2
+        [ "$it" = "$1" ] || [ -e "../$it/out/rlib/stamp" ] || exit 2
+    done
+}
 case $1 in
+version)
+    echo "${LINE:-rattle-kit-0a logic THE_LOGIC}" ;;
+help)
+    case $KIND in
+    plain) echo "  rt ci                   the merge gate: proves every crate from nothing" ;;
+    named) echo "  rt ci [NAME..]          the merge gate: proves every crate, or these, from nothing" ;;
+    *) echo "  rt ci [--anew] [NAME..] the merge gate: proves every crate, or these, and keeps what passed" ;;
+    esac
+    echo "  rt must-fail [NAME..]   tries the edits" ;;
 ci)
+    [ "$KIND" = plain ] && [ -n "$2" ] && exit 2
     [ -d .git ] && [ ! -e crates/low/must-fail ] && { [ "$CI" != true ] || [ -z "$2" ]; } || exit 2
     for it in $([ -n "$2" ] && sed -n "s/^$2://p" crates.txt); do
         echo "wait $it" >> "$JOURNAL"
@@ -37,20 +61,29 @@ ci)
         exec 9>&-
     done
     [ -n "$FULL" ] || echo "rt: $2 and the crates below passed, and that is kept."
-    [ -n "$2" ] && exit
-    mkdir -p crates/spin_main/out && printf '#!/bin/sh\\n' > crates/spin_main/out/spin_main
-    chmod +x crates/spin_main/out/spin_main ;;
+    [ -n "$2" ] || make crates/spin_main spin_main ;;
 lib)
     name=$(basename "$PWD")
-    for it in $(sed "s/:.*//" ../../crates.txt); do [ -d ../$it/src ] || exit 2; done
+    over "$name"
+    [ ! -e out/rlib/stamp ] || exit 0
     [ "$name" = low ] || { exec 8< ../low && flock 8; }
-    prove "$name"
+    prove "$name" || exit 1
+    mkdir -p out/rlib && touch out/rlib/stamp ;;
+run)
+    name=$(basename "$PWD")
+    over "$name"
+    while [ "$1" != -- ]; do shift; done
+    shift
+    prove "$name" && make . "$name" && "out/$name" "$@"
 esac
-"""
+""".replace("THE_LOGIC", kit.LOGIC)
 
 
 class Building(unittest.TestCase):
     """One build after another in a folder of its own."""
+
+    # The kind of the kit that the script stands in for.
+    kind = "kept"
 
     def setUp(self):
         self.top = Path(tempfile.mkdtemp())
@@ -63,7 +96,7 @@ class Building(unittest.TestCase):
 
     def begin(self, *words, **environment):
         """Begins a build."""
-        given = {"PATH": f"{self.top}/bin:{os.environ['PATH']}", "JOURNAL": str(self.journal),
+        given = {"PATH": f"{self.top}/bin:{os.environ['PATH']}", "JOURNAL": str(self.journal), "KIND": self.kind,
                  "KEPT": f"{self.top}/kept", "TMPDIR": f"{self.top}/tmp", "CI": "true", **environment}
         how = {"stdout": subprocess.PIPE, "stderr": subprocess.PIPE, "text": True, "start_new_session": True}
         return subprocess.Popen([self.top / "spin", "build", *words], env={**os.environ, **given}, **how)

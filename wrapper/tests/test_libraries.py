@@ -22,11 +22,10 @@ class Libraries(Building):
         self.assertEqual(self.build("--libraries", SLEEP="1")[0], 0)
         self.assert_side_by_side()
 
-    def test_a_crate_that_fails_is_named_with_what_the_checker_said(self):
+    def test_a_crate_that_fails_is_named_with_the_file_of_what_the_checker_said(self):
         status, told = self.build("--libraries", FAILS="low")
         self.assertEqual((status, self.begun()), (126, ["low"]))
-        self.assertIn("the checker on low\n", told)
-        self.assertIn("spin: low can't be built: status 1", told)
+        self.assertIn("spin: low can't be built: status 1; what rt said is in out/build/low.log", told)
         self.assertEqual(self.build("--libraries")[0], 0)
 
     def test_an_interrupt_ends_in_one_line(self):
