@@ -1,6 +1,7 @@
 """Builds crates, each as soon as those that it stands on are built, several at once; jobs.py has the order."""
 
 import contextlib
+import ctypes
 import os
 import shutil
 import signal
@@ -18,8 +19,19 @@ LOGS = TOP / "out" / "build"
 # The disk is full where less than this is free, in bytes.
 LEAST_DISK = 10_000_000
 
+# The C library, and the number of what tells the system which signal a process gets when the one that began it ends.
+LIBC, SIGNAL_AT_END = ctypes.CDLL(None), 1
+
 # How long it is between two looks at what runs, in seconds.
 LOOK = 0.2
+
+
+def step_back(niceness):
+    """What a call does before it begins: it yields so far, and ends where this process is killed."""
+    # of its own it gets a group and no session, since the system may share the processors out by sessions first
+    os.setpgrp()
+    os.nice(niceness)
+    LIBC.prctl(SIGNAL_AT_END, signal.SIGTERM)
 
 
 class Run:
@@ -29,10 +41,9 @@ class Run:
         self.name, self.count, self.began = name, count, time.monotonic()
         self.log = LOGS / f"{name}.log"
         with open(self.log, "wb") as log:
-            # of its own it gets a group and no session, since the system may share the processors out by sessions first
             self.child = subprocess.Popen(
                 words, cwd=folder, env={**os.environ, **environment}, stdin=subprocess.DEVNULL,
-                stdout=log, stderr=subprocess.STDOUT, preexec_fn=lambda: (os.setpgrp(), os.nice(niceness)),
+                stdout=log, stderr=subprocess.STDOUT, preexec_fn=lambda: step_back(niceness),
             )
 
     def close(self):

@@ -47,7 +47,8 @@ def copy_below(name, room):
 def furnish(name, below):
     """Makes the room of a crate that stands on these, and answers the crate's folder in it."""
     room = ROOMS / name
-    shutil.rmtree(room, ignore_errors=True)
+    # that of a build that was killed is there still
+    clear(name, False)
     room.mkdir(parents=True)
     copy_top(room, (name, *below))
     for other in below:

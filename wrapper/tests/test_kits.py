@@ -2,6 +2,7 @@
 
 import errno
 import re
+import time
 import unittest
 from unittest import mock
 
@@ -62,11 +63,21 @@ class Plain(Building):
         self.assertEqual(self.lines()[-1], "given run data/first")
 
     def test_a_build_that_was_killed_is_gone_on_with(self):
-        child = self.begin(SLEEP="1")
+        child = self.begin(SLEEP="2")
         self.wait_for("begin left")
         child.terminate()
         child.communicate(timeout=20)
         self.assertEqual((self.build()[0], self.begun().count("low"), self.begun().count("left")), (0, 1, 2))
+
+    def test_a_build_that_was_killed_at_once_leaves_nothing_that_runs(self):
+        child = self.begin(SLEEP="2")
+        self.wait_for("begin left")
+        child.kill()
+        child.communicate(timeout=20)
+        time.sleep(3)
+        self.assertNotIn("end left", self.lines())
+        self.assertTrue((self.top / "out" / "build" / "rooms" / "left").is_dir())
+        self.assertEqual((self.build()[0], self.begun().count("low")), (0, 1))
 
     def test_a_program_that_fails_is_named_and_not_built(self):
         status, told = self.build(FAILS="spin_main")
