@@ -111,14 +111,14 @@ class Plain(unittest.TestCase):
         make_repository(self.top, crates)
         stand_in(self.top, "cargo", CARGO, "sh", "env", "python3", "dirname", "mkdir", "chmod", "sleep")
 
-    def begin(self, **environment):
+    def begin(self, *flags, **environment):
         """Begins a run."""
         how = {"stdout": subprocess.PIPE, "stderr": subprocess.PIPE, "text": True}
-        return subprocess.Popen([self.top / "spin", "--quiet", "run", "x"], env={"PATH": f"{self.top}/bin", **environment}, **how)
+        return subprocess.Popen([self.top / "spin", *flags, "run", "x"], env={"PATH": f"{self.top}/bin", **environment}, **how)
 
-    def spin(self, **environment):
+    def spin(self, *flags, **environment):
         """The status of a run, what is written, and the lines that are told."""
-        child = self.begin(**environment)
+        child = self.begin(*flags, **environment)
         written, told = child.communicate(timeout=60)
         return child.returncode, written, told.splitlines()
 
@@ -130,8 +130,7 @@ class Plain(unittest.TestCase):
     def test_it_is_built_once_and_again_where_a_source_is_another(self):
         first, second = self.spin(), self.spin()
         self.assertEqual([first[:2], second[:2]], [(0, "the program on run x\n")] * 2)
-        self.assertEqual([len(first[2]), len(second[2]), self.builds()], [2, 1, 1])
-        self.assertIn("of which nothing is proved; ./spin build makes the proved one", second[2][0])
+        self.assertEqual(self.builds(), 1)
         source = self.top / "crates" / "spin_main" / "src" / "main.rt"
         source.with_name("main.rt~").write_text("a backup")
         source.with_name(".#main.rt").symlink_to("nowhere")
@@ -140,6 +139,13 @@ class Plain(unittest.TestCase):
         source.write_text("// another\n")
         self.spin()
         self.assertEqual(self.builds(), 2)
+
+    def test_that_nothing_of_it_is_proved_is_told_once_a_day(self):
+        first, second = self.spin(), self.spin()
+        self.assertEqual([len(first[2]), len(second[2])], [2, 0])
+        self.assertIn("of which nothing is proved; ./spin build makes the proved one", first[2][1])
+        (self.top / "out" / "plain" / "told").write_text("2001-01-01")
+        self.assertEqual([len(self.spin("--quiet")[2]), len(self.spin()[2])], [0, 1])
 
     def test_rustc_builds_it_where_there_is_no_cargo(self):
         (self.top / "bin" / "cargo").unlink()
