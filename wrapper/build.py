@@ -1,10 +1,10 @@
-"""build [--all|--libraries] [--any-logic]: proves the crates that the program stands on and builds it; with --all the hosts.
+"""build [--all|--libraries] [--any-logic]: proves the crates that the program stands on and builds it.
 
-The kit says how (kit.py): where it keeps what it proves of a crate by itself, the proofs are the gate's own (proofs.py),
-else the libraries are built, and the programs over them (libraries.py). With --libraries these are the libraries that the
-program stands on and no more: `rt check` goes on from them, which is for who changes a crate. What was proved or built
-stays: a build that was killed is gone on with by the next. A kit of another logic than the one that proved these sources
-begins only with --any-logic.
+With --all the hosts too. The kit says how (kit.py): where it keeps what it proves of a crate by itself, the proofs are the
+gate's own (proofs.py), else the libraries are built, and the programs over them (libraries.py). With --libraries these are
+the libraries that the program stands on and no more: `rt check` goes on from them, for who changes a crate. What was
+proved or built stays: a build that was killed is gone on with by the next. A kit of another logic than the one that
+proved these sources begins only with --any-logic.
 """
 
 import contextlib

@@ -41,12 +41,12 @@ class Kit(NamedTuple):
     way: Way
 
     def is_allowed(self, words):
-        """Whether a build by this kit may begin, where it was called with these words; where it may not, a line says why."""
+        """Whether a build by this kit may begin, called with these words; where it may not, a line says why."""
         if self.logic == LOGIC or ANY_LOGIC in words:
             return True
         tell(
-            f"nothing was begun: {self.name} has the logic {self.logic}, and these sources were proved by the logic {LOGIC}, "
-            f"so it may refuse them after an hour of work; ./spin build {ANY_LOGIC} tries all the same"
+            f"nothing was begun: {self.name} has the logic {self.logic}, and these sources were proved by the logic "
+            f"{LOGIC}, so it may refuse them after an hour of work; ./spin build {ANY_LOGIC} tries all the same"
         )
         return False
 

@@ -1,7 +1,7 @@
 """The libraries that `rt check` goes on from, each built by `rt lib`, and the programs over them, each by `rt run`.
 
-Each is built in a room of its own, whence it goes into its folder. What was built stays: a build that was killed is gone
-on with by the next.
+Each is built in a room of its own, whence it goes into its folder. What was built stays: a build that was killed is
+gone on with by the next.
 """
 
 import os
@@ -33,7 +33,7 @@ class Library(queue.Run):
 
 
 class Program(Library):
-    """A program that is being proved and linked; it is then run as the gate runs it, but in the folder above its data."""
+    """A program that is being proved and linked, and then run as the gate runs it, but in the folder above its data."""
 
     def words(self, count):
         """The call that builds and runs it, with so many jobs."""
@@ -51,7 +51,7 @@ class Program(Library):
 
 
 def build(crates, programs=()):
-    """Builds these crates, of which those that aren't among the programs are libraries, and answers whether all are built.
+    """Builds these crates, the programs among them and else libraries, and answers whether all are built.
 
     `crates` has for each crate those that it stands on, lowest first.
     """

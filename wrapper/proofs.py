@@ -1,4 +1,4 @@
-"""The gate's own proofs of some crates, and the programs that it builds of them, by a kit that keeps what it has proved.
+"""The gate's own proofs of some crates, and the programs that it builds of them, by a kit that keeps what it proved.
 
 Each crate is proved by `rt ci NAME`, which loads of the crates below it no more than the statements, and what that has
 proved the kit keeps: so the next build goes on from there, and the gate, also in another clone on this machine, doesn't

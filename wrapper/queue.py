@@ -77,7 +77,7 @@ class Run:
     def tell_failure(self):
         """Names the crate, which wasn't built, and the file with what the checker said."""
         log = self.log.relative_to(TOP)
-        tell(f"{self.name} can't be built: {self.why()}; what rt said is in {log}, and the next ./spin build goes on from here")
+        tell(f"{self.name} can't be built: {self.why()}; what rt said is in {log}, and the next build goes on from here")
 
 
 class Queue:

@@ -1,4 +1,4 @@
-"""Tests of the wrapper, the eraser and some tools: wrapper/tests/all runs them all, python3 -m unittest one file of them."""
+"""Tests of the wrapper, the eraser and some tools: wrapper/tests/all runs all, python3 -m unittest one file of them."""
 
 import shutil
 from pathlib import Path

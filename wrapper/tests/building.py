@@ -13,7 +13,7 @@ from wrapper.tests import make_repository, stand_in
 
 CRATES = {"low": [], "left": ["low"], "right": ["low"], "spin_main": ["left", "right"], "aside": ["low"]}
 
-# What it is by $KIND: a kit that keeps what `rt ci NAME` proved, one that doesn't, or one that knows a plain `rt ci` alone.
+# By $KIND it is a kit that keeps what `rt ci NAME` proved, one that doesn't, or one that knows a plain `rt ci` alone.
 #
 # `rt ci NAME` waits for the crates below, proves one, and keeps that in $KEPT; `rt ci` proves the rest, and makes the
 # program. `rt lib` builds a crate, over what was built of those below it; `rt run` makes a program, and runs it.

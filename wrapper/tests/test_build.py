@@ -48,7 +48,7 @@ class Build(Building):
         status, told = self.build(FAILS="left")
         self.assertEqual(status, 126)
         self.assertNotIn("the checker on left", told)
-        line = "spin: left can't be built: status 1; what rt said is in out/build/left.log, and the next ./spin build goes on from here"
+        line = "spin: left can't be built: status 1; what rt said is in out/build/left.log, and the next build goes on from here"
         self.assertEqual(told.splitlines()[-1], line)
         self.assertIn("the checker on left\n", (self.top / "out" / "build" / "left.log").read_text())
         self.assertNotIn("spin_main", self.begun())

@@ -56,8 +56,8 @@ class Checks(Folder):
         status, lines = self.checked(one="echo 7 passed, 0 failed", two="exit 0")
         self.assertEqual((status, lines[-1]), (0, "3 passed, 0 failed, 0 skipped"))
         self.assertEqual(lines[:6], ["", "one: what one shows", "7 passed, 0 failed", "", "two: what two shows", ""])
-        self.assertEqual([line.split() for line in lines[6:-1]],
-                         [["part", "time"], ["rt", "ci", "1:01", "passed"], ["one", "0:00", "passed"], ["two", "0:00", "passed"]])
+        table = ["part time", "rt ci 1:01 passed", "one 0:00 passed", "two 0:00 passed"]
+        self.assertEqual([" ".join(line.split()) for line in lines[6:-1]], table)
 
     def test_a_part_that_fails_does_not_keep_the_next_from_running(self):
         status, lines = self.checked(one="exit 3", two="echo here")
@@ -66,10 +66,11 @@ class Checks(Folder):
         self.assertIn(["one", "0:00", "failed:", "status", "3"], [line.split() for line in lines])
 
     def test_what_a_part_skips_is_told_with_why_and_counted(self):
-        status, lines = self.checked(one="echo one: the dear piece skipped: there is no cargo", two="echo two skipped: all is lost")
+        piece = "the dear piece skipped: there is no cargo"
+        status, lines = self.checked(one=f"echo one: {piece}", two="echo two skipped: all is lost")
         self.assertEqual((status, lines[-1]), (0, "2 passed, 0 failed, 2 skipped"))
         rows = [line.split() for line in lines]
-        self.assertIn("the dear piece skipped: there is no cargo".split(), rows)
+        self.assertIn(piece.split(), rows)
         self.assertIn("two 0:00 skipped: all is lost".split(), rows)
         self.assertIn("one 0:00 passed".split(), rows)
 
@@ -99,9 +100,10 @@ class Packages(Folder):
         return ran.returncode, ran.stdout.splitlines()
 
     def test_what_is_missing_is_installed_without_a_question(self):
-        made = "for it in c++ cc pgrep tcpdump valgrind editcap; do echo > $0-$it; ln -s /usr/bin/true ${0%/*}/$it; done"
-        status, lines = self.install(f"echo $DEBIAN_FRONTEND $* >> $0.calls; case $* in *--no-download*) PATH=/usr/bin; {made};; esac")
-        self.assertEqual((status, lines), (0, ["packages: installing g++, gcc, procps, tcpdump, valgrind, wireshark-common"]))
+        made = "for it in c++ cc pgrep tcpdump valgrind editcap; do /usr/bin/ln -s /usr/bin/true ${0%/*}/$it; done"
+        status, lines = self.install(f"echo $DEBIAN_FRONTEND $* >> $0.calls; case $* in *--no-download*) {made};; esac")
+        names = "g++, gcc, procps, tcpdump, valgrind, wireshark-common"
+        self.assertEqual((status, lines), (0, [f"packages: installing {names}"]))
         calls = (self.folder / "apt-get.calls").read_text().splitlines()
         self.assertEqual(len(calls), 2)
         for call in calls:

@@ -24,10 +24,11 @@ class Ways(unittest.TestCase):
     """How a kit proves a crate by itself, by what it says."""
 
     def test_a_name_behind_rt_ci_and_what_is_kept_are_looked_for(self):
-        kept, named = PLAIN.replace("rt ci  ", "rt ci [NAME..]  ") + "rt ci --anew NAME", PLAIN.replace("rt ci  ", "rt ci NAME..  ")
-        told = named + "\n    rt ci NAME ..         proves these crates, and those that\n                 they stand on, and what passed is kept\n"
+        named = PLAIN.replace("rt ci  ", "rt ci [NAME..]  ")
+        anew = PLAIN.replace("rt ci  ", "rt ci [--anew] [NAME..]  ")
+        kept = f"{PLAIN}    rt ci NAME ..         proves these crates, and those that\n        they stand on, and what passed is kept\n"
         ways = [kit.Way.PLAIN, kit.Way.NAMED, kit.Way.KEPT, kit.Way.KEPT]
-        self.assertEqual([kit.way_of(text) for text in (PLAIN, named, kept, told)], ways)
+        self.assertEqual([kit.way_of(text) for text in (PLAIN, named, anew, kept)], ways)
 
     def test_the_readme_names_kits_of_the_logic_that_proved_the_sources(self):
         kits = re.findall(r"`(rattle-kit-\w+) logic (\w+)`", (TOP / "README.md").read_text())
@@ -125,10 +126,11 @@ class Refused(Building):
         return told.splitlines()[-1]
 
     def test_an_rt_of_no_kit(self):
-        self.assertIn("bin/rt is the rt of no Rattle kit: to `rt version` it answers RT 5.0\n", self.refused(LINE="RT 5.0\nand more"))
+        told = self.refused(LINE="RT 5.0\nand more")
+        self.assertIn("bin/rt is the rt of no Rattle kit: to `rt version` it answers RT 5.0\n", told)
         (self.top / "bin" / "rt").write_text("no program\n")
         alone = f"{self.top}/bin:/usr/bin:/bin"
-        self.assertIn("is the rt of no Rattle kit: to `rt version` it answers Exec format error", self.refused(PATH=alone))
+        self.assertIn("to `rt version` it answers Exec format error", self.refused(PATH=alone))
 
     def test_no_rt(self):
         (self.top / "bin" / "rt").unlink()
@@ -137,7 +139,7 @@ class Refused(Building):
     def test_a_kit_of_another_logic_begins_only_where_that_is_asked_for(self):
         line = "rattle-kit-99z logic 0123456789abcdef"
         told = self.refused("--all", LINE=line)
-        self.assertIn(f"rattle-kit-99z has the logic 0123456789abcdef, and these sources were proved by the logic {kit.LOGIC}", told)
+        self.assertIn("nothing was begun: rattle-kit-99z has the logic 0123456789abcdef, and these sources were", told)
         self.assertEqual(self.build("--any-logic", LINE=line)[0], 0)
 
     def test_other_words(self):
@@ -146,7 +148,7 @@ class Refused(Building):
     def test_an_rt_that_is_killed(self):
         for kind in ("kept", "plain"):
             told = self.failed(FAILS="left", ENDS="kill -9 0", KIND=kind)
-            self.assertIn("left can't be built: rt was killed by signal 9, as where memory runs out; what rt said is in", told)
+            self.assertIn("left can't be built: rt was killed by signal 9, as where memory runs out; what rt", told)
         self.assertIn("left can't be built: rt was killed by signal 9", self.failed(FAILS="left", ENDS="exit 247"))
 
     def test_a_disk_that_is_full_by_what_rt_says(self):
@@ -155,12 +157,12 @@ class Refused(Building):
 
     def test_a_disk_that_is_full_by_what_the_system_says(self):
         full = OSError(errno.ENOSPC, "No space left on device", "/some/file")
-        many = build.shutil.Error([("one", "/some/file", "[Errno 28] No space left on device"), ("two", "other", "why")])
-        self.assertEqual([build.where_and_why(full), build.where_and_why(many)],
-                         ["/some/file: No space left on device", "/some/file: [Errno 28] No space left on device"])
+        many = build.shutil.Error([("one", "/some/file", "No space left on device"), ("two", "other", "why")])
+        for fault in (full, many):
+            self.assertEqual(build.where_and_why(fault), "/some/file: No space left on device")
         its = kit.Kit("a kit", kit.LOGIC, kit.Way.PLAIN)
-        with mock.patch.object(kit, "found", return_value=its), mock.patch.object(build, "is_ready_to_build", return_value=True):
-            with mock.patch.object(build, "build", side_effect=full), mock.patch.object(build, "tell") as told:
+        with mock.patch.object(kit, "found", return_value=its), mock.patch.object(build, "tell") as told:
+            with mock.patch.multiple(build, is_ready_to_build=lambda: True, build=mock.Mock(side_effect=full)):
                 self.assertEqual(build.main([]), build.NOT_RUN)
         self.assertIn("nothing more could be built: /some/file: No space left on device", told.call_args.args[0])
 
