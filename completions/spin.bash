@@ -8,14 +8,14 @@ _spin() {
         return
     fi
     case ${COMP_WORDS[at]} in
-        run) words='--out --append --convert' ;;
+        run) words='--out --append --convert --counts --json' ;;
         check) words='--convert' ;;
-        join) words='--out --append --convert' ;;
+        join) words='--out --append --convert --counts --json' ;;
         gen) words='--out --append' ;;
         build) words='--all --libraries --any-logic' ;;
         explain) words='--report' ;;
         picture) words='run climb --html --out' ;;
-        filter) words='--script --jobs --out --pcap --piece --part --convert' ;;
+        filter) words='--script --jobs --out --pcap --piece --part --convert --counts --json' ;;
         help) words='run check join vm gen build session explain picture filter help version' ;;
     esac
     COMPREPLY=($(compgen -W "$words" -- "${COMP_WORDS[COMP_CWORD]}"))

@@ -12,11 +12,11 @@ from wrapper.program import TOP
 Command = namedtuple("Command", "name words line example")
 
 PROGRAM = [
-    Command("run", "SCRIPT [PACKETS] [--out FOLDER] [--append] [--convert]",
+    Command("run", "SCRIPT [PACKETS] [--out FOLDER] [--append] [--convert] [--counts [--json]]",
             "runs a script, over a capture or none, and writes its report", "run examples/first.spin"),
     Command("check", "SCRIPT REPORT [PACKETS] [--convert]", "judges a report: yes where it is some run's, no where it is none's",
             "check examples/first.spin examples/first.report"),
-    Command("join", "SCRIPT PACKETS [--out FOLDER] [--append] [--convert]",
+    Command("join", "SCRIPT PACKETS [--out FOLDER] [--append] [--convert] [--counts [--json]]",
             "runs a script over a capture whose fragments are made whole", "join examples/join/fragments.spin examples/join/fragments.pcap"),
     Command("vm", "SCRIPT TRACE", "runs a trace of memory accesses, whose faults are events",
             "vm examples/vm/pager.spin examples/vm/accesses.trace"),
@@ -35,7 +35,7 @@ WRAPPER = [
             "draws a run, or the climb of its packets, as SVG",
             "picture run examples/first.spin examples/first.report"),
     Command("filter", "SCRIPT CAPTURE.. [-e EXPRESSION] [-w FILE] [--script] [--jobs N] [--out FOLDER] [--pcap] [--piece N]"
-            " [--part K/N] [--convert]",
+            " [--part K/N] [--convert] [--counts [--json]]",
             "runs a script over captures of any length, in pieces side by side",
             "filter examples/packets.spin examples/packets.pcap"),
     Command("help", "[COMMAND]", "tells of the commands, or of one", "help run"),

@@ -3,6 +3,7 @@
 A report has a line for each packet, so what the lines tell is counted by looking for words, many lines at a time.
 """
 
+import re
 from collections import Counter
 
 CHUNK = 1_048_576
@@ -22,11 +23,19 @@ def whole_lines(file):
         yield text + file.readline()
 
 
-class Report:
-    """What a report says: its counts, its last line, and where it is asked for its lines that tell of sends, in order."""
+# Steps of handlers that are counted where hits are asked for, and the first step of a job.
+STEP = re.compile(rb" (run|job|send) ([0-9]+) ([0-9]+)")
+FIRST = re.compile(rb"(?m)^job [0-9]+ [0-9]+ [0-9.]+ [0-9]+ run ([0-9]+ [0-9]+)")
 
-    def __init__(self, file, endpoints=(), keeps_sends=False):
-        self.counts, self.last, self.sends = Counter(), "", []
+
+class Report:
+    """What a report says: its counts, its last line, and where it is asked for its lines that tell of sends, in order.
+
+    Where hits are asked for, the runs of each binding are counted, and the bytes that were sent to each endpoint.
+    """
+
+    def __init__(self, file, endpoints=(), keeps_sends=False, has_hits=False):
+        self.counts, self.last, self.sends, self.has_hits = Counter(), "", [], has_hits
         self.steps = {f"send {number}": f" send {number} ".encode() for number in endpoints}
         for text in whole_lines(file):
             self.take(text)
@@ -42,6 +51,8 @@ class Report:
             self.count(REFUSALS, text)
         if b" drop " in text:
             self.count({f"drop {name}": f" drop {name} ".encode() for name in DROPS}, text)
+        if self.has_hits:
+            self.take_hits(text)
         if any(b"\n" + begin in text or text.startswith(begin) for begin in OTHERS):
             self.take_others([line for line in text.split(b"\n") if line.startswith(OTHERS)])
 
@@ -49,6 +60,18 @@ class Report:
         """Adds how often the words stand in the text."""
         for name, what in words.items():
             self.counts[name] += times * text.count(what)
+
+    def take_hits(self, text):
+        """Counts the runs of bindings, those that were left to jobs, and the bytes of sends.
+
+        What a job does at first is counted by itself too, since the guards of its binding were tested before.
+        """
+        for (kind, first, second), times in Counter(STEP.findall(text)).items():
+            if kind == b"send":
+                self.counts[f"bytes {first.decode()}"] += times * int(second)
+            else:
+                self.counts[f"{'run' if kind == b'run' else 'left'} {first.decode()} {second.decode()}"] += times
+        self.counts.update(f"again {name.decode()}" for name in FIRST.findall(text))
 
     def take_others(self, lines):
         """Takes the lines that are no packets'; the answers of jobs don't count among those of packets."""

@@ -1,7 +1,8 @@
 """Runs the program where its flags say, and tells on standard error what its status means where that isn't 0.
 
-Standard output is the program's own, which no byte of it passes through here. What is told is found afterwards: the
-program is asked by `check`, which sends nothing, why it stopped. Nothing is proved of what is told.
+Standard output is the program's own, which no byte of it passes through here, but where counts are asked for in the
+place of the report. What is told is found afterwards: the program is asked by `check`, which sends nothing, why it
+stopped. Nothing is proved of what is told.
 """
 
 import contextlib
@@ -15,10 +16,14 @@ from wrapper.program import tell
 FORWARDED = (signal.SIGINT, signal.SIGTERM, signal.SIGHUP, signal.SIGQUIT)
 
 
-def waited_for(command):
-    """Runs a command line as if it stood in the wrapper's place, signals too, and answers its status, or less a signal."""
+def waited_for(command, out=None):
+    """Runs a command line as if it stood in the wrapper's place, signals too, and answers its status, or less a signal.
+
+    What it writes goes into the open file `out` where there is one.
+    """
     mask = signal.pthread_sigmask(signal.SIG_BLOCK, FORWARDED)
-    child = os.posix_spawn(command[0], command, os.environ, setsigmask=mask)
+    actions = [(os.POSIX_SPAWN_DUP2, out.fileno(), 1)] if out else []
+    child = os.posix_spawn(command[0], command, os.environ, setsigmask=mask, file_actions=actions)
 
     def forward(number, _):
         """Hands the signal on to the program."""
@@ -87,9 +92,33 @@ def tell_reasons(command, words, status, folder="."):
 def run(command, words, flags, is_last):
     """Runs the program where the flags say, and answers its status, or less a signal; as the last thing in its place."""
     elsewhere = words if flags.out is None else outputs.from_elsewhere(words)
+    line = [*command, *elsewhere]
+    if flags.counts:
+        return counted(line, words[1:2], flags)
     with inside(flags.out):
-        line = [*command, *elsewhere]
         return os.execv(line[0], line) if is_last else waited_for(line)
+
+
+def counted(line, script, flags):
+    """Runs the program and writes its counts in the place of the report, which stands where there is no whole one."""
+    import shutil
+    import tempfile
+
+    from wrapper import hits, reading
+
+    with tempfile.TemporaryFile() as out:
+        with inside(flags.out):
+            status = waited_for(line, out)
+        out.seek(0)
+        if status:
+            shutil.copyfileobj(out, sys.stdout.buffer)
+        else:
+            with open(script[0], encoding="ascii") as file:
+                text = reading.read_script(file.read())
+            told = hits.hits_of(text, (reading.read_line(one.decode()) for one in out))
+            sys.stdout.write(hits.as_json(told) if flags.json else hits.as_table(text, told))
+    sys.stdout.flush()
+    return status
 
 
 def tell_end(command, words, status, flags):

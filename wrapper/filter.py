@@ -17,11 +17,13 @@ import time
 from collections import Counter
 from pathlib import Path
 
-from wrapper import commands, convert, expression, help, outputs, reasons
+from wrapper import commands, convert, expression, help, hits, outputs, reasons
+from wrapper.bindings import Bindings
 from wrapper.counts import summary
 from wrapper.keeping import PIECES, Made
 from wrapper.pieces import Refused, Walk, find_capture
 from wrapper.program import NOT_RUN, TOP, command, tell
+from wrapper.reading import read_line, read_script
 from wrapper.rounds import InTheWay, read_rounds
 from wrapper.worker import DONE, PLAIN_NAMES
 
@@ -61,6 +63,8 @@ def read_words(words):
     parser.add_argument("--pcap", action="store_true")
     parser.add_argument("--piece", type=positive, default=PIECE)
     parser.add_argument("--part", type=part)
+    parser.add_argument("--counts", action="store_true")
+    parser.add_argument("--json", action="store_true")
     parser.add_argument("--convert", action="store_true")
     if "-e" in words:
         return expression.read_words(words, parser)
@@ -154,10 +158,12 @@ class Filter:
         self.options, self.command = options, command()
         if self.command is None:
             raise Refused(NOT_RUN, "the program isn't built, and a trial keeps no endpoint's file; build it first")
-        text, accepted = self.read_script()
+        text, self.report = self.read_script()
+        accepted = int(self.report.split()[-1])
         self.checksum = hashlib.sha256(text).hexdigest()
+        self.text, self.has_hits = text.decode(), options.counts or options.json
         try:
-            self.rounds = read_rounds(text.decode())
+            self.rounds = read_rounds(self.text)
         except InTheWay as found:
             raise Refused(2, f"{options.script} can't be run in pieces: {found}") from None
         self.counts = Counter(accepted=accepted, refused=self.rounds.commands - accepted)
@@ -167,7 +173,7 @@ class Filter:
         self.second = max(capture.second for capture in self.captures) if options.pcap else None
 
     def read_script(self):
-        """The script's text, and how many of its commands are accepted, by a run without a capture."""
+        """The script's text, and the report of a run without a capture, which tells what its commands come to."""
         name = self.options.script
         try:
             text = Path(name).read_bytes()
@@ -181,14 +187,14 @@ class Filter:
             ran = subprocess.run([*self.command, "run", "script"], **how)
         if ran.returncode:
             raise Refused(ran.returncode, *reasons.of(self.command, ["run", name], ran.returncode))
-        return text, int(ran.stdout.split()[-1])
+        return text, ran.stdout.decode()
 
     def key(self, piece):
         """What a finished piece must have been made of, to be kept."""
         programs = [[word, os.stat(word).st_size, os.stat(word).st_mtime_ns] for word in self.command if os.path.isfile(word)]
         return {
             "script": self.checksum, "program": programs, "capture": piece.capture.identity(),
-            "range": [piece.start, piece.end, piece.records], "second": self.second,
+            "range": [piece.start, piece.end, piece.records], "second": self.second, "hits": self.has_hits,
         }
 
     def task(self, piece, folder):
@@ -198,6 +204,7 @@ class Filter:
             "script": self.rounds.script(piece.records), "names": self.rounds.endpoints,
             "capture": piece.capture.path, "order": piece.capture.order, "captured_second": piece.capture.second,
             "start": piece.start, "end": piece.end, "records": piece.records, "second": self.second,
+            "hits": self.has_hits,
         }
 
     def folders(self):
@@ -307,7 +314,19 @@ class Filter:
                 return []
             self.join()
             outputs.tell_lost(["run", self.options.script])
+            return self.told()
+
+    def told(self):
+        """The lines that tell the counts: of packets alone, or of all that is counted, as a table or as JSON."""
+        if not self.has_hits:
             return summary(self.counts, self.rounds.endpoints)
+        script, bindings = read_script(self.text), Bindings(read_script(self.text))
+        for line in map(read_line, self.report.splitlines()):
+            if line.kind == "entry" and line.words[1] == "ok":
+                bindings.take(line.place, script.deeds[line.line].words)
+        hits.add_guards(bindings, self.counts)
+        told = {"captures": self.counts["captures"], **hits.found(script, bindings, self.counts)}
+        return (hits.as_json(told) if self.options.json else hits.as_table(script, told)).splitlines()
 
 
 def main(words):

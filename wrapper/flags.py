@@ -6,9 +6,11 @@ FLAGS = {
         ("--out FOLDER", "what is sent goes to files in this folder, which must have none of them yet"),
         ("--append", "what is sent may be added to files that are there"),
         ("--convert", "a capture that is packed, of another form or of other frames is made readable first"),
+        ("--counts", "in the place of the report: hits of bindings and guards, drops, bytes of endpoints, as a table"),
+        ("--json", "with --counts: as JSON"),
     ],
     "check": [("--convert", "as under run")],
-    "join": [("--out FOLDER", "as under run"), ("--append", "as under run"), ("--convert", "as under run")],
+    "join": [(flag, "as under run") for flag in ("--out FOLDER", "--append", "--convert", "--counts", "--json")],
     "gen": [("--out FOLDER", "as under run"), ("--append", "as under run")],
     "build": [
         ("--all", "the hosts are proved and built too"),
@@ -30,5 +32,7 @@ FLAGS = {
         ("--piece N", "a piece has at most N records; else 32,768"),
         ("--part K/N", "every Nth piece alone, from the Kth on, and nothing is joined"),
         ("--convert", "as under run"),
+        ("--counts", "as under run, in the place of the counts of packets"),
+        ("--json", "with --counts: as JSON"),
     ],
 }

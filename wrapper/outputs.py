@@ -1,4 +1,4 @@
-"""Where a run leaves what its endpoints receive: the flags `--out FOLDER` and `--append`, and what is told of it.
+"""Where a run leaves what its endpoints receive, and what is told of it: the flags of the wrapper for such a run.
 
 The program appends to the files of its endpoints, in the folder where it is called. So a run may be sent into a folder
 of its own, and where a file stands already that is told, or refused. The flags never reach the program.
@@ -22,8 +22,12 @@ ENDPOINT = re.compile(rb"^[ \t]*endpoint[ \t]+([0-9a-fA-Fx]+)[ \t]+([A-Za-z0-9_.
 HANDLER = re.compile(rb"^[ \t]*handler[ \t].*$", re.MULTILINE)
 SEND = re.compile(rb"[ \t]send[ \t]+([0-9a-fA-Fx]+)[ \t]")
 
-# Where a run writes, None where that is the folder of the call, and whether it may add to files that stand there.
-Flags = namedtuple("Flags", "out append", defaults=(None, False))
+# Those whose reports are counted.
+COUNTED = ("run", "join")
+
+# Where a run writes, None where that is the folder of the call; whether it may add to files that stand there; and whether
+# counts are written in the place of the report, as a table or as JSON.
+Flags = namedtuple("Flags", "out append counts json", defaults=(None, False, False, False))
 
 
 class Refused(Exception):
@@ -42,6 +46,8 @@ def read_flags(words):
         word = rest.pop(0)
         if word == "--append":
             flags = flags._replace(append=True)
+        elif word in ("--counts", "--json") and words[0] in COUNTED:
+            flags = flags._replace(counts=True, json=flags.json or word == "--json")
         elif word == "--out":
             if not rest or not rest[0] or rest[0].startswith("-"):
                 raise Refused("--out takes the name of a folder", WRONG_WORDS)
@@ -129,6 +135,8 @@ def from_elsewhere(words):
 
 def prepare(flags, words, quiet):
     """Makes what a run needs to write where the flags say, and tells what it will be added to."""
+    if flags.counts and len(words) > 1 and os.path.exists(words[1]) and not os.path.isfile(words[1]):
+        raise Refused("counts need a second look at the script, so it has to be a file", NOT_RUN)
     if flags.out is not None:
         make_fresh(flags)
     elif words[0] in SENDING and not flags.append and not quiet:

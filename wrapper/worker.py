@@ -42,7 +42,7 @@ def run_program(task, work):
     with open(work / "report", "w+b") as file:
         ran = subprocess.run(words, cwd=work, stdin=subprocess.DEVNULL, stdout=file)
         file.seek(0)
-        report = Report(file, task["names"], task["second"] is not None)
+        report = Report(file, task["names"], task["second"] is not None, task["hits"])
     records = task["records"]
     if ran.returncode:
         status = ran.returncode if ran.returncode > 0 else NOT_RUN
