@@ -1,6 +1,6 @@
 -- Which handlers and guards a catalogue refuses, and which natives are refused.
-use Rattle.std.specs.Prelude.{ℕ, ◌≡◌, ◌≢◌, if◌then◌else◌, nat_lt, List, length}
-use Rattle.std.specs.Prelude.{is_some, Option, Some, None, Result, Ok, Err}
+use Rattle.std.specs.Prelude.{ℕ, ◌≡◌, if◌then◌else◌, nat_lt, List, length}
+use Rattle.std.specs.Prelude.{is_some, Option, Some, None, Result, Ok, Err, IfErr}
 use Rattle.spin_code.specs.declared.check.ActFault.{ActFault}
 use Rattle.spin_code.specs.Check.{act_check, test_check}
 use Rattle.spin_objects.specs.declared.unit.TheConstants.{MAX_UNITS}
@@ -36,10 +36,10 @@ abbrev pub guard_refusal : Check → ℕ → ℕ → Option CatalogueFault
 guard_refusal (check.Coded sig test) natives count = refusal (test_check test sig) count
 guard_refusal (check.Native native) natives count = native_refusal native natives count
 
--- an answer is by the first refusal, if there is one; only want of memory is free
+-- an answer is the first refusal, if there is one; where there is none, only want of memory is free
 abbrev pub IsBy : {A : Type 0} → Option CatalogueFault → Result A CatalogueFault → Type 0
-IsBy first (Ok added) = first ≡ None
-IsBy first (Err fault) = fault ≢ refused.NoMemory → first ≡ Some fault
+IsBy None answer = IfErr answer (λ what. what ≡ refused.NoMemory)
+IsBy (Some what) answer = answer ≡ Err what
 
 -- the first refusal of a native that was checked so, where there are so many of its kind
 abbrev pub checked_refusal : Result (Unit {0}) ActFault → ℕ → Option NativeFault
@@ -51,7 +51,7 @@ abbrev pub adding_refusal : List ℕ → List (List ℕ) → Result (Unit {0}) A
 adding_refusal name names checked =
     if is_some (index_of name names) then Some fault.SameName else checked_refusal checked (length names)
 
--- the answer to a native is by the first refusal, if there is one; only want of memory is free
+-- the answer to a native is the first refusal, if there is one; where there is none, only want of memory is free
 abbrev pub IsNativeBy : Option NativeFault → Result (Unit {0}) NativeFault → Type 0
-IsNativeBy first (Ok added) = first ≡ None
-IsNativeBy first (Err what) = what ≢ fault.NoMemory → first ≡ Some what
+IsNativeBy None answer = IfErr answer (λ what. what ≡ fault.NoMemory)
+IsNativeBy (Some what) answer = answer ≡ Err what

@@ -66,7 +66,8 @@ impl Catalogue {
     ///
     /// [`CatalogueFault::Bad`] comes exactly where the check refuses a coded act, else [`CatalogueFault::TooMany`]
     /// exactly where [`MAX_UNITS`](crate::MAX_UNITS) handlers are there, and else [`CatalogueFault::NoNative`] exactly
-    /// where there is no native handler of the index. After a refusal the catalogue is unchanged.
+    /// where there is no native handler of the index. [`CatalogueFault::NoMemory`] comes only where none of these does.
+    /// After a refusal the catalogue is unchanged.
     pub fn add_handler(&mut self, body: Body) -> Result<u16, CatalogueFault>
         requires { ⟦<Catalogue as Sincere>⟧.sincere self.old }
         ensures sincere { ⟦<Catalogue as Sincere>⟧.sincere self.new }
@@ -92,7 +93,8 @@ impl Catalogue {
     ///
     /// [`CatalogueFault::Bad`] comes exactly where the check refuses a coded test, else [`CatalogueFault::TooMany`]
     /// exactly where [`MAX_UNITS`](crate::MAX_UNITS) guards are there, and else [`CatalogueFault::NoNative`] exactly
-    /// where there is no native guard of the index. After a refusal the catalogue is unchanged.
+    /// where there is no native guard of the index. [`CatalogueFault::NoMemory`] comes only where none of these does.
+    /// After a refusal the catalogue is unchanged.
     pub fn add_guard(&mut self, check: Check) -> Result<u16, CatalogueFault>
         requires { ⟦<Catalogue as Sincere>⟧.sincere self.old }
         ensures sincere { ⟦<Catalogue as Sincere>⟧.sincere self.new }

@@ -87,7 +87,8 @@ impl Natives {
     ///
     /// [`NativeFault::SameName`] comes exactly where a native handler has the name, else [`NativeFault::Bad`] exactly
     /// where the check refuses the act, and else [`NativeFault::TooMany`] exactly where [`MAX_NATIVES`] native
-    /// handlers are there. A refused object is dropped, and the natives are unchanged.
+    /// handlers are there. [`NativeFault::NoMemory`] comes only where none of these does. A refused object is dropped,
+    /// and the natives are unchanged.
     pub fn add_handler(
         &mut self,
         name: Text,
@@ -121,7 +122,8 @@ impl Natives {
     ///
     /// [`NativeFault::SameName`] comes exactly where a native guard has the name, else [`NativeFault::Bad`] exactly
     /// where the check refuses the test, and else [`NativeFault::TooMany`] exactly where [`MAX_NATIVES`] native
-    /// guards are there. A refused object is dropped, and the natives are unchanged.
+    /// guards are there. [`NativeFault::NoMemory`] comes only where none of these does. A refused object is dropped,
+    /// and the natives are unchanged.
     pub fn add_guard(
         &mut self,
         name: Text,
@@ -154,8 +156,8 @@ impl Natives {
     /// Adds an authoriser of this name, whose object answers by this policy.
     ///
     /// [`NativeFault::SameName`] comes exactly where a native authoriser has the name, and else
-    /// [`NativeFault::TooMany`] exactly where [`MAX_NATIVES`] native authorisers are there. A refused object is
-    /// dropped, and the natives are unchanged.
+    /// [`NativeFault::TooMany`] exactly where [`MAX_NATIVES`] native authorisers are there. [`NativeFault::NoMemory`]
+    /// comes only where none of these does. A refused object is dropped, and the natives are unchanged.
     pub fn add_authoriser(
         &mut self,
         name: Text,
