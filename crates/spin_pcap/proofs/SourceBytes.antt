@@ -5,6 +5,7 @@ use Rattle.std.proofs.lemmas.List.{append-nil, length-append, length-take, lengt
 use Rattle.std.specs.Io.KnownBytes.{Consumes, IsAtEnd}
 use Rattle.spin_pcap.specs.declared.fault.PcapFault.{PcapFault}
 use Rattle.spin_pcap.specs.declared.fault.PcapFault.TheVariants as fault
+use Rattle.spin_pcap.specs.declared.limits.TheConstants.{MAX_RECORDS}
 use Rattle.spin_outside.specs.Counts.{raised_by}
 use Rattle.spin_outside.specs.Sources.{SourceSeen, taken_more}
 use Rattle.spin_pcap.specs.Passing.{Passes, left_for, UnlessFailed, IsRefusal}
@@ -135,16 +136,16 @@ failed (fault.Spoilt first) P h = absurd h
 failed fault.NoMemory P h = tt
 
 -- which refuses nothing
-pub no_refusal : (given : ℕ) (wrong : PcapFault) → UnlessFailed wrong ⊥ → IsRefusal given (Err wrong)
-no_refusal given fault.ReadFault h = tt
-no_refusal given fault.BadMagic h = absurd h
-no_refusal given fault.BadVersion h = absurd h
-no_refusal given fault.BadLink h = absurd h
-no_refusal given fault.Short h = absurd h
-no_refusal given fault.TooLong h = absurd h
-no_refusal given fault.TooManyRecords h = absurd h
-no_refusal given (fault.Spoilt first) h = absurd h
-no_refusal given fault.NoMemory h = tt
+pub no_refusal : (given : ℕ) (wrong : PcapFault) → given < MAX_RECORDS → UnlessFailed wrong ⊥ → IsRefusal given (Err wrong)
+no_refusal given fault.ReadFault few h = tt
+no_refusal given fault.BadMagic few h = absurd h
+no_refusal given fault.BadVersion few h = absurd h
+no_refusal given fault.BadLink few h = absurd h
+no_refusal given fault.Short few h = absurd h
+no_refusal given fault.TooLong few h = absurd h
+no_refusal given fault.TooManyRecords few h = absurd h
+no_refusal given (fault.Spoilt first) few h = absurd h
+no_refusal given fault.NoMemory few h = few
 
 pub whatever : {A : Type 0} (P : A → Type 0) (o : Option A) → ((x : A) → P x) → IfSome o P
 whatever P None h = tt

@@ -8,7 +8,7 @@ use Rattle.spin_pcap.specs.declared.next.Next.TheVariants as next
 use Rattle.spin_pcap.specs.declared.order.Order.{Order}
 use Rattle.spin_pcap.specs.declared.order.Order.TheVariants as order
 use Rattle.spin_pcap.specs.declared.limits.TheConstants.{MAX_RECORDS, MAX_CAPTURED}
-use Rattle.spin_pcap.specs.Captures.{ordered_number, ordered_number_at, captured}
+use Rattle.spin_pcap.specs.Captures.{ordered_number, ordered_number_at, captured, HasHeader}
 use Rattle.spin_pcap.specs.Passing.{Passes, left_for, IsAnswer, IsWithinRecord}
 use Rattle.spin_pcap.proofs.SourceBytes.{before-rest, passes-then, passes-skip}
 
@@ -26,6 +26,16 @@ captured-held way held more le =
     number_at-front way 8 4 (take 16 held) more (omega (arith, length-take 16 held))
     ∙ sym (number_at-front way 8 4 (take 16 held) (drop 16 held) (omega (arith, length-take 16 held)))
     ∙ ap (λ ys. captured way ys) (take-append-drop 16 held)
+
+-- the header of a record that is held stands at the front of what was left
+pub header-left : (way : Order) (given : ℕ) (held held' : List ℕ) (source source' : SourceSeen) → Passes [] held source held' source'
+    → 16 ≤ length held' → given < MAX_RECORDS → captured way held' ≤ MAX_CAPTURED → IfSome (left_for held source.left) (HasHeader way given)
+header-left way given held held' source source' p size few small =
+    before-rest (HasHeader way given) [] held held' source source' p (λ rest told. record {
+      few = few;
+      there = omega (arith, length-append held' rest, size);
+      small = omega (arith, number_at-front way 8 4 held' rest (omega (arith, size)), small);
+    })
 
 -- the header of the record and its bytes are gone
 pub passes-record : (held held' held'' frame : List ℕ) (source source' source'' : SourceSeen) → Passes [] held source held' source'

@@ -67,6 +67,13 @@ pub record IsRecord (way : Order) (given : ℕ) (bytes frame rest : List ℕ) : 
   pub small : length frame ≤ MAX_CAPTURED
   pub whole : bytes ≡ header ++ frame ++ rest
 
+-- At the front stands the whole header of a record that may be given, whether its bytes follow or not. So many records
+-- came before.
+pub record HasHeader (way : Order) (given : ℕ) (bytes : List ℕ) : Type 0 where
+  pub few : given < MAX_RECORDS
+  pub there : 16 ≤ length bytes
+  pub small : captured way bytes ≤ MAX_CAPTURED
+
 -- So many bytes are there, no whole record among them, and they could still become one.
 pub record IsCut (way : Order) (given : ℕ) (bytes : List ℕ) (count : ℕ) : Type 0 where
   pub some : 0 < count

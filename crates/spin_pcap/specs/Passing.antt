@@ -138,6 +138,7 @@ IsCutShort given (Ok (next.Cut count)) =
 IsCutShort given (Err wrong) = ⊤
 
 -- A refusal behind so many records: of one record more for its length, or of a byte behind as many as are allowed.
+-- Memory is wanted only for one record more.
 abbrev pub IsRefusal : ℕ → Result Next PcapFault → Type 0
 IsRefusal given (Ok next) = ⊤
 IsRefusal given (Err fault.ReadFault) = ⊤
@@ -148,7 +149,7 @@ IsRefusal given (Err fault.Short) = ⊥
 IsRefusal given (Err fault.TooLong) = given < MAX_RECORDS
 IsRefusal given (Err fault.TooManyRecords) = MAX_RECORDS ≤ given
 IsRefusal given (Err (fault.Spoilt first)) = ⊥
-IsRefusal given (Err fault.NoMemory) = ⊤
+IsRefusal given (Err fault.NoMemory) = given < MAX_RECORDS
 
 -- The frame has no bytes, unless a record was given.
 abbrev pub EmptyUnlessPacket : Result Next PcapFault → List ℕ → Type 0

@@ -1,7 +1,8 @@
 //! The reader of a capture.
 
 ghost use Rattle.std.specs.Prelude.{◌≡◌, ◌<◌, ◌≤◌, ◌+◌, ℕ, List, [], ◌++◌, length, IfOk, IfErr};
-ghost use Rattle.std.specs.Prelude.{IfSome, ⊤, true, false};
+ghost use Rattle.std.specs.Prelude.{IfSome, ⊤, true, false, Err};
+ghost use Rattle.spin_pcap.specs.Captures.{HasHeader};
 ghost use Rattle.spin_pcap.specs.Inner.Filling.{Copies};
 ghost use Rattle.spin_pcap.specs.Inner.Held.{HasPassed};
 ghost use Rattle.spin_pcap.specs.Passing.{Passes, UnlessFailed, ReadsByCount, IsStart};
@@ -105,6 +106,8 @@ fn read_record<S: Source>(
     ensures few { result ≡ Ok Next.Packet → given < MAX_RECORDS }
     ensures cut { IsCutShort given result }
     ensures refused { IsRefusal given result }
+    ensures memory { result ≡ Err PcapFault.NoMemory →
+        IfSome (left_for window.old (S.seen source.old).left) (HasHeader order given) }
     ensures passed { (gone : List ℕ)
         × Passes gone window.old (S.seen source.old) window.new (S.seen source.new)
         × IsGone order result gone frame.new }
@@ -180,7 +183,8 @@ impl Reader {
     /// - [`PcapFault::TooManyRecords`] exactly where a byte follows 1,048,576 whole records;
     /// - [`PcapFault::TooLong`] exactly where fewer were given, and the next one's captured length is over 262,144;
     /// - [`PcapFault::ReadFault`] only where the source's count of faults rose;
-    /// - [`PcapFault::NoMemory`] for want of memory.
+    /// - [`PcapFault::NoMemory`] for want of memory, and only where the whole header of a record stands that may be
+    ///   given: an end, a rest without such a header and a refusal are never told as want of memory.
     ///
     /// The time is linear in the bytes that are taken and given: each byte is copied at most twice. At any time
     /// the reader holds at most 65,536 bytes past the records that it gave; a call that gives none has passed at most
@@ -207,6 +211,8 @@ impl Reader {
         ensures few { result ≡ Ok Next.Packet → self.old.given < MAX_RECORDS }
         ensures cut { IfReading self.old.state (IsCutShort self.old.given result) ⊤ }
         ensures refused { IfReading self.old.state (IsRefusal self.old.given result) ⊤ }
+        ensures memory { result ≡ Err PcapFault.NoMemory →
+            IfSome (left_for self.old.held (S.seen source.old).left) (HasHeader self.old.order self.old.given) }
         ensures cause { ReadsByCount (S.seen source.old).faults (S.seen source.new).faults result }
     {
         empty(frame);
@@ -279,6 +285,8 @@ impl Reader {
         ensures few { result ≡ Ok Next.Packet → self.old.given < MAX_RECORDS }
         ensures cut { IfReading self.old.state (IsCutShort self.old.given result) ⊤ }
         ensures refused { IfReading self.old.state (IsRefusal self.old.given result) ⊤ }
+        ensures memory { result ≡ Err PcapFault.NoMemory →
+            IfSome (left_for self.old.held (S.seen source.old).left) (HasHeader self.old.order self.old.given) }
         ensures cause { ReadsByCount (S.seen source.old).faults (S.seen source.new).faults result }
     {
         if self.pass_held() {

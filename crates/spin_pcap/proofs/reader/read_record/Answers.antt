@@ -7,7 +7,7 @@ use Rattle.spin_pcap.specs.declared.order.Order.{Order}
 use Rattle.spin_pcap.specs.Captures.{ordered_number, captured}
 use Rattle.spin_pcap.specs.Passing.{Passes}
 use Rattle.spin_pcap.proofs.SourceBytes.{copies-whole, copies-part, failed, no_refusal, whatever}
-use Rattle.spin_pcap.proofs.WholeRecords.{passes-record, within_record, answers-packet}
+use Rattle.spin_pcap.proofs.WholeRecords.{passes-record, within_record, answers-packet, header-left}
 use Rattle.spin_pcap.proofs.reader.read_record.Goals as goal
 
 -- the body, where the header was skipped
@@ -77,4 +77,13 @@ returns-else-whole-clause-cut g c =
     (omega (arith, c.if-given-ge-MAX_RECORDS.false), omega (arith, part.0), omega (arith, part.0, c.if-captured-gt-MAX_CAPTURED.false))
 
 pub returns-in-Err-clause-refused : goal.returns-in-Err-clause-refused
-returns-in-Err-clause-refused g c = no_refusal c.args.given _ c.in-Err.ensures.failed
+returns-in-Err-clause-refused g c = no_refusal c.args.given _ (omega (arith, c.if-given-ge-MAX_RECORDS.false)) c.in-Err.ensures.failed
+
+pub returns-in-Err-clause-memory : goal.returns-in-Err-clause-memory
+returns-in-Err-clause-memory g c =
+    let same : c.held-held.result.now ≡ c.need.new.self = c.held-held.ensures.same in
+    let says : captured c.args.order c.need.new.self ≡ c.read_u32-captured.result =
+    says c.args.order c.held-held.result.now c.need.new.self c.read_u32-captured.result same c.read_u32-captured.ensures in
+    λ _. header-left c.args.order c.args.given c.args.window.now c.need.new.self _ _ c.need.ensures.passed
+    (omega (arith, c.if-held-lt-RECORD.false, ap length same)) (omega (arith, c.if-given-ge-MAX_RECORDS.false))
+    (omega (arith, says, c.if-captured-gt-MAX_CAPTURED.false))
