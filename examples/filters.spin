@@ -20,3 +20,12 @@ lane 0 raise 0 3
 
 # A handler that changes an argument can't be plain.
 lane 0 install 0 0 1 0 free plain
+
+# What the numbers stand for.
+# event 0 is Sum.Asked
+# event 1 is Small.Seen
+# handler 1 is AddTen
+# handler 2 is Give
+# handler 3 is TellSmall
+# handler 4 is Note
+# guard 1 is BelowTen

@@ -23,3 +23,9 @@ barrier
 # bytes: 00000002 aabb, 00000001 cc, 00000001 dd.
 retire 0
 lane 0 raise 0 x0708ee
+
+# What the numbers stand for.
+# event 0 is Text.Arrived
+# handler 1 is Number
+# handler 2 is Print
+# endpoint 1 is Printer

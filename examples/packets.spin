@@ -19,3 +19,15 @@ barrier
 
 # Each record of the capture is a part of this line: ARP, TCP, a query and its answer, and these four once more.
 lane 0 packet 0 100
+
+# What the numbers stand for.
+# event 0 is Ethernet.PacketArrived
+# event 1 is IP.PacketArrived
+# event 2 is UDP.PacketArrived
+# handler 1 is ReadIP
+# handler 2 is ReadUDP
+# handler 3 is Send
+# guard 1 is IsIP
+# guard 2 is IsUDP
+# guard 3 is IsDNS
+# endpoint 0 is Datagrams

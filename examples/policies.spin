@@ -19,3 +19,11 @@ lane 0 raise 0 50
 # No rule lets module 2 remove a binding, and rule 1 lets module 1 remove its own.
 lane 0 remove 0 2 1
 lane 0 remove 0 1 1
+
+# What the numbers stand for.
+# module 0 is Owner
+# module 1 is Cache
+# module 2 is Monitor
+# event 0 is Page.Read
+# handler 1 is Echo
+# guard 1 is OneDigit

@@ -74,7 +74,7 @@ class Climb:
         """The bars of one packet, from the first: label, kind, what the title adds, and events and bindings."""
         deed = self.script.deeds[line.line].words
         event = number(deed[1])
-        way = [(f"event {event}", "packet", "", {"event": {event}})]
+        way = [(self.script.called("event", event), "packet", "", {"event": {event}})]
         if line.is_refused:
             words = line.words[line.words.index("refused") + 1:]
             return [*way, (f"✗ {refusal_words(self.script, deed, words)}", "refused", "", {"event": {event}})]
@@ -86,10 +86,9 @@ class Climb:
             way = way[:DEEPEST] + [("and so on", "plain", "", {})]
         return way
 
-    @staticmethod
-    def stopped(event):
+    def stopped(self, event):
         """The bar of packets for which no guard of an event holds."""
-        return f"no guard of event {event} holds", "plain", "", {"event": {event}}
+        return f"no guard of {self.script.called('event', event)} holds", "plain", "", {"event": {event}}
 
     def follow(self, place, steps, way):
         """Adds the bars of these steps to a way; results, which differ from packet to packet, are left out."""
@@ -98,7 +97,7 @@ class Climb:
                 way.append(self.run(place, step))
             elif step.kind == "up":
                 event = int(step.words[0])
-                way.append((f"↑ event {event}", "packet", "", {"event": {event}}))
+                way.append((f"↑ {self.script.called('event', event)}", "packet", "", {"event": {event}}))
                 if not step.inner:
                     way.append(self.stopped(event))
                 self.follow(place, step.inner, way)
@@ -112,14 +111,15 @@ class Climb:
         """The bar of a handler that runs or is left to a job, with its guards."""
         event, which = map(int, step.words)
         if not which:
-            return f"the default of event {event}", "ok", "", {"event": {event}}
+            return f"the default of {self.script.called('event', event)}", "ok", "", {"event": {event}}
         one = self.bindings.at(place, which)
         act = self.script.handlers[one.handler]
         layer = f" {act[act.index('layer') + 1]}" if "layer" in act else ""
-        guards = "".join(f", guard {guard}" for guard in one.guards)
-        label = f"#{which} handler {one.handler}{layer}{guards}" + (": left to a job" if step.kind == "job" else "")
-        rows = [f"handler {one.handler} {' '.join(act)}"]
-        rows += [f"guard {guard} {' '.join(self.script.guards[guard])}" for guard in one.guards]
+        called = self.script.called
+        guards = "".join(f", {called('guard', guard)}" for guard in one.guards)
+        label = f"#{which} {called('handler', one.handler)}{layer}{guards}" + (": left to a job" if step.kind == "job" else "")
+        rows = [f"{called('handler', one.handler)} {' '.join(act)}"]
+        rows += [f"{called('guard', guard)} {' '.join(self.script.guards[guard])}" for guard in one.guards]
         kind = "later" if step.kind == "job" else "ok"
         return label, kind, "\n".join(rows), {"event": {event}, "binding": {which}}
 
@@ -195,4 +195,4 @@ def draw(script, lines, _=None):
     for line in lines:
         climb.take(line)
     picture = ClimbPicture(climb)
-    return Drawn(picture.draw(), picture.values)
+    return Drawn(picture.draw(), picture.values, (), script.names)

@@ -10,7 +10,8 @@ from collections import Counter
 
 from wrapper.bindings import Bindings
 from wrapper.counts import ANSWERS, DROPS, REFUSALS
-from wrapper.reading import COMMANDS
+from wrapper.reading import COMMANDS, NAMED
+from wrapper.told import Teller
 
 STEP = re.compile(r" (run|job|send|drop) (\w+)(?: ([0-9]+))?")
 
@@ -87,6 +88,11 @@ def of_binding(one, counts):
     }
 
 
+def names_of(script, kind):
+    """The names that comments give to numbers of this kind."""
+    return {number: name for (of, number), name in sorted(script.names.items()) if of == kind}
+
+
 def found(script, bindings, counts):
     """The counts as plain values, zeros too."""
     defaults = {event: counts[f"run {event} 0"] for event in script.events}
@@ -106,6 +112,7 @@ def found(script, bindings, counts):
              "lost": counts[f"lost {at}"]}
             for at, words in script.endpoints.items()
         ],
+        "names": {kind: names for kind in NAMED if (names := names_of(script, kind))},
     }
 
 
@@ -130,8 +137,8 @@ def rows_of(script, told):
     rows += [(f"dropped {name}", count, "") for name, count in told["drops"].items()]
     for one in told["endpoints"]:
         lost = f"; lost pieces: {one['lost']}" if one["lost"] else ""
-        rows.append((f"sent to {script.called('endpoint', one['endpoint'])} {one['name']}", one["sends"],
-                     f"{one['bytes']} bytes{lost}"))
+        name = Teller(script, None).endpoint(one["endpoint"])
+        rows.append((f"sent to {name}", one["sends"], f"{one['bytes']} bytes{lost}"))
     return rows
 
 

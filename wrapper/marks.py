@@ -129,9 +129,15 @@ NAMES = {
 
 
 def range_of(name, before):
-    """Which numbers of a name are declared, in words."""
+    """Which numbers of a name are declared, in words, and what they stand for where comments name them."""
     low, end = declared(before, name)
     thing = "module" if name == "owner" else name
+    named = [f"{which} is {before.names[thing, which]}" for which in range(low, end) if (thing, which) in before.names]
+    return declared_range(low, end, thing) + (f": {', '.join(named)}" if named else "")
+
+
+def declared_range(low, end, thing):
+    """Which numbers of things are declared, in words."""
     if end - low > 1:
         return f"{low} to {end - 1}, the {thing}s that are declared"
     return f"{low}, the one {thing} that is declared" if low < end else f"nothing, since no {thing} is declared"
@@ -266,7 +272,9 @@ def find(cause, lines, number):
     if cause == 5:
         *_, (_, last) = reading.numbered_lines(before)
         return of_order(last[0], words)
-    return of_places(cause, reading.read_script(before), words)
+    script = reading.read_script(before)
+    script.names = reading.names_in(b"\n".join(lines).decode("ascii", "replace"))
+    return of_places(cause, script, words)
 
 
 def spans(line):

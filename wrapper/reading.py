@@ -4,12 +4,18 @@ It reads what the program has judged before: a script that the program runs, and
 nothing itself. The formats are those of docs/FORMATS.md.
 """
 
+import re
 from dataclasses import dataclass, field
 
 DECLARED = {"event": "events", "endpoint": "endpoints", "handler": "handlers", "guard": "guards"}
 COMMANDS = ("install", "remove", "replace", "default", "nodefault")
 RAISES = ("raise", "packet", "later")
 ANSWERS = ("value", "done", "default", "nohandler")
+
+
+# A comment line that names what a number stands for, as `# event 1 is Udp.PacketArrived`.
+NAMED = ("event", "handler", "guard", "endpoint", "module")
+NAMING = re.compile(rf"#\s*({'|'.join(NAMED)})\s+([0-9]+|0x[0-9a-fA-F]+)\s+is\s+([A-Za-z_](?:[\w.-]*\w)?)\s*", re.ASCII)
 
 
 def number(word):
@@ -47,10 +53,18 @@ class Script:
     deeds: dict = field(default_factory=dict)
     retired: dict = field(default_factory=dict)
     segments: int = 1
+    # the names that comments give, by kind and number
+    names: dict = field(default_factory=dict)
 
     def called(self, kind, which):
-        """What a thing of this kind and number is called."""
-        return f"{kind} {which}"
+        """What a thing of this kind and number is called: with its name, where a comment gives it one."""
+        return " ".join([kind, str(which), *filter(None, [self.names.get((kind, int(which)))])])
+
+
+def names_in(text):
+    """The names that comments of a script give, by kind and number; of several for one number the last."""
+    found = filter(None, (NAMING.fullmatch(line.strip()) for line in text.split("\n") if "#" in line))
+    return {(one[1], number(one[2])): one[3] for one in found}
 
 
 def numbered_lines(text):
@@ -63,7 +77,7 @@ def numbered_lines(text):
 
 def read_script(text):
     """The script that a text is, which the program has to have accepted."""
-    script = Script()
+    script = Script(names=names_in(text))
     for at, words in numbered_lines(text):
         take_line(script, at, words)
     return script

@@ -5,7 +5,7 @@ entry is worked anew: guards that didn't hold, and arguments that changed.
 """
 
 from wrapper.bindings import Bindings
-from wrapper.reading import COMMANDS, all_steps, number, reply_of
+from wrapper.reading import COMMANDS, DECLARED, all_steps, number, reply_of
 from wrapper.svg import CHAR, KINDS, LINE, PAD, Drawn, Sheet, legend, marks, width_of, wrapped
 from wrapper.told import Teller
 from wrapper.why import explain
@@ -26,11 +26,12 @@ def constraints(one):
     return " ".join(words)
 
 
-def chip_text(one):
+def chip_text(script, one):
     """A binding as its chip says it."""
-    guards = [f"guard {one.guard}"] if one.guard else []
-    guards += [f"imposed guard {which}" for which in one.imposed]
-    return " ".join([f"#{one.number} handler {one.handler}{MARKS[one.mode]}", *guards, constraints(one)]).strip()
+    guards = [script.called("guard", one.guard)] if one.guard else []
+    guards += [f"imposed {script.called('guard', which)}" for which in one.imposed]
+    name = f"#{one.number} {script.called('handler', one.handler)}{MARKS[one.mode]}"
+    return " ".join([name, *guards, constraints(one)]).strip()
 
 
 def short_chip(one):
@@ -84,14 +85,14 @@ class RunPicture:
     def declared(self):
         """What the script declares, in its own words."""
         script = self.script
-        rows = [f"event {which} {' '.join(words)}" for which, words in script.events.items()]
-        rows += [f"endpoint {which} {' '.join(words)}" for which, words in script.endpoints.items()]
-        rows += [f"handler {which} {' '.join(words)}" for which, words in script.handlers.items()]
-        rows += [f"guard {which} {' '.join(words)}" for which, words in script.guards.items()]
+        rows = [f"{script.called('module', which)}" for kind, which in sorted(script.names) if kind == "module"]
+        for kind in DECLARED:
+            rows += [f"{script.called(kind, which)}: {' '.join(words)}" if (kind, which) in script.names else
+                     f"{kind} {which} {' '.join(words)}" for which, words in getattr(script, DECLARED[kind]).items()]
         for event, rules in script.rules.items():
             rows += [f"rule {at} of event {event}: {' '.join(words)}" for at, words in enumerate(rules, 1)]
         rows += [f"authoriser of event {event}: {name}" for event, name in script.authorisers.items()]
-        rows += [f"default of event {event}: handler {which}" for event, which in script.defaults.items()]
+        rows += [f"default of event {event}: {script.called('handler', which)}" for event, which in script.defaults.items()]
         if len(rows) > DECLARED_MOST:
             rows = rows[:DECLARED_MOST] + [f"and {len(rows) - DECLARED_MOST} more lines"]
         return rows
@@ -255,11 +256,14 @@ class RunPicture:
         order = self.bindings.order(event)
         is_short = len(order) > WHOLE_CHIPS
         left = self.side + 8
-        self.sheet.text(left, y + 13, f"event {event}", "faint")
+        name = self.script.called("event", event)
+        self.sheet.text(left, y + 13, name, "faint")
         x = first = left + 62
+        if width_of(name) > 58:
+            y += LINE
         most = self.sheet.width - 8
         high = 19
-        chips = [(one, short_chip(one) if is_short and one.number != changed else chip_text(one)) for one in order]
+        chips = [(one, short_chip(one) if is_short and one.number != changed else chip_text(self.script, one)) for one in order]
         for one, text in chips:
             shown = wrapped(text, most - first - 12)
             wide = max(map(width_of, shown)) + 10
@@ -276,7 +280,7 @@ class RunPicture:
     def default_chip(self, event, x, y, high, has_bindings):
         """The event's default behind its bindings, and a word where it has neither; answers where they end."""
         default = self.bindings.events[event].default
-        text = f"default: handler {default}" if default else "" if has_bindings else "no binding, no default"
+        text = f"default: {self.script.called('handler', default)}" if default else "" if has_bindings else "no binding, no default"
         if text:
             if x + width_of(text) + 10 > self.sheet.width - 8:
                 x, y, high = self.side + 70, y + high + 3, 19
@@ -285,9 +289,11 @@ class RunPicture:
 
     def chip_title(self, one):
         """What a chip tells: the binding in full, with its handler and guards as the script has them."""
-        rows = [f"binding {one.number} of event {one.event}, asked for by module {one.module}: {chip_text(one)}"]
-        rows.append(f"handler {one.handler} {' '.join(self.script.handlers[one.handler])}")
-        rows += [f"guard {which} {' '.join(self.script.guards[which])}" for which in one.guards]
+        called = self.script.called
+        asked = f"asked for by {called('module', one.module)}: {chip_text(self.script, one)}"
+        rows = [f"binding {one.number} of {called('event', one.event)}, {asked}"]
+        rows.append(f"{called('handler', one.handler)} {' '.join(self.script.handlers[one.handler])}")
+        rows += [f"{called('guard', which)} {' '.join(self.script.guards[which])}" for which in one.guards]
         return "\n".join(rows)
 
     @staticmethod
@@ -348,4 +354,4 @@ def middle_height(rows, middle):
 def draw(script, lines, records=None):
     """The picture of a run, with what each box did and why."""
     picture = RunPicture(script, list(lines), records)
-    return Drawn(picture.draw(), picture.values, picture.whys)
+    return Drawn(picture.draw(), picture.values, picture.whys, script.names)

@@ -12,7 +12,7 @@ from pathlib import Path
 
 from wrapper import causes, picture, program, reasons, run_picture
 from wrapper.bindings import Bindings
-from wrapper.reading import COMMANDS, read_line, read_script
+from wrapper.reading import COMMANDS, NAMING, read_line, read_script
 from wrapper.run_picture import chip_text
 from wrapper.svg import TooLarge, page
 from wrapper.told import Teller
@@ -25,7 +25,7 @@ DEEDS = (*COMMANDS, "raise", "later", "packet")
 HELP = """a line of a script (docs/FORMATS.md) is added where its section stands, and the script is run anew:
   event 0 0 w:w last          handler 1 w:w result a0      guard 1 w < a0 10
   install 0 0 1 1 free plain  raise 0 5                    the same as with `lane 0` before it
-`spin 3` takes the place of the first line, `spin 2`. Words of the session:
+`spin 3` takes the place of the first line, `spin 2`; `# event 0 is NAME` names a number. Words of the session:
   undo        takes back the line that was added last
   show        shows the script
   why N       tells why line N came to what it did: guards with values, filters, rules, jobs and merges
@@ -121,6 +121,12 @@ class Session:
         self.lines, self.report = lines, report
         return self.tell(at + 1, before)
 
+    def name(self, line):
+        """Takes a comment that names a number; it stands at the end, and the run stays as it is."""
+        self.past.append((line, self.lines, self.report))
+        self.lines = [*self.lines, line.strip()]
+        return [f"kept as line {len(self.lines)}"]
+
     def tell(self, added, before):
         """What is new since the answers before: what the added line did, and which other answers have changed."""
         script = read_script("\n".join(self.lines))
@@ -159,8 +165,8 @@ class Session:
         told = [f"place {line.place}, lane {line.lane}, line {line.source}: {rows[0].text}"]
         told += ["  " * row.depth + row.text for row in rows[1:]]
         if event is not None:
-            order = [chip_text(one) for one in teller.bindings.order(event)]
-            told.append(f"  event {event} now runs: {'; '.join(order) or 'nothing'}")
+            order = [chip_text(teller.script, one) for one in teller.bindings.order(event)]
+            told.append(f"  {teller.script.called('event', event)} now runs: {'; '.join(order) or 'nothing'}")
         return told
 
     def undo(self):
@@ -221,7 +227,7 @@ def answer(session, line):
     """What is said to one line of the input; None ends the session."""
     words = line.split()
     if not words or words[0].startswith("#"):
-        return []
+        return session.name(line) if NAMING.fullmatch(line.strip()) else []
     if words in (["quit"], ["exit"]):
         return None
     alone = {"undo": session.undo, "show": session.show, "help": HELP.splitlines}

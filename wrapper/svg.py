@@ -24,8 +24,8 @@ KINDS = {
 MOST_PARTS = 400_000
 
 
-# A picture, the values of its filter, and of each box by its number why it says what it does.
-Drawn = namedtuple("Drawn", "text values whys", defaults=((),))
+# A picture, the values of its filter, of each box by its number why it says what it does, and names by kind and number.
+Drawn = namedtuple("Drawn", "text values whys names", defaults=((), {}))
 
 
 class TooLarge(Exception):
@@ -193,14 +193,15 @@ choose();
 """
 
 
-def choice(name, values):
-    """A list of a page's filter, from which one number is chosen."""
-    options = "".join(f"<option>{value}</option>" for value in sorted(values))
+def choice(name, values, names):
+    """A list of a page's filter, from which one number is chosen; those that have names are shown with them."""
+    shown = {value: f"{value} {names.get((name, value), '')}".strip() for value in sorted(values)}
+    options = "".join(f'<option value="{value}">{escape(text)}</option>' for value, text in shown.items())
     return f'<label>{name} <select name="{name}"><option value="">all</option>{options}</select></label>'
 
 
 def page(drawn, title):
     """The picture in a page with a filter by the names of its values; a click on a box tells why."""
-    choices = "".join(choice(name, of) for name, of in drawn.values.items() if of)
+    choices = "".join(choice(name, of, drawn.names) for name, of in drawn.values.items() if of)
     whys = json.dumps(list(drawn.whys)).replace("<", "\\u003c")
     return PAGE % {"title": escape(title), "choices": choices, "picture": drawn.text, "whys": whys}

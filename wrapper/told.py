@@ -32,7 +32,7 @@ def binding_words(script, one):
 def rule_words(script, event, which):
     """The rule of the event's owner by which something was refused."""
     if not which:
-        return f"no rule of event {event} allows it"
+        return f"no rule of {script.called('event', event)} allows it"
     rules = script.rules.get(event)
     if not rules:
         return f"rule {which} of {script.authorisers.get(event, 'the authoriser')}"
@@ -62,12 +62,14 @@ class Teller:
         """A handler that runs."""
         event, which = map(int, words)
         if not which:
-            return f"event {event}: its default"
+            return f"{self.script.called('event', event)}: its default"
         return binding_words(self.script, self.bindings.at(place, which))
 
     def endpoint(self, which):
         """An endpoint with its name."""
-        return f"endpoint {which} {' '.join(self.script.endpoints.get(int(which), []))}".rstrip()
+        words = [f"endpoint {which}", *self.script.endpoints.get(int(which), [])]
+        given = self.script.names.get(("endpoint", int(which)))
+        return " ".join([*words, f"({given})"] if given else words)
 
     def step(self, place, step):
         """One step that isn't a raise upwards."""
@@ -86,7 +88,7 @@ class Teller:
         rows = []
         for step in steps:
             if step.kind == "up":
-                rows.append(Row(f"↑ raises event {step.words[0]}", depth + 1))
+                rows.append(Row(f"↑ raises {self.script.called('event', step.words[0])}", depth + 1))
                 rows += self.steps(place, step.inner, depth + 2)
                 rows.append(Row(f"= {step.answer}", depth + 2, "faint"))
             elif step.kind == "result" and rows and rows[-1].text.startswith(("#", "event")):
@@ -148,10 +150,17 @@ class Teller:
             which = f", its job {line.index}" if line.index else ""
             return f"job of line {line.source}{which}"
         if line.part:
-            return f"packet {line.part} of event {number(deed[1])}"
+            return f"packet {line.part} of {self.script.called('event', number(deed[1]))}"
         text = " ".join(shortened(word) for word in deed)
         # constraints that name nobody say nothing
         return text.replace(" before 0 after 0", "") if deed[0] == "install" else text
+
+    def named(self, deed):
+        """What the numbers of a command stand for, where comments name them."""
+        kinds = {"install": "event module handler guard", "replace": "event module - handler guard"}
+        kinds = kinds.get(deed[0], "event module handler" if deed[0] == "default" else "event module")
+        known = [(kind, number(word)) for kind, word in zip(kinds.split(), deed[1:]) if kind != "-"]
+        return ", ".join(self.script.called(*one) for one in known if one in self.script.names)
 
     def entry(self, line, root=None):
         """The rows of an entry or a job, its head first; with the raise that was worked anew, they tell more."""

@@ -93,22 +93,22 @@ class Judge:
         named += [*asked.wish.before, *asked.wish.after] if asked.wish else []
         for one in named:
             if one not in live:
-                return "unknown_binding", f"event {asked.event} has no live binding #{one}"
+                return "unknown_binding", f"{self.script.called('event', asked.event)} has no live binding #{one}"
         if uses_handler and handler_code(script, asked.handler)[0] != signature:
             its = handler_code(script, asked.handler)[0]
-            return "wrong_type", f"handler {asked.handler} has the signature {its}, and event {asked.event} {signature}"
+            return "wrong_type", f"{self.script.called('handler', asked.handler)} has the signature {its}, and {self.script.called('event', asked.event)} {signature}"
         if uses_guard and asked.guard and kinds(guard_code(script, asked.guard)[0]) != kinds(signature):
             its = guard_code(script, asked.guard)[0]
-            return "wrong_type", f"guard {asked.guard} asks of {its}, and event {asked.event} has {signature}"
+            return "wrong_type", f"{self.script.called('guard', asked.guard)} asks of {its}, and {self.script.called('event', asked.event)} has {signature}"
         return self.of_steps(asked, live) if uses_handler else None
 
     def of_steps(self, asked, live):
         """What is wrong with the steps of the handler, and why; None where they are well."""
         if steps_raise_down(self.script, asked):
-            return "downward", f"handler {asked.handler} raises an event that isn't greater than {asked.event}"
+            return "downward", f"{self.script.called('handler', asked.handler)} raises an event that isn't greater than {asked.event}"
         mode = asked.wish.mode if asked.wish else live[asked.target].mode if asked.kind == "replace" else "plain"
         if "set" in handler_code(self.script, asked.handler) and mode != "filter":
-            return "wrong_mode", f"handler {asked.handler} changes an argument, which only a filter may do"
+            return "wrong_mode", f"{self.script.called('handler', asked.handler)} changes an argument, which only a filter may do"
         return None
 
     def by_owner(self, asked, live):
@@ -131,10 +131,10 @@ class Judge:
             one.place, one.before, one.after = place, (), ()
         if mode == "async" and "set" in handler_code(self.script, asked.handler):
             verdict.words = ["refused", "12", "forced_mode", str(which)]
-            verdict.why = f"handler {asked.handler} changes an argument, so it can't be left to jobs"
+            verdict.why = f"{self.script.called('handler', asked.handler)} changes an argument, so it can't be left to jobs"
         elif len(live) >= most:
             verdict.words = ["refused", "10", "too_many"]
-            verdict.why = f"event {asked.event} has {len(live)} live bindings already"
+            verdict.why = f"{self.script.called('event', asked.event)} has {len(live)} live bindings already"
         elif len(least_order([*live.values(), one])) <= len(live):
             verdict.words = ["refused", "11", "conflict"]
             verdict.why = "with it the bindings would have no order, since some would have to run before each other"
@@ -142,7 +142,7 @@ class Judge:
     def decided(self, asked, live):
         """The number of the rule that decides, whether it allows, and what is told of the rules up to it."""
         if number(self.script.events[asked.event][0]) == asked.module:
-            return 0, True, [f"module {asked.module} owns the event, so no rule is asked"]
+            return 0, True, [f"{self.script.called('module', asked.module)} owns the event, so no rule is asked"]
         native, told = self.script.authorisers.get(asked.event), []
         rules = OWN_TWO if native else self.script.rules.get(asked.event, [])
         is_foreign = asked.target != 0 and live[asked.target].module != asked.module
@@ -156,20 +156,19 @@ class Judge:
             told.append(f"{text}: it doesn't speak of this")
         return 0, False, [*told, "no rule speaks of this, so it is denied"]
 
-    @staticmethod
-    def effect(asked, effect, live):
+    def effect(self, asked, effect, live):
         """Whether a rule that decides allows the command, and why."""
         if effect[0] == "deny":
             return False, "denied"
         if effect[0] == "quota" and asked.kind == "install":
             has = sum(one.module == asked.module for one in live.values())
             is_allowed = has < number(effect[1])
-            said = f"module {asked.module} has {has} live binding{'s' * (has != 1)} of the event"
+            said = f"{self.script.called('module', asked.module)} has {has} live binding{'s' * (has != 1)} of the event"
             return is_allowed, f"{said}: {'allowed' if is_allowed else 'denied'}"
         if effect[0] in ("impose", "force") and asked.kind in ("install", "replace"):
             count = number(effect[1])
-            guards = ", ".join(effect[2:2 + count])
-            more = [f"under guard {guards} as well"] if count else []
+            guards = ", ".join(self.script.called("guard", number(guard)) for guard in effect[2:2 + count])
+            more = [f"under {guards} as well"] if count else []
             if effect[0] == "force" and asked.kind == "install":
                 place, mode = effect[2 + count:]
                 more += [f"to run {place}"] if place != "keep" else []

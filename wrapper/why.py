@@ -98,7 +98,10 @@ class Why:
 
     def head(self, line):
         """What was asked, and where it stands."""
-        return f"line {line.source}, lane {line.lane}, at place {line.place}: {self.teller.head(line)}"
+        deed = self.script.deeds[line.line].words
+        named = self.teller.named(deed) if deed[0] in COMMANDS else ""
+        more = f" ({named})" if named else ""
+        return f"line {line.source}, lane {line.lane}, at place {line.place}: {self.teller.head(line)}{more}"
 
     def order(self, event):
         """The bindings of an event after a command, in the order in which they run."""
