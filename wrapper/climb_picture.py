@@ -9,7 +9,7 @@ from dataclasses import dataclass, field
 from wrapper.bindings import Bindings
 from wrapper.reading import COMMANDS, number, read_reply
 from wrapper.svg import LINE, Drawn, Sheet, legend, marks, width_of, wrapped
-from wrapper.told import refusal_words
+from wrapper.told import guard_text, refusal_words
 
 WIDTH, HIGH, EDGE = 1180, 26, 10
 DEEPEST = 60          # a way is followed over so many bars
@@ -116,7 +116,7 @@ class Climb:
         act = self.script.handlers[one.handler]
         layer = f" {act[act.index('layer') + 1]}" if "layer" in act else ""
         called = self.script.called
-        guards = "".join(f", {called('guard', guard)}" for guard in one.guards)
+        guards = "".join(f", if {guard_text(self.script, guard)}" for guard in one.guards)
         label = f"#{which} {called('handler', one.handler)}{layer}{guards}" + (": left to a job" if step.kind == "job" else "")
         rows = [f"{called('handler', one.handler)} {' '.join(act)}"]
         rows += [f"{called('guard', guard)} {' '.join(self.script.guards[guard])}" for guard in one.guards]

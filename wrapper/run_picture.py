@@ -1,13 +1,15 @@
 """A run as one picture: lanes side by side, time downwards, a band for each segment and place, bindings in their order.
 
 It draws what the report says, and needs a report that was judged a run's. Beside that it draws what is found where an
-entry is worked anew: guards that didn't hold, and arguments that changed.
+entry is worked anew: guards that didn't hold, and arguments that changed. Of a large run many entries are drawn as one.
 """
 
 from wrapper.bindings import Bindings
+from wrapper.folding import bands_of, head_of, is_accepted, is_large, told_of
+from wrapper.frames import frame_words
 from wrapper.reading import COMMANDS, DECLARED, all_steps, number, reply_of
 from wrapper.svg import CHAR, KINDS, LINE, PAD, Drawn, Sheet, legend, marks, width_of, wrapped
-from wrapper.told import Teller
+from wrapper.told import Row, Teller, guard_text
 from wrapper.why import explain
 
 GUTTER, SIDE, TRACK, TRACKS = 58, 430, 5, 6
@@ -27,11 +29,32 @@ def constraints(one):
 
 
 def chip_text(script, one):
-    """A binding as its chip says it."""
-    guards = [script.called("guard", one.guard)] if one.guard else []
-    guards += [f"imposed {script.called('guard', which)}" for which in one.imposed]
+    """A binding as its chip says it: who asked for it, where there are several modules, and under which guards."""
+    guards = [f"if {guard_text(script, one.guard)}"] if one.guard else []
+    guards += [f"imposed if {guard_text(script, which)}" for which in one.imposed]
     name = f"#{one.number} {script.called('handler', one.handler)}{MARKS[one.mode]}"
-    return " ".join([name, *guards, constraints(one)]).strip()
+    asked = [f"by {script.called('module', one.module)}"] if script.modules > 1 else []
+    return " ".join([name, *asked, *guards, constraints(one)]).strip()
+
+
+def segments_of(lines):
+    """The entries, jobs and losses of each segment of a report."""
+    segments = []
+    for line in lines:
+        if line.kind == "segment":
+            segments.append([])
+        elif line.kind in ("entry", "job", "lost"):
+            segments[-1].append(line)
+    return segments
+
+
+def explained(script, lines, records, bands):
+    """Why the first line of each box says what it does; what a job was left by is worked for it too."""
+    first = [box[0] for band in bands for box in band.boxes]
+    wanted = {line.text for line in first}
+    left_by = {(line.lane, line.source) for line in first if line.kind == "job"}
+    is_wanted = lambda line: line.text in wanted or (line.lane, line.source) in left_by
+    return {found.line.text: found for found in explain(script, lines, records, is_wanted)}
 
 
 def short_chip(one):
@@ -44,8 +67,10 @@ class RunPicture:
 
     def __init__(self, script, lines, records=None):
         """Lays out the columns for the lanes that have entries; without records nothing is worked anew of packets."""
-        self.script, self.lines = script, lines
-        self.because = {found.line.text: found for found in explain(script, lines, records)}
+        self.script, self.lines, self.records = script, lines, records
+        self.segments = segments_of(lines)
+        self.bands = [bands_of(script, found, is_large(lines)) for found in self.segments]
+        self.because = explained(script, lines, records, [band for bands in self.bands for band in bands])
         self.whys = []
         self.bindings = Bindings(script)
         self.teller = Teller(script, self.bindings)
@@ -64,20 +89,16 @@ class RunPicture:
     def draw(self):
         """Draws all, and answers the picture's text."""
         self.heading()
-        segment, notes = [], []
+        notes, bands = [], iter(zip(self.segments, self.bands))
         for line in self.lines:
             if line.kind == "segment":
-                self.segment(segment)
-                segment = []
                 self.segment_head(line, notes)
+                self.segment(*next(bands))
                 notes = []
             elif line.kind == "retire":
                 notes.append(line)
             elif line.kind == "end":
-                self.segment(segment)
                 self.foot(line)
-            elif line.kind != "report":
-                segment.append(line)
         return self.sheet.write(self.y, "a run of the dispatcher, lane by lane, time downwards")
 
     # ---- what stands at the top
@@ -146,44 +167,39 @@ class RunPicture:
 
     # ---- a segment
 
-    def segment(self, lines):
+    def segment(self, lines, bands):
         """The bands of a segment's places, of its jobs and of its deliveries."""
         self.left, self.tracks = {}, dict.fromkeys(self.lanes, 0)
-        entries = [line for line in lines if line.kind == "entry"]
-        jobs = [line for line in lines if line.kind == "job"]
-        sources = {(line.lane, line.source) for line in jobs}
-        at = 0
-        while at < len(entries):
-            end = at
-            while end < len(entries) and entries[end].place == entries[at].place:
-                end += 1
-            self.band(entries[at].place, entries[at:end], sources)
-            at = end
-        if jobs:
-            self.band("jobs", jobs, ())
+        sources = {(line.lane, line.source) for line in lines if line.kind == "job"}
+        for band in bands:
+            self.band(band, sources)
         self.deliveries(lines)
 
-    def band(self, label, lines, sources):
-        """The boxes of one place, or of the jobs, and the bindings beside them."""
+    def band(self, band, sources):
+        """The boxes of one place, of several, or of the jobs, and the bindings beside them."""
         if self.y - self.named > REPEAT:
             self.lane_names()
         top = self.y
         self.sheet.path(f"M0 {top:.7g}H{self.sheet.width:.0f}", "rule")
-        self.sheet.text(8, top + 15, str(label), "b")
+        self.sheet.text(8, top + 15, band.label, "b")
+        right = self.changed([line for box in band.boxes for line in box if is_accepted(line)], top + 3)
         ends = dict.fromkeys(self.lanes, top + 3)
-        right = top + 3
-        for line in lines:
-            if self.is_accepted(line):
-                event = self.bindings.take(line.place, self.script.deeds[line.line].words)
-                right = self.order(event, line.place, right)
-            y = ends[line.lane]
-            ends[line.lane] += self.entry(line, self.at(line.lane), y, (line.lane, line.source) in sources)
+        for box in band.boxes:
+            lane = box[0].lane
+            left = [line for line in box if line.kind == "entry" and (lane, line.source) in sources]
+            draw = self.entry if len(box) == 1 else self.many
+            ends[lane] += draw(box if len(box) > 1 else box[0], self.at(lane), ends[lane], left)
         self.y = max(right, *ends.values()) + 3
 
-    @staticmethod
-    def is_accepted(line):
-        """Whether the line is an accepted command's."""
-        return line.kind == "entry" and line.words[0] in COMMANDS and line.words[1] == "ok"
+    def changed(self, accepted, y):
+        """Follows accepted commands, and draws the bindings of the events that they change; answers where they end."""
+        places = {}
+        for line in sorted(accepted, key=lambda one: one.place):
+            event = self.bindings.take(line.place, self.script.deeds[line.line].words)
+            places.setdefault(event, set()).add(line.place)
+        for event, changed in places.items():
+            y = self.order(event, changed, y)
+        return y
 
     @staticmethod
     def kind_of(line):
@@ -198,7 +214,7 @@ class RunPicture:
         """The events and bindings that a line speaks of."""
         deed = self.script.deeds[line.line].words
         events, bindings = {number(deed[1])}, set()
-        if self.is_accepted(line) and deed[0] == "install":
+        if is_accepted(line) and deed[0] == "install":
             bindings.add(line.place)
         elif deed[0] in ("remove", "replace"):
             bindings.add(number(deed[3]))
@@ -210,41 +226,71 @@ class RunPicture:
                 events.add(int(step.words[0]))
         return {"lane": {line.lane}, "event": events, "binding": bindings}
 
-    def entry(self, line, x, y, leaves):
+    def rows_of(self, line, why):
+        """The rows of the box of an entry or a job: of a packet with its addresses."""
+        rows = self.teller.entry(line, why.outcome and why.agrees and why.outcome.root or None)
+        if line.part and line.kind == "entry" and self.records is not None:
+            rows.insert(1, Row(frame_words(self.records.frame(line.line, line.part)), 1))
+        return rows
+
+    def entry(self, line, x, y, left):
         """The box of an entry or a job; answers its height with the room below it."""
-        found = self.found(line)
+        why = self.because[line.text]
+        self.sheet.begin(f"item {line.kind}", line.text, self.data(self.found(line), why.lines))
+        lead = "" if line.kind == "job" else line.source
+        return self.box([line], self.rows_of(line, why), lead, (x, y), left)
+
+    def many(self, box, x, y, left):
+        """The box of many entries or jobs; answers its height with the room below it."""
+        found = {}
+        for line in box:
+            for name, of in self.found(line).items():
+                found.setdefault(name, set()).update(of)
+        rows = told_of(box)
+        head = f"{head_of(self.script, box)}, lines {box[0].source} to {box[-1].source}"
+        lines = [head, *(f"  {row}" for row in rows), "the first of them:", *self.because[box[0].text].lines]
+        data = f'{self.data(found, lines)} data-count="{len(box)}"'
+        self.sheet.begin(f"item {box[0].kind}", f"{head}: from `{box[0].text}` to `{box[-1].text}`", data)
+        return self.box(box, [Row(head, 0, "b"), *(Row(row, 1) for row in rows)], "", (x, y), left)
+
+    def data(self, found, why):
+        """The attributes by which a page finds a box, and why it says what it does."""
         for name, of in found.items():
             self.values[name] |= of
-        x, wide = x + TRACK * TRACKS + 4, self.each - TRACK * TRACKS - 12
-        rows, why = [], self.because[line.text]
-        lead = "" if line.kind == "job" else f"{line.source} "
-        for row in self.teller.entry(line, why.outcome and why.agrees and why.outcome.root or None):
-            indent = row.depth * STEP + (width_of(lead) if not row.depth else 0)
+        self.whys.append("\n".join(why))
+        return f'{marks(found)} data-why="{len(self.whys) - 1}"'
+
+    def box(self, lines, rows, lead, corner, left):
+        """Draws the box of these lines at the left of a corner, and what joins it to others; answers its height."""
+        x, y = corner[0] + TRACK * TRACKS + 4, corner[1]
+        wide, shown = self.each - TRACK * TRACKS - 12, []
+        for row in rows:
+            indent = row.depth * STEP + (width_of(f"{lead} ") if lead and not row.depth else 0)
             for at, text in enumerate(wrapped(row.text, wide - 2 * PAD - indent - 2 * CHAR)):
-                rows.append((indent + (2 * CHAR if at else 0), text, row))
-        high = LINE * len(rows) + PAD
-        self.sheet.begin(f"item {line.kind}", line.text, f'{marks(found)} data-why="{len(self.whys)}"')
-        self.whys.append("\n".join(why.lines))
-        self.sheet.box(x, y, wide, high, f"{self.kind_of(line)} fill")
+                shown.append((indent + (2 * CHAR if at else 0), text, row.look))
+        high = LINE * len(shown) + PAD
+        one = next((line for line in lines if not line.is_refused), lines[0])
+        self.sheet.box(x, y, wide, high, f"{self.kind_of(one)} fill")
         if lead:
-            self.sheet.text(x + PAD, y + LINE - 1, line.source, "faint")
-        for at, (indent, text, row) in enumerate(rows):
-            self.sheet.text(x + PAD + indent, y + LINE * (at + 1) - 1, text, row.look)
+            self.sheet.text(x + PAD, y + LINE - 1, lead, "faint")
+        for at, (indent, text, look) in enumerate(shown):
+            self.sheet.text(x + PAD + indent, y + LINE * (at + 1) - 1, text, look)
         self.sheet.end()
-        if leaves:
-            self.leave(line, x, y)
-        if line.kind == "job":
-            self.join(line, x, y + high / 2)
+        self.leave(left, x, y)
+        if lines[0].kind == "job":
+            self.join(lines[0], x, y + high / 2)
         return high + 4
 
-    def leave(self, line, x, y):
-        """Keeps where an entry stands that has left jobs, and by which track they are joined to it."""
-        track = self.tracks[line.lane]
-        self.tracks[line.lane] = (track + 1) % TRACKS
-        self.left[line.lane, line.source] = x, y + 8, x - 4 - TRACK * (track + 1)
+    def leave(self, lines, x, y):
+        """Keeps where entries stand that have left jobs, and by which track these are joined to them."""
+        if lines:
+            track = self.tracks[lines[0].lane]
+            self.tracks[lines[0].lane] = (track + 1) % TRACKS
+        for line in lines:
+            self.left[line.lane, line.source] = x, y + 8, x - 4 - TRACK * (track + 1)
 
     def join(self, line, x, y):
-        """Joins a job to the entry that left it."""
+        """Joins a job, or the first of many, to the entry that left it."""
         there, above, track = self.left[line.lane, line.source]
         shape = f"M{there:.5g} {above:.7g}H{track:.5g}V{y:.7g}H{x:.5g}m-5 -3l5 3l-5 3"
         self.sheet.path(shape, "later item join", f"line {line.source} left this job", marks(self.found(line)))
@@ -252,7 +298,7 @@ class RunPicture:
     # ---- bindings and deliveries
 
     def order(self, event, changed, y):
-        """The bindings of an event in their order, as chips; answers where they end."""
+        """The bindings of an event in their order, as chips, those changed at these places filled; where they end."""
         order = self.bindings.order(event)
         is_short = len(order) > WHOLE_CHIPS
         left = self.side + 8
@@ -260,17 +306,17 @@ class RunPicture:
         self.sheet.text(left, y + 13, name, "faint")
         x = first = left + 62
         if width_of(name) > 58:
-            y += LINE
+            y += LINE + 3
         most = self.sheet.width - 8
         high = 19
-        chips = [(one, short_chip(one) if is_short and one.number != changed else chip_text(self.script, one)) for one in order]
+        chips = [(one, short_chip(one) if is_short and one.number not in changed else chip_text(self.script, one)) for one in order]
         for one, text in chips:
             shown = wrapped(text, most - first - 12)
             wide = max(map(width_of, shown)) + 10
             if x > first and x + wide > most:
                 x, y, high = first, y + high + 3, 19
             high = max(high, LINE * len(shown) + 4)
-            is_new = self.bindings.past[one.number][-1][0] == changed
+            is_new = self.bindings.past[one.number][-1][0] in changed
             self.sheet.box(x, y, wide, LINE * len(shown) + 4, "ok solid" if is_new else "plain", self.chip_title(one))
             for at, line in enumerate(shown):
                 self.sheet.text(x + 5, y + 13 + LINE * at, line)

@@ -163,7 +163,8 @@ form{position:sticky;top:0;left:0;padding:8px;background:Canvas;border-bottom:1p
 label{margin-right:14px}output{color:GrayText}
 pre{position:fixed;bottom:0;left:0;right:0;max-height:45vh;overflow:auto;margin:0;padding:10px;background:Canvas;
 border-top:2px solid GrayText;z-index:2}pre:empty{display:none}[data-why]{cursor:pointer}</style></head><body>
-<form>%(choices)s<button type="reset">all</button> <output></output></form>
+<form><label>search <input type="search" name="search" size="24"></label>%(choices)s
+<button type="reset">all</button> <output></output></form>
 %(picture)s
 <pre></pre>
 <script type="application/json" id="whys">%(whys)s</script>
@@ -174,19 +175,24 @@ document.addEventListener("click", event => {
   if (box || !event.target.closest("pre, form")) told.textContent = box ? whys[box.dataset.why] : "";
 });
 document.addEventListener("keydown", event => { if (event.key === "Escape") told.textContent = ""; });
-const form = document.querySelector("form"), items = [...document.querySelectorAll(".item")];
+const form = document.querySelector("form");
+const items = [...document.querySelectorAll(".item")];
 const boxes = items.filter(item => item.tagName === "g");
 const names = [...form.querySelectorAll("select")].map(one => one.name);
+const texts = new Map(items.map(item => [item, (item.textContent + " " + (whys[item.dataset.why] || "")).toLowerCase()]));
 function choose() {
+  const words = form.search.value.toLowerCase().split(/\\s+/);
   for (const item of items) {
     const fits = names.every(name => form[name].value === "" ||
       (item.dataset[name] || "").split(" ").includes(form[name].value));
-    item.classList.toggle("dim", !fits);
+    item.classList.toggle("dim", !fits || !words.every(word => texts.get(item).includes(word)));
   }
   const shown = boxes.filter(box => !box.classList.contains("dim")).length;
   form.querySelector("output").textContent = shown + " of " + boxes.length + " boxes stand out";
 }
 form.addEventListener("change", choose);
+form.addEventListener("input", choose);
+form.addEventListener("submit", event => event.preventDefault());
 form.addEventListener("reset", () => setTimeout(choose));
 choose();
 </script></body></html>

@@ -8,6 +8,9 @@ from wrapper.svg import shortened
 # So many bindings whose guards don't hold are told one by one.
 MOST_PASSED = 3
 
+# A guard's text is cut to so many letters.
+GUARD_MOST = 60
+
 
 @dataclass
 class Row:
@@ -21,6 +24,13 @@ class Row:
 def value_text(value):
     """An argument."""
     return str(value) if isinstance(value, int) else shortened(f"x{value.hex()}").replace("(", " (")
+
+
+def guard_text(script, which):
+    """A guard as its script has it, behind its name where it has one."""
+    text = " ".join(script.guards[which][1:])
+    text = f"({text if len(text) <= GUARD_MOST else text[:GUARD_MOST - 2] + ' …'})"
+    return " ".join([*filter(None, [script.names.get(("guard", which))]), text])
 
 
 def binding_words(script, one):
@@ -134,8 +144,9 @@ class Teller:
         rows = []
         for met in passed:
             failed = next(guard for guard in met.tested if not guard.holds)
-            name = f"{'imposed ' if failed.is_imposed else ''}{self.script.called('guard', failed.number)}"
-            rows.append(Row(f"✗ {binding_words(self.script, met.binding)}: {name}: {failed.text}: no", depth, "faint"))
+            name = [*["imposed"] * failed.is_imposed, *filter(None, [self.script.names.get(("guard", failed.number))])]
+            test = " ".join([*name, failed.text])
+            rows.append(Row(f"✗ {binding_words(self.script, met.binding)}: {test}: no", depth, "faint"))
         return rows
 
     def reply(self, line):

@@ -7,6 +7,7 @@ comes to with what the report says. Nothing is proved of what is told here.
 from dataclasses import dataclass
 
 from wrapper.bindings import Bindings
+from wrapper.frames import frame_words
 from wrapper.reading import COMMANDS, number
 from wrapper.replay import Replay, values_of
 from wrapper.told import Teller, binding_words, refusal_words, value_text
@@ -72,9 +73,14 @@ class Why:
         if outcome is None:
             rows = [INDENT * row.depth + row.text for row in self.teller.entry(line)[1:]]
             return Because([self.head(line), *rows, f"{INDENT}its record isn't at hand, so nothing more is told"])
-        told = [self.head(line), *self.of_outcome(line, deed, outcome)]
+        told = [self.head(line), *self.of_frame(line), *self.of_outcome(line, deed, outcome)]
         said = line.words if line.kind == "job" else line.words[1:]
         return self.compared(Because(told, outcome), outcome.words, said)
+
+    def of_frame(self, line):
+        """What the frame of a packet is."""
+        is_packet = line.part and line.kind == "entry"
+        return [f"{INDENT}{frame_words(self.records.frame(line.line, line.part))}"] if is_packet else []
 
     def worked(self, line, deed):
         """What a raise comes to, and with it the jobs that it leaves; None where its record isn't at hand."""
