@@ -100,19 +100,19 @@ class Packages(Folder):
         return ran.returncode, ran.stdout.splitlines()
 
     def test_what_is_missing_is_installed_without_a_question(self):
-        made = "for it in c++ cc pgrep tcpdump valgrind editcap; do /usr/bin/ln -s /usr/bin/true ${0%/*}/$it; done"
+        made = "for it in chromium c++ cc pgrep tcpdump valgrind editcap; do /usr/bin/ln -s /usr/bin/true ${0%/*}/$it; done"
         status, lines = self.install(f"echo $DEBIAN_FRONTEND $* >> $0.calls; case $* in *--no-download*) {made};; esac")
-        names = "g++, gcc, procps, tcpdump, valgrind, wireshark-common"
+        names = "chromium, g++, gcc, procps, tcpdump, valgrind, wireshark-common"
         self.assertEqual((status, lines), (0, [f"packages: installing {names}"]))
         calls = (self.folder / "apt-get.calls").read_text().splitlines()
         self.assertEqual(len(calls), 2)
         for call in calls:
-            self.assertRegex(call, r"^noninteractive -qq -y .*--no-remove install g\+\+ gcc procps tcpdump valgrind wireshark-common$")
+            self.assertRegex(call, r"^noninteractive -qq -y .*--no-remove install chromium g\+\+ gcc procps tcpdump valgrind wireshark-common$")
 
     def test_without_a_network_one_line_says_so(self):
         status, lines = self.install("echo $* >> $0.calls; echo W: first; echo E: no network; exit 100")
         self.assertEqual((status, len(lines)), (1, 2))
-        self.assertEqual(lines[1], "packages: g++, gcc, procps, tcpdump, valgrind, wireshark-common couldn't be installed: E: no network")
+        self.assertEqual(lines[1], "packages: chromium, g++, gcc, procps, tcpdump, valgrind, wireshark-common couldn't be installed: E: no network")
         self.assertEqual(len((self.folder / "apt-get.calls").read_text().splitlines()), 3)
 
 
