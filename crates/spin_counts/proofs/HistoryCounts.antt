@@ -32,7 +32,7 @@ use Rattle.spin_counts.proofs.CommandSegments.{IsLateCommand, first_segment}
 use Rattle.spin_counts.proofs.RaiseSegments.{IsLateRaise, last_segment}
 use Rattle.spin_counts.proofs.LaneLines.{OnLanes, IsPacket}
 use Rattle.spin_counts.proofs.GeneratedScript.{IsFirstWork, generated}
-use Rattle.spin_counts.proofs.BareEntries.{bare_state, bare_start, bare_legal}
+use Rattle.spin_report.proofs.BareEntries.{bare_state, bare_start, bare_legal}
 
 -- ---- what segments ask
 

@@ -13,7 +13,5 @@ pub mod CommandSegments
 pub mod RaiseSegments
 pub mod LaneLines
 pub mod GeneratedScript
-pub mod BareRaises
-pub mod BareEntries
 pub mod HistoryCounts
 pub mod SummaryLemmas

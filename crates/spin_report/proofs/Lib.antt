@@ -8,4 +8,7 @@ pub mod LaneAnswers
 pub mod Asking
 pub mod Cycles
 pub mod Following
+pub mod BareRaises
+pub mod BareEntries
+pub mod BareRuns
 pub mod Whole

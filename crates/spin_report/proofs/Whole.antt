@@ -1,5 +1,5 @@
 -- The report of a run of a script tells its history.
-use Rattle.std.proofs.Common.{◌≡◌, ◌<◌, ◌≤◌, ◌^◌, ℕ, List, [], ◌∷◌, ◌++◌, map, length, drop, get_or, refl, sym, subst, arith}
+use Rattle.std.proofs.Common.{◌≡◌, ◌<◌, ◌≤◌, ◌^◌, ℕ, List, [], ◌∷◌, ◌++◌, map, length, drop, get_or, refl, sym, ap, subst, arith}
 use Rattle.std.specs.Prelude.{Option, Ok, All, Contains, IsPermutation}
 use Rattle.std.specs.List.{flat_map}
 use Rattle.std.proofs.Math.Seq.{take-append_seam, drop-append_seam}
@@ -15,20 +15,24 @@ use Rattle.spin_script.specs.declared.script.Segment.{Segment}
 use Rattle.spin_script.specs.States.{NativeData, ScriptData}
 use Rattle.spin_script.specs.Language.{IsScript}
 use Rattle.spin_script.specs.Soundness.{lines_in}
-use Rattle.spin_script.specs.Segments.{IsOnLane, IsOrderly}
+use Rattle.spin_script.specs.Checks.{most_deeds}
+use Rattle.spin_script.specs.Laws.{bare_script}
+use Rattle.spin_script.specs.Segments.{NumbersRise, IsOnLane, HasLanes, deeds_in, IsOrderly}
 use Rattle.spin_script.proofs.LaneLines.{script_orderly, script_numbers}
+use Rattle.spin_script.proofs.OutcomeUniqueness.{one_outcome}
 use Rattle.spin_report.specs.declared.entry.Entry.{Entry}
 use Rattle.spin_report.specs.Histories.{SegmentSeen, HistorySeen, report_text, entries_of}
 use Rattle.spin_report.specs.Legal.{IsLegal}
 use Rattle.spin_report.specs.Asked.{Numbered, asked_of, AreApart, IsHistory}
 use Rattle.spin_report.specs.Segments.{asked_in, wanted_by}
 use Rattle.spin_report.specs.Runs.{Standing, Captured, frames_of, start_with, AreRun, IsRun}
-use Rattle.spin_report.specs.Laws.{cycle_told, HasNumbers, segment_entries, OneHistory, OneRun}
+use Rattle.spin_report.specs.Laws.{cycle_told, HasNumbers, segment_entries, OneHistoryAs, OneRunAs, IsAccepted, OneHistory, OneRun}
 use Rattle.spin_report.proofs.Asking.{asked_all, asked_rises, rising_apart, asked_few, asked_parts, asked_behind}
 use Rattle.spin_report.proofs.LaneAnswers.{answered_by_lanes}
 use Rattle.spin_report.proofs.Cycles.{IsUnder, started_under}
 use Rattle.spin_report.proofs.HistoryUniqueness.{all_asked, law}
 use Rattle.spin_report.proofs.Following.{same_jobs, same_run}
+use Rattle.spin_report.proofs.BareRuns.{bare_standing, bare_run}
 
 -- ---- all segments are one list of entries
 
@@ -95,10 +99,19 @@ has_numbers asked entries few small among under = λ j d lt.
 
 -- ---- whole runs
 
-module _ (n : NativeData) (text : List ℕ) (script : ScriptData) (capture : Option Captured) (is : IsScript n text (Ok script)) where
-  orderly : IsOrderly script
-  orderly = script_orderly n text script is
+-- what holds of the lane lines of a script, wherever its boxes lie
+pub record HasLaneLines (lanes : ℕ) (segments : List Segment) : Type 0 where
+  pub orderly : NumbersRise segments
+  pub on_lanes : HasLanes lanes segments
+  pub deeds : deeds_in segments ≤ most_deeds
+  pub low : All (λ (x : Line). x.number ≤ 1048577) (lines_in segments)
 
+pub has_lane_lines : (n : NativeData) (text : List ℕ) (script : ScriptData) → IsScript n text (Ok script) → HasLaneLines script.lanes script.segments
+has_lane_lines n text script is =
+    let so : IsOrderly script = script_orderly n text script is in
+    record { orderly = so.numbers; on_lanes = so.lanes; deeds = so.deeds; low = script_numbers n text script is }
+
+module _ (script : ScriptData) (capture : Option Captured) (has : HasLaneLines script.lanes script.segments) where
   abbrev lines : List Line
   lines = lines_in script.segments
 
@@ -106,19 +119,19 @@ module _ (n : NativeData) (text : List ℕ) (script : ScriptData) (capture : Opt
   asked = asked_in lines (frames_of capture)
 
   apart : AreApart asked
-  apart = rising_apart asked (asked_rises lines (frames_of capture) orderly.numbers)
+  apart = rising_apart asked (asked_rises lines (frames_of capture) has.orderly)
 
   lanes : All (IsBelow script.lanes) lines
-  lanes = All-weaker (IsOnLane script.lanes) (IsBelow script.lanes) (λ line on. on.below) lines orderly.lanes.each
+  lanes = All-weaker (IsOnLane script.lanes) (IsBelow script.lanes) (λ line on. on.below) lines has.on_lanes.each
 
   small : All IsSmall asked
   small = λ j d lt.
       let lane = asked_all (λ m. m.lane < script.lanes) lines (frames_of capture)
       (All-weaker (IsBelow script.lanes) (λ line. (part : ℕ × Work) → line.lane < script.lanes) (λ line below part. below) lines lanes) j d lt in
       let line = asked_all (λ m. m.line ≤ 1048577) lines (frames_of capture)
-      (All-weaker (λ (x : Line). x.number ≤ 1048577) (λ x. (part : ℕ × Work) → x.number ≤ 1048577) (λ x low part. low) lines (script_numbers n text script is)) j d lt in
-      let part = asked_parts 65536 lines (frames_of capture) orderly.deeds j d lt in
-      let most = orderly.lanes.few in
+      (All-weaker (λ (x : Line). x.number ≤ 1048577) (λ x. (part : ℕ × Work) → x.number ≤ 1048577) (λ x low part. low) lines has.low) j d lt in
+      let part = asked_parts 65536 lines (frames_of capture) has.deeds j d lt in
+      let most = has.on_lanes.few in
       (omega arith, line, part)
 
   module _ (ends : List NamedEnd) (h : HistorySeen) (last : Standing) (run : IsRun script capture ends h last) where
@@ -130,7 +143,7 @@ module _ (n : NativeData) (text : List ℕ) (script : ScriptData) (capture : Opt
     count : length (entries_of h) ≤ 65536
     count =
         let few = asked_few lines (frames_of capture) in
-        let deeds = orderly.deeds in
+        let deeds = has.deeds in
         let same = length_permutation (map asked_of (entries_of h)) asked history.once in
         omega (arith, length-map (entries_of h) asked_of)
 
@@ -142,16 +155,57 @@ module _ (n : NativeData) (text : List ℕ) (script : ScriptData) (capture : Opt
   same_rows ends ends' h k last last' run run' same =
       law script.setup (start_of script.setup) asked h k apart (history ends h last run) (history ends' k last' run') (numbers ends h last run) (numbers ends' k last' run') same
 
--- two runs of a script over one capture, whose reports are one text, have the same entries and jobs
-pub one_history : OneHistory
-one_history n text script capture ends ends' h k last last' is run run' same =
-    let rows = same_rows n text script capture is ends ends' h k last last' run run' same in (
+-- ---- two readings of one text
+
+-- two scripts that are one but for where their boxes lie
+module _ (script other : ScriptData) (has : HasLaneLines script.lanes script.segments) (alike : bare_script script ≡ bare_script other) (capture : Option Captured) where
+  abbrev bare : ScriptData
+  bare = bare_script script
+
+  -- runs of both are runs of one script
+  other_run : (ends : List NamedEnd) (k : HistorySeen) (last : Standing) → IsRun other capture ends k last → IsRun bare capture ends k (bare_standing last)
+  other_run ends k last run = subst (λ (x : ScriptData). IsRun x capture ends k (bare_standing last)) (sym alike) (bare_run other capture ends k last run)
+
+  bare_rows : (ends ends' : List NamedEnd) (h k : HistorySeen) (last last' : Standing) → IsRun script capture ends h last
+      → IsRun other capture ends' k last' → report_text h ≡ report_text k → segment_entries h ≡ segment_entries k
+  bare_rows ends ends' h k last last' run run' same =
+      same_rows bare capture has ends ends' h k (bare_standing last) (bare_standing last') (bare_run script capture ends h last run) (other_run ends' k last' run') same
+
+-- so the readings of a text are
+abbrev pub ReadAlike : (NativeData → List ℕ → ScriptData → Type 0) → Type 0
+ReadAlike IsReadAs =
+    (n : NativeData) (text : List ℕ) (script other : ScriptData) → IsReadAs n text script → IsReadAs n text other
+    → HasLaneLines script.lanes script.segments × (bare_script script ≡ bare_script other)
+
+-- two runs of a text over one capture, whose reports are one text, have the same entries and jobs
+pub history_as : (IsReadAs : NativeData → List ℕ → ScriptData → Type 0) → ReadAlike IsReadAs → OneHistoryAs IsReadAs
+history_as IsReadAs read n text script other capture ends ends' h k last last' is is' run run' same =
+    let so = read n text script other is is' in
+    let rows = bare_rows script other so.0 so.1 capture ends ends' h k last last' run run' same in (
       rows,
-      same_jobs script script.segments (start_with script (frames_of capture) ends)
-          (start_with script (frames_of capture) ends') last last' h.segments k.segments refl rows run.segments run'.segments,
+      same_jobs (bare_script script) script.segments (start_with (bare_script script) (frames_of capture) ends) (start_with (bare_script script) (frames_of capture) ends')
+          (bare_standing last) (bare_standing last') h.segments k.segments refl rows
+          (bare_run script capture ends h last run).segments (other_run script other so.0 so.1 capture ends' k last' run').segments,
     )
 
 -- and over the same endpoints they are one
+pub run_as : (IsReadAs : NativeData → List ℕ → ScriptData → Type 0) → ReadAlike IsReadAs → OneRunAs IsReadAs
+run_as IsReadAs read n text script other capture ends h k last last' is is' run run' same =
+    let so = read n text script other is is' in
+    let rows = bare_rows script other so.0 so.1 capture ends ends h k last last' run run' same in
+    let one = same_run (bare_script script) capture ends h k (bare_standing last) (bare_standing last')
+    (bare_run script capture ends h last run) (other_run script other so.0 so.1 capture ends k last' run') rows in (
+      one.0,
+      ap (λ (x : Standing). x.left) one.1,
+      ap (λ (x : Standing). x.ends) one.1,
+      λ readings. (same_run script capture ends h k last last' run (subst (λ (x : ScriptData). IsRun x capture ends k last') (sym readings) run') rows).1,
+    )
+
+accepted_alike : ReadAlike IsAccepted
+accepted_alike n text script other is is' = (has_lane_lines n text script is, one_outcome n text (Ok script) (Ok other) is is')
+
+pub one_history : OneHistory
+one_history = history_as IsAccepted accepted_alike
+
 pub one_run : OneRun
-one_run n text script capture ends h k last last' is run run' same =
-    same_run script capture ends h k last last' run run' (same_rows n text script capture is ends ends h k last last' run run' same)
+one_run = run_as IsAccepted accepted_alike

@@ -79,20 +79,36 @@ LanesAnswer =
     → map asked_of (filter (λ e. e.lane == k) entries) ≡ filter (λ n. n.lane == k) asked)
     → IsPermutation (map asked_of entries) asked
 
--- A text that is a script was run twice with one capture, over whatever endpoints. Where the two reports are one text,
--- each segment of the one run has the entries and the jobs of the other's.
-abbrev pub OneHistory : Type 0
-OneHistory =
-    (n : NativeData) (text : List ℕ) (script : ScriptData) (capture : Option Captured)
-    (ends ends' : List NamedEnd) (h k : HistorySeen) (last last' : Standing) → IsScript n text (Ok script)
-    → IsRun script capture ends h last → IsRun script capture ends' k last'
+-- A text was read twice; the two scripts may differ in where their boxes lie. Each was run, with one capture and over
+-- whatever endpoints. Where the two reports are one text, each segment of the one run has the entries and the jobs of
+-- the other's.
+abbrev pub OneHistoryAs : (IsReadAs : NativeData → List ℕ → ScriptData → Type 0) → Type 0
+OneHistoryAs IsReadAs =
+    (n : NativeData) (text : List ℕ) (script other : ScriptData) (capture : Option Captured)
+    (ends ends' : List NamedEnd) (h k : HistorySeen) (last last' : Standing)
+    → IsReadAs n text script → IsReadAs n text other
+    → IsRun script capture ends h last → IsRun other capture ends' k last'
     → report_text h ≡ report_text k
     → (segment_entries h ≡ segment_entries k) × (segment_jobs h ≡ segment_jobs k)
 
--- And over the same endpoints the two runs are one in all, and leave the endpoints alike.
+-- And over the same endpoints the two histories are one in all, and leave records and endpoints alike. Where the two
+-- scripts are one, they leave one state, too.
+abbrev pub OneRunAs : (IsReadAs : NativeData → List ℕ → ScriptData → Type 0) → Type 0
+OneRunAs IsReadAs =
+    (n : NativeData) (text : List ℕ) (script other : ScriptData) (capture : Option Captured)
+    (ends : List NamedEnd) (h k : HistorySeen) (last last' : Standing)
+    → IsReadAs n text script → IsReadAs n text other
+    → IsRun script capture ends h last → IsRun other capture ends k last'
+    → report_text h ≡ report_text k
+    → (h ≡ k) × (last.left ≡ last'.left) × (last.ends ≡ last'.ends) × (script ≡ other → last ≡ last')
+
+-- the text is a script, no line of which is refused
+abbrev pub IsAccepted : NativeData → List ℕ → ScriptData → Type 0
+IsAccepted n text script = IsScript n text (Ok script)
+
+-- Both hold of a text that is a script.
+abbrev pub OneHistory : Type 0
+OneHistory = OneHistoryAs IsAccepted
+
 abbrev pub OneRun : Type 0
-OneRun =
-    (n : NativeData) (text : List ℕ) (script : ScriptData) (capture : Option Captured)
-    (ends : List NamedEnd) (h k : HistorySeen) (last last' : Standing) → IsScript n text (Ok script)
-    → IsRun script capture ends h last → IsRun script capture ends k last'
-    → report_text h ≡ report_text k → (h ≡ k) × (last ≡ last')
+OneRun = OneRunAs IsAccepted

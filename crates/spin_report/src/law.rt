@@ -14,10 +14,11 @@ pub fn report_tells()
     ensures lanes { LanesAnswer }
 {}
 
-/// The law of whole runs: a script's text, its capture and the text of the report have one history. Of two runs of a
-/// text that is a script, over one capture, each segment has the same entries and the same jobs where the texts of
-/// their reports are the same, whatever endpoints each had. And over the same endpoints the two runs are one in all,
-/// and leave the endpoints alike. It does nothing.
+/// The law of whole runs: a script's text, its capture and the text of the report have one history. Two calls may read
+/// one text as two scripts, whose boxes lie elsewhere. Of a run of the one and a run of the other, over one capture,
+/// each segment has the same entries and the same jobs where the texts of their reports are the same, whatever
+/// endpoints each had. And over the same endpoints the two histories are one in all, and leave records and endpoints
+/// alike. It does nothing.
 pub fn one_history()
     ensures entries { OneHistory }
     ensures whole { OneRun }

@@ -1,4 +1,4 @@
--- Legal entries are legal for the setup without where its boxes lie, too.
+-- Legal entries and their jobs are so for the setup without where its boxes lie, too.
 use Rattle.std.proofs.Common.{◌≡◌, ◌∙◌, ◌+◌, ℕ, Bool, true, false, not, ◌&&◌, ◌||◌, List, [], ◌∷◌, map, refl, sym, ap, subst}
 use Rattle.std.specs.Prelude.{◌==◌, if◌then◌else◌, nat_lt, nat_le, slice_get, Option, Some, None, MatchOption}
 use Rattle.std.specs.Option.{option_map, option_map_or}
@@ -26,15 +26,17 @@ use Rattle.spin_table.specs.declared.refusal.Refusal.TheVariants as refusal
 use Rattle.spin_table.specs.declared.refusal.Verdicted.{Verdicted}
 use Rattle.spin_table.specs.declared.refusal.Verdicted.TheVariants as verdicted
 use Rattle.spin_table.specs.Setups.{SetupData, rules_of, tests_in}
-use Rattle.spin_table.specs.States.{State, EventState, first_state, start_of}
+use Rattle.spin_table.specs.States.{State, EventState, binding_of, first_state, start_of}
 use Rattle.spin_table.specs.Verdicts.{answer_to, named_rule}
 use Rattle.spin_table.specs.Units.{same_signature, same_parameter_kinds, step_raises_down, raises_down, is_set, sets_argument, is_filter, has_wrong_mode}
 use Rattle.spin_table.specs.Refusals.{refusal_of, refusal_on, refusals_at, lacks_binding, is_denied_by, is_full, of_handler, of_guard, mode_of}
 use Rattle.spin_table.specs.Steps.{state_after, event_after, events_after, bindings_if, bindings_at, IsOrderly, IsConflict, ChangesTo, IsStep}
 use Rattle.spin_raise.specs.declared.bound.Runner.TheVariants as runner
 use Rattle.spin_raise.specs.Firing.{Units, Bound}
-use Rattle.spin_proto.specs.Whole.{Raised, raised, reply_of}
-use Rattle.spin_proto.specs.Replies.{reply_if_fit, deed_reply, types_in, units_in, AreBounds, IsDeedReply}
+use Rattle.spin_proto.specs.declared.deed.JobCall.{JobCall}
+use Rattle.spin_proto.specs.declared.deed.JobCall.TheVariants as call
+use Rattle.spin_proto.specs.Whole.{Raised, raised, raised_after, reply_of, job_of}
+use Rattle.spin_proto.specs.Replies.{reply_if_fit, deed_reply, job_reply, handler_at, types_in, units_in, AreBounds, IsDeedReply, IsJobReply}
 use Rattle.spin_proto.specs.declared.reply.Reply.{Reply}
 use Rattle.spin_proto.specs.declared.reply.TheConstants.{MAX_RUNS}
 use Rattle.spin_grammar.specs.Bare.{bare_test, bare_step}
@@ -44,8 +46,10 @@ use Rattle.spin_script.proofs.BareScripts.{some_same}
 use Rattle.spin_report.specs.declared.entry.What.{What}
 use Rattle.spin_report.specs.declared.entry.What.TheVariants as what
 use Rattle.spin_report.specs.declared.entry.Entry.{Entry}
+use Rattle.spin_report.specs.Lines.{JobSeen}
 use Rattle.spin_report.specs.Legal.{Answers, IsLegal}
-use Rattle.spin_counts.proofs.BareRaises.{bare_units, bare_bound, raised_same}
+use Rattle.spin_report.specs.Jobs.{answer_calls, AreJobsFrom, AreJobs}
+use Rattle.spin_report.proofs.BareRaises.{bare_units, bare_bound, raised_same, raised_after_same, job_of_same}
 
 -- ---- states
 
@@ -107,6 +111,27 @@ bare_reply d s asked r (bounds, are, is) = (
   is
       ∙ sym (reply_same (units_in d) bounds (types_in d) asked)
       ∙ (λ i. deed_reply (sym (units_same d) i) (map bare_bound bounds) (sym (types_same d) i) asked),
+)
+
+handler_at_same : (bounds : List Bound) (event number : ℕ) → handler_at (map bare_bound bounds) event number ≡ handler_at bounds event number
+handler_at_same bounds event number =
+    let its = λ (b : Bound). option_map_or (λ (x : Binding). x.handler) (binding_of b.bindings number) 0 in
+    ap (λ (o : Option Bound). option_map_or its o 0) (slice_get-map bare_bound bounds event) ∙ some_same bare_bound its its (λ b. refl) (slice_get bounds event) 0
+
+job_same : (u : Units) (bounds : List Bound) (asked : JobCall) → job_reply (bare_units u) (map bare_bound bounds) asked ≡ job_reply u bounds asked
+job_same u bounds (call.Whole event args) = ap (reply_of MAX_RUNS) (raised_same runner.Job u bounds 0 event args)
+job_same u bounds (call.Binding event number args) =
+    ap (λ (handler : ℕ). reply_of MAX_RUNS (job_of (bare_units u) event number handler (raised_after runner.Job (bare_units u) (map bare_bound bounds) event) args))
+    (handler_at_same bounds event number)
+    ∙ ap (reply_of MAX_RUNS)
+    (job_of_same u event number (handler_at bounds event number) (raised_after runner.Job u bounds event) (raised_after runner.Job (bare_units u) (map bare_bound bounds) event) args
+    (raised_after_same runner.Job u bounds event))
+
+bare_job : (d : SetupData) (s : State) (asked : JobCall) (r : Reply) → IsJobReply d s asked r → IsJobReply (bare_setup d) (bare_state s) asked r
+bare_job d s asked r (bounds, are, is) = (
+  map bare_bound bounds,
+  bounds_same d.events s.events bounds are,
+  is ∙ sym (job_same (units_in d) bounds asked) ∙ (λ i. job_reply (sym (units_same d) i) (map bare_bound bounds) asked),
 )
 
 -- ---- refusals
@@ -226,3 +251,24 @@ pub bare_legal : (d : SetupData) (entries : List Entry) (s last : State) → IsL
 bare_legal d [] s last h = ap bare_state h
 bare_legal d (entry ∷ entries) s last (next, (answers, place), rest) =
     (bare_state next, (bare_answers d s entry.what next answers, place), bare_legal d entries next last rest)
+
+-- ---- jobs
+
+bare_jobs_from : (d : SetupData) (state : State) (entry : Entry) (index : ℕ) (calls : List JobCall) (jobs : List JobSeen)
+    → AreJobsFrom d state entry index calls jobs → AreJobsFrom (bare_setup d) (bare_state state) entry index calls jobs
+bare_jobs_from d state entry index [] jobs h = h
+bare_jobs_from d state entry index (asked ∷ calls) jobs (reply, others, is, are, rest) =
+    (reply, others, bare_job d state asked reply is, are, bare_jobs_from d state entry (index + 1) calls others rest)
+
+-- and so are their jobs
+pub bare_jobs : (d : SetupData) (entries : List Entry) (state : State) (jobs : List JobSeen) → AreJobs d state entries jobs → AreJobs (bare_setup d) (bare_state state) entries jobs
+bare_jobs d [] state jobs h = h
+bare_jobs d (entry ∷ entries) state jobs (next, own, others, (answers, place), from, rest, are) = (
+  bare_state next,
+  own,
+  others,
+  (bare_answers d state entry.what next answers, place),
+  bare_jobs_from d next entry 0 (answer_calls entry.what) own from,
+  bare_jobs d entries next others rest,
+  are,
+)

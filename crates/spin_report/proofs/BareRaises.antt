@@ -1,8 +1,9 @@
 -- Where boxes lie changes nothing in what expressions, acts and raises come to.
 use Rattle.std.proofs.Common.{◌≡◌, ◌∙◌, ◌+◌, ◌-◌, ◌%◌, ◌^◌, ℕ, suc, not, ◌&&◌, ◌||◌, List, [], ◌∷◌, ◌++◌, map, refl, ap}
-use Rattle.std.specs.Prelude.{◌==◌, if◌then◌else◌, slice_get, Option, Some, None, fold, bit_and, bit_or}
+use Rattle.std.specs.Prelude.{◌==◌, if◌then◌else◌, slice_get, drop, Option, Some, None, fold, bit_and, bit_or}
 use Rattle.std.specs.Option.{option_map}
 use Rattle.std.specs.List.{list_all, flat_map}
+use Rattle.std.proofs.lemmas.List.{drop-map}
 use Rattle.std.proofs.lemmas.Option.{slice_get-map}
 use Rattle.spin_values.specs.First.{numbered}
 use Rattle.spin_values.specs.declared.values.Value.{Value}
@@ -21,7 +22,7 @@ use Rattle.spin_code.specs.declared.merge.Merge.TheVariants as merge
 use Rattle.spin_code.specs.Value.{value_of}
 use Rattle.spin_code.specs.Truth.{truth_of, compares, holds_if}
 use Rattle.spin_objects.specs.declared.item.Item.TheVariants as item
-use Rattle.spin_objects.specs.Doing.{part_of, step_args, step_items, args_after, items_of}
+use Rattle.spin_objects.specs.Doing.{part_of, step_args, step_items, args_after, items_of, last_result}
 use Rattle.spin_objects.specs.Units.{act_if}
 use Rattle.spin_objects.proofs.NumberedItems.{numbered-map}
 use Rattle.spin_place.specs.declared.binding.Binding.{Binding}
@@ -30,7 +31,7 @@ use Rattle.spin_raise.specs.declared.bound.Runner.{Runner}
 use Rattle.spin_raise.specs.declared.answer.Answer.TheVariants as answer
 use Rattle.spin_raise.specs.Firing.{Units, Bound, Firing, Did, Apart, ByDefault, steps_at, is_async, leaves_jobs, firing_of}
 use Rattle.spin_raise.specs.Firing.{left_by, firings, or_default, fired, items_by, merged_by, combine, answer_of_results, answer_of}
-use Rattle.spin_proto.specs.Whole.{Raised, marks_of, raised_with, raised}
+use Rattle.spin_proto.specs.Whole.{Raised, marks_of, raised_with, raised, raised_after, job_answer, job_of}
 use Rattle.spin_grammar.specs.Bare.{bare_expr, bare_test, bare_part, bare_step, bare_merge}
 
 -- ---- expressions and tests
@@ -178,3 +179,15 @@ module _ (by : Runner) (u : Units) where
       let here = with_same event b (raised by u bs (suc from)) (raised by (bare_units u) (map bare_bound bs) (suc from)) args (λ to given. raised_same bs (suc from) to given) in
       let others = raised_same bs (suc from) event args in
       λ i. if from == event then here i else others i
+
+  pub raised_after_same : (bs : List Bound) (event to : ℕ) (args : List Value) → raised_after by (bare_units u) (map bare_bound bs) event to args ≡ raised_after by u bs event to args
+  raised_after_same bs event to args =
+      ap (λ (later : List Bound). raised by (bare_units u) later (suc event) to args) (drop-map bare_bound (suc event) bs) ∙ raised_same (drop (suc event) bs) (suc event) to args
+
+-- ---- jobs
+
+pub job_of_same : (u : Units) (event number handler : ℕ) (raise raise' : ℕ → List Value → Raised) (args : List Value) → ((to : ℕ) (given : List Value) → raise' to given ≡ raise to given)
+    → job_of (bare_units u) event number handler raise' args ≡ job_of u event number handler raise args
+job_of_same u event number handler raise raise' args same =
+    let items = items_at u handler args in
+    λ i. record { answer = job_answer (last_result (items i)); marks = marks_of event (λ to given. same to given i) (item.Ran number ∷ items i) }
