@@ -1,9 +1,11 @@
 pub mod BadCaptures
 pub mod CaptureStops
 pub mod LargeTexts
+pub mod OneSaid
 pub mod OpenedCaptures
 pub mod OtherReads
 pub mod ReadingUniqueness
+pub mod SaidAtoms
 pub mod SaidScripts
 pub mod SaidSignatures
 pub mod SaidTexts

@@ -62,7 +62,7 @@ wanted_fit version kind.Barrier = refl
 wanted_fit version kind.Retire = refl
 
 -- the words of a line are the first word of its kind, and those behind it
-whole_form : (l : LineMeaning) → Fixed (first_word (line_kind l)) ∷ form l ≡ line_form l
+pub whole_form : (l : LineMeaning) → Fixed (first_word (line_kind l)) ∷ form l ≡ line_form l
 whole_form (line.Modules n) = refl
 whole_form (line.Event e owner sig m) = refl
 whole_form (line.Endpoint p name) = refl
@@ -179,7 +179,7 @@ leads n number line s t p = by_bytes n number (words line) s t (list_all is_allo
 -- ---- the lines behind the one that names the version
 
 -- each line says what stands at its place, under its number, and there are no others
-abbrev SayLines : List (ℕ × LineMeaning) → List (ℕ × List (List ℕ)) → Type 0
+abbrev pub SayLines : List (ℕ × LineMeaning) → List (ℕ × List (List ℕ)) → Type 0
 SayLines said told = AllZip (λ said told. (said.0 ≡ told.0) × SayLine said.1 told.1) said told
 
 -- what the lines say that are told, and the script that they make behind s

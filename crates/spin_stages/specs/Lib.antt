@@ -2,6 +2,7 @@ pub mod Captures
 pub mod Ends
 pub mod Held
 pub mod Holding
+pub mod Laws
 pub mod Limits
 pub mod Loading
 pub mod Outside

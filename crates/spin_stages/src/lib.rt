@@ -6,6 +6,7 @@
 //! - [`capture`] finds and opens a capture ([`open`]), [`records`] reads one whole ([`captured_of`]);
 //! - [`held`] is a source over bytes in memory ([`HeldSource`]), and reads the header of a capture there
 //!   ([`behind_header`]);
+//! - [`one_script_is_said`] says that a text says one script;
 //! - [`limits_are_stated`] states the limits in numbers.
 #![tactic(auto)]
 
@@ -13,6 +14,7 @@ mod capture;
 mod end;
 mod files;
 mod held;
+mod law;
 mod limits;
 mod records;
 
@@ -20,5 +22,6 @@ pub use capture::{Capture, find_packets, open};
 pub use end::{End, Input, end_at, status_of, stop};
 pub use files::{LoadFault, TEXT_LIMIT, load, script_of};
 pub use held::{HeldCapture, HeldSource, behind_header};
+pub use law::one_script_is_said;
 pub use limits::limits_are_stated;
 pub use records::captured_of;
