@@ -32,7 +32,7 @@ use Rattle.spin_proto.specs.declared.reply.Reply.TheVariants as reply
 use Rattle.spin_proto.specs.declared.walk.Walk.{Walk}
 use Rattle.spin_proto.specs.Whole.{Raised, step_of, calls_of, starts, reply_of}
 use Rattle.spin_proto.specs.Inner.Walks.{Gained}
-use Rattle.spin_proto.specs.Replies.{units_in, types_in, are_fit, reply_if_fit, handler_at, AreBounds}
+use Rattle.spin_proto.specs.Replies.{is_fit, units_in, types_in, are_fit, reply_if_fit, handler_at, AreBounds}
 use Rattle.spin_proto.proofs.BoundEvents.{here, bound_at, sound_at, the_bound}
 use Rattle.spin_proto.proofs.RisingRaises.{Serves, serves, Fits, fits_binding}
 use Rattle.spin_proto.proofs.JobCalls.{find_passes}
@@ -63,6 +63,13 @@ fit_answers d event e args r answer def says =
     ap (λ o. option_map_or (λ sig. cond (are_fit sig args) answer reply.WrongArgs) o reply.UnknownEvent)
     (slice_get-map (λ (e : EventDef). e.sig) d.events event ∙ ap (option_map (λ (e : EventDef). e.sig)) def)
     ∙ sym (ap (λ t. cond t answer reply.WrongArgs) (fit_is e.sig args r says))
+
+pub fit_decides : (d : SetupData) (event : ℕ) (e : EventDef) (args : List Value) (r : Bool) → slice_get d.events event ≡ Some e → Decides r (map kind_of args ≡ kinds_of e.sig)
+    → is_fit (types_in d) event args ≡ r
+fit_decides d event e args r def says =
+    ap (λ o. option_map_or (λ sig. are_fit sig args) o false)
+    (slice_get-map (λ (e : EventDef). e.sig) d.events event ∙ ap (option_map (λ (e : EventDef). e.sig)) def)
+    ∙ sym (fit_is e.sig args r says)
 
 -- what a walk comes to ---------------------------------------------------------------
 

@@ -1,5 +1,5 @@
 -- What deeds and jobs come to on a version.
-use Rattle.std.specs.Prelude.{ℕ, ◌≡◌, ◌<◌, Bool, if◌then◌else◌, IsTrue, List, []}
+use Rattle.std.specs.Prelude.{ℕ, ◌≡◌, ◌<◌, Bool, false, if◌then◌else◌, IsTrue, List, []}
 use Rattle.std.specs.Prelude.{◌∷◌, map, length, slice_get}
 use Rattle.std.specs.Option.{option_map_or}
 use Rattle.std.specs.Cmp.Lexicographic.{pointwise}
@@ -66,6 +66,15 @@ units_in d = record { acts = map (λ h. h.act) d.handlers; tests = tests_in d }
 -- the types of a setup's events
 abbrev pub types_in : SetupData → List EventType
 types_in d = map (λ e. e.sig) d.events
+
+-- the event is there, and the arguments fit it
+abbrev pub is_fit : List EventType → ℕ → List Value → Bool
+is_fit types event args = option_map_or (λ sig. are_fit sig args) (slice_get types event) false
+
+-- so it is of the deed: it is refused neither for its event nor for its arguments
+abbrev pub IsFitDeed : SetupData → Deed → Type 0
+IsFitDeed d (deed.Raise event args) = IsTrue (is_fit (types_in d) event args)
+IsFitDeed d (deed.Later event args) = IsTrue (is_fit (types_in d) event args)
 
 -- an event in this state as a raise finds it: its bindings in the order in which they run, its merge and its default
 abbrev pub IsBound : EventDef → EventState → Bound → Type 0

@@ -1,13 +1,13 @@
 //! What a deed comes to, into a buffer that is lent.
 
-ghost use Rattle.std.specs.Prelude.{◌≡◌, ◌<◌, [], length, OnOk};
+ghost use Rattle.std.specs.Prelude.{◌≡◌, ◌<◌, [], length, OnOk, OnErr};
 ghost use Rattle.std.specs.List.{All};
 ghost use Rattle.spin_table.specs.SetupOf.{data_of};
 ghost use Rattle.spin_table.specs.Soundness.{IsSound};
 ghost use Rattle.spin_raise.specs.declared.bound.Runner.TheVariants as runner;
 ghost use Rattle.spin_proto.specs.declared.reply.TheConstants.{MAX_RUNS};
 ghost use Rattle.spin_proto.specs.declared.reply.Reply.TheVariants as reply;
-ghost use Rattle.spin_proto.specs.Replies.{units_in, IsDeedReply, BelongsTo, calls_left};
+ghost use Rattle.spin_proto.specs.Replies.{units_in, IsDeedReply, IsFitDeed, BelongsTo, calls_left};
 ghost use Rattle.spin_proto.specs.Parts.{answer_in, trace_in, jobs_in};
 ghost use Rattle.spin_proto.specs.Whole.{raised, reply_of};
 ghost use Rattle.spin_proto.specs.Inner.Walks.{OnBounds};
@@ -203,8 +203,8 @@ fn raise_into(
     }
 }
 
-/// What a deed comes to on this version, put into a buffer: the same as [`path`] answers. After want of memory nothing
-/// is known of the buffer's reply.
+/// What a deed comes to on this version, put into a buffer: the same as [`path`] answers. After want of memory, which as
+/// there is told only of a deed whose event is there and whose arguments fit it, nothing is known of the buffer's reply.
 ///
 /// It costs what `path` does, less the memory: a raise takes none where the buffer's lists have room for its words, for
 /// its steps, and for what one handler gives. Bytes, raises upwards and jobs take some.
@@ -219,6 +219,7 @@ pub fn path_into(
     requires sincere { ⟦<Catalogue as Sincere>⟧.sincere setup.now.catalogue }
     ensures reply { OnOk result (IsDeedReply (data_of setup.now) version.now deed.now buffer.new) }
     ensures calls { OnOk result (All (BelongsTo version.now) (calls_left buffer.new)) }
+    ensures err { OnErr result (IsFitDeed (data_of setup.now) deed.now) }
 {
     match deed {
         Deed::Raise { event, args } => match refusal(setup, *event, args) {

@@ -1,10 +1,10 @@
 //! What a deed comes to on a version.
 
-ghost use Rattle.std.specs.Prelude.{◌≡◌, ◌<◌, length, IfOk, MatchOption};
+ghost use Rattle.std.specs.Prelude.{◌≡◌, ◌<◌, length, IfOk, OnErr, MatchOption};
 ghost use Rattle.std.specs.List.{All};
 ghost use Rattle.spin_table.specs.SetupOf.{data_of};
 ghost use Rattle.spin_table.specs.Soundness.{IsSound};
-ghost use Rattle.spin_proto.specs.Replies.{units_in, IsDeedReply, BelongsTo, calls_left};
+ghost use Rattle.spin_proto.specs.Replies.{units_in, IsDeedReply, IsFitDeed, BelongsTo, calls_left};
 ghost use Rattle.spin_proto.specs.Inner.Fits.{IsFit, IsUnfit};
 ghost use Rattle.spin_proto.specs.Whole.{raised, reply_of};
 ghost use Rattle.spin_proto.specs.Inner.Walks.{OnBounds};
@@ -90,7 +90,8 @@ pub(crate) fn refusal(setup: &Setup, event: u8, args: &Args) -> Option<Reply>
 /// the next is looked for, the raises upwards of that handler are done in order, depth first, on the same version, so
 /// that no command comes between. [`Reply::Spent`] comes exactly where more than [`MAX_RUNS`] handlers would start,
 /// jobs counting as one each; then nothing of what was done is left. Else the answer is [`Reply::Ran`], with the call
-/// of a job for each asynchronous binding that was reached.
+/// of a job for each asynchronous binding that was reached. A deed to which one of the first two applies is answered so,
+/// and never with want of memory.
 ///
 /// The state of the version is sound for the setup, and the catalogue's objects do what they were handed in with. It
 /// is linear in what the handlers do and give and in the guards that are tested, and at most 64 raises are nested.
@@ -101,6 +102,7 @@ pub fn path(alloc: Global, version: &Version, setup: &Setup, deed: &Deed) -> Res
     requires sincere { ⟦<Catalogue as Sincere>⟧.sincere setup.now.catalogue }
     ensures reply { IfOk result (λ reply. IsDeedReply (data_of setup.now) version.now deed.now reply) }
     ensures calls { IfOk result (λ reply. All (BelongsTo version.now) (calls_left reply)) }
+    ensures err { OnErr result (IsFitDeed (data_of setup.now) deed.now) }
 {
     match deed {
         Deed::Raise { event, args } => match refusal(setup, *event, args) {
