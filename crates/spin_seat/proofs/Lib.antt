@@ -7,6 +7,8 @@ pub mod SeatAnswers
 pub mod LegalAnswers
 pub mod WovenAnswers
 pub mod RenewedAnswers
+pub mod NamedNumbers
+pub mod LiveCounts
 pub mod ClosedLogs
 pub mod SeatRenewals
 pub mod SeatPairs

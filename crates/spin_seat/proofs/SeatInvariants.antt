@@ -25,6 +25,7 @@ use Rattle.spin_table.specs.States.{State, start_of}
 use Rattle.spin_table.specs.Soundness.{IsSound}
 use Rattle.spin_table.specs.Renewals.{NameGiven}
 use Rattle.spin_word.specs.declared.command.TheConstants.{MAX_PLACE}
+use Rattle.spin_table.specs.Refusals.{refusal_of}
 use Rattle.spin_table.specs.Steps.{IsStep, IsAnswer}
 use Rattle.spin_seat.specs.Replay.{IsReplayFrom, IsReplay, IsAcceptedFrom, IsCleanFrom, IsClean, IsLaneCleanFrom, IsCleanFor}
 use Rattle.spin_table.specs.declared.refusal.Refusal.{Refusal}
@@ -167,6 +168,12 @@ pub is_refused : (d : SetupData) (s t : State) (c : Command) (f : StepFault) (r 
 is_refused d s t c f r is same answer =
     let step : IsStep d s c (verdicted.Refused r) s = subst (λ (e : StepFault). IsAnswer d s c (Err e)) is answer in
     subst (λ (u : State). IsStep d u c (verdicted.Refused r) u) same step
+
+-- for want of memory there is no next version where no refusal but a conflict applies
+pub is_wanting : (d : SetupData) (s t : State) (c : Command) (f : StepFault) → f ≡ fault.NoMemory → s ≡ t → IsAnswer d s c (Err f) → refusal_of d t c ≡ None
+is_wanting d s t c f is same answer =
+    let none : refusal_of d s c ≡ None = subst (λ (e : StepFault). IsAnswer d s c (Err e)) is answer in
+    subst (λ (u : State). refusal_of d u c ≡ None) same none
 
 -- nothing of the lane was added
 pub none_added : (lane : ℕ) (front more log : List Row) → log ≡ front ++ more → rows_of lane front ≡ rows_of lane log → rows_of lane more ≡ []

@@ -1,9 +1,10 @@
 -- Seats that learn what others know, and the hub that goes on.
 use Rattle.std.proofs.Common.{◌≡◌, ◌≢◌, ◌==◌, ◌∙◌, ◌+◌, ◌-◌, ◌<◌, ◌≤◌, ℕ, zero, suc, Bool, true, false, List, [], ◌∷◌, ◌++◌, sym, ap, subst, length, get_or, set, map, take, arith, refl}
 use Rattle.std.proofs.Common.{eqb-true, get_or-set_same, get_or-set_other, length-append, length-set}
-use Rattle.std.specs.Prelude.{All, None, Result, Ok, Err, OnOk, MatchResult}
+use Rattle.std.specs.Prelude.{All, None, Result, Ok, Err, OnOk, OnErr, MatchResult}
 use Rattle.std.proofs.lemmas.Bool.{eqb-false}
 use Rattle.std.proofs.lemmas.List.{append-nil, get_or_default, length-map}
+use Rattle.std.proofs.lemmas.List.Elements.{All-tail}
 use Rattle.spin_values.specs.declared.no_memory.NoMemory.{NoMemory}
 use Rattle.spin_word.specs.declared.command.TheConstants.{MAX_PLACE}
 use Rattle.spin_word.specs.declared.row.Row.{Row}
@@ -19,8 +20,8 @@ use Rattle.spin_seat.specs.declared.renewal.RenewFault.TheVariants as fault
 use Rattle.spin_seat.specs.Replay.{IsReplayFrom}
 use Rattle.spin_seat.specs.Seats.{SeatValue, IsSeat, IsSeatFrom, AreFrom, AreOfLanes}
 use Rattle.spin_seat.specs.Calls.{ReadsOn}
-use Rattle.spin_seat.specs.RenewedHubs.{AreAllSeats, KnowsMore, KnowMore, IsTotalFrom, IsFaultOf, IsRenewal}
-use Rattle.spin_seat.specs.Inner.Gathering.{KnowsAllOf, FirstKnowsAll}
+use Rattle.spin_seat.specs.RenewedHubs.{AreAllSeats, KnowsMore, KnowMore, KnowsAllOf, FirstKnowsAll, IsTotalFrom, IsFaultOf, IsRenewal}
+use Rattle.spin_seat.specs.Inner.Gathering.{KeepsFrom}
 use Rattle.spin_seat.proofs.SeatInvariants.{reads_nothing, whole_applied, all_unmap, of_lanes_at, are_of_lanes, new_of_log, new_count, new_lanes}
 use Rattle.spin_seat.proofs.SeatCalls.{reads_further}
 use Rattle.spin_seat.proofs.ClosedLogs.{Closed, longest_is_log}
@@ -141,6 +142,28 @@ round_more d first others k now next others' s new lt r knows whole one same = r
       omega (arith, at, was, grows d now next knows));
 }
 
+-- a seat that has read no more isn't met
+pub round_skip : (d : SetupData) (first : SeatValue) (others : List SeatValue) (k : ℕ) (now : SeatValue) (others' : List SeatValue) (s : SeatValue)
+    → k < length others' → Round d first others k now others' → length (get_or others' k s).pen.front ≤ length now.pen.front → Round d first others (k + 1) now others'
+round_skip d first others k now others' s lt r most = record {
+  knows = r.knows;
+  whole = r.whole;
+  others_know = r.others_know;
+  shorter = λ i x low. which i k
+      (λ e. subst (λ (j : ℕ). length (get_or others' j x).pen.front ≤ length now.pen.front) (sym e)
+      (let at = ap (λ (o : SeatValue). length o.pen.front) (get_or_default others' k s x lt) in omega (arith, at, most)))
+      (λ apart. r.shorter i x (omega (arith, low, apart)));
+}
+
+-- one that has read more, and couldn't be met, still has
+pub still_more : (others : List SeatValue) (k : ℕ) (first a b s t : SeatValue) → k < length others → length first.pen.front < length (get_or others k t).pen.front
+    → a.pen ≡ first.pen → b.pen ≡ (get_or others k s).pen → KnowsAllOf a (set others k b) → ⊥
+still_more others k first a b s t inside more same same' knows =
+    let most = knows.1 k s (omega (arith, inside, length-set others k b)) in
+    let at = ap (λ (o : SeatValue). length o.pen.front) (get_or-set_same others k b s inside) in
+    let was = ap (λ (o : SeatValue). length o.pen.front) (get_or_default others k s t inside) in
+    omega (arith, most, at, more, was, ap (λ (p : PenValue). length p.front) same, ap (λ (p : PenValue). length p.front) same')
+
 -- the first of all the seats and the others
 pub know_joined : (d : SetupData) (seats left right others : List SeatValue) (s first : SeatValue) → seats ≡ left ++ right → length left ≡ 1
     → KnowsMore d (get_or left 0 s) first → KnowMore d right others → KnowMore d seats (set left 0 first ++ others)
@@ -160,6 +183,15 @@ first_knows [] others first (Ok done) one knows = absurd (omega (arith, one))
 first_knows (a ∷ b ∷ left) others first (Ok done) one knows = absurd (omega (arith, one))
 first_knows (a ∷ []) others first (Ok done) one knows =
     λ s. (knows.0, all_cons (λ (x : SeatValue). length x.pen.front ≤ length first.pen.front) first others (omega arith) knows.1)
+
+-- where the first doesn't know all that the others do, it doesn't know all
+pub first_knows_less : (left others : List SeatValue) (first : SeatValue) (r : Result (Unit {0}) NoMemory) → length left ≡ 1
+    → OnErr r (KnowsAllOf first others → ⊥) → OnErr r (FirstKnowsAll (set left 0 first ++ others) → ⊥)
+first_knows_less left others first (Ok done) one less = tt
+first_knows_less [] others first (Err e) one less = absurd (omega (arith, one))
+first_knows_less (a ∷ b ∷ left) others first (Err e) one less = absurd (omega (arith, one))
+first_knows_less (a ∷ []) others first (Err e) one less =
+    λ knows. let all = knows first in less (all.0, All-tail (λ (x : SeatValue). length x.pen.front ≤ length first.pen.front) first others all.1)
 
 -- ---- what all know
 
@@ -187,8 +219,17 @@ pub is_full : (d : SetupData) (first : State) (before met : List SeatValue) (s :
 is_full d first before met s live some from h knows is full =
     ((get_or met 0 s).state, total d first before met s some from h knows, subst (λ (l : List ℕ). MAX_PLACE ≤ length l) is full)
 
-pub lacks_memory : (d : SetupData) (first : State) (seats : List SeatValue) (e : RenewFault) → e ≡ fault.NoMemory → IsFaultOf d first seats e
-lacks_memory d first seats e is = subst (IsFaultOf d first seats) (sym is) tt
+pub keeps_from : (d : SetupData) (first : State) (before met : List SeatValue) (s : SeatValue) (why : RenewFault) → 0 < length before → AreFrom first before → KnowMore d before met
+    → FirstKnowsAll met → KeepsFrom (get_or met 0 s).state why → IsFaultOf d first met why
+keeps_from d first before met s fault.Full some from h knows full = ((get_or met 0 s).state, total d first before met s some from h knows, full)
+keeps_from d first before met s fault.NoMemory some from h knows few =
+    let inside : 0 < length met = omega (arith, some, h.0) in
+    λ all t. subst (λ (x : SeatValue). length (live_numbers x.state) < MAX_PLACE) (get_or_default met 0 s t inside) few
+
+pub lacks_memory : (d : SetupData) (first : State) (met : List SeatValue) (s : SeatValue) (why : RenewFault) → 0 < length met → why ≡ fault.NoMemory
+    → (FirstKnowsAll met → length (live_numbers (get_or met 0 s).state) < MAX_PLACE) → IsFaultOf d first met why
+lacks_memory d first met s why inside is few =
+    subst (IsFaultOf d first met) (sym is) (λ all t. subst (λ (x : SeatValue). length (live_numbers x.state) < MAX_PLACE) (get_or_default met 0 s t inside) (few all))
 
 -- ---- the closed log
 

@@ -1,5 +1,5 @@
 -- What the calls of a seat say of its pen.
-use Rattle.std.specs.Prelude.{◌≡◌, ℕ, ◌<◌, ◌≤◌, ◌⊎◌, List, [], ◌++◌, Option, None, Some, IfSome, length}
+use Rattle.std.specs.Prelude.{◌≡◌, ℕ, ◌<◌, ◌≤◌, ◌⊎◌, ⊤, List, [], ◌++◌, Option, None, Some, IfSome, length}
 use Rattle.spin_word.specs.declared.command.TheConstants.{MAX_PLACE}
 use Rattle.spin_word.specs.declared.row.Row.{Row}
 use Rattle.spin_word.specs.declared.command.Command.{Command}
@@ -9,12 +9,14 @@ use Rattle.spin_log.specs.Pens.{PenValue, with_front, written, pinned_at_front}
 use Rattle.spin_table.specs.declared.refusal.Verdicted.{Verdicted}
 use Rattle.spin_table.specs.Setups.{SetupData}
 use Rattle.spin_table.specs.States.{State, start_of}
+use Rattle.spin_table.specs.Refusals.{refusal_of}
 use Rattle.spin_word.specs.declared.work.Deed.{Deed}
 use Rattle.spin_proto.specs.declared.reply.Reply.{Reply}
 use Rattle.spin_seat.specs.declared.answer.SeatFault.{SeatFault}
 use Rattle.spin_seat.specs.declared.answer.SeatFault.TheVariants as fault
 use Rattle.spin_seat.specs.Replay.{IsReplayFrom}
 use Rattle.spin_seat.specs.Places.{place_past}
+use Rattle.spin_seat.specs.Seats.{SeatValue}
 use Rattle.spin_seat.specs.Answers.{command, deed, Answer, row_published, LeadsTo}
 
 -- the pen has read rows of other lanes, and no more
@@ -74,3 +76,9 @@ Gives d = GivesFrom d (start_of d)
 abbrev pub IsFaultAt : ℕ → ℕ → SeatFault → Type 0
 IsFaultAt place length fault.Full = (MAX_PLACE ≤ place_past place length) × (length ≤ MAX_PLACE)
 IsFaultAt place length fault.NoMemory = place_past place length < MAX_PLACE
+
+-- want of memory is no refusal of the command: none but a conflict applies to it at the seat's state, where the seat has
+-- applied all that it has read
+abbrev pub IsUnrefused : SetupData → SeatValue → Command → SeatFault → Type 0
+IsUnrefused d seat c fault.Full = ⊤
+IsUnrefused d seat c fault.NoMemory = seat.kept ≡ None → refusal_of d seat.state c ≡ None

@@ -1,6 +1,7 @@
 -- Answers after a renewal, told by the numbers and places before it.
-use Rattle.std.specs.Prelude.{◌≡◌, ℕ, ◌+◌, ◌-◌, ◌<◌, ⊤, List, ◌++◌, map, length, All}
-use Rattle.spin_word.specs.Commands.{no_number}
+use Rattle.std.specs.Prelude.{◌≡◌, ℕ, ◌+◌, ◌-◌, ◌<◌, ⊤, IsTrue, List, ◌++◌, map, length, All}
+use Rattle.spin_word.specs.Commands.{is_command, no_number}
+use Rattle.spin_word.specs.declared.command.TheConstants.{MAX_PLACE}
 use Rattle.spin_table.specs.Setups.{SetupData}
 use Rattle.spin_table.specs.States.{State}
 use Rattle.spin_table.specs.Soundness.{IsSound}
@@ -59,3 +60,16 @@ RenewalsGoOn =
     → AreLegalAnswers d first before s → AreLegalAnswers d (renewed s) after last
     → (other : State) × AreLegalAnswers d first (before ++ before_renewal s after) other
     × IsRenamed (old_number (live_numbers s) s.place) last other
+
+-- what was asked is a deed, or a valid command
+abbrev pub IsValid : Said → Type 0
+IsValid (command c verdict) = IsTrue (is_command c)
+IsValid (deed asked reply) = ⊤
+
+-- What valid commands name after a renewal is named under the numbers before it too. So where all were valid, as those
+-- are that seats take, the law above asks nothing more of their answers.
+abbrev pub ValidCommandsStayNamed : Type 0
+ValidCommandsStayNamed =
+    (s : State) (answers : List Answer)
+    → s.place + MAX_PLACE < no_number → All (λ answer. IsValid answer.said) answers
+    → All (StaysNamed (old_number (live_numbers s) s.place)) answers

@@ -1,5 +1,5 @@
 -- A hub that is renewed: what its seats must be, and what they are afterwards.
-use Rattle.std.specs.Prelude.{◌≡◌, ℕ, ◌<◌, ◌≤◌, ⊤, List, All, Any, length, slice_index_or}
+use Rattle.std.specs.Prelude.{◌≡◌, ℕ, ◌<◌, ◌≤◌, List, All, Any, None, length, slice_index_or}
 use Rattle.spin_word.specs.declared.command.TheConstants.{MAX_PLACE}
 use Rattle.spin_word.specs.declared.row.Row.{Row}
 use Rattle.spin_log.specs.Pens.{LogValue}
@@ -44,11 +44,23 @@ pub record IsTotalFrom (d : SetupData) (first : State) (seats : List SeatValue) 
   pub longest : All (λ (seat : SeatValue). length seat.pen.front ≤ length front) seats
   pub replay : IsReplayFrom d first front state
 
--- why these seats aren't renewed: no number would be left for a further binding, or there was no memory
+-- that seat keeps no row, and no seat of these knows more
+abbrev pub KnowsAllOf : SeatValue → List SeatValue → Type 0
+KnowsAllOf first seats =
+    (first.kept ≡ None)
+    × All (λ (seat : SeatValue). length seat.pen.front ≤ length first.pen.front) seats
+
+-- the first of the seats knows what all know
+abbrev pub FirstKnowsAll : List SeatValue → Type 0
+FirstKnowsAll seats = (seat : SeatValue) → KnowsAllOf (slice_index_or seats 0 seat) seats
+
+-- why these seats aren't renewed: no number would be left for a further binding; or there was no memory, and one would
+-- be left, so far as the first seat knows already what all know
 abbrev pub IsFaultOf : SetupData → State → List SeatValue → RenewFault → Type 0
 IsFaultOf d first seats fault.Full =
     (state : State) × IsTotalFrom d first seats state × (MAX_PLACE ≤ length (live_numbers state))
-IsFaultOf d first seats fault.NoMemory = ⊤
+IsFaultOf d first seats fault.NoMemory =
+    FirstKnowsAll seats → (seat : SeatValue) → length (live_numbers (slice_index_or seats 0 seat).state) < MAX_PLACE
 
 -- The rows come to a state, whose live bindings have these numbers. The log of the new seats follows on that
 -- state renewed, and there is room in it.

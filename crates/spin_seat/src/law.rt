@@ -1,7 +1,7 @@
 //! The laws by which the answers of all seats are one history.
 
 ghost use Rattle.spin_seat.specs.Laws.{AnswersStand, CleanByLanes, ReplayIsOne, WeavesAreLegal};
-ghost use Rattle.spin_seat.specs.Renewals.{AnswersAreRenamed, RenewalsGoOn};
+ghost use Rattle.spin_seat.specs.Renewals.{AnswersAreRenamed, RenewalsGoOn, ValidCommandsStayNamed};
 
 /// The laws of seats. Rows have one replay, so seats that know the same rows have the same state.
 /// What is right in a front is right in every log that the front begins. A log is clean where each
@@ -19,8 +19,10 @@ pub fn seats_answer_one_history()
 /// that differs from it in the numbers of its bindings alone. So what was answered before a renewal and
 /// what was answered after it are together one legal history under the numbers before, as long as these
 /// stay below 65,535; and it leads to a state that differs from the one after it in these numbers alone.
-/// So it goes on over any number of renewals. It does nothing.
+/// So it goes on over any number of renewals. What a command names has to be named under those numbers
+/// too, and so it is of each valid command. It does nothing.
 pub fn renewals_go_on()
     ensures answers { AnswersAreRenamed }
     ensures whole { RenewalsGoOn }
+    ensures named { ValidCommandsStayNamed }
 {}

@@ -15,6 +15,7 @@ mod gather;
 mod hub;
 mod law;
 mod lent;
+mod live;
 mod next;
 mod renew;
 mod renewal;

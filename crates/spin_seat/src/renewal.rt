@@ -12,17 +12,16 @@ ghost use Rattle.spin_table.specs.Renewals.{live_numbers, renewed};
 ghost use Rattle.spin_seat.specs.Replay.{IsCleanFrom};
 ghost use Rattle.spin_seat.specs.Seats.{SeatValue, IsSeatFrom, AreFrom};
 ghost use Rattle.spin_seat.specs.Weaves.{AnswersAreLegalFrom};
-ghost use Rattle.spin_seat.specs.RenewedHubs.{AreAllSeats, KnowMore, IsFaultOf, IsRenewal};
-ghost use Rattle.spin_seat.specs.Inner.Gathering.{FirstKnowsAll};
+ghost use Rattle.spin_seat.specs.RenewedHubs.{AreAllSeats, FirstKnowsAll, KnowMore, IsFaultOf, IsRenewal};
 
 use crate::hub::Hub;
+use crate::live::live_below;
 use crate::renew::Ready;
 use crate::seat::{Seat, Seats};
 use spin_code::Sincere;
 use spin_log::Rows;
 use spin_objects::Catalogue;
 use spin_values::{NoMemory, Numbers};
-use spin_word::MAX_PLACE;
 use std::alloc::Global;
 use thiserror::Error;
 
@@ -97,10 +96,7 @@ impl Hub {
         self.gather(alloc, seats)?;
         let lanes = seats[seats.len() - 1].lane() + 1;
         let first = &seats[0];
-        let live = first.version.live_numbers(alloc)?;
-        if live.len() >= usize::from(MAX_PLACE) {
-            return Err(RenewFault::Full);
-        }
+        let live = live_below(alloc, &self.setup, &first.version)?;
         Ok(self.ready(alloc, first, live, lanes)?)
     }
 
@@ -113,8 +109,10 @@ impl Hub {
     /// that the bindings had. The law [`renewals_go_on`](crate::renewals_go_on) makes the histories before and after it
     /// one.
     ///
-    /// `Full` exactly where [`MAX_PLACE`] bindings are live. After a fault nothing is lost: the hub is as it was, and of
-    /// its seats each may have read rows of other lanes, as by [`Hub::meet`], and all else of them is as before.
+    /// `Full` exactly where [`MAX_PLACE`] bindings are live. Want of memory may come before that is known, since the first
+    /// seat learns what all know; where it knows that already, want of memory comes only where fewer are live. After a
+    /// fault nothing is lost: the hub is as it was, and of its seats each may have read rows of other lanes, as by
+    /// [`Hub::meet`], and all else of them is as before.
     ///
     /// It asks no authority and judges nothing again. It waits for nobody, and all memory is got before the old log is
     /// closed: beside the renewed version 164 kB and for each lane 131 kB more. It takes time linear in the rows, in

@@ -1,6 +1,6 @@
 //! Seats.
 
-ghost use Rattle.std.specs.Prelude.{◌≡◌, ◌<◌, ◌≤◌, ◌-◌, IsTrue, IfOk, IfErr, OnOk, OnErr};
+ghost use Rattle.std.specs.Prelude.{◌≡◌, ◌≢◌, ◌<◌, ◌≤◌, ◌-◌, IsTrue, IfOk, IfErr, OnOk, OnErr};
 ghost use Rattle.std.specs.Prelude.{Some, None, Ok, All, length, MatchResult};
 ghost use Rattle.std.specs.Arc.{arc_value};
 ghost use Rattle.spin_word.specs.declared.command.TheConstants.{MAX_LANES, MAX_PLACE};
@@ -9,6 +9,7 @@ ghost use Rattle.spin_word.specs.Rows.{StandsFor};
 ghost use Rattle.spin_log.specs.Answers.{Looks as LooksSay};
 ghost use Rattle.spin_log.specs.Pens.{IsPen, IsSamePen, with_front};
 ghost use Rattle.spin_table.specs.SetupOf.{data_of};
+ghost use Rattle.spin_table.specs.Refusals.{refusal_of};
 ghost use Rattle.spin_table.specs.Steps.{IsAnswer, IsStep};
 ghost use Rattle.spin_table.specs.declared.refusal.Verdicted.TheVariants as verdicted;
 ghost use Rattle.spin_table.specs.Soundness.{IsSound};
@@ -17,7 +18,7 @@ ghost use Rattle.spin_seat.specs.Seats.{IsSeat};
 ghost use Rattle.spin_seat.specs.Answers.{place_before};
 ghost use Rattle.spin_seat.specs.Calls.{ReadsOn, ReadsToPin, AddsAtMostAPin, GivesFrom};
 ghost use Rattle.spin_seat.specs.Places.{place_past};
-ghost use Rattle.spin_seat.specs.Calls.{IsFaultAt, reply_answer, verdict_answer};
+ghost use Rattle.spin_seat.specs.Calls.{IsFaultAt, IsUnrefused, reply_answer, verdict_answer};
 ghost use Rattle.spin_seat.specs.Inner.Tries.{row_seen, Tries, TurnsFor};
 
 use crate::answer::{Judged, Raised, SeatFault};
@@ -166,7 +167,8 @@ impl Seat {
     }
 
     /// Applies the row that it has read and not yet applied, if there is one, so that its version is
-    /// that of its whole front. The pen stays, and after want of memory the seat is as before.
+    /// that of its whole front. The pen stays, and after want of memory, which comes only where there is such a row, the
+    /// seat is as before.
     ///
     /// The last clause tells what is so of every pen, as [`Pen::front`](spin_log::Pen::front) does.
     #[inline]
@@ -178,6 +180,7 @@ impl Seat {
         ensures pen { self.new.pen ≡ self.old.pen }
         ensures ok { OnOk result (self.new.kept ≡ None) }
         ensures err { OnErr result (self.new ≡ self.old) }
+        ensures kept { OnErr result (self.old.kept ≢ None) }
         ensures is_pen { IsPen self.new.pen }
     {
         let _front = self.pen.front();
@@ -366,6 +369,7 @@ impl Seat {
         ensures tries { let d = data_of hub.now.setup in
             IfOk result (λ judged. Tries d self.old c.now judged self.new) }
         ensures err { OnErr result (self.new ≡ self.old) }
+        ensures unrefused { OnErr result (refusal_of (data_of hub.now.setup) self.old.state c.now ≡ None) }
     {
         match next_version(alloc, &hub.setup, &self.version, c) {
             Ok(next) => Ok(self.publish(hub, c, next)),
@@ -402,6 +406,7 @@ impl Seat {
         ensures whole { OnOk result (self.new.kept ≡ None) }
         ensures read { OnErr result (ReadsOn self.old.pen self.new.pen) }
         ensures fault { IfErr result (IsFaultAt self.old.first.place (length self.new.pen.front)) }
+        ensures unrefused { IfErr result (IsUnrefused (data_of hub.now.setup) self.new c.now) }
         ensures turns { TurnsFor self.old.pen turns.old self.new.pen turns.new }
     {
         while self.room() > 0 {
@@ -444,6 +449,7 @@ impl Seat {
         ensures whole { OnOk result (self.new.kept ≡ None) }
         ensures read { OnErr result (ReadsOn self.old.pen self.new.pen) }
         ensures fault { IfErr result (IsFaultAt self.old.first.place (length self.new.pen.front)) }
+        ensures unrefused { IfErr result (IsUnrefused (data_of hub.now.setup) self.new c.now) }
     {
         let mut turns = Steps::<L>::new(blank);
         self.command_turning(alloc, hub, c, &mut turns)
@@ -455,8 +461,10 @@ impl Seat {
     /// lane's row came first, the seat reads and applies that, and judges the command again.
     ///
     /// `Full` exactly where there is no [room](Seat::room) at the start, or none is left by reading
-    /// another lane's row; nothing is judged there. After a fault the command wasn't
-    /// published, no pin is added, the seat may have read on, and the next call goes on from there.
+    /// another lane's row; nothing is judged there. Want of memory is no refusal: where the seat has
+    /// applied all that it has read, none but a conflict applies to the command there. After a fault the
+    /// command wasn't published, no pin is added, the seat may have read on, and the next call goes on
+    /// from there.
     /// The command is valid and of the seat's lane; the seat's log is the hub's, the seat is one of
     /// the hub's setup, and the catalogue's objects do what they were handed in with.
     ///
@@ -483,6 +491,7 @@ impl Seat {
         ensures whole { OnOk result (self.new.kept ≡ None) }
         ensures read { OnErr result (ReadsOn self.old.pen self.new.pen) }
         ensures fault { IfErr result (IsFaultAt self.old.first.place (length self.new.pen.front)) }
+        ensures unrefused { IfErr result (IsUnrefused (data_of hub.now.setup) self.new c.now) }
     {
         self.command_counted::<Brand>(alloc, hub, c, Blank::new(1))
     }

@@ -1,13 +1,12 @@
--- The first seat learns what all know.
-use Rattle.std.specs.Prelude.{◌≡◌, ◌≤◌, List, All, None, length, slice_index_or}
-use Rattle.spin_seat.specs.Seats.{SeatValue}
+-- What keeps a state from being renewed.
+use Rattle.std.specs.Prelude.{◌<◌, ◌≤◌, length}
+use Rattle.spin_word.specs.declared.command.TheConstants.{MAX_PLACE}
+use Rattle.spin_table.specs.States.{State}
+use Rattle.spin_table.specs.Renewals.{live_numbers}
+use Rattle.spin_seat.specs.declared.renewal.RenewFault.{RenewFault}
+use Rattle.spin_seat.specs.declared.renewal.RenewFault.TheVariants as fault
 
--- that seat keeps no row, and no seat of these knows more
-abbrev pub KnowsAllOf : SeatValue → List SeatValue → Type 0
-KnowsAllOf first seats =
-    (first.kept ≡ None)
-    × All (λ (seat : SeatValue). length seat.pen.front ≤ length first.pen.front) seats
-
--- the first of the seats knows what all know
-abbrev pub FirstKnowsAll : List SeatValue → Type 0
-FirstKnowsAll seats = (seat : SeatValue) → KnowsAllOf (slice_index_or seats 0 seat) seats
+-- as many bindings are live as there are places; or fewer, and there was no memory
+abbrev pub KeepsFrom : State → RenewFault → Type 0
+KeepsFrom s fault.Full = MAX_PLACE ≤ length (live_numbers s)
+KeepsFrom s fault.NoMemory = length (live_numbers s) < MAX_PLACE

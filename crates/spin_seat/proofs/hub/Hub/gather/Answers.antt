@@ -1,5 +1,5 @@
 use Rattle.spin_table.specs.SetupOf.{data_of}
-use Rattle.spin_seat.proofs.SeatRenewals.{know_joined, first_knows}
+use Rattle.spin_seat.proofs.SeatRenewals.{know_joined, first_knows, first_knows_less}
 use Rattle.spin_seat.proofs.hub.Hub.gather.Goals as goal
 
 pub returns-clause-seats : goal.returns-clause-seats
@@ -11,3 +11,7 @@ returns-clause-seats g c =
 pub returns-clause-ok : goal.returns-clause-ok
 returns-clause-ok g c =
     first_knows c.split_at_mut-left.result.0.now c.meet_each.new.others c.meet_each.new.first c.meet_each.result c.split_at_mut-left.ensures.front_len c.meet_each.ensures.ok
+
+pub returns-clause-err : goal.returns-clause-err
+returns-clause-err g c =
+    first_knows_less c.split_at_mut-left.result.0.now c.meet_each.new.others c.meet_each.new.first c.meet_each.result c.split_at_mut-left.ensures.front_len c.meet_each.ensures.err
