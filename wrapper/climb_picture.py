@@ -9,7 +9,7 @@ from dataclasses import dataclass, field
 from wrapper.bindings import Bindings
 from wrapper.reading import COMMANDS, number, read_reply
 from wrapper.svg import LINE, Drawn, Sheet, legend, marks, width_of, wrapped
-from wrapper.told import guard_text, refusal_words
+from wrapper.told import endpoint_words, guard_text, refusal_words
 
 WIDTH, HIGH, EDGE = 1180, 26, 10
 DEEPEST = 60          # a way is followed over so many bars
@@ -88,7 +88,7 @@ class Climb:
 
     def stopped(self, event):
         """The bar of packets for which no guard of an event holds."""
-        return f"no guard of {self.script.called('event', event)} holds", "plain", "", {"event": {event}}
+        return f"no guard of event {event} holds", "plain", self.script.called("event", event), {"event": {event}}
 
     def follow(self, place, steps, way):
         """Adds the bars of these steps to a way; results, which differ from packet to packet, are left out."""
@@ -102,8 +102,7 @@ class Climb:
                     way.append(self.stopped(event))
                 self.follow(place, step.inner, way)
             elif step.kind == "send":
-                name = " ".join(self.script.endpoints.get(int(step.words[0]), []))
-                way.append((f"sends to endpoint {step.words[0]} {name}".rstrip(), "send", "", {}))
+                way.append((f"sends to {endpoint_words(self.script, int(step.words[0]))}", "send", "", {}))
             elif step.kind == "drop":
                 way.append((f"✗ drops it: {step.words[0].replace('_', ' ')}", "refused", "", {}))
 

@@ -27,7 +27,7 @@ PROGRAM = [
 WRAPPER = [
     Command("build", "[--all|--libraries] [--any-logic]",
             "proves and builds the program; with --all the hosts too", "build"),
-    Command("session", "[SCRIPT]", "a prompt that keeps a script growing and tells what each line did",
+    Command("session", "[SCRIPT [PACKETS]]", "a prompt that keeps a script growing and tells what each line did",
             "session examples/first.spin"),
     Command("explain", "SCRIPT [LINE] [PACKETS] [--report REPORT]",
             "tells why each raise and command came to what it did", "explain examples/filters.spin 19"),

@@ -11,7 +11,7 @@ from collections import Counter
 from wrapper.bindings import Bindings
 from wrapper.counts import ANSWERS, DROPS, REFUSALS
 from wrapper.reading import COMMANDS, NAMED
-from wrapper.told import Teller
+from wrapper.told import endpoint_words
 
 STEP = re.compile(r" (run|job|send|drop) (\w+)(?: ([0-9]+))?")
 
@@ -137,8 +137,7 @@ def rows_of(script, told):
     rows += [(f"dropped {name}", count, "") for name, count in told["drops"].items()]
     for one in told["endpoints"]:
         lost = f"; lost pieces: {one['lost']}" if one["lost"] else ""
-        name = Teller(script, None).endpoint(one["endpoint"])
-        rows.append((f"sent to {name}", one["sends"], f"{one['bytes']} bytes{lost}"))
+        rows.append((f"sent to {endpoint_words(script, one['endpoint'])}", one["sends"], f"{one['bytes']} bytes{lost}"))
     return rows
 
 

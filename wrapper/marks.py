@@ -226,6 +226,10 @@ FINDERS = {
 }
 
 
+# The causes that hang on the signature of a handler or a guard.
+OF_SIGNATURE = (16, 17, 18, 19)
+
+
 def of_version(words):
     """The mark of a first line that names no version."""
     wanted = "`spin 1`, `spin 2` or `spin 3`"
@@ -256,6 +260,8 @@ def of_places(cause, before, words):
     at, wanted = FINDERS[cause](before, words, placed) if cause in FINDERS else (None, None)
     if at is None:
         return None
+    if wanted and cause in OF_SIGNATURE and words[0] in ("handler", "guard"):
+        wanted += f"; the signature is `{words[2]}`"
     return Mark(at, len(words) - 1 if cause == 13 else at, wanted)
 
 
@@ -275,6 +281,12 @@ def find(cause, lines, number):
     script = reading.read_script(before)
     script.names = reading.names_in(b"\n".join(lines).decode("ascii", "replace"))
     return of_places(cause, script, words)
+
+
+def version_of(lines):
+    """The version that a script's first line names; 1 where it names none."""
+    first = next((words for words in map(words_of, filter(bytes.isascii, lines)) if words and words[0][0] != "#"), [])
+    return int(first[1]) if len(first) == 2 and first[0] == "spin" and first[1] in ("1", "2", "3") else 1
 
 
 def spans(line):

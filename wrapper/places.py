@@ -208,23 +208,60 @@ def accepts(want, word):
     return () if re.fullmatch("a[0-7]", word) else chosen(word, EXPRESSIONS)
 
 
-def walk(words, version):
-    """The words of a line at their places, and the first fault; None where the words can stand so."""
+def steps(words, version):
+    """The words of a line at their places, what is still wanted behind them, the next last, and the first fault."""
     wants = [(want, 1) for want in reversed(lines(version)[words[0]])]
     placed = []
     for at, word in enumerate(words[1:], start=1):
         if not wants:
-            return placed, Fault(11, at, None)
+            return placed, wants, Fault(11, at, None)
         want, depth = wants.pop()
         more = accepts(want, word)
         if isinstance(more, int):
-            return placed, Fault(more, at, want)
+            return placed, wants, Fault(more, at, want)
         placed.append(Placed(at, want, word, depth))
         inner = depth + 1 if want.kind in ("expression", "test") else 1
         wants += [(after, inner) for after in reversed(more)]
-    if any(want.kind not in ("steps", "values") for want, _ in wants):
-        return placed, Fault(11, len(words), wants[-1][0])
-    return placed, None
+    return placed, wants, None
+
+
+def walk(words, version):
+    """The words of a line at their places, and the first fault; None where the words can stand so."""
+    placed, wants, fault = steps(words, version)
+    if not fault and any(want.kind not in ("steps", "values") for want, _ in wants):
+        fault = Fault(11, len(words), wants[-1][0])
+    return placed, fault
+
+
+def next_wanted(words, version):
+    """What is wanted behind the words that begin a line; None where nothing is, or they can't stand so."""
+    if words[0] not in lines(version):
+        return None
+    _, wants, fault = steps(words, version)
+    return wants[-1][0] if wants and not fault else None
+
+
+# How each line and each deed is written, as docs/FORMATS.md has it.
+FORMS = {
+    "modules": "modules N", "event": "event E OWNER SIG MERGE", "endpoint": "endpoint P NAME",
+    "handler": "handler H SIG STEPS", "guard": "guard G SIG TEST",
+    "rule": "rule E LOW HIGH OP HANDLER OWN EFFECT", "authoriser": "authoriser E NAME", "default": "default E H",
+    "lane": "lane L DEED", "retire": "retire P",
+}
+DEED_FORMS = {
+    "install": "install E M H G PLACE MODE", "remove": "remove E M N", "replace": "replace E M N H G",
+    "default": "default E M H", "nodefault": "nodefault E M", "raise": "raise E VALUES", "later": "later E VALUES",
+    "packet": "packet E N",
+}
+WIDE_INSTALL = "install E M H G PLACE before K NUMBERS after K NUMBERS MODE"
+
+
+def form_of(words, version):
+    """How a line that begins so is written; empty where no line does."""
+    if words[0] == "lane" and len(words) > 2 and words[2] in DEED_FORMS:
+        is_wide = version == 3 and words[2] == "install"
+        return f"lane L {WIDE_INSTALL if is_wide else DEED_FORMS[words[2]]}"
+    return FORMS.get(words[0], "")
 
 
 SPOKEN = {

@@ -10,9 +10,12 @@ import select
 import stat
 import subprocess
 
-from wrapper import causes, commands, faults, marks, outputs, strays
+from wrapper import causes, commands, faults, marks, outputs, places, strays
 
 WIDTH = 96
+
+# The causes of a word that can't stand where it does.
+OF_FORM = range(6, 12)
 
 
 def files_of(words):
@@ -97,7 +100,9 @@ def of_script_line(text, number, cause):
     mark = marks.find(cause, lines, number)
     told = marked(line, mark)
     near = nearest_word(mark, words)
-    return told[:-1] + [f"{told[-1]}; the nearest is `{near}`"] if near else told
+    told = told[:-1] + [f"{told[-1]}; the nearest is `{near}`"] if near else told
+    form = places.form_of(words, marks.version_of(lines)) if cause in OF_FORM else ""
+    return [*told, f"    the line is written `{form}`"] if form else told
 
 
 def nearest_word(mark, words):

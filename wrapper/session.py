@@ -1,38 +1,48 @@
-"""session [SCRIPT]: a prompt that keeps a script growing line by line and tells what each line did.
+"""session [SCRIPT [PACKETS]]: a prompt that keeps a script growing line by line and tells what each line did.
 
-The script is run anew at each line, so what is told is what the program wrote of it. A line that the program refuses
-isn't kept. Endpoints receive nothing that stays. It works from a pipe as well.
+The script is run anew at each line, over a capture or none, so what is told is what the program wrote of it. A line that
+the program refuses isn't kept. Endpoints receive nothing that stays. It works from a pipe as well.
 """
 
+import os
 import re
 import subprocess
 import sys
 import tempfile
 from pathlib import Path
 
-from wrapper import causes, picture, program, reasons, run_picture
+from wrapper import causes, changes, completing, faults, picture, program, reasons, run_picture
 from wrapper.bindings import Bindings
-from wrapper.reading import COMMANDS, NAMING, read_line, read_script
+from wrapper.completing import DEEDS
+from wrapper.folding import is_accepted, told_of
+from wrapper.reading import NAMING, read_line, read_script
+from wrapper.records import Records
 from wrapper.run_picture import chip_text
 from wrapper.svg import TooLarge, page
 from wrapper.told import Teller
 from wrapper.why import explain
 
-USAGE = "usage: spin session [SCRIPT]"
+USAGE = "usage: spin session [SCRIPT [PACKETS]]"
 ORDER = ("spin", "modules", "event", "endpoint", "handler", "guard", "rule", "default", "lane")
 SAME = {"authoriser": "rule", "barrier": "lane", "retire": "lane"}
-DEEDS = (*COMMANDS, "raise", "later", "packet")
 HELP = """a line of a script (docs/FORMATS.md) is added where its section stands, and the script is run anew:
   event 0 0 w:w last          handler 1 w:w result a0      guard 1 w < a0 10
   install 0 0 1 1 free plain  raise 0 5                    the same as with `lane 0` before it
 `spin 3` takes the place of the first line, `spin 2`; `# event 0 is NAME` names a number. Words of the session:
-  undo        takes back the line that was added last
-  show        shows the script
-  why N       tells why line N came to what it did: guards with values, filters, rules, jobs and merges
-  save FILE   writes the script
-  draw FILE   draws the run as SVG, or as a page where FILE ends in .html
-  help        this text
-  quit        ends the session; so does the end of the input"""
+  undo            takes back the last change
+  show            shows the script
+  report          shows the report of the run
+  why N           tells why line N came to what it did: guards with values, filters, rules, jobs and merges
+  replace N LINE  puts a line in the place of line N
+  delete N        takes line N away
+  load FILE       runs over a capture from now on, and over none where no file is named
+  save FILE       writes the script
+  draw FILE       draws the run as SVG, or as a page where FILE ends in .html
+  help            this text
+  quit            ends the session; so does the end of the input
+Where lines are typed, the key TAB tells what may stand next: words, and the numbers that are in force."""
+MOST_TOLD = 8    # of so many records of one line it is told what each came to
+QUESTION = "what was changed isn't saved; does the session end all the same (y or n)? "
 
 
 class Stopped(Exception):
@@ -74,89 +84,165 @@ def as_deed(words):
     return ["lane", "0", *words] if words[0] in DEEDS and not is_first_default else words
 
 
-def run(lines):
-    """The lines of the report of a run of the script."""
+def as_line(text):
+    """A line as it is kept: a comment as it was typed, and other words one space apart."""
+    return text.strip() if text.strip().startswith("#") else " ".join(as_deed(text.split()))
+
+
+def run(lines, capture):
+    """The lines of the report of a run of the script, over the capture where there is one."""
     with tempfile.TemporaryDirectory() as folder:
         (Path(folder) / "script").write_bytes(text_of(lines))
-        ran = program.run(["run", "script"], cwd=folder, stdout=subprocess.PIPE)
+        words = ["run", "script", *([os.path.abspath(capture)] if capture else [])]
+        ran = program.run(words, cwd=folder, stdout=subprocess.PIPE)
     text = ran.stdout.decode("ascii", "replace").splitlines()
     if ran.returncode:
         raise Stopped(text[-1] if text else "the program said nothing", ran.returncode)
     return [read_line(line) for line in text]
 
 
-def stop_words(stopped, lines):
+def stop_words(stopped, lines, capture):
     """A stop in words: of a refused script the line, a mark under the word, and what may stand there."""
-    found = re.fullmatch(r"stop 2 line (\d+) cause (\d+)", stopped.said)
+    found = re.fullmatch(r"stop ([23]) (?:line|record) (\d+) (?:cause|fault) (\d+)", stopped.said)
     if not found:
         return [stopped.said]
-    line, cause = map(int, found.groups())
+    kind, line, cause = map(int, found.groups())
+    if kind == 3:
+        return faults.explain(capture, line, cause)
     name, where = causes.script_cause(cause)
     more = reasons.of_script_line(text_of(lines), line, cause) if line else []
     return [f"cause {cause} ({name}): {where}", *more]
 
 
 class Session:
-    """The script so far, the reports of its last run, and the scripts before each added line."""
+    """The script so far, its capture, the report of its last run, what was before each change, and what was saved."""
 
-    def __init__(self, lines):
+    def __init__(self, lines, capture=None):
         """Runs the script with which the session begins."""
-        self.lines, self.report, self.past = lines, run(lines), []
+        self.lines, self.capture, self.report, self.past = lines, capture, run(lines, capture), []
+        self.saved = lines
 
-    def take(self, line):
-        """Takes a line of the script, and answers what it did."""
-        words = line.split()
-        line = " ".join(as_deed(words))
-        at = place_for(self.lines, line)
-        is_version = words[0] == "spin"
-        lines = [*self.lines[:at - is_version], line, *self.lines[at:]]
+    @property
+    def is_unsaved(self):
+        """Whether the script has changed since it was saved, or since the session began."""
+        return self.lines != self.saved
+
+    @property
+    def script(self):
+        """The script as it is read."""
+        return read_script("\n".join(self.lines))
+
+    def records(self):
+        """The records of the capture; None where there is none."""
+        return Records(self.script, Path(self.capture).read_bytes()) if self.capture else None
+
+    # ---- changes
+
+    def change(self, what, lines, moved=lambda line: line, added=0):
+        """Makes these the lines where the program takes them, and answers what that did.
+
+        `moved` says which number each line has now, 0 for one that is gone; `added` is the number of the new line.
+        """
         try:
-            report = run(lines)
+            report = run(lines, self.capture)
         except Stopped as stopped:
-            first, *more = stop_words(stopped, lines)
+            first, *more = stop_words(stopped, lines, self.capture)
             return [f"not kept: {first}", *more]
-        at, moved = at - is_version, not is_version
-        before = {(key[0] + (moved and key[0] > at), *key[1:]): of for key, of in answers(self.report).items()}
-        self.past.append((line, self.lines, self.report))
-        self.lines, self.report = lines, report
-        return self.tell(at + 1, before)
+        before = {(moved(key[0]), *key[1:]): line for key, line in changes.answers(self.report).items()}
+        self.keep(what, lines, report, self.capture)
+        told = self.tell(added) if added else []
+        return [*told, *changes.told(before, changes.answers(report), lines, lambda line: line in (0, added))]
+
+    def keep(self, what, lines, report, capture):
+        """Keeps a change, and what was before it."""
+        self.past.append((what, self.lines, self.report, self.capture))
+        self.lines, self.report, self.capture = lines, report, capture
+
+    def take(self, text):
+        """Takes a line of the script, and answers what it did."""
+        line = as_line(text)
+        at = place_for(self.lines, line)
+        if line.split()[0] == "spin":
+            return self.change(line, [*self.lines[:at - 1], line, *self.lines[at:]], added=at)
+        moved = lambda number: number + (number > at)
+        return self.change(line, [*self.lines[:at], line, *self.lines[at:]], moved, at + 1)
 
     def name(self, line):
         """Takes a comment that names a number; it stands at the end, and the run stays as it is."""
-        self.past.append((line, self.lines, self.report))
-        self.lines = [*self.lines, line.strip()]
+        self.keep(line, [*self.lines, line.strip()], self.report, self.capture)
         return [f"kept as line {len(self.lines)}"]
 
-    def tell(self, added, before):
-        """What is new since the answers before: what the added line did, and which other answers have changed."""
-        script = read_script("\n".join(self.lines))
-        bindings = Bindings(script)
-        teller, told, changed = Teller(script, bindings), [], []
+    def replace(self, number, text):
+        """Puts a line in the place of another."""
+        at = self.index(number)
+        if at is None:
+            return [f"there is no line {number}"]
+        return self.change(self.lines[at], [*self.lines[:at], as_line(text), *self.lines[at + 1:]], added=at + 1)
+
+    def delete(self, number):
+        """Takes a line away."""
+        at = self.index(number)
+        if at is None:
+            return [f"there is no line {number}"]
+        gone = self.lines[at]
+        moved = lambda line: 0 if line == at + 1 else line - (line > at)
+        told = self.change(f"deletion of {gone}", [*self.lines[:at], *self.lines[at + 1:]], moved)
+        return told if told and told[0].startswith("not kept") else [f"deleted: {gone}", *told]
+
+    def index(self, number):
+        """The index of the line of that number; None where there is none."""
+        return int(number) - 1 if number.isdecimal() and 0 < int(number) <= len(self.lines) else None
+
+    def load(self, file):
+        """Runs over a capture from now on, or over none."""
+        if file and not os.path.isfile(file):
+            return [f"{file} is no file that is there"]
+        try:
+            report = run(self.lines, file)
+        except Stopped as stopped:
+            first, *more = stop_words(stopped, self.lines, file)
+            return [f"not loaded: {first}", *more]
+        before = changes.answers(self.report)
+        self.keep(f"load {file}" if file else "load", self.lines, report, file)
+        end = report[-1].words
+        told = [f"loaded: {end[2]} records, of which {end[4]} are dispatched"] if file else ["no capture is loaded"]
+        return [*told, *changes.told(before, changes.answers(report), self.lines, lambda line: False)]
+
+    def undo(self):
+        """Takes back the last change."""
+        if not self.past:
+            return ["nothing was added"]
+        what, self.lines, self.report, self.capture = self.past.pop()
+        return [f"taken back: {what}"]
+
+    # ---- what is told
+
+    def tell(self, added):
+        """What the added line did; of a line with many records the first ones, and how the others went."""
+        bindings = Bindings(self.script)
+        teller, told, others = Teller(self.script, bindings), [], []
         for line in self.report:
             if line.kind not in ("entry", "job"):
                 continue
-            event = None
-            if line.kind == "entry" and line.words[0] in COMMANDS and line.words[1] == "ok":
-                event = bindings.take(line.place, script.deeds[line.line].words)
-            if line.line == added:
+            event = bindings.take(line.place, teller.script.deeds[line.line].words) if is_accepted(line) else None
+            if line.line == added and line.part <= MOST_TOLD:
                 told += self.entry(teller, line, event)
-            elif before.get(key_of(line)) != (line.place, line.words):
-                changed += self.entry(teller, line, event)
-        if changed:
-            changed = ["other lines are answered otherwise in this run:", *changed]
-        return [*(told or self.quiet(added)), *changed]
+            elif line.line == added:
+                others.append(line)
+        if others:
+            told += [f"and {len(others):,} more:", *(f"  {row}" for row in told_of(others))]
+        return told or self.quiet(added)
 
     def quiet(self, added):
         """What is told of a line that has no entry."""
         words = self.lines[added - 1].split()
         if words[0] == "lane":
-            return ["kept: no records, since a session has no capture"]
+            return ["kept: no records are left" if self.capture else "kept: no records, since no capture is loaded"]
         if words[0] == "barrier":
             return [f"kept: segment {sum(line.kind == 'segment' for line in self.report) - 1} begins"]
-        notes = [line for line in self.report if line.kind == "retire" and line.index == int(words[1], 0)]
-        if words[0] == "retire" and notes:
-            return [f"kept: {notes[-1].text}"]
-        return [f"kept as line {added}"]
+        notes = [line for line in self.report if words[0] == "retire" and line.kind == "retire"
+                 and line.index == int(words[1], 0)]
+        return [f"kept: {notes[-1].text}"] if notes else [f"kept as line {added}"]
 
     @staticmethod
     def entry(teller, line, event):
@@ -169,16 +255,13 @@ class Session:
             told.append(f"  {teller.script.called('event', event)} now runs: {'; '.join(order) or 'nothing'}")
         return told
 
-    def undo(self):
-        """Takes back the line that was added last."""
-        if not self.past:
-            return ["nothing was added"]
-        line, self.lines, self.report = self.past.pop()
-        return [f"taken back: {line}"]
-
     def show(self):
         """The script with its lines' numbers."""
         return [f"{at:>4}  {line}" for at, line in enumerate(self.lines, 1)]
+
+    def shown_report(self):
+        """The report of the run, as the program wrote it."""
+        return [line.text for line in self.report]
 
     def why(self, line):
         """Why a line of the script came to what it did."""
@@ -186,22 +269,33 @@ class Session:
         if not number.isdecimal() or part and not part.isdecimal():
             return ["why takes the number of a line, as `show` has it"]
         is_wanted = lambda one: one.line == int(number) and (not part or one.part == int(part))
-        found = explain(read_script("\n".join(self.lines)), self.report, None, is_wanted)
+        found = explain(self.script, self.report, self.records(), is_wanted)
         return [text for one in found for text in one.lines] or [f"line {line} has no entry"]
 
     def save(self, file):
         """Writes the script."""
-        text = "".join(f"{line}\n" for line in self.lines)
-        return [written(file, text) or f"written: {len(self.lines)} lines"]
+        fault = written(file, "".join(f"{line}\n" for line in self.lines))
+        if not fault:
+            self.saved = self.lines
+        return [fault or f"written: {len(self.lines)} lines"]
 
     def draw(self, file):
         """Draws the run as it is now."""
         try:
-            drawing = run_picture.draw(read_script("\n".join(self.lines)), self.report)
+            drawing = run_picture.draw(self.script, self.report, self.records())
         except TooLarge:
             return ["the run is too long for one picture"]
         text = page(drawing, "a session") if file.endswith(".html") else drawing.text
         return [written(file, text) or f"drawn: {file}"]
+
+    def choices(self, line):
+        """The words that may take the place of the last one of a line."""
+        script = self.script
+        bindings = Bindings(script)
+        for one in self.report:
+            if is_accepted(one):
+                bindings.take(one.place, script.deeds[one.line].words)
+        return completing.choices(script, bindings, len(self.lines), line)
 
 
 def written(file, text):
@@ -213,14 +307,9 @@ def written(file, text):
     return ""
 
 
-def key_of(line):
-    """What tells an entry or a job among those of a report: its line, part and lane, and the index of a job."""
-    return line.line, line.part, line.kind, line.index
-
-
-def answers(report):
-    """The place and words of each entry and job of a report."""
-    return {key_of(line): (line.place, line.words) for line in report if line.kind in ("entry", "job")}
+def is_edit(words):
+    """Whether words put a line in the place of another: those of a command `replace` are numbers."""
+    return words[0] == "replace" and (len(words) < 3 or not words[2][0].isdecimal())
 
 
 def answer(session, line):
@@ -230,24 +319,40 @@ def answer(session, line):
         return session.name(line) if NAMING.fullmatch(line.strip()) else []
     if words in (["quit"], ["exit"]):
         return None
-    alone = {"undo": session.undo, "show": session.show, "help": HELP.splitlines}
-    with_word = {"save": session.save, "draw": session.draw, "why": session.why}
+    alone = {"undo": session.undo, "show": session.show, "report": session.shown_report, "help": HELP.splitlines}
+    with_word = {"save": session.save, "draw": session.draw, "why": session.why, "delete": session.delete}
     if len(words) == 1 and words[0] in alone:
         return alone[words[0]]()
     if words[0] in with_word:
         if len(words) != 2:
-            return [f"{words[0]} takes the {'number of a line' if words[0] == 'why' else 'name of a file'}"]
+            return [f"{words[0]} takes the {'name of a file' if words[0] in ('save', 'draw') else 'number of a line'}"]
         return with_word[words[0]](words[1])
+    if words[0] == "load":
+        return session.load(words[1] if words[1:] else None) if len(words) < 3 else ["load takes the name of one file"]
+    if is_edit(words):
+        return session.replace(words[1], line.split(None, 2)[2]) if words[2:] else ["replace takes a number and a line"]
     return session.take(line)
+
+
+def complete_by(session):
+    """Has the key TAB complete words, where lines are typed and there is a library for it."""
+    try:
+        import readline
+    except ImportError:
+        return
+
+    def completed(_, state):
+        """The completion of this number, None behind the last."""
+        found = session.choices(readline.get_line_buffer()[:readline.get_endidx()])
+        return f"{found[state]}{'' if found[state].endswith('/') else ' '}" if state < len(found) else None
+
+    readline.set_completer_delims(" \t")
+    readline.set_completer(completed)
+    readline.parse_and_bind("tab: complete")
 
 
 def inputs(prompt):
     """The lines that are typed, or come from a pipe; an interrupt gives up the line that is being typed."""
-    if sys.stdin.isatty():
-        try:
-            import readline  # noqa: F401  it gives `input` its history
-        except ImportError:
-            pass
     while True:
         try:
             yield input(prompt)
@@ -271,35 +376,51 @@ def first_lines(files):
         raise picture.Refused(f"the script {files[0]} can't be read: {error.strerror}", status)
 
 
+def is_given_up(session):
+    """Whether the session ends: where lines would be lost, that is asked."""
+    if not session.is_unsaved:
+        return True
+    try:
+        return input(QUESTION).strip().lower() in ("y", "yes")
+    except (EOFError, KeyboardInterrupt):
+        print()
+        return True
+
+
 def talk(session):
     """Answers the lines of the input until it ends or the session is quit."""
     is_typed = sys.stdin.isatty()
     if is_typed:
+        complete_by(session)
         print("a script grows here line by line; `help` tells how, `quit` ends it")
-    for line in inputs("spin> " if is_typed else ""):
-        told = answer(session, line)
-        if told is None:
+    while True:
+        for line in inputs("spin> " if is_typed else ""):
+            told = answer(session, line)
+            if told is None:
+                break
+            print("".join(f"{one}\n" for one in told), end="", flush=True)
+        if not is_typed or is_given_up(session):
             return
-        print("".join(f"{one}\n" for one in told), end="", flush=True)
 
 
 def main(words):
     """Begins a session with the script, and answers the exit status."""
-    if len(words) > 1 or words and words[0].startswith("-"):
+    if len(words) > 2 or any(word.startswith("-") for word in words):
         program.tell(USAGE)
         return picture.WRONG_WORDS
     if program.command() is None:
         program.tell("a session runs the program at every line, so it needs one that is built: ./spin build makes it")
         return program.NOT_RUN
+    capture = words[1] if len(words) > 1 else None
     try:
         lines = first_lines(words)
-        talk(Session(lines))
+        talk(Session(lines, capture))
     except picture.Refused as refused:
         program.tell(str(refused))
         return refused.status
     except Stopped as stopped:
-        first, *more = stop_words(stopped, lines)
-        for text in [f"{''.join(words)}: {first}", *more]:
+        first, *more = stop_words(stopped, lines, capture)
+        for text in [f"{''.join(words)}: {first}" if not capture else first, *more]:
             program.tell(text)
         return stopped.status
     return 0

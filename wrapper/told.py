@@ -39,6 +39,13 @@ def binding_words(script, one):
     return f"#{one.number} {script.called('handler', one.handler)}{mode}"
 
 
+def endpoint_words(script, which):
+    """An endpoint with its name, and behind it the one that a comment gives."""
+    words = [f"endpoint {which}", *script.endpoints.get(which, [])]
+    given = script.names.get(("endpoint", which))
+    return " ".join([*words, f"({given})"] if given else words)
+
+
 def rule_words(script, event, which):
     """The rule of the event's owner by which something was refused."""
     if not which:
@@ -58,6 +65,9 @@ def refusal_words(script, deed, words):
         return f"{name}: {rule_words(script, number(deed[1]), int(words[2]))}"
     if words[1] == "conflict":
         return f"{name}: {' before '.join([*words[2:], words[2]])}"
+    if words[1] in ("wrong_args", "wrong_type"):
+        event = number(deed[1])
+        return f"{name}: {script.called('event', event)} has the signature {script.events[event][1]}"
     return name
 
 
@@ -77,9 +87,7 @@ class Teller:
 
     def endpoint(self, which):
         """An endpoint with its name."""
-        words = [f"endpoint {which}", *self.script.endpoints.get(int(which), [])]
-        given = self.script.names.get(("endpoint", int(which)))
-        return " ".join([*words, f"({given})"] if given else words)
+        return endpoint_words(self.script, int(which))
 
     def step(self, place, step):
         """One step that isn't a raise upwards."""
