@@ -1,5 +1,5 @@
 -- How a piece stands in a file.
-use Rattle.std.specs.Prelude.{◌≡◌, ℕ, List, Option, None, ◌++◌, length, IfSome, IsSomeAnd}
+use Rattle.std.specs.Prelude.{◌≡◌, ℕ, List, Option, None, ◌++◌, length, IfSome, IsSomeAnd, ⊤}
 use Rattle.std.specs.Int.{bytes_high_first}
 use Rattle.std.specs.Io.KnownBytes.{Appends}
 use Rattle.spin_endpoint.specs.Endpoints.{EndpointSeen}
@@ -17,3 +17,7 @@ abbrev pub IsAppended : {F : Type 0} → (F → Option (List ℕ)) → Option F 
 IsAppended {F} contents before after piece =
     IsSomeAnd after
     (λ new. (old : F) × IfSome before (λ kept. kept ≡ old) × Appends (contents old) (contents new) (framed piece))
+
+-- A file is kept, where one was.
+abbrev pub IsKept : {F : Type 0} → Option F → Option F → Type 0
+IsKept {F} before after = IfSome before (λ _. IsSomeAnd after (λ _. ⊤))

@@ -1,6 +1,6 @@
 -- Endpoints by name, in the order of adding, and what adding, delivering and retiring do to them.
 use Rattle.std.specs.Prelude.{◌≡◌, ◌<◌, ◌≤◌, ◌&&◌, ◌∷◌, [], ℕ, Bool, true, false, List, Result, Ok}
-use Rattle.std.specs.Prelude.{Err, length, map, All, if◌then◌else◌, bytes_eq, ⊤}
+use Rattle.std.specs.Prelude.{Err, length, map, All, if◌then◌else◌, bytes_eq}
 use Rattle.std.specs.List.{list_any}
 use Rattle.spin_outside.specs.Counts.{Rose}
 use Rattle.spin_endpoint.specs.Endpoints.{EndpointSeen, gained, finished_once}
@@ -75,8 +75,8 @@ pub record CanAdd (name : List ℕ) (ends : List NamedEnd) : Type 0 where
   pub new_name : stands name ends ≡ false
   pub room : length ends < MAX_ENDPOINTS
 
--- The first fault that applies. Want of memory comes at any time.
+-- The fault that applies. Memory is wanted only where none of the others does.
 abbrev pub IsFaultOf : List ℕ → List NamedEnd → EndsFault → Type 0
 IsFaultOf name ends SameName = stands name ends ≡ true
 IsFaultOf name ends TooMany = (stands name ends ≡ false) × (MAX_ENDPOINTS ≤ length ends)
-IsFaultOf name ends NoMemory = ⊤
+IsFaultOf name ends NoMemory = CanAdd name ends

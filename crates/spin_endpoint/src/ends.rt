@@ -130,7 +130,8 @@ impl Ends {
     }
 
     /// Adds an endpoint, which stands. A refused object comes back. `SameName` comes exactly where an endpoint
-    /// stands under the name; else `TooMany` comes exactly where 64 were added, retired ones counted.
+    /// stands under the name; else `TooMany` comes exactly where 64 were added, retired ones counted; `NoMemory` comes
+    /// only where neither does.
     pub fn add(
         &mut self,
         name: Text,

@@ -1,9 +1,9 @@
 //! An endpoint over a file, which tells nothing.
 
-ghost use Rattle.std.specs.Prelude.{◌≡◌, IfOk, OnOk, None};
+ghost use Rattle.std.specs.Prelude.{◌≡◌, IfOk, OnOk, OnErr, None};
 ghost use Rattle.std.specs.Io.KnownBytes.{Appends};
 ghost use Rattle.spin_endpoint.specs.Endpoints.{Takes, finished_once};
-ghost use Rattle.spin_endpoint.specs.Framing.{framed, file_seen, IsAppended};
+ghost use Rattle.spin_endpoint.specs.Framing.{framed, file_seen, IsAppended, IsKept};
 
 use crate::endpoint::Endpoint;
 use spin_outside::{Count, Failed};
@@ -53,7 +53,9 @@ impl<R: Files + Drop> FileEnd<R> {
     fn append(&mut self, bytes: &[u8]) -> io::Result<()>
         ensures finishes { self.new.finishes ≡ self.old.finishes }
         ensures faults { self.new.faults ≡ self.old.faults }
+        ensures named { self.new.name ≡ self.old.name }
         ensures written { OnOk result (IsAppended R.File.contents self.old.file self.new.file bytes.now) }
+        ensures kept { OnErr result (IsKept self.old.file self.new.file) }
     {
         let mut file = match self.file.take() {
             Some(file) => file,
@@ -97,11 +99,14 @@ fn write_piece<W: Write>(file: &mut W, buffer: &mut Vec<u8>, bytes: &[u8]) -> io
 impl<R: Files + Drop> Endpoint for FileEnd<R> {
     ghost seen = { λ e. file_seen e.finishes e.faults.number };
 
-    /// Appends the piece, framed, to the file that is open, or to the one that it opens.
+    /// Appends the piece, framed, to the file that is open, or to the one that it opens. After a failure a file that
+    /// was open is open yet.
     fn take(&mut self, bytes: &[u8]) -> Result<(), Failed>
         ensures takes { Takes bytes.now result (file_seen self.old.finishes self.old.faults.number)
             (file_seen self.new.finishes self.new.faults.number) }
+        ensures named { self.new.name ≡ self.old.name }
         ensures written { OnOk result (IsAppended R.File.contents self.old.file self.new.file bytes.now) }
+        ensures kept { OnErr result (IsKept self.old.file self.new.file) }
     {
         match self.append(bytes) {
             Ok(()) => Ok(()),
@@ -116,6 +121,7 @@ impl<R: Files + Drop> Endpoint for FileEnd<R> {
     fn finish(&mut self)
         ensures seen { file_seen self.new.finishes self.new.faults.number
             ≡ finished_once (file_seen self.old.finishes self.old.faults.number) }
+        ensures named { self.new.name ≡ self.old.name }
         ensures closed { self.new.file ≡ None }
     {
         self.finishes = self.finishes.saturating_add(1);
