@@ -1,0 +1,5 @@
+pub mod Turns
+pub mod RisingNumbers
+pub mod OneAnswer
+pub mod OneLane
+pub mod PlainRun
