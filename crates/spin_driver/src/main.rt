@@ -5,11 +5,14 @@
 //! gave, mostly as `Debug` writes it. What isn't a row is answered `bad row`.
 //!
 //! - what all rows use: [`fault`], [`words`] that are read, [`told`] answers;
-//! - rows of plain data: [`headers`], [`values`].
+//! - rows of plain data: [`values`], [`commands`], [`expressions`], [`headers`], and [`plans`] of bindings.
 #![tactic(auto)]
 
+mod commands;
+mod expressions;
 mod fault;
 mod headers;
+mod plans;
 mod told;
 mod values;
 mod words;
@@ -22,17 +25,29 @@ use std::io;
 // What a row is about.
 #[derive(Clone, Copy)]
 enum Subject {
+    Commands,
+    Expressions,
     Headers,
+    Plans,
     Values,
 }
 
 // The first words of rows.
-const SUBJECTS: [(&str, Subject); 2] = [("headers", Subject::Headers), ("values", Subject::Values)];
+const SUBJECTS: [(&str, Subject); 5] = [
+    ("commands", Subject::Commands),
+    ("expressions", Subject::Expressions),
+    ("headers", Subject::Headers),
+    ("plans", Subject::Plans),
+    ("values", Subject::Values),
+];
 
 // Makes the calls of a row, and tells what they gave.
 fn answer(alloc: Global, words: &mut Words, out: &mut String) -> Result<(), Fault> {
     match words.one_of(&SUBJECTS)? {
+        Subject::Commands => commands::answer(alloc, words, out),
+        Subject::Expressions => expressions::answer(alloc, words, out),
         Subject::Headers => headers::answer(alloc, words, out),
+        Subject::Plans => plans::answer(alloc, words, out),
         Subject::Values => values::answer(alloc, words, out),
     }
 }

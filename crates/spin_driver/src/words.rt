@@ -12,12 +12,24 @@ use std::alloc::Global;
 #[derive(Drop)]
 pub(crate) struct Words<'a> {
     rest: &'a str,
+    gap: char,
 }
 
 impl<'a> Words<'a> {
-    /// The words of a row, or of a part of it.
+    /// The words of a row.
     pub(crate) fn new(row: &'a str) -> Words<'a> {
-        Words { rest: row }
+        Words {
+            rest: row,
+            gap: ' ',
+        }
+    }
+
+    /// The parts of a word, between which colons stand.
+    pub(crate) fn parts(word: &'a str) -> Words<'a> {
+        Words {
+            rest: word,
+            gap: ':',
+        }
     }
 
     /// Whether no word is left.
@@ -27,7 +39,7 @@ impl<'a> Words<'a> {
 
     /// The next word.
     pub(crate) fn word(&mut self) -> Result<&'a str, Fault> {
-        let (word, rest) = self.rest.split_once(' ').unwrap_or((self.rest, ""));
+        let (word, rest) = self.rest.split_once(self.gap).unwrap_or((self.rest, ""));
         self.rest = rest;
         if word.is_empty() {
             return Err(Fault::BadRow);
@@ -89,7 +101,7 @@ impl<'a> Words<'a> {
     // The text in front of the next quote, whose rest is left.
     fn quoted(&mut self, alloc: Global, behind: &'a str) -> Result<Octets, Fault> {
         let (text, rest) = behind.split_once('"').ok_or(Fault::BadRow)?;
-        self.rest = rest.strip_prefix(' ').unwrap_or(rest);
+        self.rest = rest.strip_prefix(self.gap).unwrap_or(rest);
         unescaped(alloc, text)
     }
 
