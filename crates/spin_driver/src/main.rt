@@ -5,14 +5,20 @@
 //! gave, mostly as `Debug` writes it. What isn't a row is answered `bad row`.
 //!
 //! - what all rows use: [`fault`], [`words`] that are read, [`told`] answers;
-//! - rows of plain data: [`values`], [`commands`], [`expressions`], [`headers`], and [`plans`] of bindings.
+//! - of plain data: [`values`], [`commands`], [`expressions`], [`headers`], and [`plans`] of bindings;
+//! - of scripts and reports: [`setups`], [`reports`];
+//! - of captures: [`captures`], [`reassembly`].
 #![tactic(auto)]
 
+mod captures;
 mod commands;
 mod expressions;
 mod fault;
 mod headers;
 mod plans;
+mod reassembly;
+mod reports;
+mod setups;
 mod told;
 mod values;
 mod words;
@@ -25,29 +31,41 @@ use std::io;
 // What a row is about.
 #[derive(Clone, Copy)]
 enum Subject {
+    Captures,
     Commands,
     Expressions,
     Headers,
     Plans,
+    Reassembly,
+    Reports,
+    Setups,
     Values,
 }
 
 // The first words of rows.
-const SUBJECTS: [(&str, Subject); 5] = [
+const SUBJECTS: [(&str, Subject); 9] = [
+    ("captures", Subject::Captures),
     ("commands", Subject::Commands),
     ("expressions", Subject::Expressions),
     ("headers", Subject::Headers),
     ("plans", Subject::Plans),
+    ("reassembly", Subject::Reassembly),
+    ("reports", Subject::Reports),
+    ("setups", Subject::Setups),
     ("values", Subject::Values),
 ];
 
 // Makes the calls of a row, and tells what they gave.
 fn answer(alloc: Global, words: &mut Words, out: &mut String) -> Result<(), Fault> {
     match words.one_of(&SUBJECTS)? {
+        Subject::Captures => captures::answer(alloc, words, out),
         Subject::Commands => commands::answer(alloc, words, out),
         Subject::Expressions => expressions::answer(alloc, words, out),
         Subject::Headers => headers::answer(alloc, words, out),
         Subject::Plans => plans::answer(alloc, words, out),
+        Subject::Reassembly => reassembly::answer(alloc, words, out),
+        Subject::Reports => reports::answer(alloc, words, out),
+        Subject::Setups => setups::answer(alloc, words, out),
         Subject::Values => values::answer(alloc, words, out),
     }
 }
