@@ -1,7 +1,7 @@
 //! Rows of commands, both ways.
 //!
-//! - `pack OP LANE EVENT REQUESTER HANDLER TARGET LIST`: the row of a command that goes before the bindings of the list,
-//!   and whether the command comes back from it, or `invalid`;
+//! - `pack OP LANE EVENT REQUESTER HANDLER TARGET LIST`: the row of a command that goes before the bindings of the
+//!   list, and whether the command comes back from it, or `invalid`;
 //! - `unpack WORD WORD WORD WORD`: the command of a row.
 
 use crate::fault::Fault;

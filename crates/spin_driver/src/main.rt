@@ -7,15 +7,18 @@
 //! - what all rows use: [`fault`], [`words`] that are read, [`told`] answers;
 //! - of plain data: [`values`], [`commands`], [`expressions`], [`headers`], and [`plans`] of bindings;
 //! - of scripts and reports: [`setups`], [`reports`];
-//! - of captures: [`captures`], [`reassembly`].
+//! - of one raise of one event: [`raises`];
+//! - of the outside: [`captures`], [`reassembly`], [`endpoints`].
 #![tactic(auto)]
 
 mod captures;
 mod commands;
+mod endpoints;
 mod expressions;
 mod fault;
 mod headers;
 mod plans;
+mod raises;
 mod reassembly;
 mod reports;
 mod setups;
@@ -33,9 +36,11 @@ use std::io;
 enum Subject {
     Captures,
     Commands,
+    Endpoints,
     Expressions,
     Headers,
     Plans,
+    Raises,
     Reassembly,
     Reports,
     Setups,
@@ -43,12 +48,14 @@ enum Subject {
 }
 
 // The first words of rows.
-const SUBJECTS: [(&str, Subject); 9] = [
+const SUBJECTS: [(&str, Subject); 11] = [
     ("captures", Subject::Captures),
     ("commands", Subject::Commands),
+    ("endpoints", Subject::Endpoints),
     ("expressions", Subject::Expressions),
     ("headers", Subject::Headers),
     ("plans", Subject::Plans),
+    ("raises", Subject::Raises),
     ("reassembly", Subject::Reassembly),
     ("reports", Subject::Reports),
     ("setups", Subject::Setups),
@@ -60,9 +67,11 @@ fn answer(alloc: Global, words: &mut Words, out: &mut String) -> Result<(), Faul
     match words.one_of(&SUBJECTS)? {
         Subject::Captures => captures::answer(alloc, words, out),
         Subject::Commands => commands::answer(alloc, words, out),
+        Subject::Endpoints => endpoints::answer(alloc, words, out),
         Subject::Expressions => expressions::answer(alloc, words, out),
         Subject::Headers => headers::answer(alloc, words, out),
         Subject::Plans => plans::answer(alloc, words, out),
+        Subject::Raises => raises::answer(alloc, words, out),
         Subject::Reassembly => reassembly::answer(alloc, words, out),
         Subject::Reports => reports::answer(alloc, words, out),
         Subject::Setups => setups::answer(alloc, words, out),

@@ -2,8 +2,8 @@
 //!
 //! - `again SCRIPT`: the canonical text of a script;
 //! - `judge SCRIPT REPORT`: whether the text is a report of the script, over no capture and where no endpoint stands;
-//! - `bytes SCRIPT REPORT`: how many texts still are a report of it, of those that differ from this one by the lowest bit
-//!   of one byte, each byte in turn;
+//! - `bytes SCRIPT REPORT`: how many texts still are a report of it, of those that differ from this one by the lowest
+//!   bit of one byte, each byte in turn;
 //! - `lines SCRIPT REPORT`: the same of those in which a line is left out, or exchanged with the line before it;
 //! - `refused PLACE LANE LINE PART`: the line of a raise that is refused for want of steps.
 

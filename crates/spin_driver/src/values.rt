@@ -2,7 +2,8 @@
 //!
 //! - `set ARGUMENTS VALUE`: what setting each argument and the one behind the last answers, whether a copy of before
 //!   differs, and the first argument;
-//! - `numbers LIST LIST LIST`: the second list and then the third behind the first, the greatest, and whether 4 is there;
+//! - `numbers LIST LIST LIST`: the second list and then the third behind the first, the greatest, and whether 4 is
+//!   there;
 //! - `texts BYTES BYTES`: the lengths of two texts, the first of which is a copy.
 
 use crate::fault::Fault;

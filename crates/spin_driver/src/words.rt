@@ -1,8 +1,8 @@
 //! The words of a row, which are read from its front on.
 //!
 //! A number is decimal, or hexadecimal behind `0x`. Bytes are `x` and two hexadecimal digits for each, or a text
-//! between quotes in which `\n`, `\r` and `\t` stand for the bytes of these names. A list is numbers with commas between
-//! them, and `-` where there are none.
+//! between quotes in which `\n`, `\r` and `\t` stand for the bytes of these names. A list is numbers with commas
+//! between them, and `-` where there are none.
 
 use crate::fault::Fault;
 use spin_values::{Args, Numbers, Octets, Value};

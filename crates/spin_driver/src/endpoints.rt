@@ -1,0 +1,148 @@
+//! Endpoints that keep, that fail, and that are retired; and what is answered for several of them.
+//!
+//! - `keep PIECES SIZE CALL BYTES..`: the answers to pieces of an endpoint with room for so many of that size, whose
+//!   call of that number fails, counted from 0;
+//! - `sends CALL`: what `a` and `b` to an endpoint that is gone and `c` to one whose call of that number fails are
+//!   answered in one call, twice: the number of the endpoint that failed, or how many sends to each are lost; and then
+//!   which of three retirements, of the second, the first and the second, found it;
+//! - `add COUNT NUMBER`: endpoints are added, that of this number is retired at once, and at last one is added under
+//!   the name of the first: the answer to the retirement, the refusals, and how many were added.
+
+use crate::fault::Fault;
+use crate::told::tell;
+use crate::words::Words;
+use spin_endpoint::{Endpoint, Ends, EndsFault, KeepEnd, Lost, Sent};
+use spin_values::{NoMemory, Text};
+use std::alloc::Global;
+
+// What is done.
+#[derive(Clone, Copy)]
+enum Kind {
+    Keep,
+    Sends,
+    Add,
+}
+
+const KINDS: [(&str, Kind); 3] = [
+    ("keep", Kind::Keep),
+    ("sends", Kind::Sends),
+    ("add", Kind::Add),
+];
+
+pub(crate) fn answer(alloc: Global, words: &mut Words, out: &mut String) -> Result<(), Fault> {
+    match words.one_of(&KINDS)? {
+        Kind::Keep => keep(alloc, words, out),
+        Kind::Sends => sends(alloc, words.u32()?, out),
+        Kind::Add => add_each(alloc, words, &mut Ends::new(alloc), out),
+    }
+}
+
+// An endpoint with room for so many pieces of that size, whose call of that number fails.
+fn keep_end(alloc: Global, pieces: u32, size: u32, failing: u32) -> Result<KeepEnd, NoMemory> {
+    let mut keep = KeepEnd::new(alloc, pieces, size)?;
+    keep.fail_at(failing)?;
+    Ok(keep)
+}
+
+fn keep(alloc: Global, words: &mut Words, out: &mut String) -> Result<(), Fault> {
+    let (pieces, size, failing) = (words.u32()?, words.u32()?, words.u32()?);
+    let mut end = keep_end(alloc, pieces, size, failing)?;
+    tell_takes(alloc, words, &mut end, out)?;
+    end.finish();
+    Ok(())
+}
+
+// Tells the answers of the endpoint to the pieces that are left in the row.
+fn tell_takes(
+    alloc: Global,
+    words: &mut Words,
+    end: &mut KeepEnd,
+    out: &mut String,
+) -> Result<(), Fault> {
+    for _ in 0..100 {
+        if words.are_all_read() {
+            return Ok(());
+        }
+        tell(out, &end.take(words.bytes(alloc)?.as_slice()))?;
+    }
+    Err(Fault::BadRow)
+}
+
+fn two_names(alloc: Global) -> Result<[Text; 2], NoMemory> {
+    let gone = Text::from_bytes(alloc, b"gone")?;
+    Ok([gone, Text::from_bytes(alloc, b"kept")?])
+}
+
+// Why no endpoint is added under the name.
+fn added(
+    alloc: Global,
+    ends: &mut Ends,
+    name: &[u8],
+    failing: u32,
+) -> Result<Option<EndsFault>, NoMemory> {
+    let end: Box<dyn Endpoint> = Box::new(alloc, keep_end(alloc, 1, 3, failing)?)?;
+    match ends.add(Text::from_bytes(alloc, name)?, end) {
+        Ok(()) => Ok(None),
+        Err(refused) => Ok(Some(refused.0)),
+    }
+}
+
+fn tell_sends(sent: Result<Lost, u8>, out: &mut String) -> Result<(), Fault> {
+    match sent {
+        Ok(lost) => {
+            tell(out, &lost.to(0))?;
+            tell(out, &lost.to(1))
+        }
+        Err(number) => tell(out, &number),
+    }
+}
+
+fn sends(alloc: Global, failing: u32, out: &mut String) -> Result<(), Fault> {
+    let names = two_names(alloc)?;
+    let mut ends = Ends::new(alloc);
+    added(alloc, &mut ends, b"kept", failing)?;
+    tell_all(&names, &mut ends, out)
+}
+
+fn tell_all(names: &[Text; 2], ends: &mut Ends, out: &mut String) -> Result<(), Fault> {
+    let sends = [Sent::new(0, b"a"), Sent::new(0, b"b"), Sent::new(1, b"c")];
+    tell_sends(ends.deliver_all(names, &sends), out)?;
+    tell_sends(ends.deliver_all(names, &sends), out)?;
+    let mut stood = [false; 3];
+    ends.retire_all(names, &[1, 0, 1], &mut stood);
+    tell(out, &stood)
+}
+
+// Adds the endpoint of that number, and tells a refusal; whether it was added.
+fn add_one(alloc: Global, ends: &mut Ends, number: u8, out: &mut String) -> Result<bool, Fault> {
+    match added(alloc, ends, &[b'e', number], 0)? {
+        None => Ok(true),
+        Some(fault) => {
+            tell(out, &fault)?;
+            Ok(false)
+        }
+    }
+}
+
+fn add_each(
+    alloc: Global,
+    words: &mut Words,
+    ends: &mut Ends,
+    out: &mut String,
+) -> Result<(), Fault> {
+    let (count, retired) = (words.u8()?, words.u8()?);
+    let mut added = 0u32;
+    for number in 0..count {
+        if add_one(alloc, ends, number, out)? {
+            added = added.saturating_add(1);
+        }
+        if number == retired {
+            tell(
+                out,
+                &ends.retire(&Text::from_bytes(alloc, &[b'e', number])?),
+            )?;
+        }
+    }
+    add_one(alloc, ends, 0, out)?;
+    tell(out, &added)
+}
