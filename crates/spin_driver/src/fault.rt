@@ -1,5 +1,6 @@
 //! Why a row has no answer.
 
+use spin_script::ScriptFault;
 use spin_values::NoMemory;
 use std::alloc::{AllocError, AllocFailed};
 use std::fmt;
@@ -48,5 +49,11 @@ impl<T: Drop> From<AllocFailed<T>> for Fault {
 impl From<fmt::Error> for Fault {
     fn from(_: fmt::Error) -> Fault {
         Fault::NoMemory
+    }
+}
+
+impl From<ScriptFault> for Fault {
+    fn from(_: ScriptFault) -> Fault {
+        Fault::Wrong("a script is refused")
     }
 }

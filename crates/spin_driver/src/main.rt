@@ -6,7 +6,7 @@
 //!
 //! - what all rows use: [`fault`], [`words`] that are read, [`told`] answers;
 //! - of plain data: [`values`], [`commands`], [`expressions`], [`headers`], and [`plans`] of bindings;
-//! - of scripts and reports: [`setups`], [`reports`];
+//! - of scripts and reports: [`setups`], [`reports`], [`generated`];
 //! - of one raise of one event: [`raises`];
 //! - of the outside: [`captures`], [`reassembly`], [`endpoints`].
 #![tactic(auto)]
@@ -16,6 +16,7 @@ mod commands;
 mod endpoints;
 mod expressions;
 mod fault;
+mod generated;
 mod headers;
 mod plans;
 mod raises;
@@ -38,6 +39,7 @@ enum Subject {
     Commands,
     Endpoints,
     Expressions,
+    Generated,
     Headers,
     Plans,
     Raises,
@@ -48,11 +50,12 @@ enum Subject {
 }
 
 // The first words of rows.
-const SUBJECTS: [(&str, Subject); 11] = [
+const SUBJECTS: [(&str, Subject); 12] = [
     ("captures", Subject::Captures),
     ("commands", Subject::Commands),
     ("endpoints", Subject::Endpoints),
     ("expressions", Subject::Expressions),
+    ("generated", Subject::Generated),
     ("headers", Subject::Headers),
     ("plans", Subject::Plans),
     ("raises", Subject::Raises),
@@ -69,6 +72,7 @@ fn answer(alloc: Global, words: &mut Words, out: &mut String) -> Result<(), Faul
         Subject::Commands => commands::answer(alloc, words, out),
         Subject::Endpoints => endpoints::answer(alloc, words, out),
         Subject::Expressions => expressions::answer(alloc, words, out),
+        Subject::Generated => generated::answer(alloc, words, out),
         Subject::Headers => headers::answer(alloc, words, out),
         Subject::Plans => plans::answer(alloc, words, out),
         Subject::Raises => raises::answer(alloc, words, out),

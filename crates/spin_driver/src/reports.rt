@@ -57,7 +57,7 @@ pub(crate) fn answer(alloc: Global, words: &mut Words, out: &mut String) -> Resu
 }
 
 fn tell_again(alloc: Global, text: &[u8], out: &mut String) -> Result<(), Fault> {
-    let script = read_script(alloc, text, Natives::new(alloc)).or(Err(Fault::BadRow))?;
+    let script = read_script(alloc, text, Natives::new(alloc))?;
     tell_text(out, write_script(alloc, &script)?.as_slice())
 }
 
@@ -77,7 +77,7 @@ fn judge(
 
 // Whether the text is a report of the script.
 fn is_report(alloc: Global, script: &[u8], text: &[u8]) -> Result<bool, Fault> {
-    let script = read_script(alloc, script, Natives::new(alloc)).or(Err(Fault::BadRow))?;
+    let script = read_script(alloc, script, Natives::new(alloc))?;
     Ok(check_report(alloc, &script, &Texts::new(alloc), None, text)?)
 }
 
