@@ -1,5 +1,6 @@
 """What is made from a number, made a second time and by itself: the script, the capture, and the six lines that a run of
-them is told in. Called with numbers, it prints what the table of tests in crates/spin_cases/src/generated.rt has of each.
+them is told in. Called with numbers, it prints what the rows `generated` of crates/spin_driver are answered of each,
+and the summary.
 """
 
 import hashlib

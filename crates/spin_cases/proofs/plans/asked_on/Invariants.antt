@@ -1,4 +1,0 @@
-use Rattle.spin_cases.proofs.plans.asked_on.Given as goal
-
-abbrev pub ghosts-next_of : goal.ghosts-next_of
-ghosts-next_of a = record { name = a.blank.name; parts = a.blank.parts }
