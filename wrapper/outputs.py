@@ -95,8 +95,8 @@ def may_receive(words):
     if words[0] == "gen":
         return ["out0"]
     names = {name for _, _, name in declared(words)}
-    # of a script that can't be read twice nothing is known
-    is_known = len(words) > 1 and os.path.isfile(words[1])
+    # of a script that is there and can't be read twice nothing is known
+    is_known = len(words) < 2 or os.path.isfile(words[1]) or not os.path.exists(words[1])
     return [name for name in NAMES if name in names or not is_known]
 
 
