@@ -89,6 +89,9 @@ class Checks(Folder):
 class Packages(Folder):
     """What is installed where nothing is there."""
 
+    packages = tool("packages").PACKAGES
+    names = [package.name for package in packages]
+
     def install(self, apt_get):
         """The status, and what is written, where this stands in for apt-get."""
         self.script("apt-get", apt_get)
@@ -100,20 +103,27 @@ class Packages(Folder):
         return ran.returncode, ran.stdout.splitlines()
 
     def test_what_is_missing_is_installed_without_a_question(self):
-        made = "for it in chromium c++ cc pgrep tcpdump valgrind editcap; do /usr/bin/ln -s /usr/bin/true ${0%/*}/$it; done"
+        commands = " ".join(package.command for package in self.packages)
+        made = f"for it in {commands}; do /usr/bin/ln -s /usr/bin/true ${{0%/*}}/$it; done"
         status, lines = self.install(f"echo $DEBIAN_FRONTEND $* >> $0.calls; case $* in *--no-download*) {made};; esac")
-        names = "chromium, g++, gcc, procps, tcpdump, valgrind, wireshark-common"
-        self.assertEqual((status, lines), (0, [f"packages: installing {names}"]))
+        self.assertEqual((status, lines), (0, [f"packages: installing {', '.join(self.names)}"]))
         calls = (self.folder / "apt-get.calls").read_text().splitlines()
         self.assertEqual(len(calls), 2)
         for call in calls:
-            self.assertRegex(call, r"^noninteractive -qq -y .*--no-remove install chromium g\+\+ gcc procps tcpdump valgrind wireshark-common$")
+            self.assertTrue(call.startswith("noninteractive -qq -y "), call)
+            self.assertTrue(call.endswith(f" --no-remove install {' '.join(self.names)}"), call)
 
     def test_without_a_network_one_line_says_so(self):
         status, lines = self.install("echo $* >> $0.calls; echo W: first; echo E: no network; exit 100")
         self.assertEqual((status, len(lines)), (1, 2))
-        self.assertEqual(lines[1], "packages: chromium, g++, gcc, procps, tcpdump, valgrind, wireshark-common couldn't be installed: E: no network")
-        self.assertEqual(len((self.folder / "apt-get.calls").read_text().splitlines()), 3)
+        self.assertEqual(lines[1], f"packages: {', '.join(self.names)} couldn't be installed: E: no network")
+        self.assertEqual(len((self.folder / "apt-get.calls").read_text().splitlines()), 2 + len(self.names))
+
+    def test_one_that_is_not_to_be_had_does_not_keep_the_others_away(self):
+        commands = " ".join(package.command for package in self.packages if package.name != "valgrind")
+        made = f"for it in {commands}; do /usr/bin/ln -sf /usr/bin/true ${{0%/*}}/$it; done"
+        status, lines = self.install(f"case $* in *valgrind*) echo E: unknown; exit 100;; *--no-download*) {made};; esac")
+        self.assertEqual((status, lines[1:]), (1, ["packages: valgrind couldn't be installed: E: unknown"]))
 
 
 if __name__ == "__main__":
