@@ -1,5 +1,5 @@
--- The headline, from the cause of status 0.
-use Rattle.std.proofs.Common.{◌≡◌, ℕ, Option, Some, None, List, [], ◌∷◌, drop, codes, refl, sym, ap, subst, arith, inl, inr}
+-- The headline, of `run` and of `join`, from the cause of status 0.
+use Rattle.std.proofs.Common.{◌≡◌, ℕ, Option, Some, None, List, [], ◌∷◌, IfSome, drop, codes, refl, sym, ap, subst, arith, inl, inr}
 use Rattle.std.specs.Option.{option_to_list}
 use Rattle.std.specs.Prelude.{Result, Ok, Err}
 use Rattle.spin_outside.specs.Files.{File}
@@ -7,24 +7,29 @@ use Rattle.spin_outside.specs.Seen.{ShelfSeen}
 use Rattle.spin_pcap.specs.declared.fault.PcapFault.{PcapFault}
 use Rattle.spin_pcap.specs.declared.next.Next.{Next}
 use Rattle.spin_pcap.specs.declared.next.Next.TheVariants as next
+use Rattle.spin_pcap.specs.declared.order.Order.TheVariants as order
 use Rattle.spin_pcap.proofs.CaptureTotality.{each_is_capture}
 use Rattle.spin_report.specs.Histories.{report_text}
 use Rattle.spin_report.specs.Runs.{Captured}
 use Rattle.spin_run.specs.Ends.{IsReadWhole}
 use Rattle.spin_run.specs.declared.end.RunEnd.{RunEnd}
 use Rattle.spin_run.specs.declared.end.RunEnd.TheVariants as run
-use Rattle.spin_script.specs.Language.{IsScript}
-use Rattle.spin_script.specs.States.{NativeData, ScriptData}
+use Rattle.spin_script.specs.States.{NativeData}
 use Rattle.spin_stages.specs.declared.end.End.TheVariants.{Whole}
-use Rattle.spin_words.specs.declared.words.Asked.TheVariants.{Run}
+use Rattle.spin_words.specs.declared.words.Asked.TheVariants.{Run, Join}
+use Rattle.spin_outside.specs.Sources.{SourceSeen}
+use Rattle.spin_pcap.specs.Captures.{IsCapture}
 use Rattle.spin_pcap.specs.Whole.{cut_of}
-use Rattle.spin_stages.specs.Captures.{AreBytesOf, AreRecordsOf, IsCaptureFile}
+use Rattle.spin_reass.proofs.CaptureLemmas.{joined_is_capture}
+use Rattle.spin_reass.specs.Joining.{joined_frames}
+use Rattle.spin_stages.specs.Captures.{AreBytesOf, AreRecordsIn, AreRecordsOf, IsCaptureFile, NotBothBy}
 use Rattle.spin_stages.specs.Ends.{exit_status}
-use Rattle.spin_top.specs.Headline.{Headline, AcceptsScript, IsRunTold}
+use Rattle.spin_stages.specs.Held.{held_seen}
+use Rattle.spin_top.specs.Headline.{Headline, HeadlineJoined, IsJoinedWhole, WasRunWhole}
+use Rattle.spin_top.specs.Join.{IsJoinedFile, JoinHasCause, RanJoined}
 use Rattle.spin_stages.specs.Outside.{Outside}
-use Rattle.spin_top.specs.Run.{end_of, NotRunBy, Ran, RunHasCause}
+use Rattle.spin_top.specs.Run.{end_of, NotRunBy, Ran, RanOver, RunHasCause}
 use Rattle.spin_top.specs.Statuses.{Call, CommandHasCause, Row}
-use Rattle.spin_stages.specs.Texts.{SaysScript}
 use Rattle.spin_stages.specs.WholeCaptures.{HasCapture, IsCapturedWhole}
 use Rattle.spin_words.specs.Words.{IsSpelled}
 use Rattle.spin_offline.proofs.CheckCauses.{appends_nothing, told_nothing}
@@ -83,29 +88,37 @@ stop_not_whole : (natives : NativeData) (before after : ShelfSeen) (name : List 
 stop_not_whole natives before after name packets (inl by) = by
 stop_not_whole natives before after name packets (inr by) = by.1
 
+not_joined_whole : (natives : NativeData) (before after : ShelfSeen) (name packets : List ℕ) → NotBothBy natives before after name (Some packets) Whole → ⊥
+not_joined_whole natives before after name packets (inl by) = by
+not_joined_whole natives before after name packets (inr by) = by.1
+
 whole_of : (natives : NativeData) (before after : Outside) (name : List ℕ) (packets : Option (List ℕ))
     → RunHasCause natives before after name packets Whole → Ran natives before after name packets run.Whole
 whole_of natives before after name packets (inl stop) = absurd (stop_not_whole natives before.shelf after.shelf name packets stop.0)
 whole_of natives before after name packets (inr ran) = subst (λ e. Ran natives before after name packets e) (ran_whole ran.0 ran.1) ran.2
 
--- the script was accepted
-abbrev Accepted : NativeData → List ℕ → ScriptData → Type 0
-Accepted natives text script = IsScript natives text (Ok script)
+joined_of : (natives : NativeData) (before after : Outside) (name packets : List ℕ)
+    → JoinHasCause natives before after name packets Whole → RanJoined natives before after name packets run.Whole
+joined_of natives before after name packets (inl stop) = absurd (not_joined_whole natives before.shelf after.shelf name packets stop.0)
+joined_of natives before after name packets (inr ran) = subst (λ e. RanJoined natives before after name packets e) (ran_whole ran.0 ran.1) ran.2
 
-run_told : (natives : NativeData) (held : List File) (before after : Outside) (name : List ℕ) (packets : Option (List ℕ))
-    → before.shelf.files ≡ Some held → RunHasCause natives before after name packets Whole → IsRunTold (Accepted natives) held before after name packets
-run_told natives held before after name packets told cause =
-    let ran = whole_of natives before after name packets cause in
-    let over = ran.over in
-    let records = some_records before.shelf.files packets ran.bytes ran.capture in
-    let ended = over.ended_so records.0 records.1 records.2 in
+-- ---- what a whole run leaves
+
+-- over these records, of which it is known what capture has them
+ran_to_end : (natives : NativeData) (held : List File) (before after : Outside) (name : List ℕ) (Has : List (List ℕ) → Option (Result Next PcapFault) → Type 0) (from to : SourceSeen)
+    (IsItsCapture : Option Captured → Type 0) (frames : List (List ℕ)) (rest : Option (Result Next PcapFault)) → before.shelf.files ≡ Some held
+    → RanOver natives before after name Has from to run.Whole → Has frames rest
+    → ((captured : Option Captured) → IsReadWhole frames rest captured → IsItsCapture captured) → WasRunWhole natives held name IsItsCapture before after
+ran_to_end natives held before after name Has from to IsItsCapture frames rest told over has is_its =
+    let ended = over.ended_so frames rest has in
     record {
       text = over.loaded.text;
       found = content_at before.shelf.files held name over.loaded.text told over.loaded.read;
       script = over.script;
-      read = over.loaded.reads;
+      said = says_script natives over.loaded.text over.script over.loaded.reads;
+      accepted = over.loaded.reads;
       captured = ended.1.captured;
-      capture = captured_from before.shelf.files held packets ran.bytes records.0 records.1 ended.1.captured told ran.capture records.2 ended.1.capture_is;
+      capture = is_its ended.1.captured ended.1.capture_is;
       history = ended.0;
       last = ended.1.last;
       run = ended.1.run;
@@ -113,33 +126,48 @@ run_told natives held before after name packets told cause =
       received = ended.1.ends_are;
     }
 
+run_whole : (natives : NativeData) (held : List File) (before after : Outside) (name : List ℕ) (packets : Option (List ℕ)) → before.shelf.files ≡ Some held
+    → RunHasCause natives before after name packets Whole → WasRunWhole natives held name (IsCapturedWhole held packets) before after
+run_whole natives held before after name packets told cause =
+    let ran = whole_of natives before after name packets cause in
+    let records = some_records before.shelf.files packets ran.bytes ran.capture in
+    ran_to_end natives held before after name (AreRecordsOf packets ran.bytes) ran.from ran.to (IsCapturedWhole held packets) records.0 records.1 told ran.over records.2
+    (λ captured whole. captured_from before.shelf.files held packets ran.bytes records.0 records.1 captured told ran.capture records.2 whole)
+
+-- what was read of a joined capture is that of its file, joined
+joined_whole : (held : List File) (packets : List ℕ) (frames : List (List ℕ)) (last : Next) (captured : Option Captured) → IsCaptureFile held packets frames (Ok last)
+    → IsReadWhole (joined_frames [] frames) (Some (Ok last)) captured → IsJoinedWhole held packets captured
+joined_whole held packets frames next.Packet captured file is = absurd is
+joined_whole held packets frames next.End captured file is = record { file = _; capture = has_capture held packets frames next.End file; joined = is }
+joined_whole held packets frames (next.Cut count) captured file is = record { file = _; capture = has_capture held packets frames (next.Cut count) file; joined = is }
+
+join_whole : (natives : NativeData) (held : List File) (before after : Outside) (name packets : List ℕ) → before.shelf.files ≡ Some held
+    → JoinHasCause natives before after name packets Whole → WasRunWhole natives held name (IsJoinedWhole held packets) before after
+join_whole natives held before after name packets told cause =
+    let ran = joined_of natives before after name packets cause in
+    let file : IsJoinedFile held packets ran.bytes = subst (λ f. IfSome f (λ its. IsJoinedFile its packets ran.bytes)) told ran.joined in
+    let frames : List (List ℕ) = joined_frames [] file.frames in
+    let good : IsCapture ran.bytes order.Little frames (Ok file.last) =
+    subst (λ b. IsCapture b order.Little frames (Ok file.last)) (sym file.bytes_are) (joined_is_capture file.file.bytes file.file.order file.frames file.last file.file.capture) in
+    let records : AreRecordsIn ran.bytes frames (Some (Ok file.last)) = (Ok file.last, refl, order.Little, good) in
+    ran_to_end natives held before after name (AreRecordsIn ran.bytes) (held_seen ran.left) (held_seen ran.left') (IsJoinedWhole held packets) frames (Some (Ok file.last)) told ran.over records
+    (λ captured whole. joined_whole held packets file.frames file.last captured file.file whole)
+
+-- ---- the clauses
+
 -- the words of a run ask for it
 run_spelled : (words : List (List ℕ)) (name : List ℕ) (packets : Option (List ℕ)) → words ≡ codes "run" ∷ name ∷ option_to_list packets → IsSpelled words (Run name packets)
 run_spelled words name None are = are
 run_spelled words name (Some packets) are = are
 
-pub accepts_script : (call : Call) → Row call Whole → AcceptsScript call
-accepts_script call row held name packets told words zero =
+pub headline_holds : (call : Call) → Row call Whole → Headline call
+headline_holds call row held name packets told words zero =
     let by = row zero in
     let same : by.0 ≡ Run name packets = one_asked call.words by.0 (Run name packets) by.1.words_are (run_spelled call.words name packets words) in
-    run_told call.natives held call.before call.after name packets told (subst (λ a. CommandHasCause call.natives call.before call.after a Whole) same by.2)
+    run_whole call.natives held call.before call.after name packets told (subst (λ a. CommandHasCause call.natives call.before call.after a Whole) same by.2)
 
--- a run that was told stays so where texts are read in another way
-told_as : (natives : NativeData) (held : List File) (before after : Outside) (name : List ℕ) (packets : Option (List ℕ))
-    → IsRunTold (Accepted natives) held before after name packets → IsRunTold (SaysScript natives) held before after name packets
-told_as natives held before after name packets told = record {
-  text = told.text;
-  found = told.found;
-  script = told.script;
-  read = says_script natives told.text told.script told.read;
-  captured = told.captured;
-  capture = told.capture;
-  history = told.history;
-  last = told.last;
-  run = told.run;
-  written = told.written;
-  received = told.received;
-}
-
-pub headline_holds : (call : Call) → Row call Whole → Headline call
-headline_holds call row held name packets told words zero = told_as call.natives held call.before call.after name packets (accepts_script call row held name packets told words zero)
+pub headline_joined_holds : (call : Call) → Row call Whole → HeadlineJoined call
+headline_joined_holds call row held name packets told words zero =
+    let by = row zero in
+    let same : by.0 ≡ Join name packets = one_asked call.words by.0 (Join name packets) by.1.words_are words in
+    join_whole call.natives held call.before call.after name packets told (subst (λ a. CommandHasCause call.natives call.before call.after a Whole) same by.2)

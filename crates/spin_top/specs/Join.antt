@@ -1,5 +1,5 @@
 -- The command `join`: why it ends so, and what its status tells.
-use Rattle.std.specs.Prelude.{◌≡◌, ◌⊎◌, ℕ, Option, Some, List, Ok, IfSome}
+use Rattle.std.specs.Prelude.{◌≡◌, ◌⊎◌, ℕ, Some, List, Ok, IfSome}
 use Rattle.spin_outside.specs.Files.{File}
 use Rattle.spin_outside.specs.Seen.{ShelfSeen}
 use Rattle.spin_pcap.specs.declared.next.Next.{Next}

@@ -2,7 +2,7 @@
 
 ghost use Rattle.spin_script.specs.States.{natives_seen};
 ghost use Rattle.spin_stages.specs.declared.end.End.TheVariants as end;
-ghost use Rattle.spin_top.specs.Headline.{AcceptsScript, Headline};
+ghost use Rattle.spin_top.specs.Headline.{Headline, HeadlineJoined};
 ghost use Rattle.spin_stages.specs.Outside.{outside};
 ghost use Rattle.spin_top.specs.Statuses.{Call, IsCommandStatus, IsStatus, Row, KeepsTable};
 
@@ -135,8 +135,9 @@ pub fn spin<R: Threads + Sync, F: Shelf, K: Sink, G: Gate>(
 ) -> u8
     // Each native does what it was handed in with.
     requires sincere { ⟦<Natives as Sincere>⟧.sincere natives }
-    // The headline: what a run with status 0 has written is the report of one legal history of the script that it read,
-    // and each endpoint has received exactly its sends of that history, until retired.
+    // The headline, for `run`: the script that was read is accepted, and is the one that its text says; what was written
+    // is the report of one legal history of this script with the capture that is named; and each endpoint has received
+    // exactly its sends of that history, until retired.
     ensures headline { let call : Call = record {
       natives = natives_seen natives;
       words = words.now;
@@ -145,15 +146,15 @@ pub fn spin<R: Threads + Sync, F: Shelf, K: Sink, G: Gate>(
       status = result;
     } in
         Headline call }
-    // The same, and no line of the script is refused.
-    ensures accepts { let call : Call = record {
+    // The same for `join`, with the joined capture.
+    ensures headline_joined { let call : Call = record {
       natives = natives_seen natives;
       words = words.now;
       before = outside (F.seen shelf.old) (K.seen out.old) (⟦<Ends as EndsSeen>⟧.all ends.old);
       after = outside (F.seen shelf.new) (K.seen out.new) (⟦<Ends as EndsSeen>⟧.all ends.new);
       status = result;
     } in
-        AcceptsScript call }
+        HeadlineJoined call }
     // 0: the report of a legal history that answers what the script asks, each once and in order, was written, or under
     // `gen` its summary, and each endpoint has received its sends of that history; under `check` the report that was
     // read is that of a legal history; under `vm` the output of the whole trace was written.
