@@ -33,7 +33,7 @@ pub(crate) fn answer(alloc: Global, words: &mut Words, out: &mut String) -> Resu
     match words.one_of(&KINDS)? {
         Kind::Keep => keep(alloc, words, out),
         Kind::Sends => sends(alloc, words.u32()?, out),
-        Kind::Add => add_each(alloc, words, &mut Ends::new(alloc), out),
+        Kind::Add => add_each(alloc, words, out),
     }
 }
 
@@ -78,9 +78,8 @@ fn added(
     alloc: Global,
     ends: &mut Ends,
     name: &[u8],
-    failing: u32,
+    end: Box<dyn Endpoint>,
 ) -> Result<Option<EndsFault>, NoMemory> {
-    let end: Box<dyn Endpoint> = Box::new(alloc, keep_end(alloc, 1, 3, failing)?)?;
     match ends.add(Text::from_bytes(alloc, name)?, end) {
         Ok(()) => Ok(None),
         Err(refused) => Ok(Some(refused.0)),
@@ -100,7 +99,8 @@ fn tell_sends(sent: Result<Lost, u8>, out: &mut String) -> Result<(), Fault> {
 fn sends(alloc: Global, failing: u32, out: &mut String) -> Result<(), Fault> {
     let names = two_names(alloc)?;
     let mut ends = Ends::new(alloc);
-    added(alloc, &mut ends, b"kept", failing)?;
+    let end: Box<dyn Endpoint> = Box::new(alloc, keep_end(alloc, 1, 3, failing)?)?;
+    added(alloc, &mut ends, b"kept", end)?;
     tell_all(&names, &mut ends, out)
 }
 
@@ -113,9 +113,15 @@ fn tell_all(names: &[Text; 2], ends: &mut Ends, out: &mut String) -> Result<(), 
     tell(out, &stood)
 }
 
-// Adds the endpoint of that number, and tells a refusal; whether it was added.
-fn add_one(alloc: Global, ends: &mut Ends, number: u8, out: &mut String) -> Result<bool, Fault> {
-    match added(alloc, ends, &[b'e', number], 0)? {
+// Adds an endpoint under that number, and tells a refusal; whether it was added.
+fn add_one(
+    alloc: Global,
+    ends: &mut Ends,
+    number: u8,
+    end: Box<dyn Endpoint>,
+    out: &mut String,
+) -> Result<bool, Fault> {
+    match added(alloc, ends, &[b'e', number], end)? {
         None => Ok(true),
         Some(fault) => {
             tell(out, &fault)?;
@@ -124,25 +130,27 @@ fn add_one(alloc: Global, ends: &mut Ends, number: u8, out: &mut String) -> Resu
     }
 }
 
-fn add_each(
-    alloc: Global,
-    words: &mut Words,
-    ends: &mut Ends,
-    out: &mut String,
-) -> Result<(), Fault> {
+fn add_each(alloc: Global, words: &mut Words, out: &mut String) -> Result<(), Fault> {
     let (count, retired) = (words.u8()?, words.u8()?);
+    let mut ends = Ends::new(alloc);
     let mut added = 0u32;
     for number in 0..count {
-        if add_one(alloc, ends, number, out)? {
+        let end: Box<dyn Endpoint> = Box::new(alloc, keep_end(alloc, 1, 3, 0)?)?;
+        if add_one(alloc, &mut ends, number, end, out)? {
             added = added.saturating_add(1);
         }
         if number == retired {
-            tell(
-                out,
-                &ends.retire(&Text::from_bytes(alloc, &[b'e', number])?),
-            )?;
+            tell_retired(alloc, &mut ends, number, out)?;
         }
     }
-    add_one(alloc, ends, 0, out)?;
+    let end: Box<dyn Endpoint> = Box::new(alloc, keep_end(alloc, 1, 3, 0)?)?;
+    add_one(alloc, &mut ends, 0, end, out)?;
     tell(out, &added)
+}
+
+fn tell_retired(alloc: Global, ends: &mut Ends, number: u8, out: &mut String) -> Result<(), Fault> {
+    tell(
+        out,
+        &ends.retire(&Text::from_bytes(alloc, &[b'e', number])?),
+    )
 }

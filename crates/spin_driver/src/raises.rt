@@ -26,7 +26,7 @@ use std::sync::ledger::{Blank, Ledger};
 
 pub(crate) fn answer(alloc: Global, words: &mut Words, out: &mut String) -> Result<(), Fault> {
     let count = words.u16()?;
-    let catalogue = five(alloc)?;
+    let catalogue = five(alloc, Natives::new(alloc))?;
     if catalogue.handlers() == 0 {
         return Err(Fault::Wrong("a handler isn't added"));
     }
@@ -47,12 +47,13 @@ fn word_to_word(alloc: Global) -> Result<EventType, NoMemory> {
 }
 
 // One handler, which gives 5.
-fn five(alloc: Global) -> Result<Catalogue, Fault>
+fn five(alloc: Global, natives: Natives) -> Result<Catalogue, Fault>
+    requires { ⟦<Natives as Sincere>⟧.sincere natives }
     ensures { IfOk result (λ catalogue. ⟦<Catalogue as Sincere>⟧.sincere catalogue) }
 {
     let mut steps = Steplist::new(alloc);
     steps.push(ActStep::Result(Expr::Const(5)))?;
-    let mut catalogue = Catalogue::new(alloc, Natives::new(alloc));
+    let mut catalogue = Catalogue::new(alloc, natives);
     catalogue
         .add_handler(Body::Coded(word_to_word(alloc)?, Act { steps }))
         .or(Err(Fault::BadRow))?;

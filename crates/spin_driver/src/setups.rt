@@ -62,10 +62,11 @@ fn handler(alloc: Global, event: u8) -> Result<Body, Fault> {
 }
 
 // One handler of a word and one guard of bytes.
-fn units(alloc: Global, up: u8) -> Result<Catalogue, Fault>
+fn units(alloc: Global, natives: Natives, up: u8) -> Result<Catalogue, Fault>
+    requires { ⟦<Natives as Sincere>⟧.sincere natives }
     ensures { IfOk result (λ catalogue. ⟦<Catalogue as Sincere>⟧.sincere catalogue) }
 {
-    let mut catalogue = Catalogue::new(alloc, Natives::new(alloc));
+    let mut catalogue = Catalogue::new(alloc, natives);
     catalogue
         .add_handler(handler(alloc, up)?)
         .or(Err(Fault::BadRow))?;
@@ -118,7 +119,7 @@ fn events(alloc: Global, words: &mut Words) -> Result<EventList, Fault> {
 fn build(alloc: Global, words: &mut Words, out: &mut String) -> Result<(), Fault> {
     let (modules, live) = (words.u16()?, words.u16()?);
     let events = events(alloc, words)?;
-    let units = units(alloc, words.u8()?)?;
+    let units = units(alloc, Natives::new(alloc), words.u8()?)?;
     match Setup::build(modules, live, events, units) {
         Ok(_) => tell_word(out, "built"),
         Err(fault) => tell(out, &fault),
