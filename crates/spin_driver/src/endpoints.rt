@@ -11,7 +11,7 @@
 use crate::fault::Fault;
 use crate::told::tell;
 use crate::words::Words;
-use spin_endpoint::{Endpoint, Ends, EndsFault, KeepEnd, Lost, Sent};
+use spin_endpoint::{Endpoint, Ends, KeepEnd, Lost, Sent};
 use spin_values::{NoMemory, Text};
 use std::alloc::Global;
 
@@ -73,19 +73,6 @@ fn two_names(alloc: Global) -> Result<[Text; 2], NoMemory> {
     Ok([gone, Text::from_bytes(alloc, b"kept")?])
 }
 
-// Why no endpoint is added under the name.
-fn added(
-    alloc: Global,
-    ends: &mut Ends,
-    name: &[u8],
-    end: Box<dyn Endpoint>,
-) -> Result<Option<EndsFault>, NoMemory> {
-    match ends.add(Text::from_bytes(alloc, name)?, end) {
-        Ok(()) => Ok(None),
-        Err(refused) => Ok(Some(refused.0)),
-    }
-}
-
 fn tell_sends(sent: Result<Lost, u8>, out: &mut String) -> Result<(), Fault> {
     match sent {
         Ok(lost) => {
@@ -100,7 +87,9 @@ fn sends(alloc: Global, failing: u32, out: &mut String) -> Result<(), Fault> {
     let names = two_names(alloc)?;
     let mut ends = Ends::new(alloc);
     let end: Box<dyn Endpoint> = Box::new(alloc, keep_end(alloc, 1, 3, failing)?)?;
-    added(alloc, &mut ends, b"kept", end)?;
+    if ends.add(Text::from_bytes(alloc, b"kept")?, end).is_err() {
+        return Err(Fault::Wrong("an endpoint isn't added"));
+    }
     tell_all(&names, &mut ends, out)
 }
 
@@ -113,44 +102,26 @@ fn tell_all(names: &[Text; 2], ends: &mut Ends, out: &mut String) -> Result<(), 
     tell(out, &stood)
 }
 
-// Adds an endpoint under that number, and tells a refusal; whether it was added.
-fn add_one(
-    alloc: Global,
-    ends: &mut Ends,
-    number: u8,
-    end: Box<dyn Endpoint>,
-    out: &mut String,
-) -> Result<bool, Fault> {
-    match added(alloc, ends, &[b'e', number], end)? {
-        None => Ok(true),
-        Some(fault) => {
-            tell(out, &fault)?;
-            Ok(false)
-        }
-    }
+// The name of the endpoint of that number.
+fn name_of(alloc: Global, number: u8) -> Result<Text, NoMemory> {
+    Text::from_bytes(alloc, &[b'e', number])
 }
 
 fn add_each(alloc: Global, words: &mut Words, out: &mut String) -> Result<(), Fault> {
     let (count, retired) = (words.u8()?, words.u8()?);
     let mut ends = Ends::new(alloc);
     let mut added = 0u32;
-    for number in 0..count {
+    for turn in 0..=count {
+        let number = if turn == count { 0 } else { turn };
         let end: Box<dyn Endpoint> = Box::new(alloc, keep_end(alloc, 1, 3, 0)?)?;
-        if add_one(alloc, &mut ends, number, end, out)? {
-            added = added.saturating_add(1);
+        match ends.add(name_of(alloc, number)?, end) {
+            Ok(()) => added = added.saturating_add(1),
+            Err(refused) => tell(out, &refused.0)?,
         }
-        if number == retired {
-            tell_retired(alloc, &mut ends, number, out)?;
+        if turn == retired {
+            let name = name_of(alloc, number)?;
+            tell(out, &ends.retire(&name))?;
         }
     }
-    let end: Box<dyn Endpoint> = Box::new(alloc, keep_end(alloc, 1, 3, 0)?)?;
-    add_one(alloc, &mut ends, 0, end, out)?;
     tell(out, &added)
-}
-
-fn tell_retired(alloc: Global, ends: &mut Ends, number: u8, out: &mut String) -> Result<(), Fault> {
-    tell(
-        out,
-        &ends.retire(&Text::from_bytes(alloc, &[b'e', number])?),
-    )
 }
