@@ -32,7 +32,8 @@ def told(before, after, lines, is_own):
     for key, line in after.items():
         old = before.get(key)
         if not is_own(key[0]) and (old is None or words_of(old) != words_of(line)):
-            rows += [[name_of(key, lines), *([f"    was  {words_of(old)}"] if old else []), f"    is   {words_of(line)}"]]
+            was = [f"    was  {words_of(old)}"] if old else []
+            rows += [[name_of(key, lines), *was, f"    is   {words_of(line)}"]]
     gone = [key for key in before if key[0] and key not in after and not is_own(key[0])]
     rows += [[name_of(key, lines), f"    was  {words_of(before[key])}", "    is   no longer there"] for key in gone]
     if not rows:

@@ -116,7 +116,8 @@ class Climb:
         layer = f" {act[act.index('layer') + 1]}" if "layer" in act else ""
         called = self.script.called
         guards = "".join(f", if {guard_text(self.script, guard)}" for guard in one.guards)
-        label = f"#{which} {called('handler', one.handler)}{layer}{guards}" + (": left to a job" if step.kind == "job" else "")
+        left = ": left to a job" if step.kind == "job" else ""
+        label = f"#{which} {called('handler', one.handler)}{layer}{guards}{left}"
         rows = [f"{called('handler', one.handler)} {' '.join(act)}"]
         rows += [f"{called('guard', guard)} {' '.join(self.script.guards[guard])}" for guard in one.guards]
         kind = "later" if step.kind == "job" else "ok"

@@ -1,4 +1,4 @@
-"""What may stand next in a line that is typed into a session: words of the language, and the numbers that are in force."""
+"""What may stand next in a line that is typed into a session: words of the language, and the numbers in force."""
 
 import os
 

@@ -90,7 +90,7 @@ def tell_reasons(command, words, status, folder="."):
 
 
 def run(command, words, flags, is_last):
-    """Runs the program where the flags say, and answers its status, or less a signal; as the last thing in its place."""
+    """Runs the program where the flags say, as the last thing in its place; its status, or less a signal."""
     elsewhere = words if flags.out is None else outputs.from_elsewhere(words)
     line = [*command, *elsewhere]
     if flags.counts:

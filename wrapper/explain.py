@@ -1,8 +1,8 @@
 """explain SCRIPT [LINE] [PACKETS] [--report REPORT]: why each raise and each command of a run came to what it did.
 
-The script is run, in a folder of its own, so nothing that is sent stays; with `--report` a report that was written before
-is judged instead. Then each entry and each job is worked anew, by Python and not by the program, and compared with the
-report: where the two disagree that is told, and the status is 9. Nothing is proved of what is told.
+The script is run, in a folder of its own, so nothing that is sent stays; with `--report` a report that was written
+before is judged instead. Then each entry and each job is worked anew, by Python and not by the program, and compared
+with the report: where the two disagree that is told, and the status is 9. Nothing is proved of what is told.
 """
 
 import re
@@ -42,7 +42,7 @@ def read_words(words):
 
 
 def copied(asked, folder):
-    """Copies the files, so that what is explained is what was run, also where they are pipes; the copies that there are."""
+    """Copies the files, so that what is explained is what was run, also where they are pipes; the copies' names."""
     named = {"script": asked.script, "packets": asked.packets, "report": asked.report}
     for name, file in named.items():
         try:
@@ -99,5 +99,6 @@ def main(words):
     print("".join(f"{line}\n" for one in found for line in one.lines), end="")
     odd = [one.line.source for one in found if not one.agrees]
     if odd:
-        program.tell(f"worked anew {len(odd)} lines come to something else than the report says, the first of line {odd[0]}")
+        came = f"worked anew {len(odd)} lines come to something else than the report says"
+        program.tell(f"{came}, the first of line {odd[0]}")
     return NO_RUN if odd else 0

@@ -1,4 +1,4 @@
-"""Which entries of a large run are drawn as one box: those of one lane, one kind and one event, in a place or a segment."""
+"""Which entries of a large run are drawn as one box: those of one lane, kind and event, in a place or a segment."""
 
 from collections import Counter, namedtuple
 

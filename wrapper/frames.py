@@ -6,7 +6,9 @@ from wrapper.layers import ipv4
 from wrapper.values import field
 
 IPV4, IPV6 = 0x0800, 0x86DD
-TYPES = {0x0806: "ARP", 0x8100: "a frame with a VLAN tag", 0x8847: "MPLS", 0x8863: "PPPoE", 0x8864: "PPPoE", 0x88CC: "LLDP"}
+TYPES = {
+    0x0806: "ARP", 0x8100: "a frame with a VLAN tag", 0x8847: "MPLS", 0x8863: "PPPoE", 0x8864: "PPPoE", 0x88CC: "LLDP",
+}
 PROTOCOLS = {1: "ICMP", 2: "IGMP", 6: "TCP", 17: "UDP", 47: "GRE", 50: "ESP", 58: "ICMPv6", 132: "SCTP"}
 WITH_PORTS = (6, 17, 132)
 

@@ -83,8 +83,8 @@ def of_binding(one, counts):
     """What is told of a binding."""
     name = f"{one.event} {one.number}"
     return {
-        "binding": one.number, "event": one.event, "module": one.module, "handler": one.handler, "guards": list(one.guards),
-        "runs": counts[f"run {name}"], "left": counts[f"left {name}"],
+        "binding": one.number, "event": one.event, "module": one.module, "handler": one.handler,
+        "guards": list(one.guards), "runs": counts[f"run {name}"], "left": counts[f"left {name}"],
     }
 
 
@@ -128,9 +128,10 @@ def rows_of(script, told):
     rows += [(f"answered {name}", count, "") for name, count in told["answers"].items()]
     rows += [(f"refused {name}", count, "") for name, count in told["refusals"].items()]
     rows.append(("jobs", told["jobs"], ""))
+    called = script.called
     for one in told["bindings"]:
-        name = f"#{one['binding']} of {script.called('event', one['event'])}, {script.called('handler', one['handler'])}"
-        guards = "".join(f", {script.called('guard', guard)}" for guard in one["guards"])
+        name = f"#{one['binding']} of {called('event', one['event'])}, {called('handler', one['handler'])}"
+        guards = "".join(f", {called('guard', guard)}" for guard in one["guards"])
         rows.append((name + guards, one["runs"], f"and {one['left']} left to jobs" if one["left"] else ""))
     rows += [(f"default of {script.called('event', one['event'])}", one["runs"], "") for one in told["defaults"]]
     rows += [(f"{script.called('guard', one['guard'])} let run", one["hits"], "") for one in told["guards"]]

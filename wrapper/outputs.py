@@ -25,8 +25,8 @@ SEND = re.compile(rb"[ \t]send[ \t]+([0-9a-fA-Fx]+)[ \t]")
 # Those whose reports are counted.
 COUNTED = ("run", "join")
 
-# Where a run writes, None where that is the folder of the call; whether it may add to files that stand there; and whether
-# counts are written in the place of the report, as a table or as JSON.
+# Where a run writes, None where that is the folder of the call; whether it may add to files that stand there; and
+# whether counts are written in the place of the report, as a table or as JSON.
 Flags = namedtuple("Flags", "out append counts json", defaults=(None, False, False, False))
 
 
@@ -111,7 +111,8 @@ def tell_standing(words):
     if found:
         stand = "stands" if len(found) == 1 else "stand"
         names = listed([described(name) for name in found])
-        tell(f"{names} {stand} here already, and what is sent is added at the end; --out FOLDER writes into a fresh folder")
+        added = "and what is sent is added at the end; --out FOLDER writes into a fresh folder"
+        tell(f"{names} {stand} here already, {added}")
 
 
 def make_fresh(flags):

@@ -1,8 +1,8 @@
 """Raises and jobs worked anew, binding by binding, by docs/DEFINITIONS.md.
 
-It works from a script and from the bindings as the report has them, and keeps what the report doesn't tell: bindings that
-didn't run, the tests of guards, and arguments before and after. Nothing is proved of it; what it comes to is compared
-with the report.
+It works from a script and from the bindings as the report has them, and keeps what the report doesn't tell: bindings
+that didn't run, the tests of guards, and arguments before and after. Nothing is proved of it; what it comes to is
+compared with the report.
 """
 
 from dataclasses import dataclass, field
@@ -36,8 +36,8 @@ class Tested:
 class Met:
     """A binding that a raise came to, None for the event's default; the arguments before and after, and what it did.
 
-    What it did is in order: `set` with the argument, its values and the text; `result` with the value and the text; `send`
-    with the endpoint and the length; `drop` with the layer and the fault.
+    What it did is in order: `set` with the argument, its values and the text; `result` with the value and the text;
+    `send` with the endpoint and the length; `drop` with the layer and the fault.
     """
 
     event: int
@@ -75,7 +75,7 @@ class Raised:
 
 @dataclass
 class Outcome:
-    """What a deed or a job comes to: its raise, None where there is none; the report's words; the calls that it leaves."""
+    """What a deed or a job comes to: its raise, None where there is none; the report's words; the calls it leaves."""
 
     root: object
     words: list
@@ -205,7 +205,7 @@ class Replay:
         return found
 
     def meet(self, event, one, arguments):
-        """A raise comes to a binding: its guards are tested, and where they hold its handler runs or is left to a job."""
+        """A raise comes to a binding: its guards are tested; where they hold, its handler runs or is left to a job."""
         met = Met(event, one, one.handler, before=list(arguments), after=list(arguments))
         met.tested = [self.tested(which, which in one.imposed, arguments) for which in one.guards]
         met.runs = all(guard.holds for guard in met.tested)

@@ -113,7 +113,8 @@ class RunPicture:
         for event, rules in script.rules.items():
             rows += [f"rule {at} of event {event}: {' '.join(words)}" for at, words in enumerate(rules, 1)]
         rows += [f"authoriser of event {event}: {name}" for event, name in script.authorisers.items()]
-        rows += [f"default of event {event}: {script.called('handler', which)}" for event, which in script.defaults.items()]
+        called = lambda which: script.called("handler", which)
+        rows += [f"default of event {event}: {called(which)}" for event, which in script.defaults.items()]
         if len(rows) > DECLARED_MOST:
             rows = rows[:DECLARED_MOST] + [f"and {len(rows) - DECLARED_MOST} more lines"]
         return rows
@@ -309,7 +310,8 @@ class RunPicture:
             y += LINE + 3
         most = self.sheet.width - 8
         high = 19
-        chips = [(one, short_chip(one) if is_short and one.number not in changed else chip_text(self.script, one)) for one in order]
+        is_whole = lambda one: not is_short or one.number in changed
+        chips = [(one, chip_text(self.script, one) if is_whole(one) else short_chip(one)) for one in order]
         for one, text in chips:
             shown = wrapped(text, most - first - 12)
             wide = max(map(width_of, shown)) + 10
@@ -326,7 +328,8 @@ class RunPicture:
     def default_chip(self, event, x, y, high, has_bindings):
         """The event's default behind its bindings, and a word where it has neither; answers where they end."""
         default = self.bindings.events[event].default
-        text = f"default: {self.script.called('handler', default)}" if default else "" if has_bindings else "no binding, no default"
+        text = "" if has_bindings else "no binding, no default"
+        text = f"default: {self.script.called('handler', default)}" if default else text
         if text:
             if x + width_of(text) + 10 > self.sheet.width - 8:
                 x, y, high = self.side + 70, y + high + 3, 19

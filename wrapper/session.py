@@ -1,7 +1,7 @@
 """session [SCRIPT [PACKETS]]: a prompt that keeps a script growing line by line and tells what each line did.
 
-The script is run anew at each line, over a capture or none, so what is told is what the program wrote of it. A line that
-the program refuses isn't kept. Endpoints receive nothing that stays. It works from a pipe as well.
+The script is run anew at each line, over a capture or none, so what is told is what the program wrote of it. A line
+that the program refuses isn't kept. Endpoints receive nothing that stays. It works from a pipe as well.
 """
 
 import os

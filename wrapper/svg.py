@@ -179,7 +179,8 @@ const form = document.querySelector("form");
 const items = [...document.querySelectorAll(".item")];
 const boxes = items.filter(item => item.tagName === "g");
 const names = [...form.querySelectorAll("select")].map(one => one.name);
-const texts = new Map(items.map(item => [item, (item.textContent + " " + (whys[item.dataset.why] || "")).toLowerCase()]));
+const text_of = item => (item.textContent + " " + (whys[item.dataset.why] || "")).toLowerCase();
+const texts = new Map(items.map(item => [item, text_of(item)]));
 function choose() {
   const words = form.search.value.toLowerCase().split(/\\s+/);
   for (const item of items) {

@@ -81,9 +81,14 @@ class Judge:
         """A refusal."""
         return Verdict(["refused", str(NUMBERS[name]), name, *map(str, more)], [], why)
 
+    def handler(self, asked):
+        """The handler that a command uses."""
+        return self.script.called("handler", asked.handler)
+
     def of_units(self, asked, live):
-        """What is wrong with the handler, the guard and the bindings that a command names, and why; None where it is well."""
+        """What is wrong with the handler, guard and bindings that a command names, and why; None where all is well."""
         script, signature = self.script, self.script.events[asked.event][1]
+        event = script.called("event", asked.event)
         uses_handler, uses_guard = asked.kind in ("install", "replace", "default"), asked.kind in ("install", "replace")
         if uses_handler and asked.handler not in script.handlers:
             return "unknown_handler", f"no handler {asked.handler} is declared"
@@ -95,20 +100,20 @@ class Judge:
             if one not in live:
                 return "unknown_binding", f"{self.script.called('event', asked.event)} has no live binding #{one}"
         if uses_handler and handler_code(script, asked.handler)[0] != signature:
-            its = handler_code(script, asked.handler)[0]
-            return "wrong_type", f"{self.script.called('handler', asked.handler)} has the signature {its}, and {self.script.called('event', asked.event)} {signature}"
+            its = f"{self.handler(asked)} has the signature {handler_code(script, asked.handler)[0]}"
+            return "wrong_type", f"{its}, and {event} {signature}"
         if uses_guard and asked.guard and kinds(guard_code(script, asked.guard)[0]) != kinds(signature):
-            its = guard_code(script, asked.guard)[0]
-            return "wrong_type", f"{self.script.called('guard', asked.guard)} asks of {its}, and {self.script.called('event', asked.event)} has {signature}"
+            its = f"{script.called('guard', asked.guard)} asks of {guard_code(script, asked.guard)[0]}"
+            return "wrong_type", f"{its}, and {event} has {signature}"
         return self.of_steps(asked, live) if uses_handler else None
 
     def of_steps(self, asked, live):
         """What is wrong with the steps of the handler, and why; None where they are well."""
         if steps_raise_down(self.script, asked):
-            return "downward", f"{self.script.called('handler', asked.handler)} raises an event that isn't greater than {asked.event}"
+            return "downward", f"{self.handler(asked)} raises an event that isn't greater than {asked.event}"
         mode = asked.wish.mode if asked.wish else live[asked.target].mode if asked.kind == "replace" else "plain"
         if "set" in handler_code(self.script, asked.handler) and mode != "filter":
-            return "wrong_mode", f"{self.script.called('handler', asked.handler)} changes an argument, which only a filter may do"
+            return "wrong_mode", f"{self.handler(asked)} changes an argument, which only a filter may do"
         return None
 
     def by_owner(self, asked, live):
@@ -131,7 +136,7 @@ class Judge:
             one.place, one.before, one.after = place, (), ()
         if mode == "async" and "set" in handler_code(self.script, asked.handler):
             verdict.words = ["refused", "12", "forced_mode", str(which)]
-            verdict.why = f"{self.script.called('handler', asked.handler)} changes an argument, so it can't be left to jobs"
+            verdict.why = f"{self.handler(asked)} changes an argument, so it can't be left to jobs"
         elif len(live) >= most:
             verdict.words = ["refused", "10", "too_many"]
             verdict.why = f"{self.script.called('event', asked.event)} has {len(live)} live bindings already"

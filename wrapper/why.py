@@ -1,4 +1,4 @@
-"""Why each entry and job of a report came to what it did, in words: what the report tells, and what a replay finds beside.
+"""Why each entry and job of a report came to what it did, in words: what the report tells, and what a replay finds.
 
 `Why` goes through a report line by line, works each one anew at the bindings as they stood there, and compares what it
 comes to with what the report says. Nothing is proved of what is told here.
@@ -18,7 +18,7 @@ INDENT = "  "
 
 @dataclass
 class Because:
-    """What is told of a line of a report: its lines of text, what the replay comes to, and whether the report says so."""
+    """What is told of a line of a report: lines of text, what the replay comes to, and whether the report says so."""
 
     lines: list
     outcome: object = None
@@ -48,7 +48,7 @@ class Why:
         self.jobs = {}
 
     def take(self, line, is_wanted=True):
-        """Takes a line of the report; why it says so where that is wanted and it is an entry's or a job's, else None."""
+        """Takes a line of the report; why it says so, where that is wanted of an entry or a job, else None."""
         if line.kind not in ("entry", "job"):
             return None
         deed = self.script.deeds[line.line].words
@@ -98,8 +98,8 @@ class Why:
         """What is told, with a line more where the report says something else."""
         if words != said:
             found.agrees = False
-            found.lines.append(f"{INDENT}! worked anew this comes to `{' '.join(words)}`, and the report says otherwise: "
-                               f"`{' '.join(said)}`")
+            came = f"{INDENT}! worked anew this comes to `{' '.join(words)}`"
+            found.lines.append(f"{came}, and the report says otherwise: `{' '.join(said)}`")
         return found
 
     def head(self, line):
