@@ -18,3 +18,12 @@ lane 0 raise 0 9
 
 # A handler that changes an argument can't be left to a job, so module 2 may not bind it.
 lane 0 install 0 2 2 0 free filter
+
+# What the numbers stand for.
+# module 0 is Owner
+# module 1 is First
+# module 2 is Later
+# event 0 is Number.Given
+# handler 1 is Give
+# handler 2 is MakeSeven
+# guard 1 is BelowFive

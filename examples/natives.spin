@@ -18,3 +18,8 @@ lane 0 raise 0 x0000000000000005000000000800
 # Module 2 may not remove what module 1 has bound, and module 1 may.
 lane 0 remove 0 2 1
 lane 0 remove 0 1 1
+
+# What the numbers stand for.
+# event 0 is Ethernet.PacketArrived
+# handler 1 is FirstWord
+# guard 1 is IsIP

@@ -28,3 +28,12 @@ lane 0 raise 2 5
 lane 0 raise 2 50
 lane 0 nodefault 2 0
 lane 0 raise 2 50
+
+# What the numbers stand for.
+# event 0 is Last.Asked
+# event 1 is Sum.Asked
+# event 2 is Nothing.Asked
+# handler 1 is AddOne
+# handler 2 is AddTwo
+# handler 3 is Note
+# guard 1 is BelowTen
