@@ -134,8 +134,9 @@ def run_to_its_end(command, words, quiet):
     from wrapper import convert
 
     flags, words = outputs.read_flags(words)
-    if command is None and flags.out is not None:
-        raise outputs.Refused("the program isn't built, and a trial keeps no endpoint's file", program.NOT_RUN)
+    if command is None and (flags.out is not None or flags.counts):
+        why = "the program isn't built, and a trial keeps no endpoint's file and isn't counted"
+        raise outputs.Refused(why, program.NOT_RUN)
     outputs.prepare(flags, words, quiet)
     with convert.in_words(words) as read:
         if command is None:

@@ -73,13 +73,22 @@ def report_of(asked, folder):
 
 
 def explained(asked, folder):
-    """The script's entries and jobs that are asked for, each with why it says what it does."""
-    lines = [read_line(text) for text in report_of(asked, folder).splitlines()]
+    """The script's entries and jobs that are asked for, one after another, each with why it says what it does."""
+    lines = (read_line(text) for text in report_of(asked, folder).splitlines())
     script = read_script((Path(folder) / "script").read_text("ascii"))
     records = Records(script, (Path(folder) / "packets").read_bytes()) if asked.packets else None
     number, _, part = asked.line.partition(".")
     is_wanted = lambda line: not number or line.line == int(number) and (not part or line.part == int(part))
-    return [*why.explain(script, lines, records, is_wanted)]
+    return why.explain(script, lines, records, is_wanted)
+
+
+def written(found):
+    """Writes why each line says what it does; how many there were, and the lines with which the report disagrees."""
+    count, odd = 0, []
+    for count, one in enumerate(found, 1):
+        print("".join(f"{line}\n" for line in one.lines), end="")
+        odd += [one.line.source] * (not one.agrees)
+    return count, odd
 
 
 def main(words):
@@ -87,17 +96,15 @@ def main(words):
     try:
         asked = read_words(words)
         with tempfile.TemporaryDirectory() as folder:
-            found = explained(asked, folder)
+            count, odd = written(explained(asked, folder))
     except Refused as refused:
         program.tell(str(refused))
         if refused.judged:
             ending.tell_reasons(program.command(), refused.judged, refused.status)
         return refused.status
-    if asked.line and not found:
+    if asked.line and not count:
         program.tell(f"line {asked.line} of {asked.script} has no entry in the report")
         return WRONG_WORDS
-    print("".join(f"{line}\n" for one in found for line in one.lines), end="")
-    odd = [one.line.source for one in found if not one.agrees]
     if odd:
         came = f"worked anew {len(odd)} lines come to something else than the report says"
         program.tell(f"{came}, the first of line {odd[0]}")
