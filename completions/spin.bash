@@ -14,7 +14,7 @@ _spin() {
         gen) words='--out --append' ;;
         build) words='--all --libraries --any-logic' ;;
         explain) words='--report' ;;
-        picture) words='run climb --html --out' ;;
+        picture) words='run climb --html --convert --out' ;;
         filter) words='--script --jobs --out --pcap --piece --part --convert --counts --json' ;;
         help) words='run check join vm gen build session explain picture filter help version' ;;
     esac

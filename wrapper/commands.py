@@ -31,7 +31,7 @@ WRAPPER = [
             "session examples/first.spin"),
     Command("explain", "SCRIPT [LINE] [PACKETS] [--report REPORT]",
             "tells why each raise and command came to what it did", "explain examples/filters.spin 19"),
-    Command("picture", "run|climb SCRIPT REPORT [PACKETS] [--html] [--out FILE]",
+    Command("picture", "run|climb SCRIPT REPORT [PACKETS] [--html] [--convert] [--out FILE]",
             "draws a run, or the climb of its packets, as SVG",
             "picture run examples/first.spin examples/first.report"),
     Command("filter", "SCRIPT CAPTURE.. [-e EXPRESSION] [-w FILE] [--script] [--jobs N] [--out FOLDER] [--pcap] [--piece N]"

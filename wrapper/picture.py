@@ -12,14 +12,14 @@ import sys
 import tempfile
 from pathlib import Path
 
-from wrapper import climb_picture, ending, program, run_picture
+from wrapper import climb_picture, convert, ending, outputs, program, run_picture
 from wrapper.reading import read_report, read_script
 from wrapper.records import Records
 from wrapper.svg import TooLarge, page
 
 USAGE = (
-    "usage: spin picture run SCRIPT REPORT [PACKETS] [--html] [--out FILE]"
-    " | spin picture climb SCRIPT REPORT PACKETS [--html] [--out FILE]"
+    "usage: spin picture run SCRIPT REPORT [PACKETS] [--html] [--convert] [--out FILE]"
+    " | spin picture climb SCRIPT REPORT PACKETS [--html] [--convert] [--out FILE]"
 )
 KINDS = {"run": (run_picture, (2, 3)), "climb": (climb_picture, (3,))}
 # The statuses of the wrapper's own ends are those that the program has for the like.
@@ -36,13 +36,16 @@ class Refused(Exception):
 
 
 def read_words(words):
-    """The kind of picture, its files, whether it stands in a page, and the file to write, None for standard output."""
-    files, out, is_page = [], None, False
+    """The kind of picture, its files, whether it stands in a page, whether a capture is made readable first, and the file
+    to write, None for standard output."""
+    files, out, is_page, is_converted = [], None, False, False
     rest = list(words[1:])
     while rest:
         word = rest.pop(0)
         if word == "--html":
             is_page = True
+        elif word == convert.FLAG:
+            is_converted = True
         elif word == "--out" and rest:
             out = rest.pop(0)
         elif word.startswith("--"):
@@ -51,7 +54,7 @@ def read_words(words):
             files.append(word)
     if not words or words[0] not in KINDS or len(files) not in KINDS[words[0]][1]:
         raise Refused(USAGE, WRONG_WORDS)
-    return words[0], files, is_page, out
+    return words[0], files, is_page, is_converted, out
 
 
 def copied(files, folder):
@@ -121,12 +124,16 @@ def write(text, out):
 def main(words):
     """Draws the picture that the words ask for, and answers the exit status."""
     try:
-        kind, files, is_page, out = read_words(words)
-        with tempfile.TemporaryDirectory() as folder:
+        kind, files, is_page, is_converted, out = read_words(words)
+        with tempfile.TemporaryDirectory() as folder, convert.all_converted(files[2:], is_converted) as captures:
+            files[2:] = captures
             copied(files, folder)
             judge(folder, files)
             text = drawn(kind, folder, files, is_page)
         write(text, out)
+    except outputs.Refused as refused:
+        program.tell(str(refused))
+        return refused.status
     except Refused as refused:
         program.tell(str(refused))
         if refused.judged:
