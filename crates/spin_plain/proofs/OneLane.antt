@@ -1,21 +1,19 @@
 -- With one lane a run is the plain dispatcher's.
-use Rattle.std.proofs.Common.{◌≡◌, ℕ, ◌<◌, Bool, true, false, cond, List, [], ◌∷◌, ◌++◌, length, map, take, drop, refl, sym, ap, subst, ◌∙◌, arith}
-use Rattle.std.specs.Prelude.{◌==◌, filter, Option, Ok, All}
+use Rattle.std.proofs.Common.{◌≡◌, ℕ, ◌<◌, true, false, List, [], ◌∷◌, ◌++◌, length, map, refl, sym, ap, subst, ◌∙◌, arith}
+use Rattle.std.specs.Prelude.{◌==◌, All}
 use Rattle.std.specs.Option.{option_map}
 use Rattle.std.specs.List.{flat_map}
 use Rattle.std.proofs.Math.Seq.{take-append_seam, drop-append_seam}
 use Rattle.std.proofs.lemmas.Bool.{eq-eqb}
-use Rattle.std.proofs.lemmas.List.Elements.{All-head, All-tail, All-take, All-drop, All-weaker}
+use Rattle.std.proofs.lemmas.List.Elements.{All-take, All-drop, All-weaker}
 use Rattle.std.proofs.lemmas.List.Folds.{map_fixed}
 use Rattle.spin_word.specs.declared.work.Work.{Work}
 use Rattle.spin_table.specs.declared.refusal.Refusal.{Refusal}
 use Rattle.spin_table.specs.declared.refusal.Refusal.TheVariants as refusal
-use Rattle.spin_table.specs.declared.refusal.Verdicted.{Verdicted}
 use Rattle.spin_table.specs.declared.refusal.Verdicted.TheVariants as verdicted
 use Rattle.spin_table.specs.Setups.{SetupData}
 use Rattle.spin_table.specs.States.{State}
 use Rattle.spin_table.specs.Laws.{cause_of}
-use Rattle.spin_endpoint.specs.Named.{NamedEnd}
 use Rattle.spin_endpoint.specs.Sends.{SentSeen, all_received, all_retired}
 use Rattle.spin_script.specs.declared.script.Line.{Line}
 use Rattle.spin_script.specs.declared.script.Segment.{Segment}
@@ -27,14 +25,14 @@ use Rattle.spin_report.specs.declared.entry.What.{What}
 use Rattle.spin_report.specs.declared.entry.What.TheVariants as what
 use Rattle.spin_report.specs.declared.entry.Entry.{Entry}
 use Rattle.spin_report.specs.Lines.{JobSeen}
-use Rattle.spin_report.specs.Histories.{SegmentSeen, HistorySeen, report_text, entries_of}
+use Rattle.spin_report.specs.Histories.{SegmentSeen, report_text}
 use Rattle.spin_report.specs.Legal.{IsLegal}
 use Rattle.spin_report.specs.Jobs.{answer_calls, AreJobsFrom, AreJobs}
 use Rattle.spin_report.specs.Asked.{Numbered, asked_of}
 use Rattle.spin_report.specs.Segments.{asked_in, of_lane, asked_of_lane}
-use Rattle.spin_report.specs.Runs.{Standing, Captured, sends_of, sends_of_reply, sends_in, lost_counts, IsSegmentRun, AreRun, counts_of, frames_of, start_with, IsRun}
+use Rattle.spin_report.specs.Runs.{Standing, sends_of, sends_of_reply, sends_in, lost_counts, IsSegmentRun, AreRun, counts_of, frames_of, start_with}
 use Rattle.spin_report.proofs.Asking.{asked_all}
-use Rattle.spin_plain.specs.Plain.{next_state, entry_for, jobs_for, entries_from, jobs_from, state_from, plain_answers, plain_segment, plain_after, plain_segments, plain_end, plain_last, plain_history}
+use Rattle.spin_plain.specs.Plain.{next_state, entry_for, jobs_for, entries_from, jobs_from, state_from, plain_answers, plain_segment, plain_after, plain_segments, plain_end}
 use Rattle.spin_plain.specs.Laws.{is_conflict, met_conflict, what_without, entry_without, segment_without, without_cycles, OneLaneIsPlain, OneLaneOneText}
 use Rattle.spin_plain.proofs.Turns.{keep_all}
 use Rattle.spin_plain.proofs.RisingNumbers.{IsRising, start_rises}

@@ -1,9 +1,8 @@
 -- Where the plain dispatcher meets no conflict, its history is one of the script's.
 use Rattle.std.proofs.Common.{◌≡◌, ◌⊎◌, inl, inr, ℕ, zero, suc, ◌+◌, ◌<◌, Bool, true, false, not, cond, List, [], ◌∷◌, ◌++◌, length, get_or, map, take, drop, refl, sym, ap, subst, ◌∙◌, arith}
-use Rattle.std.specs.Prelude.{◌==◌, nat_lt, slice_get, slice_set, filter, Option, Some, None, Ok, All, AllPairs, MatchOption}
+use Rattle.std.specs.Prelude.{◌==◌, nat_lt, slice_get, slice_set, Option, Some, None, All, AllPairs, MatchOption}
 use Rattle.std.specs.List.{enumerate_from, flat_map, zip}
 use Rattle.std.specs.Ordering.{is_lt, nat_cmp, bool_cmp, ordering_then}
-use Rattle.std.specs.declared.cmp.Ordering.{Ordering}
 use Rattle.std.specs.declared.cmp.Ordering.TheVariants as ordering
 use Rattle.std.proofs.Math.Seq.{take-append_seam, drop-append_seam}
 use Rattle.std.proofs.lemmas.Bool.{eqb-true}
@@ -15,8 +14,6 @@ use Rattle.std.proofs.lemmas.List.Sorted.{IsPermutation-refl}
 use Rattle.spin_word.specs.declared.command.Op.{Op}
 use Rattle.spin_word.specs.declared.command.Op.TheVariants as op
 use Rattle.spin_word.specs.declared.command.Command.{Command}
-use Rattle.spin_word.specs.declared.work.Deed.{Deed}
-use Rattle.spin_word.specs.declared.work.Deed.TheVariants as deed
 use Rattle.spin_word.specs.declared.work.Work.{Work}
 use Rattle.spin_word.specs.declared.work.Work.TheVariants as work
 use Rattle.spin_place.specs.declared.binding.Binding.{Binding}
@@ -28,12 +25,11 @@ use Rattle.spin_table.specs.declared.refusal.Verdicted.TheVariants as verdicted
 use Rattle.spin_table.specs.Setups.{SetupData, tests_in}
 use Rattle.spin_table.specs.States.{State, EventState, first_state, start_of}
 use Rattle.spin_table.specs.Refusals.{refusal_on, refusal_of}
-use Rattle.spin_table.specs.Steps.{event_after, events_after, state_after, bindings_if, bindings_at, IsOrderly, ChangesTo, IsStep}
+use Rattle.spin_table.specs.Steps.{event_after, events_after, state_after, bindings_if, bindings_at, IsOrderly, ChangesTo}
 use Rattle.spin_table.proofs.CommandSteps.{slice_get-set_same, orderly_after}
-use Rattle.spin_raise.specs.Firing.{Bound, bound_of}
+use Rattle.spin_raise.specs.Firing.{bound_of}
 use Rattle.spin_proto.specs.declared.deed.JobCall.{JobCall}
-use Rattle.spin_proto.specs.Replies.{AreBounds, units_in, job_reply, IsDeedReply}
-use Rattle.spin_endpoint.specs.Named.{NamedEnd}
+use Rattle.spin_proto.specs.Replies.{AreBounds, units_in, job_reply}
 use Rattle.spin_script.specs.declared.script.Line.{Line}
 use Rattle.spin_script.specs.declared.script.Segment.{Segment}
 use Rattle.spin_script.specs.States.{ScriptData}
@@ -43,16 +39,15 @@ use Rattle.spin_script.proofs.LaneLines.{script_orderly}
 use Rattle.spin_report.specs.declared.entry.What.{What}
 use Rattle.spin_report.specs.declared.entry.What.TheVariants as what
 use Rattle.spin_report.specs.declared.entry.Entry.{Entry}
-use Rattle.spin_report.specs.Lines.{JobSeen}
 use Rattle.spin_report.specs.Histories.{SegmentSeen}
 use Rattle.spin_report.specs.Legal.{Answers, IsLegal}
 use Rattle.spin_report.specs.Jobs.{answer_calls, entry_job, AreJobsFrom, AreJobs}
 use Rattle.spin_report.specs.Asked.{Numbered, asked_by, asked_of}
 use Rattle.spin_report.specs.Segments.{records_wanted, raise_with, parts_of, asked_at, asked_in, is_accepted, moment, moment_cmp, of_lane, asked_of_lane, IsInOrder, IsWoven}
-use Rattle.spin_report.specs.Runs.{Standing, Captured, frames_of, start_with, IsSegmentRun, AreRun, IsRun}
+use Rattle.spin_report.specs.Runs.{Standing, frames_of, start_with, IsSegmentRun, AreRun}
 use Rattle.spin_report.proofs.Asking.{IsLater, asked_all, asked_rises}
 use Rattle.spin_plain.specs.Order.{in_order}
-use Rattle.spin_plain.specs.Plain.{can_stand, verdict_by, verdict_on, found_at, answered, left_by, next_state, entry_for, jobs_for, entries_from, jobs_from, state_from, plain_segment, plain_after, plain_segments, plain_end, plain_last, plain_history}
+use Rattle.spin_plain.specs.Plain.{can_stand, verdict_by, verdict_on, found_at, answered, left_by, next_state, entry_for, jobs_for, entries_from, jobs_from, state_from, plain_segment, plain_after, plain_segments, plain_end}
 use Rattle.spin_plain.specs.Laws.{is_conflict, met_conflict, PlainIsRun}
 use Rattle.spin_plain.proofs.Turns.{whole-in_order, IsTheOrder-in_order, arranged_is}
 use Rattle.spin_plain.proofs.RisingNumbers.{Rises, EachRises, IsRising, at_rises, next_rises, start_rises}
@@ -88,7 +83,7 @@ bounds_there top (e ∷ es) (t ∷ ts) size rising orderly =
     let same = arranged_is t.bindings here.rise (numbers_of (in_order t.bindings)) order in
     let rest = bounds_there top es ts (omega (arith, size)) (All-tail (λ (x : EventState). Rises top x.bindings) t ts rising)
     (All-tail (λ (x : EventState). HasLawfulOrder x.bindings) t ts orderly) in
-    ((numbers_of (in_order t.bindings), (order, ap (λ xs. bound_of xs e.merge t.default) (sym same))), rest)
+    ((numbers_of (in_order t.bindings), order, ap (λ xs. bound_of xs e.merge t.default) (sym same)), rest)
 
 bounds_of : (d : SetupData) (s : State) → IsFound d s → AreBounds d.events s.events (found_at d s)
 bounds_of d s found = bounds_there s.place d.events s.events found.events found.rising found.orderly
@@ -166,18 +161,18 @@ module _ (d : SetupData) (s : State) (c : Command) (found : IsFound d s) where
 answers_there : (d : SetupData) (s : State) (w : Work) → IsFound d s → met_conflict (answered d s w) ≡ false
     → Answers d s (answered d s w) (left_by d s (answered d s w)) × IsFound d (left_by d s (answered d s w))
 answers_there d s (work.Command c) found free = command_done d s c found free
-answers_there d s (work.Deed asked) found free = (((found_at d s, (bounds_of d s found, refl)), refl), found)
-answers_there d s (work.Packet event count) found free = (((found_at d s, (bounds_of d s found, refl)), refl), found)
+answers_there d s (work.Deed asked) found free = (((found_at d s, bounds_of d s found, refl), refl), found)
+answers_there d s (work.Packet event count) found free = (((found_at d s, bounds_of d s found, refl), refl), found)
 
 jobs_there : (d : SetupData) (s : State) (entry : Entry) (k : ℕ) (calls : List JobCall) → IsFound d s
     → AreJobsFrom d s entry k calls (map (λ call. entry_job entry call.0 (job_reply (units_in d) (found_at d s) call.1)) (enumerate_from k calls))
 jobs_there d s entry k [] found = refl
 jobs_there d s entry k (call ∷ calls) found = (
   job_reply (units_in d) (found_at d s) call,
-  (
-    map (λ more. entry_job entry more.0 (job_reply (units_in d) (found_at d s) more.1)) (enumerate_from (k + 1) calls),
-    ((found_at d s, (bounds_of d s found, refl)), (refl, jobs_there d s entry (k + 1) calls found)),
-  ),
+  map (λ more. entry_job entry more.0 (job_reply (units_in d) (found_at d s) more.1)) (enumerate_from (k + 1) calls),
+  (found_at d s, bounds_of d s found, refl),
+  refl,
+  jobs_there d s entry (k + 1) calls found,
 )
 
 record AreThere (d : SetupData) (s : State) (asked : List Numbered) : Type 0 where
@@ -192,13 +187,15 @@ all_there d s (n ∷ asked) found free =
     let one = answers_there d s n.asked found (All-head MetNone (entry_for d s n) (entries_from d then asked) free) in
     let rest = all_there d then asked one.1 (All-tail MetNone (entry_for d s n) (entries_from d then asked) free) in
     record {
-      legal = (then, ((one.0, refl), rest.legal));
+      legal = (then, (one.0, refl), rest.legal);
       jobs = (
         then,
-        (
-          jobs_for d then (entry_for d s n),
-          (jobs_from d then asked, ((one.0, refl), (jobs_there d then (entry_for d s n) 0 (answer_calls (answered d s n.asked)) one.1, (rest.jobs, refl)))),
-        ),
+        jobs_for d then (entry_for d s n),
+        jobs_from d then asked,
+        (one.0, refl),
+        jobs_there d then (entry_for d s n) 0 (answer_calls (answered d s n.asked)) one.1,
+        rest.jobs,
+        refl,
       );
       found = rest.found;
     }
@@ -264,7 +261,7 @@ later_place a b less =
     (above a.0 b.0 less)
 
 -- nor is it at the same place what stands later in the text of one lane, where it is no command that was accepted
-later_line : (p : ℕ) (y : Bool) (l k i j g h : ℕ) → l ≡ k → (j < i) ⊎ ((j ≡ i) × (h < g)) → is_lt (moment_cmp (p, (true, (l, (i, g)))) (p, (y, (k, (j, h))))) ≡ false
+later_line : (p : ℕ) (y : Bool) (l k i j g h : ℕ) → l ≡ k → (j < i) ⊎ ((j ≡ i) × (h < g)) → is_lt (moment_cmp (p, true, l, i, g) (p, y, k, j, h)) ≡ false
 later_line p false l k i j g h lane later =
     ap (λ o. is_lt (ordering_then (ordering_then (ordering_then (ordering_then o (bool_cmp true false)) (nat_cmp l k)) (nat_cmp i j)) (nat_cmp g h))) (level p p refl)
 later_line p true l k i j g h lane (inl less) =
@@ -289,9 +286,9 @@ not_earlier d s n m first second later = go (answered d (next_state d s n) m.ask
     in_text : (n.line < m.line) ⊎ ((n.line ≡ m.line) × (n.part < m.part))
     in_text = later
 
-    go : (w : What) → is_lt (moment_cmp ((left_by d (next_state d s n) w).place, (not (is_accepted w), (m.lane, (m.line, m.part)))) (moment (entry_for d s n))) ≡ false
+    go : (w : What) → is_lt (moment_cmp ((left_by d (next_state d s n) w).place, not (is_accepted w), m.lane, m.line, m.part) (moment (entry_for d s n))) ≡ false
     go (what.Command c verdicted.Accepted) =
-        later_place ((next_state d s n).place + 1, (false, (m.lane, (m.line, m.part)))) (moment (entry_for d s n)) (omega arith)
+        later_place ((next_state d s n).place + 1, false, m.lane, m.line, m.part) (moment (entry_for d s n)) (omega arith)
     go (what.Command c (verdicted.Refused r)) = later_line (next_state d s n).place (not (is_accepted (answered d s n.asked))) m.lane n.lane m.line n.line m.part n.part lane in_text
     go (what.Deed asked reply) = later_line (next_state d s n).place (not (is_accepted (answered d s n.asked))) m.lane n.lane m.line n.line m.part n.part lane in_text
 
@@ -383,16 +380,13 @@ module _ (script : ScriptData) (lanes : script.lanes ≡ 1) where
       subst (All MetNone) (drop-append_seam first others) (All-drop MetNone (length first) (first ++ others) free) in
       let first_rise = rise_front segment.lines later rise in
       let one = segment_runs segment before first_lines first_rise from first_free in
-      let left = there segment before first_lines first_rise from first_free in
-      (
+      let left = there segment before first_lines first_rise from first_free in (
         plain_segment script segment before,
-        (
-          plain_segments script segments (plain_after script segment before),
-          (
-            plain_after script segment before,
-            (refl, (one, segments_run segments (plain_after script segment before) other_lines (rise_behind segment.lines later rise) left.found other_free)),
-          ),
-        ),
+        plain_segments script segments (plain_after script segment before),
+        plain_after script segment before,
+        refl,
+        one,
+        segments_run segments (plain_after script segment before) other_lines (rise_behind segment.lines later rise) left.found other_free,
       )
 
 pub plain_runs : PlainIsRun

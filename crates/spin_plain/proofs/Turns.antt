@@ -1,6 +1,6 @@
 -- Bindings that go turn by turn are in the order.
-use Rattle.std.proofs.Common.{◌≡◌, ℕ, zero, suc, ◌<◌, ◌≤◌, Bool, true, false, not, cond, eqb, List, [], ◌∷◌, length, get_or, map, refl, sym, ap, subst, ◌∙◌, inl, inr, arith}
-use Rattle.std.specs.Prelude.{◌==◌, filter, find, Option, None, Some, IsTrue}
+use Rattle.std.proofs.Common.{◌≡◌, ℕ, zero, suc, ◌<◌, ◌≤◌, Bool, true, false, not, cond, List, [], ◌∷◌, length, get_or, refl, sym, ap, subst, ◌∙◌, inl, inr, arith}
+use Rattle.std.specs.Prelude.{◌==◌, filter, find, Option, None, Some}
 use Rattle.std.specs.List.{All, AllPairs, Contains, list_any, cons_option}
 use Rattle.std.specs.List.Sorted.{IsPermutation}
 use Rattle.std.specs.Option.{option_map_or}
@@ -14,7 +14,7 @@ use Rattle.std.proofs.lemmas.List.Sorted.{IsPermutation-refl, IsPermutation-sym,
 use Rattle.spin_place.specs.declared.binding.Binding.{Binding}
 use Rattle.spin_place.specs.Orders.{AreDistinct, IsLawfulOrder, IsLeastOrder}
 use Rattle.spin_place.specs.Precedence.{must_precede, numbers_of, MustPrecede, IsTheOrder, HasLawfulOrder}
-use Rattle.spin_place.proofs.NumberLists.{AllPairs-head, AllPairs-tail, Contains-here, Contains-there, Contains-cons}
+use Rattle.spin_place.proofs.NumberLists.{AllPairs-head, AllPairs-tail, Contains-here, Contains-there}
 use Rattle.spin_place.proofs.Precedences.{MustPrecede-irreflexive, MustPrecede-from, MustPrecede-at, Contains-number}
 use Rattle.spin_place.proofs.LawfulOrders.{IsLeastOrder-nil, IsLeastOrder-cons}
 use Rattle.spin_table.proofs.LawfulOrders.{map-filter, IsPermutation-filter}
@@ -153,8 +153,13 @@ module _ (all : List Binding) (distinct : AreDistinct (numbers_of all)) where
 
     others_few : (n : ℕ) → length bs ≡ suc n → length (all_but b.number bs) ≡ n
     others_few n size =
-        omega (arith, size, length_permutation (numbers_of bs) (b.number ∷ numbers_of (all_but b.number bs)) (to_front_by_number bs b apart first.inside),
-        length-map bs (λ (c : Binding). c.number), length-map (all_but b.number bs) (λ (c : Binding). c.number))
+        omega (
+          arith,
+          size,
+          length_permutation (numbers_of bs) (b.number ∷ numbers_of (all_but b.number bs)) (to_front_by_number bs b apart first.inside),
+          length-map bs (λ (c : Binding). c.number),
+          length-map (all_but b.number bs) (λ (c : Binding). c.number),
+        )
 
     others_lawful : (ms : List ℕ) → IsLawfulOrder (MustPrecede all) (numbers_of bs) ms
         → IsLawfulOrder (MustPrecede all) (numbers_of (all_but b.number bs)) (filter (λ n. not (n == b.number)) ms)

@@ -1,6 +1,6 @@
 -- Scripts with one lane, and their reports as the plain dispatcher gives them: those of examples/first.spin,
 -- examples/order.spin and examples/jobs.spin, and one with packets.
-use Rattle.std.specs.Prelude.{◌≡◌, ℕ, true, false, List, [], ◌∷◌, fold, Option, Some, None, codes}
+use Rattle.std.specs.Prelude.{◌≡◌, ℕ, true, false, List, [], ◌∷◌, fold, Some, None, codes}
 use Rattle.spin_values.specs.declared.types.Kind.TheVariants as kind
 use Rattle.spin_values.specs.declared.types.EventType.{EventType}
 use Rattle.spin_values.specs.declared.values.Value.TheVariants as value
@@ -41,46 +41,46 @@ of_nothing = record { params = []; gives = false }
 abbrev pub first : ScriptData
 first =
     script_with (
-      (2, Event 0 0 word_to_word merge.Last)
-      ∷ (3, Handler 1 word_to_word (step.Result (Const 5) ∷ []))
-      ∷ (4, Lane 0 (Install 0 0 1 0 (At place.Free) mode.Plain))
-      ∷ (5, Lane 0 (Raise 0 (value.Word 9 ∷ []))) ∷ []
+    (2, Event 0 0 word_to_word merge.Last)
+    ∷ (3, Handler 1 word_to_word (step.Result (Const 5) ∷ []))
+    ∷ (4, Lane 0 (Install 0 0 1 0 (At place.Free) mode.Plain))
+    ∷ (5, Lane 0 (Raise 0 (value.Word 9 ∷ []))) ∷ []
     )
 
 -- examples/order.spin
 abbrev pub order : ScriptData
 order =
     script_with (
-      (3, Event 0 0 of_nothing merge.Last)
-      ∷ (4, Handler 1 of_nothing [])
-      ∷ (7, Lane 0 (Install 0 0 1 0 (At place.Free) mode.Plain))
-      ∷ (8, Lane 0 (Install 0 0 1 0 (At place.First) mode.Plain))
-      ∷ (9, Lane 0 (Install 0 0 1 0 (Before 1) mode.Plain))
-      ∷ (10, Lane 0 (Install 0 0 1 0 (At place.Last) mode.Plain))
-      ∷ (11, Lane 0 (Install 0 0 1 0 (At place.Free) mode.Plain))
-      ∷ (12, Lane 0 (Raise 0 []))
-      ∷ (15, Lane 0 (Remove 0 0 1))
-      ∷ (16, Lane 0 (Raise 0 []))
-      ∷ (19, Lane 0 (Install 0 0 1 0 (Before 2) mode.Plain)) ∷ []
+    (3, Event 0 0 of_nothing merge.Last)
+    ∷ (4, Handler 1 of_nothing [])
+    ∷ (7, Lane 0 (Install 0 0 1 0 (At place.Free) mode.Plain))
+    ∷ (8, Lane 0 (Install 0 0 1 0 (At place.First) mode.Plain))
+    ∷ (9, Lane 0 (Install 0 0 1 0 (Before 1) mode.Plain))
+    ∷ (10, Lane 0 (Install 0 0 1 0 (At place.Last) mode.Plain))
+    ∷ (11, Lane 0 (Install 0 0 1 0 (At place.Free) mode.Plain))
+    ∷ (12, Lane 0 (Raise 0 []))
+    ∷ (15, Lane 0 (Remove 0 0 1))
+    ∷ (16, Lane 0 (Raise 0 []))
+    ∷ (19, Lane 0 (Install 0 0 1 0 (Before 2) mode.Plain)) ∷ []
     )
 
 -- examples/jobs.spin
 abbrev pub jobs : ScriptData
 jobs =
     script_with (
-      (3, Event 0 0 bytes_to_word merge.Last)
-      ∷ (4, Endpoint 0 (codes "out0"))
-      ∷ (5, Endpoint 1 (codes "printer"))
-      ∷ (6, Handler 1 bytes_to_word (step.Result (Field 0 0 2) ∷ step.Send 0 0 2 ∷ []))
-      ∷ (7, Handler 2 bytes_to_word (step.Send 1 0 0 ∷ []))
-      ∷ (11, Lane 0 (Install 0 0 1 0 (At place.Free) mode.Async))
-      ∷ (12, Lane 0 (Raise 0 (value.Bytes (1 ∷ 2 ∷ 170 ∷ 187 ∷ []) ∷ [])))
-      ∷ (15, Lane 0 (Later 0 (value.Bytes (3 ∷ 4 ∷ 204 ∷ []) ∷ [])))
-      ∷ (18, Lane 0 (Install 0 0 2 0 (At place.Free) mode.Plain))
-      ∷ (19, Lane 0 (Raise 0 (value.Bytes (5 ∷ 6 ∷ 221 ∷ []) ∷ [])))
-      ∷ (20, Barrier)
-      ∷ (24, Retire 0)
-      ∷ (25, Lane 0 (Raise 0 (value.Bytes (7 ∷ 8 ∷ 238 ∷ []) ∷ []))) ∷ []
+    (3, Event 0 0 bytes_to_word merge.Last)
+    ∷ (4, Endpoint 0 (codes "out0"))
+    ∷ (5, Endpoint 1 (codes "printer"))
+    ∷ (6, Handler 1 bytes_to_word (step.Result (Field 0 0 2) ∷ step.Send 0 0 2 ∷ []))
+    ∷ (7, Handler 2 bytes_to_word (step.Send 1 0 0 ∷ []))
+    ∷ (11, Lane 0 (Install 0 0 1 0 (At place.Free) mode.Async))
+    ∷ (12, Lane 0 (Raise 0 (value.Bytes (1 ∷ 2 ∷ 170 ∷ 187 ∷ []) ∷ [])))
+    ∷ (15, Lane 0 (Later 0 (value.Bytes (3 ∷ 4 ∷ 204 ∷ []) ∷ [])))
+    ∷ (18, Lane 0 (Install 0 0 2 0 (At place.Free) mode.Plain))
+    ∷ (19, Lane 0 (Raise 0 (value.Bytes (5 ∷ 6 ∷ 221 ∷ []) ∷ [])))
+    ∷ (20, Barrier)
+    ∷ (24, Retire 0)
+    ∷ (25, Lane 0 (Raise 0 (value.Bytes (7 ∷ 8 ∷ 238 ∷ []) ∷ []))) ∷ []
     )
 
 -- the one endpoint that is handed in beside it
@@ -91,11 +91,11 @@ one_end = added (codes "out0") (record { pieces = Some []; finishes = 0; faults 
 abbrev pub packets : ScriptData
 packets =
     script_with (
-      (2, Event 0 0 bytes_to_word merge.Last)
-      ∷ (3, Handler 1 bytes_to_word (step.Result (Field 0 0 1) ∷ []))
-      ∷ (4, Lane 0 (Install 0 0 1 0 (At place.Free) mode.Plain))
-      ∷ (5, Lane 0 (Packet 0 2))
-      ∷ (6, Lane 0 (Packet 0 3)) ∷ []
+    (2, Event 0 0 bytes_to_word merge.Last)
+    ∷ (3, Handler 1 bytes_to_word (step.Result (Field 0 0 1) ∷ []))
+    ∷ (4, Lane 0 (Install 0 0 1 0 (At place.Free) mode.Plain))
+    ∷ (5, Lane 0 (Packet 0 2))
+    ∷ (6, Lane 0 (Packet 0 3)) ∷ []
     )
 
 -- a capture of three records, with five bytes behind them that are no record

@@ -1,5 +1,5 @@
 -- The plain dispatcher as a function: what it answers where all deeds are done in the order of the text.
-use Rattle.std.specs.Prelude.{ℕ, Bool, true, false, ◌==◌, List, [], ◌∷◌, ◌++◌, map, fold, drop, length, Option, Some, None}
+use Rattle.std.specs.Prelude.{Bool, true, false, ◌==◌, List, [], ◌∷◌, ◌++◌, map, fold, drop, length, Option, Some, None}
 use Rattle.std.specs.Option.{option_map}
 use Rattle.std.specs.List.{enumerate_from, zip}
 use Rattle.spin_word.specs.declared.command.Op.{Op}
@@ -19,7 +19,6 @@ use Rattle.spin_table.specs.States.{State}
 use Rattle.spin_table.specs.Refusals.{refusal_of}
 use Rattle.spin_table.specs.Steps.{state_after, bindings_at}
 use Rattle.spin_raise.specs.Firing.{Bound, bound_of}
-use Rattle.spin_proto.specs.declared.reply.Reply.{Reply}
 use Rattle.spin_proto.specs.Replies.{units_in, types_in, deed_reply, job_reply}
 use Rattle.spin_endpoint.specs.Named.{NamedEnd}
 use Rattle.spin_endpoint.specs.Sends.{all_received, all_retired}
