@@ -8,7 +8,10 @@ CALL, SOURCE = "pub fn spin<", "crates/spin_top/src/top.rt"
 CLAUSES = ["sincere", "headline"]
 # The clauses that say the same of another command, and what they rest on beside.
 BESIDE = ["headline_joined"]
-BESIDE_IS = "what the clause *headline_joined* rests on beside, which says the same of `join` over the joined capture, and no page has"
+BESIDE_IS = (
+    "what the clause *headline_joined* rests on beside, which says the same of `join` over the joined capture, and no page "
+    "has"
+)
 # What is named on the path and has pages of its own, one level deeper.
 APART = "spin_script:IsScript"
 APART_IS = "When the text of a script is accepted"
@@ -23,13 +26,15 @@ HEADLINE = (
 
 # Each part of the headline, what it means, and the definitions that say it.
 WORDS = [
-    ("For every script", "the text that was read under the script's name says that script, line by line, and no line of it is "
-     "refused", ["spin_top:WasRunWhole", "spin_stages:SaysScript", "spin_script:IsScript"]),
+    ("For every script", "the text that was read under the script's name says that script, line by line, and no line of it "
+     "is refused", ["spin_top:WasRunWhole", "spin_stages:SaysScript", "spin_script:IsScript"]),
     ("capture", "the records are those of the capture's file, up to a rest that is empty or cut; none where no capture is named",
      ["spin_stages:IsCapturedWhole", "spin_stages:HasHeader", "spin_stages:HoldsRecords"]),
-    ("and interleaving of the lanes", "the clause has no premise on the order of the lanes' steps", ["spin_top:Headline"]),
+    ("and interleaving of the lanes", "the clause has no premise on the order of the lanes' steps",
+     ["spin_top:Headline"]),
     ("what the program writes", "the bytes appended to the sink are the report's text, where shelf and sink tell what they hold; "
-     "standard output tells nothing, and a folder doesn't tell its files by name", ["spin_top:WasRunWhole", "spin_report:report_text"]),
+     "standard output tells nothing, and a folder doesn't tell its files by name",
+     ["spin_top:WasRunWhole", "spin_report:report_text"]),
     ("is one legal history of the plain dispatcher", "the entries, segment after segment, are legal from the start",
      ["spin_report:IsRun", "spin_report:IsLegal"]),
     ("each deed of each lane stands in it once, in its lane's order and within its segment", "a packet line has as many deeds as "
@@ -42,8 +47,8 @@ WORDS = [
      "gained exactly the pieces sent to its name while it stood, in the order of the entries and then of the jobs; those that "
      "stand are those that stood and weren't retired",
      ["spin_report:IsSegmentRun", "spin_endpoint:all_received", "spin_endpoint:all_retired"]),
-    ("where the status is 0 under `run`", "the words are `run NAME` or `run NAME PACKETS`, and the shelf tells its files; of "
-     "`join NAME PACKETS` the clause *headline_joined* says the same, over the joined capture",
+    ("where the status is 0 under `run`", "the words are `run NAME` or `run NAME PACKETS`, and the shelf tells its files; "
+     "of `join NAME PACKETS` the clause *headline_joined* says the same, over the joined capture",
      ["spin_top:Headline", "spin_top:HeadlineJoined"]),
     ("and the natives do what they were handed in with", "the call's one condition", ["spin_objects:IsSincere"]),
 ]
