@@ -19,7 +19,7 @@ FLAGS = {
     ],
     "explain": [("--report REPORT", "the report that is explained; else the script is run for one, and nothing is sent")],
     "picture": [
-        ("--html", "the picture stands in a page, in which a lane, an event or a binding can be made to stand out"),
+        ("--html", "the picture stands in a page that can be searched, and in which a click on a box tells why"),
         ("--convert", "as under run"),
         ("--out FILE", "the picture goes to this file, else to standard output"),
     ],
