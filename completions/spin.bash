@@ -13,7 +13,7 @@ _spin() {
         join) words='--out --append --convert --counts --json' ;;
         gen) words='--out --append' ;;
         build) words='--all --libraries --any-logic' ;;
-        explain) words='--report' ;;
+        explain) words='--report --convert' ;;
         picture) words='run climb --html --convert --out' ;;
         filter) words='--script --jobs --out --pcap --piece --part --convert --counts --json' ;;
         help) words='run check join vm gen build session explain picture filter help version' ;;

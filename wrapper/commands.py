@@ -29,7 +29,7 @@ WRAPPER = [
             "proves and builds the program; with --all the hosts too", "build"),
     Command("session", "[SCRIPT [PACKETS]]", "a prompt that keeps a script growing and tells what each line did",
             "session examples/first.spin"),
-    Command("explain", "SCRIPT [LINE] [PACKETS] [--report REPORT]",
+    Command("explain", "SCRIPT [LINE] [PACKETS] [--report REPORT] [--convert]",
             "tells why each raise and command came to what it did", "explain examples/filters.spin 19"),
     Command("picture", "run|climb SCRIPT REPORT [PACKETS] [--html] [--convert] [--out FILE]",
             "draws a run, or the climb of its packets, as SVG",

@@ -1,4 +1,4 @@
-"""explain SCRIPT [LINE] [PACKETS] [--report REPORT]: why each raise and each command of a run came to what it did.
+"""explain SCRIPT [LINE] [PACKETS] [--report REPORT] [--convert]: why each raise and each command of a run came to what it did.
 
 The script is run, in a folder of its own, so nothing that is sent stays; with `--report` a report that was written
 before is judged instead. Then each entry and each job is worked anew, by Python and not by the program, and compared
@@ -12,20 +12,21 @@ import tempfile
 from collections import namedtuple
 from pathlib import Path
 
-from wrapper import ending, program, why
+from wrapper import convert, ending, outputs, program, why
 from wrapper.picture import ABSENT, NO_RUN, NOT_READ, WRONG_WORDS, Refused
 from wrapper.reading import read_line, read_script
 from wrapper.records import Records
 
-USAGE = "usage: spin explain SCRIPT [LINE] [PACKETS] [--report REPORT]"
+USAGE = "usage: spin explain SCRIPT [LINE] [PACKETS] [--report REPORT] [--convert]"
 
-# What is to be explained: the script, the number of one line, empty for all, the capture and the report, None for none.
-Asked = namedtuple("Asked", "script line packets report")
+# What is to be explained: the script, the number of one line, empty for all, the capture and the report, None for none;
+# and whether the capture is made readable first.
+Asked = namedtuple("Asked", "script line packets report is_converted")
 
 
 def read_words(words):
     """What the words ask for."""
-    files, line, report, rest = [], "", None, list(words)
+    files, line, report, rest = [], "", None, [word for word in words if word != convert.FLAG]
     while rest:
         word = rest.pop(0)
         if word == "--report" and rest:
@@ -38,7 +39,7 @@ def read_words(words):
             files.append(word)
     if not files:
         raise Refused(USAGE, WRONG_WORDS)
-    return Asked(files[0], line, *(files[1:] or [None]), report)
+    return Asked(files[0], line, *(files[1:] or [None]), report, convert.FLAG in words)
 
 
 def copied(asked, folder):
@@ -95,8 +96,12 @@ def main(words):
     """Explains what the words ask for, and answers the exit status."""
     try:
         asked = read_words(words)
-        with tempfile.TemporaryDirectory() as folder:
-            count, odd = written(explained(asked, folder))
+        named = [asked.packets] * (asked.packets is not None)
+        with tempfile.TemporaryDirectory() as folder, convert.all_converted(named, asked.is_converted) as captures:
+            count, odd = written(explained(asked._replace(packets=(captures or [None])[0]), folder))
+    except outputs.Refused as refused:
+        program.tell(str(refused))
+        return refused.status
     except Refused as refused:
         program.tell(str(refused))
         if refused.judged:

@@ -17,7 +17,10 @@ FLAGS = {
         ("--libraries", "the libraries are built that rt check goes on from, and no program"),
         ("--any-logic", "also with a kit of another logic than the one that proved these sources"),
     ],
-    "explain": [("--report REPORT", "the report that is explained; else the script is run for one, and nothing is sent")],
+    "explain": [
+        ("--report REPORT", "the report that is explained; else the script is run for one, and nothing is sent"),
+        ("--convert", "as under run"),
+    ],
     "picture": [
         ("--html", "the picture stands in a page that can be searched, and in which a click on a box tells why"),
         ("--convert", "as under run"),
