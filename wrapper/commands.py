@@ -27,6 +27,8 @@ PROGRAM = [
 WRAPPER = [
     Command("build", "[--all|--libraries] [--any-logic]",
             "proves and builds the program; with --all the hosts too", "build"),
+    Command("library", "[--plain] [--out FOLDER]",
+            "makes the library that C, C++, Python and Rust link, proved or plain", "library"),
     Command("session", "[SCRIPT [PACKETS]]", "a prompt that keeps a script growing and tells what each line did",
             "session examples/first.spin"),
     Command("explain", "SCRIPT [LINE] [PACKETS] [--report REPORT] [--convert]",

@@ -17,6 +17,10 @@ FLAGS = {
         ("--libraries", "the libraries are built that rt check goes on from, and no program"),
         ("--any-logic", "also with a kit of another logic than the one that proved these sources"),
     ],
+    "library": [
+        ("--plain", "of the sources as ordinary Rust, also where the proved library is built"),
+        ("--out FOLDER", "where its files are written; else out/library"),
+    ],
     "explain": [
         ("--report REPORT", "the report that is explained; else the script is run for one, and nothing is sent"),
         ("--convert", "as under run"),

@@ -23,6 +23,9 @@
 extern "C" {
 #endif
 
+/* What spin_version answers of the library whose calls these are. */
+#define SPIN_VERSION 1
+
 enum spin_error {
     SPIN_OK = 0,
     SPIN_NO_MEMORY = 1,    /* there was no memory */

@@ -337,7 +337,7 @@ int main(int count, char **words) {
         printf("the bad line is told as line %u, cause %u\n", fault.line, fault.cause);
         wrong = 1;
     }
-    if (spin_version() != 1 || strcmp(spin_error_name(77), "unknown") != 0) {
+    if (spin_version() != SPIN_VERSION || strcmp(spin_error_name(77), "unknown") != 0) {
         puts("the version isn't 1, or a number that is none has a name");
         wrong = 1;
     }

@@ -1,9 +1,9 @@
 """The event dispatcher of SPIN for scripts in Python: the calls of the library of crates/spin_c, which are proved.
 
-Of this module nothing is proved. It loads a shared library, which bindings/check makes of the static one:
+Of this module nothing is proved. It loads a shared library, which ./spin library makes of the static one:
 
     import spin
-    library = spin.Library("bindings/out/libspin_c.so")
+    library = spin.Library("out/library/libcodzvregi.so.1")
     library.judge(script, report)
 
 The answer is whether the report is that of one legal history of the script. Why there is none is told by an exception.

@@ -1,0 +1,175 @@
+"""library [--plain] [--out FOLDER]: makes the library as it is installed: libcodzvregi.a, libcodzvregi.so.1, its header
+codzvregi.h, and codzvregi.pc for pkg-config.
+
+It is of the proved library of crates/spin_c where `rt lib` has made that and no source is newer, and else, or with
+--plain, of the plain one: the same sources as ordinary Rust, of which nothing is proved. A line says which, the call
+codzvregi_proved tells it to whoever links the library, and the file `proved` beside it has it. The shared library
+exports the interface and nothing else. The files go into out/library, or into FOLDER, each whole or not at all.
+"""
+
+import os
+import re
+import shutil
+import subprocess
+import sys
+import tempfile
+from pathlib import Path
+
+from wrapper import plain
+from wrapper.program import NOT_RUN, TOP, crates_listed, sources, stands_on, tell
+
+PROVED = TOP / "crates" / "spin_c" / "out" / "libspin_c.a"
+HEAP = Path("/opt/rattle/c/liblibc_c.a")
+OUT = TOP / "out" / "library"
+
+# The header of the calls, and what an installed one has besides.
+HEADER, MORE = TOP / "bindings" / "c" / "spin.h", TOP / "bindings" / "c" / "installed.h"
+
+# The release of all that is installed. Its first number is the version of the calls.
+RELEASE = "1.0.0"
+
+ARCHIVE, SHARED, LINK = "libcodzvregi.a", "libcodzvregi.so.1", "libcodzvregi.so"
+FILES = (ARCHIVE, SHARED, "codzvregi.h", "codzvregi.pc", "proved")
+
+NOTHING_PROVED = "the plain library, of which nothing is proved"
+
+
+class NotMade(Exception):
+    """Why no library is made, in a line."""
+
+
+def is_proved_there():
+    """Whether the proved library is there, and the allocation that it calls, and no source of it is newer."""
+    if not PROVED.is_file() or not HEAP.is_file():
+        return False
+    since = PROVED.stat().st_mtime
+    files = (file for name in stands_on(crates_listed(), ["spin_c"]) for file in sources(name))
+    return all(os.stat(file).st_mtime <= since for file in files)
+
+
+def kit_told():
+    """The line of the kit that is there, by which the proved library is told; where none answers, that."""
+    try:
+        told = subprocess.run(["rt", "version"], stdin=subprocess.DEVNULL, capture_output=True, text=True)
+    except OSError:
+        return "a kit that isn't there any more"
+    return told.stdout.strip() or "a kit that doesn't tell its name"
+
+
+def chosen(only_plain):
+    """What is linked, that of the library first, and what is proved of it in a line."""
+    if not only_plain and is_proved_there():
+        return [PROVED, HEAP], f"the proved library, each call of it by {kit_told()}"
+    if not shutil.which("cargo"):
+        proved = "--plain asks for the plain one" if only_plain else "the proved one isn't built"
+        raise NotMade(f"{proved}, and there is no cargo, which makes the plain one")
+    return [plain.library_for_c()], NOTHING_PROVED
+
+
+def calls():
+    """The names of the calls that the header declares, and does not define, in its order."""
+    found = re.findall(r"^[a-z][\w ]*[ *](\w+)\([^{;]*\);", f"{HEADER.read_text()}\n{MORE.read_text()}", re.MULTILINE)
+    return list(dict.fromkeys(found))
+
+
+def header():
+    """The header as it is installed."""
+    return f"{HEADER.read_text()}\n{MORE.read_text()}"
+
+
+def for_pkg_config(prefix, libraries, headers):
+    """The text for pkg-config. Its folders are told by the one in which it lies, so an installed tree can be moved."""
+    return (
+        f"prefix={prefix}\nlibdir={libraries}\nincludedir={headers}\n\n"
+        "Name: codzvregi\nDescription: The event dispatcher of SPIN\n"
+        f"Version: {RELEASE}\n"
+        "Libs: -L${libdir} -lcodzvregi\nLibs.private: -lpthread -lm -ldl\nCflags: -I${includedir}\n"
+    )
+
+
+def call(folder, *words, given=None):
+    """Makes a call of the compiler or of ar in this folder; one that fails is told with the last that it said."""
+    how = {"cwd": folder, "input": given, "stdout": subprocess.PIPE, "stderr": subprocess.STDOUT, "text": True}
+    try:
+        ran = subprocess.run([str(word) for word in words], **how)
+    except OSError:
+        raise NotMade(f"there is no {words[0]}, which links it") from None
+    if ran.returncode:
+        told = (ran.stdout.strip().splitlines() or [f"status {ran.returncode}"])[-1]
+        raise NotMade(f"{words[0]} can't link it: {told[:300]}")
+
+
+def write_texts(folder, proved):
+    """Writes what is text, and the C code of the call that tells what is proved."""
+    (folder / "codzvregi.h").write_text(header())
+    (folder / "codzvregi.pc").write_text(for_pkg_config("${pcfiledir}", "${prefix}", "${prefix}"))
+    (folder / "proved").write_text(f"{proved}\n")
+    told = proved.replace("\\", "\\\\").replace('"', '\\"')
+    (folder / "told.c").write_text(f'const char *codzvregi_proved(void) {{ return "{told}"; }}\n')
+    names = " ".join(f"{name};" for name in calls())
+    (folder / "exported").write_text(f"CODZVREGI_1 {{ global: {names} local: *; }};\n")
+
+
+def link(folder, archives):
+    """Links the static and the shared library in this folder, where the texts are."""
+    call(folder, "cc", "-std=c11", "-O2", "-fPIC", "-c", "told.c")
+    # the names in a script of ar's have no blanks
+    for number, archive in enumerate(archives):
+        (folder / f"{number}.a").symlink_to(Path(archive).resolve())
+    first, *others = [f"{number}.a" for number in range(len(archives))]
+    added = "".join(f"addlib {name}\n" for name in (first, *others))
+    call(folder, "ar", "-M", given=f"create {ARCHIVE}\n{added}addmod told.o\nsave\nend\n")
+    whole = ["-Wl,--whole-archive", first, "-Wl,--no-whole-archive", *others]
+    how = [f"-Wl,-soname,{SHARED}", "-Wl,--version-script,exported", "-Wl,--gc-sections", "-Wl,-z,defs"]
+    call(folder, "cc", "-shared", "-o", SHARED, *how, "told.o", *whole, "-lpthread", "-lm", "-ldl")
+
+
+def prepare(folder):
+    """Makes the folder where it isn't there; what can't be written is found before anything is built."""
+    try:
+        folder.mkdir(parents=True, exist_ok=True)
+    except FileExistsError:
+        raise NotMade(f"{folder} can't be written: it is no folder") from None
+    except OSError as fault:
+        raise NotMade(f"{folder} can't be written: {fault.strerror}") from None
+    if not os.access(folder, os.W_OK):
+        raise NotMade(f"{folder} can't be written: Permission denied")
+
+
+def make(archives, proved, folder):
+    """Makes all files of these archives and puts them into the folder, which is there."""
+    try:
+        with tempfile.TemporaryDirectory(prefix=".making-", dir=folder) as made:
+            write_texts(Path(made), proved)
+            link(Path(made), archives)
+            (Path(made) / LINK).symlink_to(SHARED)
+            for name in (*FILES, LINK):
+                os.replace(Path(made) / name, folder / name)
+    except OSError as fault:
+        raise NotMade(f"{folder} can't be written: {fault.strerror}") from None
+
+
+def asked(words):
+    """Whether the plain library is asked for, and the folder; none where the words have another form."""
+    rest = [word for word in words if word != "--plain"]
+    if len(words) - len(rest) > 1 or rest and (len(rest) != 2 or rest[0] != "--out"):
+        return None
+    return "--plain" in words, Path(os.path.abspath(rest[1])) if rest else OUT
+
+
+def main(words):
+    """Makes the library, and answers the exit status."""
+    given = asked(words)
+    if given is None:
+        tell("usage: spin library [--plain] [--out FOLDER]")
+        return 1
+    only_plain, folder = given
+    try:
+        prepare(folder)
+        archives, proved = chosen(only_plain)
+        make(archives, proved, folder)
+    except NotMade as why:
+        tell(f"no library is made: {why}")
+        return NOT_RUN
+    sys.stdout.write(f"{folder}: {proved}\n")
+    return 0
