@@ -21,6 +21,8 @@ from pathlib import Path
 TOP = Path(__file__).resolve().parent
 sys.pycache_prefix = str(TOP / "out" / "python")
 sys.path.insert(0, str(TOP))
+# where this is installed nothing is left that wasn't installed
+sys.dont_write_bytecode = (TOP / "program").is_file()
 from wrapper import commands, program
 
 

@@ -8,6 +8,7 @@ import shlex
 import struct
 
 from wrapper import causes
+from wrapper.program import CALLED
 
 MAGICS = {
     b"\xd4\xc3\xb2\xa1": "<", b"\x4d\x3c\xb2\xa1": "<", b"\xa1\xb2\xc3\xd4": ">", b"\xa1\xb2\x3c\x4d": ">",
@@ -128,7 +129,7 @@ def what_it_is(name, record, fault):
         if fault == 6:
             return of_length(name, record)
         if fault == 7:
-            return [f"{name} is too long; ./spin filter takes longer captures, and this makes pieces: {made_of(PIECES, name)}"]
+            return [f"{name} is too long; {CALLED} filter takes longer captures, and this makes pieces: {made_of(PIECES, name)}"]
     except (OSError, KeyError, struct.error):
         return []
     return []

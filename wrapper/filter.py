@@ -139,7 +139,8 @@ class Workers:
     @staticmethod
     def begin():
         """Begins a process that does pieces."""
-        words = [sys.executable, "-IS", "-X", f"pycache_prefix={TOP / 'out' / 'python'}", str(TOP / "wrapper" / "worker.py")]
+        flags = ["-ISB" if sys.dont_write_bytecode else "-IS", "-X", f"pycache_prefix={TOP / 'out' / 'python'}"]
+        words = [sys.executable, *flags, str(TOP / "wrapper" / "worker.py")]
         return subprocess.Popen(words, stdin=subprocess.PIPE, stdout=subprocess.PIPE, text=True)
 
     def stop(self):

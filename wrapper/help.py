@@ -4,7 +4,7 @@ import difflib
 import sys
 
 from wrapper import commands, flags
-from wrapper.program import tell
+from wrapper.program import CALLED, INSTALLED, NAME, tell
 
 FLAGS_LINES = [
     ("-h, --help", "this text; behind a command the text of that command"),
@@ -12,18 +12,22 @@ FLAGS_LINES = [
     ("--quiet", "before a command: nothing is told beside what it writes"),
 ]
 
-BELOW = """\
-Example, on a fresh clone:
-  ./spin run examples/first.spin
-
-Standard output and the status of the first five are the program's, byte for
-byte. Where its status isn't 0, standard error tells what that means. Nothing
-is proved of what is told there.
-
+# Before what is told of the program, and behind it: where this is installed there is no repository.
+FIRST, LAST = ("", "To read on: man codzvregi.\n") if INSTALLED.is_file() else (
+    "Example, on a fresh clone:\n  ./spin run examples/first.spin\n\n",
+    """\
 To read on: README.md, what there is; docs/FORMATS.md, scripts, reports,
 captures, causes and statuses; examples/, scripts that teach, each with its
 report; man docs/spin.1.
-"""
+""",
+)
+
+BELOW = f"""\
+{FIRST}Standard output and the status of the first five are the program's, byte for
+byte. Where its status isn't 0, standard error tells what that means. Nothing
+is proved of what is told there.
+
+{LAST}"""
 
 
 def columns(pairs):
@@ -36,23 +40,23 @@ def whole():
     """The text of all commands."""
     rows = [(command.name, command.line) for command in commands.every()]
     return (
-        "spin: an event dispatcher, whose program is proved\n\n"
-        "usage: ./spin [--quiet] COMMAND WORD..\n\n"
+        f"{NAME}: an event dispatcher, whose program is proved\n\n"
+        f"usage: {CALLED} [--quiet] COMMAND WORD..\n\n"
         f"{columns(rows)}\n{columns(FLAGS_LINES)}\n"
-        f"./spin help COMMAND tells a command's words.\n\n{BELOW}"
+        f"{CALLED} help COMMAND tells a command's words.\n\n{BELOW}"
     )
 
 
 def usage(command):
     """The usage line of a command."""
-    return f"usage: ./spin {command.name} {command.words}".rstrip() + "\n"
+    return f"usage: {CALLED} {command.name} {command.words}".rstrip() + "\n"
 
 
 def of_one(command):
     """The text of one command."""
     known = flags.FLAGS.get(command.name)
     told = f"{columns(known)}\n" if known else ""
-    return f"{usage(command)}\n{command.name}: {command.line}\n\n{told}Example:\n  ./spin {command.example}\n"
+    return f"{usage(command)}\n{command.name}: {command.line}\n\n{told}Example:\n  {CALLED} {command.example}\n"
 
 
 def nearest(word, among):
@@ -64,7 +68,7 @@ def nearest(word, among):
 def mistyped(word):
     """Tells that the word is no command, which is the nearest one, and answers the status."""
     near = nearest(word, [command.name for command in commands.every()] + [commands.QUIET, *commands.FLAGS])
-    tell(f"{word!a} is no command" + (f"; the nearest is {near}" if near else "; ./spin help tells them"))
+    tell(f"{word!a} is no command" + (f"; the nearest is {near}" if near else f"; {CALLED} help tells them"))
     return 1
 
 

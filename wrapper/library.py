@@ -87,13 +87,14 @@ def for_pkg_config(prefix, libraries, headers):
     )
 
 
-def call(folder, *words, given=None):
-    """Makes a call of the compiler or of ar in this folder; one that fails is told with the last that it said."""
-    how = {"cwd": folder, "input": given, "stdout": subprocess.PIPE, "stderr": subprocess.STDOUT, "text": True}
+def call(folder, *words):
+    """Makes a call of the compiler, or of what comes with it, in this folder; one that fails is told with the last that
+    it said."""
+    how = {"cwd": folder, "stdin": subprocess.DEVNULL, "stdout": subprocess.PIPE, "stderr": subprocess.STDOUT}
     try:
-        ran = subprocess.run([str(word) for word in words], **how)
+        ran = subprocess.run([str(word) for word in words], **how, text=True)
     except OSError:
-        raise NotMade(f"there is no {words[0]}, which links it") from None
+        raise NotMade(f"there is no {words[0]}, without which it can't be linked") from None
     if ran.returncode:
         told = (ran.stdout.strip().splitlines() or [f"status {ran.returncode}"])[-1]
         raise NotMade(f"{words[0]} can't link it: {told[:300]}")
@@ -108,20 +109,23 @@ def write_texts(folder, proved):
     (folder / "told.c").write_text(f'const char *codzvregi_proved(void) {{ return "{told}"; }}\n')
     names = " ".join(f"{name};" for name in calls())
     (folder / "exported").write_text(f"CODZVREGI_1 {{ global: {names} local: *; }};\n")
+    (folder / "kept").write_text("".join(f"{name}\n" for name in calls()))
 
 
 def link(folder, archives):
-    """Links the static and the shared library in this folder, where the texts are."""
+    """Links the static and the shared library in this folder, where the texts are: one object with what the interface
+    wants of all archives, whose other names are its own, so that no host has one of them twice."""
+    first, *others = [Path(archive).resolve() for archive in archives]
     call(folder, "cc", "-std=c11", "-O2", "-fPIC", "-c", "told.c")
-    # the names in a script of ar's have no blanks
-    for number, archive in enumerate(archives):
-        (folder / f"{number}.a").symlink_to(Path(archive).resolve())
-    first, *others = [f"{number}.a" for number in range(len(archives))]
-    added = "".join(f"addlib {name}\n" for name in (first, *others))
-    call(folder, "ar", "-M", given=f"create {ARCHIVE}\n{added}addmod told.o\nsave\nend\n")
+    wanted = [f"-Wl,-u,{name}" for name in calls()]
     whole = ["-Wl,--whole-archive", first, "-Wl,--no-whole-archive", *others]
+    call(folder, "cc", "-r", "-nostdlib", "-o", "all.o", "-Wl,--gc-sections", *wanted, "told.o", *whole)
+    # what rustc leaves there for its own linking is code of a compiler that others can't read
+    left_out = ["--remove-section=.llvmbc", "--remove-section=.llvmcmd"]
+    call(folder, "objcopy", *left_out, "--keep-global-symbols=kept", "all.o", "codzvregi.o")
+    call(folder, "ar", "qcs", ARCHIVE, "codzvregi.o")
     how = [f"-Wl,-soname,{SHARED}", "-Wl,--version-script,exported", "-Wl,--gc-sections", "-Wl,-z,defs"]
-    call(folder, "cc", "-shared", "-o", SHARED, *how, "told.o", *whole, "-lpthread", "-lm", "-ldl")
+    call(folder, "cc", "-shared", "-o", SHARED, *how, "codzvregi.o", "-lpthread", "-lm", "-ldl")
 
 
 def prepare(folder):

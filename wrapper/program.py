@@ -11,6 +11,10 @@ CRATE = TOP / "crates" / "spin_main"
 PROGRAM = CRATE / "out" / "spin_main"
 NOT_RUN = 126
 
+# Where this is installed there are no sources, and the program lies beside the wrapper.
+INSTALLED = TOP / "program"
+NAME, CALLED = ("codzvregi", "codzvregi") if INSTALLED.is_file() else ("spin", "./spin")
+
 # The folders of a crate, and the files in them, from which it is proved and built.
 FOLDERS = ("src", "specs", "proofs")
 SUFFIXES = (".rt", ".antt")
@@ -22,7 +26,7 @@ told = set()
 def tell(text):
     """Says a line of the wrapper's own, which is never the program's. Where it can't be said, nothing more is."""
     try:
-        print(f"spin: {text}", file=sys.stderr, flush=True)
+        print(f"{NAME}: {text}", file=sys.stderr, flush=True)
     except OSError:
         sys.stderr = open(os.devnull, "w")
 
@@ -81,9 +85,11 @@ def is_built():
 def command():
     """The words that begin the command line of the program to run; None where only a trial is left.
 
-    It is the proved program where that is built, else the plain one, which is built first if need be. Where the sources
-    can't be built the process ends, with a clear line.
+    It is the one that is installed with this, or the proved program where that is built, else the plain one, which is
+    built first if need be. Where the sources can't be built the process ends, with a clear line.
     """
+    if INSTALLED.is_file():
+        return [str(INSTALLED)]
     if is_built():
         return [str(PROGRAM)]
     if "no plain program" in told:

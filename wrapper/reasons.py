@@ -11,6 +11,7 @@ import stat
 import subprocess
 
 from wrapper import causes, commands, faults, marks, outputs, places, strays
+from wrapper.program import CALLED
 
 WIDTH = 96
 
@@ -285,7 +286,7 @@ def of_capture_named(text, script, report, packets):
     """What is told where a report is of a run over a capture and none is named, or the contrary."""
     end = re.search(r"^end [0-9]+( records .*)?$", text, re.MULTILINE)
     if not packets and (end and end[1] or re.search(r"^[0-9]+ [0-9]+ [0-9]+\.[0-9]+ packet ", text, re.MULTILINE)):
-        return [f"it is one of a run over a capture, and none is named: ./spin check {script} {report} PACKETS"]
+        return [f"it is one of a run over a capture, and none is named: {CALLED} check {script} {report} PACKETS"]
     if packets and end and not end[1]:
         return [f"it is one of a run without a capture, and {packets[0]} is named"]
     return []

@@ -9,6 +9,13 @@ from wrapper.program import TOP, tell
 LANGUAGES = "scripts of version 1 to 3, reports and traces of version 1"
 
 
+def which():
+    """Which program would run."""
+    if program.INSTALLED.is_file():
+        return (TOP / "proved").read_text().strip()
+    return "the proved program is built" if program.is_built() else "the proved program isn't built"
+
+
 def commit():
     """The commit that is checked out, as git tells it; empty where there is none."""
     words = ["git", "-C", str(TOP), "describe", "--always", "--dirty"]
@@ -24,6 +31,6 @@ def main(words):
     if words:
         tell("version takes no further word")
         return 1
-    built = "the proved program is built" if program.is_built() else "the proved program isn't built"
-    sys.stdout.write(f"spin of Codzvregi {commit()}".rstrip() + f"; {LANGUAGES}; {built}\n")
+    release = (TOP / "release").read_text().strip() if program.INSTALLED.is_file() else commit()
+    sys.stdout.write(f"{program.NAME} of Codzvregi {release}".rstrip() + f"; {LANGUAGES}; {which()}\n")
     return 0
