@@ -7,7 +7,7 @@ The last words are the names of the endpoints that stood. The status is 0 for ye
 import sys
 from pathlib import Path
 
-import spin
+import codzvregi
 
 
 def main(words: list[str]) -> int:
@@ -17,8 +17,8 @@ def main(words: list[str]) -> int:
         return 2
     script, report = (Path(name).read_bytes() for name in words[1:3])
     try:
-        is_history = spin.Library(words[0]).judge(script, report, words[3:])
-    except spin.Fault as fault:
+        is_history = codzvregi.Library(words[0]).judge(script, report, words[3:])
+    except codzvregi.Fault as fault:
         print(fault, file=sys.stderr)
         return 2
     print("yes" if is_history else "no")

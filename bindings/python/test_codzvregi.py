@@ -1,5 +1,5 @@
-"""Tests of spin.py over the library that SPIN_LIBRARY names: worked cases of the repository, and how answers are told.
-Run by `python3 -m unittest` in this folder."""
+"""Tests of the package over the library that SPIN_LIBRARY names: worked cases of the repository, and how answers are
+told. Run by `python3 -m unittest` in this folder."""
 
 import os
 import sys
@@ -7,7 +7,7 @@ import threading
 import unittest
 from pathlib import Path
 
-import spin
+import codzvregi
 
 TOP = Path(__file__).resolve().parent.parent.parent
 sys.path.append(str(TOP / "cases"))
@@ -37,19 +37,26 @@ class Judging(unittest.TestCase):
     """What judge answers."""
 
     def setUp(self):
-        self.library = spin.Library(os.environ["SPIN_LIBRARY"])
+        self.library = codzvregi.Library(os.environ["SPIN_LIBRARY"])
 
     def told(self, script, report, packets):
         """The answer in the words of the program."""
         try:
             return "yes\n" if self.library.judge(script, report, STANDING, packets) else "no\n"
-        except spin.BadCapture as bad:
+        except codzvregi.BadCapture as bad:
             return f"stop 3 record {bad.record} fault {bad.fault}\n"
-        except spin.BadScript as fault:
+        except codzvregi.BadScript as fault:
             return f"stop 2 line {fault.line} cause {fault.cause}\n"
 
     def test_version(self):
         self.assertEqual(self.library.version(), 1)
+
+    def test_what_is_proved(self):
+        self.assertEqual(self.library.proved(), "a library that is being tested")
+
+    def test_no_library(self):
+        with self.assertRaisesRegex(codzvregi.NoLibrary, "can't be loaded: /nowhere"):
+            codzvregi.Library("/nowhere")
 
     def test_worked_cases(self):
         cases = list(judged_cases())
@@ -73,7 +80,7 @@ class Judging(unittest.TestCase):
             self.assertFalse(self.library.judge(SCRIPT, other))
 
     def test_a_text_that_is_no_script(self):
-        with self.assertRaises(spin.BadScript) as told:
+        with self.assertRaises(codzvregi.BadScript) as told:
             self.library.judge(b"spin 1\nevent\n", REPORT)
         self.assertEqual((told.exception.line, told.exception.cause), (2, 11))
         self.assertEqual(str(told.exception), "line 2 is bad: cause 11")
@@ -83,14 +90,14 @@ class Judging(unittest.TestCase):
         script, report, packets = ((TOP / "examples" / name).read_bytes() for name in names)
         self.assertFalse(self.library.judge(script, report, STANDING))
         self.assertFalse(self.library.judge(script, report, STANDING, packets[:-1]))
-        with self.assertRaises(spin.BadCapture) as told:
+        with self.assertRaises(codzvregi.BadCapture) as told:
             self.library.judge(script, report, STANDING, b"")
         self.assertEqual((told.exception.record, told.exception.fault), (0, 5))
         self.assertEqual(str(told.exception), "record 0 is bad: fault 5")
 
     def test_empty_texts(self):
         self.assertFalse(self.library.judge(SCRIPT, b""))
-        with self.assertRaises(spin.BadScript):
+        with self.assertRaises(codzvregi.BadScript):
             self.library.judge(b"", b"")
 
     def test_names_with_blanks_are_left_out(self):
@@ -106,31 +113,31 @@ class Lanes(unittest.TestCase):
     )
 
     def setUp(self):
-        self.library = spin.Library(os.environ["SPIN_LIBRARY"])
+        self.library = codzvregi.Library(os.environ["SPIN_LIBRARY"])
 
     def test_raises_by_the_commands_before_them(self):
         with self.library.open(self.SCRIPT) as lane:
-            self.assertEqual(lane.raise_event(0, 41), spin.Reply(0, "no handler", None, 0))
+            self.assertEqual(lane.raise_event(0, 41), codzvregi.Reply(0, "no handler", None, 0))
             self.assertEqual(lane.command(0, 1, handler=1), 1)
-            self.assertEqual(lane.raise_event(0, 41), spin.Reply(1, "value", 42, 2))
+            self.assertEqual(lane.raise_event(0, 41), codzvregi.Reply(1, "value", 42, 2))
             self.assertEqual(lane.command(0, 3, target=1, handler=2), 2)
             self.assertEqual(lane.raise_event(0, 41).value, 43)
             self.assertEqual(lane.command(0, 2, target=1), 3)
             self.assertEqual(lane.command(0, 4, handler=1), 4)
-            self.assertEqual(lane.raise_event(0, 1), spin.Reply(4, "default value", 2, 2))
+            self.assertEqual(lane.raise_event(0, 1), codzvregi.Reply(4, "default value", 2, 2))
 
     def test_refused_raises_and_commands_change_nothing(self):
         with self.library.open(self.SCRIPT) as lane:
             self.assertEqual(lane.raise_event(1, 41).kind, "unknown event")
             self.assertEqual(lane.raise_event(0).kind, "wrong arguments")
             for number, words in ((6, {"handler": 3}), (3, {"handler": 9}), (9, {"handler": 1, "requester": 1})):
-                with self.assertRaises(spin.Refused) as refused:
+                with self.assertRaises(codzvregi.Refused) as refused:
                     lane.command(0, 1, **words)
                 self.assertEqual((refused.exception.number, refused.exception.place), (number, 0))
-                self.assertEqual(refused.exception.name, spin.REFUSALS[number - 1])
+                self.assertEqual(refused.exception.name, codzvregi.REFUSALS[number - 1])
             self.assertEqual(lane.raise_event(0, 1).place, 0)
             for op, words in ((7, {}), (1, {"handler": 1024}), (8, {}), (2, {"target": 8192})):
-                with self.assertRaisesRegex(spin.Fault, "no command"):
+                with self.assertRaisesRegex(codzvregi.Fault, "no command"):
                     lane.command(0, op, **words)
             for event, word in ((256, 1), (0, -1), (0, 2**64)):
                 with self.assertRaises(ValueError):
@@ -143,25 +150,26 @@ class Lanes(unittest.TestCase):
 
     def test_steps_are_those_of_the_last_raise(self):
         with self.library.open(self.TRAIL) as lane:
-            with self.assertRaisesRegex(spin.Fault, "no reply"):
+            with self.assertRaisesRegex(codzvregi.Fault, "no reply"):
                 lane.steps()
             lane.command(0, 1, handler=1)
             lane.command(1, 1, handler=2)
-            self.assertEqual(lane.raise_event(0, b"bcd", 7), spin.Reply(2, "value", 7, 7))
+            self.assertEqual(lane.raise_event(0, b"bcd", 7), codzvregi.Reply(2, "value", 7, 7))
             self.assertEqual(
                 lane.steps(),
                 [
-                    *(spin.Step("run", 0, 1), spin.Step("send", number=0, data=b"cd"), spin.Step("result", value=7)),
-                    *(spin.Step("up", 1), spin.Step("run", 1, 2), spin.Step("dropped", number=1)),
-                    spin.Step("back", answer="done"),
+                    *(codzvregi.Step("run", 0, 1), codzvregi.Step("send", number=0, data=b"cd")),
+                    codzvregi.Step("result", value=7),
+                    *(codzvregi.Step("up", 1), codzvregi.Step("run", 1, 2), codzvregi.Step("dropped", number=1)),
+                    codzvregi.Step("back", answer="done"),
                 ],
             )
-            with self.assertRaises(spin.NoStep):
+            with self.assertRaises(codzvregi.NoStep):
                 lane.step(7)
             self.assertEqual(lane.raise_event(0, 7, b"").kind, "wrong arguments")
             self.assertEqual(lane.steps(), [])
             lane.command(0, 4, handler=3)
-            with self.assertRaisesRegex(spin.Fault, "no reply"):
+            with self.assertRaisesRegex(codzvregi.Fault, "no reply"):
                 lane.step(0)
 
     def test_bytes_are_sent_as_they_are_handed_in(self):
@@ -195,7 +203,7 @@ class Lanes(unittest.TestCase):
 
     def test_renewals(self):
         with self.library.open(self.SCRIPT) as lane:
-            with self.assertRaises(spin.NoBinding):
+            with self.assertRaises(codzvregi.NoBinding):
                 lane.number_before(1)
             for _ in range(3):
                 lane.command(0, 1, handler=1)
@@ -203,9 +211,9 @@ class Lanes(unittest.TestCase):
             lane.renew()
             self.assertEqual([lane.number_before(number) for number in (1, 2)], [2, 3])
             for number in (0, 3):
-                with self.assertRaises(spin.NoBinding):
+                with self.assertRaises(codzvregi.NoBinding):
                     lane.number_before(number)
-            self.assertEqual(lane.raise_event(0, 41), spin.Reply(2, "value", 42, 4))
+            self.assertEqual(lane.raise_event(0, 41), codzvregi.Reply(2, "value", 42, 4))
             for turn in range(3000):
                 lane.command(0, 3, target=1, handler=1 + turn % 2)
             lane.renew()
@@ -215,25 +223,25 @@ class Lanes(unittest.TestCase):
     def test_no_renewal_where_a_seat_is_handed_out(self):
         first, second = self.library.open_lanes(self.SCRIPT, 2)
         for seat, why in ((first, "taken"), (second, "no such lane")):
-            with self.assertRaisesRegex(spin.Fault, why):
+            with self.assertRaisesRegex(codzvregi.Fault, why):
                 seat.renew()
             self.assertEqual(seat.raise_event(0, 1).kind, "no handler")
             seat.close()
 
     def test_no_hub_has_no_lanes_or_9(self):
         for lanes in (-1, 0, 9, 256):
-            with self.assertRaisesRegex(spin.Fault, "no such lane"):
+            with self.assertRaisesRegex(codzvregi.Fault, "no such lane"):
                 self.library.open_lanes(self.SCRIPT, lanes)
 
     def test_a_closed_lane(self):
         lane = self.library.open(self.SCRIPT)
         lane.close()
         lane.close()
-        with self.assertRaisesRegex(spin.Fault, "closed"):
+        with self.assertRaisesRegex(codzvregi.Fault, "closed"):
             lane.raise_event(0, 1)
 
     def test_no_lane_over_a_text_that_is_no_script(self):
-        with self.assertRaises(spin.BadScript) as told:
+        with self.assertRaises(codzvregi.BadScript) as told:
             self.library.open(b"spin 1\nbad\n")
         self.assertEqual((told.exception.line, told.exception.cause), (2, 4))
 

@@ -1,23 +1,29 @@
 """The event dispatcher of SPIN for scripts in Python: the calls of the library of crates/spin_c, which are proved.
 
-Of this module nothing is proved. It loads a shared library, which ./spin library makes of the static one:
+Of this package nothing is proved. It loads the shared library that was installed with it, or another one that is named:
 
-    import spin
-    library = spin.Library("out/library/libcodzvregi.so.1")
+    import codzvregi
+    library = codzvregi.Library()
     library.judge(script, report)
 
 The answer is whether the report is that of one legal history of the script. Why there is none is told by an exception.
+What is proved of the library that is loaded, `library.proved()` tells.
 """
 
 import ctypes
-from collections.abc import Iterable
+import os
+from collections.abc import Callable, Iterable
 from dataclasses import dataclass
 from os import PathLike, fspath
+from pathlib import Path
 
 __all__ = [
-    *("BadCapture", "BadScript", "Fault", "KINDS", "Lane", "Library", "NoBinding", "NoMemory", "NoStep", "REFUSALS"),
-    *("Refused", "Reply", "STEPS", "Step"),
+    *("BadCapture", "BadScript", "Fault", "KINDS", "Lane", "Library", "NoBinding", "NoLibrary", "NoMemory", "NoStep"),
+    *("REFUSALS", "Refused", "Reply", "STEPS", "Step", "proved"),
 ]
+
+# The shared library, whose number is the version of its calls.
+_NAME = "libcodzvregi.so.1"
 
 # The numbers that the calls answer, as bindings/c/spin.h has them.
 _OK, _NO_MEMORY, _BAD_SCRIPT, _NO_HISTORY, _CLOSED, _OPEN, _NO_COMMAND, _FULL, _REFUSED = range(9)
@@ -51,6 +57,10 @@ _SAID = {
 
 class Fault(Exception):
     """Why a call has no answer."""
+
+
+class NoLibrary(Fault):
+    """There is no library, or the one that is named can't be loaded."""
 
 
 class NoMemory(Fault):
@@ -201,7 +211,7 @@ class Lane:
     def __exit__(self, *_: object) -> None:
         self.close()
 
-    def _ask(self, call, *words) -> _SpinAnswer:
+    def _ask(self, call: Callable[..., int], *words: object) -> _SpinAnswer:
         """Makes the call, and answers what it tells; or raises the fault that its number tells."""
         answer = _SpinAnswer()
         self._tell(call(*words, ctypes.byref(answer)), answer)
@@ -268,9 +278,9 @@ class Lane:
         return self._ask(self._calls.spin_command, ctypes.byref(self._lane), row).place
 
     def renew(self) -> None:
-        """Renews its hub, where this is the seat with which it was opened and no other was handed out: it goes on over a
-        new log, so that its bindings may change again, and nothing is lost that is bound. The live bindings are numbered
-        anew, from 1 on in the order of their numbers. Where no memory is left for it, it is closed."""
+        """Renews its hub, where this is the seat with which it was opened and no other was handed out: it goes on over
+        a new log, so that its bindings may change again, and nothing is lost that is bound. The live bindings are
+        numbered anew, from 1 on in the order of their numbers. Where no memory is left for it, it is closed."""
         self._ask(self._calls.spin_renew, ctypes.byref(self._lane))
 
     def number_before(self, number: int) -> int:
@@ -283,11 +293,23 @@ class Lane:
             self._ask(self._calls.spin_close, ctypes.byref(self._lane))
 
 
-class Library:
-    """The proved calls of a shared library."""
+def _loaded(path: str | PathLike[str] | None) -> ctypes.CDLL:
+    """The shared library of this path. Where none is given it is the one that CODZVREGI_LIBRARY names, else the one in
+    this package, else the system's."""
+    within = Path(__file__).parent / _NAME
+    usual = fspath(within) if within.is_file() else _NAME
+    file = os.environ.get("CODZVREGI_LIBRARY", usual) if path is None else fspath(path)
+    try:
+        return ctypes.CDLL(file)
+    except OSError as why:
+        raise NoLibrary(f"the library can't be loaded: {why}") from None
 
-    def __init__(self, path: str | PathLike[str]) -> None:
-        calls = ctypes.CDLL(fspath(path))
+
+class Library:
+    """The proved calls of a shared library: of the one at this path or, where none is given, the installed one."""
+
+    def __init__(self, path: str | PathLike[str] | None = None) -> None:
+        calls = _loaded(path)
         text = [ctypes.c_char_p, ctypes.c_size_t]
         calls.spin_version.argtypes, calls.spin_version.restype = [], ctypes.c_uint32
         calls.spin_check.argtypes = [*text, *text, *text, ctypes.POINTER(_SpinFault)]
@@ -329,6 +351,13 @@ class Library:
         """The version of the calls. It grows where one of them is changed."""
         return self._calls.spin_version()
 
+    def proved(self) -> str:
+        """What is proved of the library that is loaded, in a line: by which kit, or that it is the plain one, of which
+        nothing is. Nothing is proved of this call itself."""
+        tell = self._calls.codzvregi_proved
+        tell.argtypes, tell.restype = [], ctypes.c_char_p
+        return tell().decode()
+
     def judge(
         self, script: bytes, report: bytes, standing: Iterable[str] = (), packets: bytes | None = None
     ) -> bool:
@@ -350,3 +379,8 @@ class Library:
         if number not in (_OK, _NO_HISTORY):
             raise Fault(f"the library answered {number}")
         return number == _OK
+
+
+def proved() -> str:
+    """What is proved of the installed library, in a line."""
+    return Library().proved()
