@@ -119,7 +119,9 @@ def link(folder, archives):
     call(folder, "cc", "-std=c11", "-O2", "-fPIC", "-c", "told.c")
     wanted = [f"-Wl,-u,{name}" for name in calls()]
     whole = ["-Wl,--whole-archive", first, "-Wl,--no-whole-archive", *others]
-    call(folder, "cc", "-r", "-nostdlib", "-o", "all.o", "-Wl,--gc-sections", *wanted, "told.o", *whole)
+    # a group of sections would be one with a host's of the same name, though its names are no host's any more
+    joined = ["-r", "-nostdlib", "-Wl,--gc-sections", "-Wl,--force-group-allocation"]
+    call(folder, "cc", *joined, "-o", "all.o", *wanted, "told.o", *whole)
     # what rustc leaves there for its own linking is code of a compiler that others can't read
     left_out = ["--remove-section=.llvmbc", "--remove-section=.llvmcmd"]
     call(folder, "objcopy", *left_out, "--keep-global-symbols=kept", "all.o", "codzvregi.o")

@@ -10,7 +10,7 @@ fn main() -> Result<ExitCode, Box<dyn Error>> {
         return Err("usage: judge SCRIPT REPORT [STANDING]..".into());
     };
     let standing: Vec<&str> = standing.iter().map(String::as_str).collect();
-    let is_history = spin::judge(&fs::read(script)?, &fs::read(report)?, &standing)?;
+    let is_history = codzvregi::judge(&fs::read(script)?, &fs::read(report)?, &standing)?;
     println!("{}", if is_history { "yes" } else { "no" });
     Ok(ExitCode::from(u8::from(!is_history)))
 }

@@ -176,6 +176,9 @@ pub(crate) struct Held {
 // the library's own type. Handles of one hub share it, and may be used at once.
 unsafe impl Send for Held {}
 
+// SAFETY: no call of the library is made by a shared reference to a handle, so threads that share one make none of it.
+unsafe impl Sync for Held {}
+
 /// The fault that a number tells, where it isn't one of those that the call is asked for.
 fn fault_of(number: u32, answer: &SpinAnswer) -> Fault {
     match number {

@@ -160,7 +160,7 @@ pub struct Lane {
 /// seats does.
 ///
 /// ```
-/// use spin::{Answer, Command, Hub, Mode, Op, Place};
+/// use codzvregi::{Answer, Command, Hub, Mode, Op, Place};
 ///
 /// let mut hub = Hub::open(b"spin 1\nevent 0 0 -:w last\nhandler 1 -:w result 7\n", 2)?;
 /// let mut other = hub.seat(1)?;
@@ -168,7 +168,7 @@ pub struct Lane {
 /// let op = Op::Install { handler: 1, guard: 0, place: Place::Free, mode: Mode::Plain };
 /// std::thread::spawn(move || other.command(&Command { event: 0, requester: 0, op })).join().unwrap()?.unwrap();
 /// assert_eq!(first.raise(0, &[])?.answer, Answer::Value(7));
-/// # Ok::<(), spin::Fault>(())
+/// # Ok::<(), codzvregi::Fault>(())
 /// ```
 pub struct Hub {
     first: Lane,

@@ -1,12 +1,16 @@
 //! The event dispatcher of SPIN for hosts in Rust: safe calls over the static library of `crates/spin_c`, whose calls
-//! are proved. Of this crate nothing is proved. It hands over slices and tells numbers apart.
+//! are proved, or that of the same sources as plain Rust, of which nothing is; [`proved`] tells which is linked. Of this
+//! crate nothing is proved. It hands over slices and tells numbers apart.
+//!
+//! A [`Lane`] is [`Send`]: it may go to another thread. It is [`Sync`] too, since whatever calls the library takes it by
+//! `&mut`. Lanes of one hub may be used at once.
 //!
 //! ```
 //! let script = b"spin 1\nevent 0 0 -:w last\nhandler 1 -:w result 7\n\
 //!     lane 0 install 0 0 1 0 free plain\nlane 0 raise 0\n";
 //! let report = b"report 1\nsegment 0 at 0\n1 0 4 install ok\n1 0 5 raise run 0 1 result 7 = value 7\nend 1\n";
-//! assert_eq!(spin::judge(script, report, &[]), Ok(true));
-//! assert_eq!(spin::judge(b"spin 9\n", report, &[]), Err(spin::Fault::BadScript { line: 1, cause: 3 }));
+//! assert_eq!(codzvregi::judge(script, report, &[]), Ok(true));
+//! assert_eq!(codzvregi::judge(b"spin 9\n", report, &[]), Err(codzvregi::Fault::BadScript { line: 1, cause: 3 }));
 //! ```
 #![warn(missing_docs)]
 
@@ -25,6 +29,12 @@ pub type Seat = Lane;
 /// The version of the proved calls. It grows where one of them is changed.
 pub fn version() -> u32 {
     calls::version()
+}
+
+/// What is proved of the library that is linked, in a line: by which kit, or that it is the plain one, of which nothing
+/// is. What linked the library tells it, and nothing is proved of that.
+pub fn proved() -> &'static str {
+    env!("CODZVREGI_PROVED")
 }
 
 /// Whether the report is that of one legal history of the script, which is run without a capture, `standing` being the

@@ -1,6 +1,6 @@
 //! What the safe calls make of the proved ones.
 
-use spin::{Fault, judge, judge_packets, version};
+use codzvregi::{Fault, judge, judge_packets, version};
 
 const SCRIPT: &[u8] =
     b"spin 1\nevent 0 0 -:w last\nhandler 1 -:w result 7\nlane 0 install 0 0 1 0 free plain\nlane 0 raise 0\n";

@@ -1,6 +1,6 @@
 //! What a lane answers.
 
-use spin::{Answer, Arg, Command, Fault, Hub, Lane, Mode, Op, Place, Step};
+use codzvregi::{Answer, Arg, Command, Fault, Hub, Lane, Mode, Op, Place, Step};
 
 const SCRIPT: &[u8] = b"spin 1\nmodules 2\nevent 0 0 w:w last\nhandler 1 w:w result + a0 1\n\
     handler 2 w:w result + a0 2\nhandler 3 -:w result 9\nrule 0 1 1 any any all deny\n";

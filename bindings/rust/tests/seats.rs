@@ -1,11 +1,22 @@
 //! What the seats of one hub answer, on threads of their own.
 
-use spin::{Answer, Command, Fault, Hub, Lane, Mode, Op, Place, Seat};
+use codzvregi::{Answer, Command, Fault, Hub, Lane, Mode, Op, Place, Seat};
 use std::thread;
 
 const SCRIPT: &[u8] = b"spin 1\nevent 0 0 w:w last\nhandler 1 w:w result + a0 1\nhandler 2 w:w result + a0 2\n";
 
 fn is_send<T: Send>(_: &T) {}
+
+/// What may be sent to other threads and shared by them, whatever stands in it.
+const fn is_send_and_sync<T: Send + Sync>() {}
+
+const _: () = {
+    is_send_and_sync::<Lane>();
+    is_send_and_sync::<Hub>();
+    is_send_and_sync::<Fault>();
+    is_send_and_sync::<Command>();
+    is_send_and_sync::<Answer>();
+};
 
 #[test]
 fn each_seat_is_taken_once() -> Result<(), Fault> {
