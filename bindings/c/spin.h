@@ -12,6 +12,9 @@
  *   on a thread of its own;
  * - the calls are made on the stack of a thread, and not from a signal handler;
  * - malloc, realloc and free are those of one allocator.
+ *
+ * Each call below says whether it asks for memory. One that asks for none never answers SPIN_NO_MEMORY. One that does
+ * answers it where there was none, and not in place of SPIN_NO_LANE, SPIN_TAKEN, SPIN_SHARED or SPIN_NO_COMMAND.
  */
 #ifndef SPIN_H
 #define SPIN_H
@@ -44,6 +47,7 @@ enum spin_error {
     SPIN_TAKEN = 14,       /* the seat of the lane is handed out already; or some seat is, so the hub isn't renewed */
     SPIN_NO_BINDING = 15,  /* the last renewal numbered no such binding, or there was none */
     SPIN_BAD_CAPTURE = 16, /* the bytes are refused as a capture: the record, and the number of the fault, are told */
+    SPIN_SHARED = 17,      /* the hub is still shared by other handles, so it isn't renewed */
     SPIN_NULL = 100,       /* a pointer is null that may not be */
     SPIN_SAME = 101        /* one handle is handed in as two */
 };
@@ -138,7 +142,7 @@ static inline const uint8_t *spin_bytes(const void *at, size_t length) {
 }
 
 /* Whether a report is that of one legal history of a script, which has no capture. `standing` has the names of the
- * endpoints that stood, with blanks between them. SPIN_OK is yes, and SPIN_NO_HISTORY no. */
+ * endpoints that stood, with blanks between them. SPIN_OK is yes, and SPIN_NO_HISTORY no. It asks for memory. */
 static inline uint32_t spin_judge(const void *text, size_t text_length, const void *report, size_t report_length,
                                   const void *standing, size_t standing_length, struct spin_fault *fault) {
     const uint8_t *texts[3] = {spin_bytes(text, text_length), spin_bytes(report, report_length),
@@ -150,7 +154,7 @@ static inline uint32_t spin_judge(const void *text, size_t text_length, const vo
 }
 
 /* Whether a report is that of one legal history of a script with a capture, which is handed in as its bytes, and else
- * as spin_judge. SPIN_BAD_CAPTURE says that it is refused; the script is one then. */
+ * as spin_judge. SPIN_BAD_CAPTURE says that it is refused; the script is one then. It asks for memory. */
 static inline uint32_t spin_judge_packets(const void *text, size_t text_length, const void *packets,
                                           size_t packets_length, const void *report, size_t report_length,
                                           const void *standing, size_t standing_length, struct spin_fault *fault) {
@@ -163,7 +167,7 @@ static inline uint32_t spin_judge_packets(const void *text, size_t text_length, 
                               standing_length, fault);
 }
 
-/* Opens a closed handle over a script: what it declares, with nothing bound. */
+/* Opens a closed handle over a script: what it declares, with nothing bound. It asks for memory. */
 static inline uint32_t spin_lane_open(struct spin_lane *lane, const void *text, size_t length,
                                       struct spin_answer *answer) {
     const uint8_t *bytes = spin_bytes(text, length);
@@ -174,7 +178,8 @@ static inline uint32_t spin_lane_open(struct spin_lane *lane, const void *text, 
 }
 
 /* Opens a closed handle over a script with a hub of so many lanes, 1 to 8. The handle is that of lane 0, and the seats
- * of the others wait at it for spin_lane_seat. Another number of lanes is SPIN_NO_LANE, whatever the text is. */
+ * of the others wait at it for spin_lane_seat. Another number of lanes is SPIN_NO_LANE, whatever the text is. It asks
+ * for memory. */
 static inline uint32_t spin_lane_open_hub(struct spin_lane *lane, uint8_t lanes, const void *text, size_t length,
                                           struct spin_answer *answer) {
     const uint8_t *bytes = spin_bytes(text, length);
@@ -185,7 +190,7 @@ static inline uint32_t spin_lane_open_hub(struct spin_lane *lane, uint8_t lanes,
 }
 
 /* Hands the seat of another lane out, which waits at the handle with which its hub was opened, to a closed handle. Each
- * lane has one seat. */
+ * lane has one seat. It asks for memory. */
 static inline uint32_t spin_lane_seat(struct spin_lane *lane, uint8_t number, struct spin_lane *seat) {
     if (lane == NULL || seat == NULL) {
         return SPIN_NULL;
@@ -193,7 +198,7 @@ static inline uint32_t spin_lane_seat(struct spin_lane *lane, uint8_t number, st
     return lane == seat ? (uint32_t)SPIN_SAME : spin_seat(lane, number, seat);
 }
 
-/* Raises an event with words as its arguments. */
+/* Raises an event with words as its arguments. It asks for memory. */
 static inline uint32_t spin_lane_raise(struct spin_lane *lane, uint8_t event, const uint64_t *words, size_t count,
                                        struct spin_answer *answer) {
     static const uint64_t none[1] = {0};
@@ -216,7 +221,7 @@ static inline struct spin_arg spin_range(uint64_t start, uint64_t length) {
     return arg;
 }
 
-/* Raises an event with these arguments, words and ranges of these bytes. */
+/* Raises an event with these arguments, words and ranges of these bytes. It asks for memory. */
 static inline uint32_t spin_lane_raise_args(struct spin_lane *lane, uint8_t event, const void *bytes, size_t length,
                                             const struct spin_arg *args, size_t count, struct spin_answer *answer) {
     static const struct spin_arg none[1] = {{SPIN_WORD, 0, 0}};
@@ -229,7 +234,7 @@ static inline uint32_t spin_lane_raise_args(struct spin_lane *lane, uint8_t even
 }
 
 /* Tells the step at an index, counted from 0, of the reply to the last raise. It is kept until the next raise, and the
- * next row that stands for a command, or a renewal. */
+ * next row that stands for a command, or a renewal. It asks for no memory. */
 static inline uint32_t spin_lane_step(struct spin_lane *lane, uint64_t index, struct spin_step *step) {
     if (lane == NULL || step == NULL) {
         return SPIN_NULL;
@@ -237,7 +242,8 @@ static inline uint32_t spin_lane_step(struct spin_lane *lane, uint64_t index, st
     return spin_step(lane, index, step);
 }
 
-/* Copies the bytes that such a step sends into a buffer, null standing for one of no bytes, and tells how many. */
+/* Copies the bytes that such a step sends into a buffer, null standing for one of no bytes, and tells how many. It asks
+ * for memory. */
 static inline uint32_t spin_lane_step_bytes(struct spin_lane *lane, uint64_t index, void *buffer, size_t room,
                                             uint64_t *length) {
     uint8_t none[1] = {0};
@@ -250,8 +256,8 @@ static inline uint32_t spin_lane_step_bytes(struct spin_lane *lane, uint64_t ind
 
 /* Renews the hub of a handle with which it was opened, and no seat of which was handed out: it goes on over a new log,
  * so that its bindings may change again, and nothing is lost that is bound. The live bindings are numbered anew, from 1
- * on in the order of their numbers. SPIN_TAKEN comes only where a seat was handed out. Where no memory is left for the
- * renewed lane, the handle is closed. */
+ * on in the order of their numbers. SPIN_TAKEN comes only where a seat was handed out. It asks for memory; where none is
+ * left for the renewed lane, the handle is closed. */
 static inline uint32_t spin_lane_renew(struct spin_lane *lane, struct spin_answer *answer) {
     if (lane == NULL || answer == NULL) {
         return SPIN_NULL;
@@ -259,7 +265,7 @@ static inline uint32_t spin_lane_renew(struct spin_lane *lane, struct spin_answe
     return spin_renew(lane, answer);
 }
 
-/* Tells which number the binding of this number had before the last renewal. */
+/* Tells which number the binding of this number had before the last renewal. It asks for no memory. */
 static inline uint32_t spin_lane_number_before(struct spin_lane *lane, uint64_t number, uint64_t *before) {
     if (lane == NULL || before == NULL) {
         return SPIN_NULL;
@@ -270,7 +276,7 @@ static inline uint32_t spin_lane_number_before(struct spin_lane *lane, uint64_t 
     return error;
 }
 
-/* Closes a handle. */
+/* Closes a handle. It asks for no memory. */
 static inline uint32_t spin_lane_close(struct spin_lane *lane, struct spin_answer *answer) {
     if (lane == NULL || answer == NULL) {
         return SPIN_NULL;
@@ -318,7 +324,7 @@ static inline struct spin_row spin_row_of(const struct spin_command_words *comma
 }
 
 /* Does a command. SPIN_NO_COMMAND says that it is none of the handle's lane, however full the log is, and the reply to
- * the last raise is kept then. */
+ * the last raise is kept then. It asks for memory. */
 static inline uint32_t spin_lane_command(struct spin_lane *lane, const struct spin_command_words *command,
                                          struct spin_answer *answer) {
     if (lane == NULL || command == NULL || answer == NULL) {
@@ -357,6 +363,7 @@ static inline const char *spin_error_name(uint32_t error) {
     case SPIN_TAKEN: return "the seat is taken";
     case SPIN_NO_BINDING: return "no such binding was renewed";
     case SPIN_BAD_CAPTURE: return "no capture";
+    case SPIN_SHARED: return "the hub is shared";
     case SPIN_NULL: return "null";
     case SPIN_SAME: return "one handle twice";
     default: return "unknown";

@@ -28,7 +28,7 @@ _NAME = "libcodzvregi.so.1"
 # The numbers that the calls answer, as bindings/c/spin.h has them.
 _OK, _NO_MEMORY, _BAD_SCRIPT, _NO_HISTORY, _CLOSED, _OPEN, _NO_COMMAND, _FULL, _REFUSED = range(9)
 _NO_REPLY, _NO_STEP = 9, 10
-_NO_LANE, _TAKEN, _NO_BINDING, _BAD_CAPTURE = 13, 14, 15, 16
+_NO_LANE, _TAKEN, _NO_BINDING, _BAD_CAPTURE, _SHARED = 13, 14, 15, 16, 17
 
 # The kinds of replies to a raise, by number.
 KINDS = (
@@ -51,7 +51,7 @@ _SAID = {
     **{_NO_COMMAND: "that is no command", _FULL: "the log is full"},
     **{_NO_REPLY: "no reply is kept", _NO_STEP: "the reply has no such step"},
     **{_NO_LANE: "there is no such lane", _TAKEN: "the seat is taken"},
-    **{_NO_BINDING: "no such binding was renewed"},
+    **{_NO_BINDING: "no such binding was renewed", _SHARED: "the hub is shared"},
 }
 
 

@@ -192,6 +192,7 @@ fn fault_of(number: u32, answer: &SpinAnswer) -> Fault {
         13 => Fault::NoLane,
         14 => Fault::Taken,
         15 => Fault::NoBinding,
+        17 => Fault::Shared,
         other => Fault::Unknown(other),
     }
 }
@@ -296,8 +297,7 @@ impl Held {
 impl Drop for Held {
     fn drop(&mut self) {
         let mut answer = SpinAnswer::default();
-        // SAFETY: the handle is this value's own, and isn't used again. Without memory for the call it isn't closed,
-        // and what it holds is lost.
+        // SAFETY: the handle is this value's own, and isn't used again. The call asks for no memory.
         unsafe { spin_close(&mut self.lane, &mut answer) };
     }
 }

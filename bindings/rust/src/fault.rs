@@ -32,6 +32,8 @@ pub enum Fault {
     Taken,
     /// The last renewal numbered no such binding, or there was none.
     NoBinding,
+    /// The hub is still shared by other seats, so that it isn't renewed.
+    Shared,
     /// The bytes are refused as a capture.
     BadCapture {
         /// The record, counted from 1; 0 where it is the header.
@@ -57,6 +59,7 @@ impl Display for Fault {
             Fault::NoLane => write!(out, "there is no such lane"),
             Fault::Taken => write!(out, "the seat is taken"),
             Fault::NoBinding => write!(out, "no such binding was renewed"),
+            Fault::Shared => write!(out, "the hub is shared"),
             Fault::BadCapture { record, fault } => write!(out, "record {record} is bad: fault {fault}"),
             Fault::Unknown(number) => write!(out, "the library answered {number}"),
         }

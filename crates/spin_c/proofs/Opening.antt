@@ -1,5 +1,5 @@
 -- The lane of the first seat of a hub, at which the others wait; and all seats of a hub, from a lane at which they wait.
-use Rattle.std.proofs.Common.{◌≡◌, ◌+◌, ℕ, List, [], ◌∷◌, arith, refl, sym, ap, subst, inl, inr, length, drop}
+use Rattle.std.proofs.Common.{◌≡◌, ◌+◌, ◌<◌, ◌⊎◌, ℕ, List, [], ◌∷◌, arith, refl, sym, ap, subst, inl, inr, length, drop}
 use Rattle.std.specs.Prelude.{All, None, Option, Some, map}
 use Rattle.std.proofs.lemmas.List.{length-map}
 use Rattle.std.proofs.lemmas.List.Elements.{All-head, All-tail}
@@ -10,7 +10,17 @@ use Rattle.spin_table.specs.Setups.{SetupData}
 use Rattle.spin_table.specs.States.{State}
 use Rattle.spin_seat.specs.Seats.{SeatValue, AreOfLanes, IsSeatFrom}
 use Rattle.spin_seat.specs.RenewedHubs.{AreAllSeats}
+use Rattle.spin_script.specs.States.{NativeData}
+use Rattle.spin_word.specs.declared.command.TheConstants.{MAX_LANES}
+use Rattle.spin_c.specs.declared.ask.Ask.TheVariants as ask
+use Rattle.spin_c.specs.declared.ask.Outcome.{Outcome}
+use Rattle.spin_c.specs.declared.ask.Outcome.TheVariants as outcome
+use Rattle.spin_c.specs.declared.lane.Lane.{Lane}
+use Rattle.spin_c.specs.declared.told.SpinAnswer.{SpinAnswer}
 use Rattle.spin_c.specs.Renewing.{AreHome}
+use Rattle.spin_c.specs.Tellings.{TellsOf}
+use Rattle.spin_c.specs.Turns.{DoesOpen, IsCalled, IsCount, NotOpened, OpensTo, Turns}
+use Rattle.spin_c.specs.Verdicts.{no_natives}
 use Rattle.spin_c.specs.Waiting.{AreWaiting, IsHome, IsWellAt, IsWhole, present}
 
 -- seats of a hub, in the order of its lanes from this one on, wait as they should
@@ -79,3 +89,40 @@ home_all log d seat waiting well home = go well.1.1
           first = seat.first;
           seats_are = all_cons (IsSeatFrom d seat.first) seat (present others) well.0.1 all.from;
         })
+
+-- ---- a hub that there can't be, whatever the text is
+
+no_count : (lanes : ℕ) → (lanes ≡ 0) ⊎ (MAX_LANES < lanes) → IsCount lanes → ⊥
+no_count lanes (inl none) count = let some = count.0 in omega (arith, none, some)
+no_count lanes (inr more) count = let few = count.1 in omega (arith, more, few)
+
+not_opened : (natives : NativeData) (text other : List ℕ) (lanes : ℕ) → (IsCount lanes → ⊥) → (told : Outcome) → NotOpened natives other lanes told → NotOpened natives text lanes told
+not_opened natives text other lanes none outcome.NoLane is = is
+not_opened natives text other lanes none (outcome.Bad line cause) is = absurd (none is.1)
+not_opened natives text other lanes none outcome.NoMemory is = absurd (none is)
+not_opened natives text other lanes none told is = absurd is
+
+opens_to : {A C E : Type 0} {B : A → Type 0} {D : C → Type 0} {F : E → Type 0} (natives : NativeData) (text other : List ℕ) (lanes : ℕ) → (IsCount lanes → ⊥)
+    → (after : Option (Lane A C E B D F)) (told : Outcome) → OpensTo natives other lanes after told → OpensTo natives text lanes after told
+opens_to natives text other lanes none (Some l) told is = absurd (none is.0.lanes_are)
+opens_to natives text other lanes none None told is = not_opened natives text other lanes none told is
+
+does_open : {A C E : Type 0} {B : A → Type 0} {D : C → Type 0} {F : E → Type 0} (text other : List ℕ) (lanes : ℕ) (l : Lane A C E B D F) (after : Option (Lane A C E B D F)) (told : Outcome)
+    → DoesOpen l (ask.Open other lanes) after told → DoesOpen l (ask.Open text lanes) after told
+does_open text other lanes l None told does = does
+does_open text other lanes l (Some after) told does = does
+
+turns_alike : {A C E : Type 0} {B : A → Type 0} {D : C → Type 0} {F : E → Type 0} (natives : NativeData) (text other : List ℕ) (lanes : ℕ) → (IsCount lanes → ⊥)
+    → (kept after : Option (Lane A C E B D F)) (told : Outcome) → Turns natives kept (ask.Open other lanes) after told → Turns natives kept (ask.Open text lanes) after told
+turns_alike natives text other lanes none None after told does = opens_to natives text other lanes none after told does
+turns_alike natives text other lanes none (Some l) after told does = does_open text other lanes l after told does
+
+pub called_alike : {A C E : Type 0} {B : A → Type 0} {D : C → Type 0} {F : E → Type 0} (text other : List ℕ) (lanes : ℕ) → (lanes ≡ 0) ⊎ (MAX_LANES < lanes)
+    → (kept after : Option (Lane A C E B D F)) (number : ℕ) (answer : SpinAnswer)
+    → TellsOf kept (ask.Open other lanes) after number answer → TellsOf kept (ask.Open text lanes) after number answer
+called_alike text other lanes bad kept after number answer t =
+    record { told = t.told; called = go t.called; number_is = t.number_is; answer_is = t.answer_is }
+  where
+    go : IsCalled kept (ask.Open other lanes) after t.told → IsCalled kept (ask.Open text lanes) after t.told
+    go (inl does) = inl (turns_alike no_natives text other lanes (no_count lanes bad) kept after t.told does)
+    go (inr left) = absurd (no_count lanes bad left.2)

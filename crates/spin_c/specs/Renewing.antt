@@ -52,25 +52,24 @@ RenewsAll d log seats before (Some after) outcome.NoMemory = IsUnrenewed d log s
 RenewsAll d log seats before None outcome.NoMemory = ⊤
 RenewsAll d log seats before after other = ⊥
 
--- Why a lane is left as it is: no others came with it, or the seat of one is handed out. Want of memory comes at any
--- time. It is told, too, where the library doesn't hand the hub out of what its handles share, since no statement says
--- when that succeeds; such a lane is as it was.
-abbrev pub IsNotHome : List (Option SeatValue) → Outcome → Type 0
-IsNotHome waiting outcome.NoLane = waiting ≡ []
-IsNotHome waiting outcome.Taken = (waiting ≢ []) × (All IsHome (drop 1 waiting) → ⊥)
-IsNotHome waiting outcome.NoMemory = ⊤
-IsNotHome waiting other = ⊥
-
 -- all others of the hub's seats wait at the lane with which it was opened
 abbrev pub AreHome : List (Option SeatValue) → Type 0
 AreHome waiting = (waiting ≢ []) × All IsHome (drop 1 waiting)
+
+-- Why a lane is left as it is: no others came with it; the seat of one is handed out; or all wait, and the library
+-- doesn't hand the hub out of what its handles share, since no statement says when that succeeds.
+abbrev pub IsLeft : List (Option SeatValue) → Outcome → Type 0
+IsLeft waiting outcome.NoLane = waiting ≡ []
+IsLeft waiting outcome.Taken = (waiting ≢ []) × (All IsHome (drop 1 waiting) → ⊥)
+IsLeft waiting outcome.Shared = AreHome waiting
+IsLeft waiting other = ⊥
 
 -- of a lane: its seat and those that wait are all, or it is left as it is
 abbrev pub RenewsTo : {A C E : Type 0} {B : A → Type 0} {D : C → Type 0} {F : E → Type 0}
     → Lane A C E B D F → Option (Lane A C E B D F) → Outcome → Type 0
 RenewsTo l after told =
     let hub = arc_value l.hub in
-    ((after ≡ Some l) × IsNotHome l.waiting told)
+    ((after ≡ Some l) × IsLeft l.waiting told)
     ⊎ (AreHome l.waiting × RenewsAll (data_of hub.setup) hub.log (l.seat ∷ present l.waiting) l.before after told)
 
 abbrev pub fault_told : RenewFault → Outcome

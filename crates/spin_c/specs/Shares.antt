@@ -1,5 +1,5 @@
 -- What becomes of the seats that wait to be handed out.
-use Rattle.std.specs.Prelude.{◌≡◌, ℕ, List, [], Option, None, Some, slice_get, slice_set, ⊤}
+use Rattle.std.specs.Prelude.{◌≡◌, ℕ, List, [], Option, None, Some, slice_get, slice_set}
 use Rattle.std.specs.Arc.{arc_value}
 use Rattle.spin_seat.specs.Seats.{SeatValue}
 use Rattle.spin_c.specs.declared.lane.Lane.{Lane}
@@ -18,11 +18,11 @@ pub record IsShare {A C E : Type 0} {B : A → Type 0} {D : C → Type 0}
   pub hub : arc_value share.hub ≡ arc_value l.hub
   pub fresh : (share.reply ≡ None) × (share.waiting ≡ []) × (share.before ≡ [])
 
--- why none is handed out: the handle has no such lane, its seat is handed out, or there was no memory
+-- why none is handed out: the handle has no such lane; its seat is handed out; or it waits, and there was no memory
 abbrev pub IsNoShare : List (Option SeatValue) → ℕ → Outcome → Type 0
 IsNoShare waiting number outcome.NoLane = slice_get waiting number ≡ None
 IsNoShare waiting number outcome.Taken = slice_get waiting number ≡ Some None
-IsNoShare waiting number outcome.NoMemory = ⊤
+IsNoShare waiting number outcome.NoMemory = (seat : SeatValue) × (slice_get waiting number ≡ Some (Some seat))
 IsNoShare waiting number other = ⊥
 
 -- what an open handle and a closed one hold afterwards, and what is answered

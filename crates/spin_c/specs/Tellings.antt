@@ -6,7 +6,8 @@ use Rattle.spin_report.specs.Verdicts.{refusal_told}
 use Rattle.spin_c.specs.Given.{IsGiven, value_of}
 use Rattle.spin_c.specs.Trails.{blank}
 use Rattle.spin_c.specs.Shares.{Shares}
-use Rattle.spin_c.specs.Turns.{IsCalled}
+use Rattle.spin_c.specs.Turns.{IsCalled, Turns}
+use Rattle.spin_c.specs.Verdicts.{no_natives}
 use Rattle.spin_c.specs.declared.ask.Ask.{Ask}
 use Rattle.spin_c.specs.declared.ask.Ask.TheVariants as asked
 use Rattle.spin_c.specs.declared.ask.Outcome.{Outcome}
@@ -39,6 +40,7 @@ code_of outcome.NoArgument = 12
 code_of outcome.NoLane = 13
 code_of outcome.Taken = 14
 code_of outcome.NoBinding = 15
+code_of outcome.Shared = 17
 code_of (outcome.Raised place told) = 0
 code_of (outcome.Step found) = 0
 code_of (outcome.Bytes bytes) = 0
@@ -59,7 +61,7 @@ answer_of (outcome.Raised place told) =
 answer_of (outcome.Before number) = record { place = 0; kind = 0; value = number; steps = 0 }
 answer_of other = record { place = 0; kind = 0; value = 0; steps = 0 }
 
--- The call does so, or there was no memory for it and the handle is as it was; and what it comes to is told.
+-- The call does so, or there was no memory to copy what is handed in; and what it comes to is told.
 pub record TellsOf {A C E : Type 0} {B : A → Type 0} {D : C → Type 0}
     {F : E → Type 0} (kept : Option (Lane A C E B D F))
     (call : Ask) (after : Option (Lane A C E B D F)) (number : ℕ) (answer : SpinAnswer) : Type 0 where
@@ -98,7 +100,7 @@ pub record TellsStep {A C E : Type 0} {B : A → Type 0} {D : C → Type 0}
     {F : E → Type 0} (kept : Option (Lane A C E B D F))
     (index : ℕ) (after : Option (Lane A C E B D F)) (number : ℕ) (step : SpinStep) : Type 0 where
   pub told : Outcome
-  pub called : IsCalled kept (asked.Step index) after told
+  pub called : Turns no_natives kept (asked.Step index) after told
   pub number_is : number ≡ code_of told
   pub step_is : step ≡ step_of told
 
@@ -119,7 +121,7 @@ pub record HandsBytes {A C E : Type 0} {B : A → Type 0} {D : C → Type 0}
     {F : E → Type 0} (kept : Option (Lane A C E B D F)) (index : ℕ) (before : List ℕ)
     (after : Option (Lane A C E B D F)) (number : ℕ) (buffer : List ℕ) (wanted : ℕ) : Type 0 where
   pub told : Outcome
-  pub called : IsCalled kept (asked.Bytes index) after told
+  pub called : Turns no_natives kept (asked.Bytes index) after told
   pub handed : AreHandedTo told before number buffer wanted
 
 -- ---- commands

@@ -16,7 +16,7 @@ use Rattle.spin_script.specs.States.{NativeData, ScriptData}
 use Rattle.spin_script.specs.declared.script.ScriptFault.TheVariants as fault
 use Rattle.spin_seat.specs.declared.answer.SeatFault.TheVariants as seat_fault
 use Rattle.spin_seat.specs.Answers.{place_before}
-use Rattle.spin_seat.specs.Calls.{GivesFrom, AddsAtMostAPin, IsFaultAt, ReadsOn, reply_answer, verdict_answer}
+use Rattle.spin_seat.specs.Calls.{GivesFrom, AddsAtMostAPin, IsFaultAt, IsUnrefused, ReadsOn, reply_answer, verdict_answer}
 use Rattle.spin_c.specs.Renewing.{RenewsTo, number_before}
 use Rattle.spin_c.specs.Trails.{IsHanded, IsTold, step_at, told_of}
 use Rattle.spin_c.specs.Verdicts.{no_natives}
@@ -32,6 +32,10 @@ use Rattle.spin_c.specs.declared.ask.Outcome.TheVariants as outcome
 
 -- ---- opening
 
+-- a hub has so many lanes
+abbrev pub IsCount : ℕ → Type 0
+IsCount lanes = (0 < lanes) × (lanes ≤ MAX_LANES)
+
 -- The lane is the first of so many over the setup of the script, at its start.
 pub record IsOpened {A C E : Type 0} {B : A → Type 0} {D : C → Type 0}
     {F : E → Type 0} (natives : NativeData) (text : List ℕ) (lanes : ℕ)
@@ -39,15 +43,16 @@ pub record IsOpened {A C E : Type 0} {B : A → Type 0} {D : C → Type 0}
   pub script : ScriptData
   pub read : IsScript natives text (Ok script)
   pub setup : data_of (arc_value l.hub).setup ≡ script.setup
+  pub lanes_are : IsCount lanes
   pub started : IsStarted lanes l
 
--- Why there is no lane over this text: no hub has so many lanes; or one has, and it is no script; or there was no
+-- Why there is no lane over this text: no hub has so many lanes; or one has, and it is no script, or there was no
 -- memory.
 abbrev pub NotOpened : NativeData → List ℕ → ℕ → Outcome → Type 0
 NotOpened natives text lanes outcome.NoLane = (lanes ≡ 0) ⊎ (MAX_LANES < lanes)
 NotOpened natives text lanes (outcome.Bad line cause) =
-    IsBad natives text (fault.Bad line cause) × (0 < lanes) × (lanes ≤ MAX_LANES)
-NotOpened natives text lanes outcome.NoMemory = ⊤
+    IsBad natives text (fault.Bad line cause) × IsCount lanes
+NotOpened natives text lanes outcome.NoMemory = IsCount lanes
 NotOpened natives text lanes other = ⊥
 
 abbrev pub Opens : {A C E : Type 0} {B : A → Type 0} {D : C → Type 0} {F : E → Type 0}
@@ -97,6 +102,14 @@ pub record IsDecided {A C E : Type 0} {B : A → Type 0} {D : C → Type 0}
       (verdict_answer l.seat.pen.lane command place verdict) after.seat.pen
   pub room : place_before (verdict_answer l.seat.pen.lane command place verdict) < MAX_PLACE
 
+-- Want of memory is no refusal of the row's command: none but a conflict applies to it at the seat's state, where that is
+-- all that the seat has read.
+pub record IsNoRefusal {A C E : Type 0} {B : A → Type 0} {D : C → Type 0}
+    {F : E → Type 0} (l : Lane A C E B D F) (row : Row) (after : Lane A C E B D F) : Type 0 where
+  pub command : Command
+  pub stands : StandsFor row command
+  pub unrefused : IsUnrefused (data_of (arc_value l.hub).setup) after.seat command seat_fault.NoMemory
+
 -- What the command of a row comes to. Only where the row stands for one of the lane it is judged, or the log told to be
 -- full, and no reply is kept then.
 abbrev pub Commands : {A C E : Type 0} {B : A → Type 0} {D : C → Type 0} {F : E → Type 0}
@@ -110,6 +123,7 @@ Commands l row after outcome.Full =
     × IsFaultAt l.seat.first.place (length after.seat.pen.front) seat_fault.Full × (after.reply ≡ None)
 Commands l row after outcome.NoMemory =
     KeepsHub l after × IsOfLane l.seat.pen.lane row × ReadsOn l.seat.pen after.seat.pen × (after.reply ≡ None)
+    × IsNoRefusal l row after
 Commands l row after other = ⊥
 
 -- ---- a call
@@ -145,7 +159,15 @@ abbrev pub Turns : {A C E : Type 0} {B : A → Type 0} {D : C → Type 0} {F : E
 Turns natives None asked after told = DoesClosed natives asked after told
 Turns natives (Some l) asked after told = DoesOpen l asked after told
 
--- The call does so; or there was no memory for what is asked, and the handle is as it was.
+-- what is handed in is copied before the call is done; a text only for a hub that there can be
+abbrev pub IsCopied : Ask → Type 0
+IsCopied (ask.Open text lanes) = IsCount lanes
+IsCopied (ask.Raise event args) = ⊤
+IsCopied other = ⊥
+
+-- The call does so; or there was no memory to copy what is handed in, and the handle is as it was.
 abbrev pub IsCalled : {A C E : Type 0} {B : A → Type 0} {D : C → Type 0} {F : E → Type 0}
     → Option (Lane A C E B D F) → Ask → Option (Lane A C E B D F) → Outcome → Type 0
-IsCalled kept asked after told = Turns no_natives kept asked after told ⊎ ((after ≡ kept) × (told ≡ outcome.NoMemory))
+IsCalled kept asked after told =
+    Turns no_natives kept asked after told
+    ⊎ ((after ≡ kept) × (told ≡ outcome.NoMemory) × IsCopied asked)

@@ -37,11 +37,11 @@ pub enum Ask {
     Close,
 }
 
-/// A call of a handle. What is asked stands in a box.
+/// A call of a handle.
 #[derive(Drop)]
 pub struct Call {
     pub(crate) alloc: Global,
-    pub(crate) ask: Box<Ask>,
+    pub(crate) ask: Ask,
 }
 
 /// What is asked of a handle at which other lanes wait: the seat of one of them.
@@ -95,6 +95,8 @@ pub enum Outcome {
     NoLane,
     /// The seat of the lane is handed out already.
     Taken,
+    /// The library doesn't hand the hub out of what its handles share.
+    Shared,
     /// No binding of that number was renewed.
     NoBinding,
     /// The number that a binding had.

@@ -1,9 +1,10 @@
 //! Asking something of a handle.
 
-ghost use Rattle.std.specs.Prelude.{◌≡◌, IfOk, map};
+ghost use Rattle.std.specs.Prelude.{◌≡◌, ◌<◌, ◌≤◌, ◌⊎◌, IfOk, map};
+ghost use Rattle.spin_word.specs.declared.command.TheConstants.{MAX_LANES};
 ghost use Rattle.spin_values.specs.declared.values.Value.TheVariants as value;
 ghost use Rattle.spin_c.specs.declared.ask.Ask.TheVariants as asked;
-ghost use Rattle.spin_c.specs.Turns.{IsCalled, Turns};
+ghost use Rattle.spin_c.specs.Turns.{Turns};
 ghost use Rattle.spin_c.specs.Verdicts.{no_natives};
 ghost use Rattle.spin_c.specs.Tellings.{HandsBytes, TellsOf, TellsShare, TellsStep, answer_of, code_of};
 
@@ -13,6 +14,7 @@ use crate::handle::SpinLane;
 use crate::step::SpinStep;
 use crate::told::{SpinAnswer, answer_of, code_of, step_of};
 use spin_values::{Args, NoMemory, Octets, Value};
+use spin_word::MAX_LANES;
 use std::alloc::Global;
 use std::mem;
 
@@ -28,23 +30,13 @@ pub(crate) fn args_of(alloc: Global, words: &[u64]) -> Result<Args, NoMemory>
 }
 
 // Does what is asked on what the handle holds.
-fn call_boxed(alloc: Global, lane: &mut SpinLane, ask: Box<Ask>) -> Outcome
-    ensures { Turns no_natives lane.old.kept ask.value lane.new.kept result }
+fn call_on(alloc: Global, lane: &mut SpinLane, ask: Ask) -> Outcome
+    ensures { Turns no_natives lane.old.kept ask lane.new.kept result }
 {
     let call = Call { alloc, ask };
     let (after, outcome) = mem::replace(lane, SpinLane::closed(alloc)).turn(alloc, call);
     *lane = after;
     outcome
-}
-
-// Does what is asked, where there is memory for it.
-fn call_on(alloc: Global, lane: &mut SpinLane, ask: Ask) -> Outcome
-    ensures { IsCalled lane.old.kept ask lane.new.kept result }
-{
-    match Box::new(alloc, ask) {
-        Ok(ask) => call_boxed(alloc, lane, ask),
-        Err(_) => Outcome::NoMemory,
-    }
 }
 
 // Tells what a call comes to.
@@ -64,6 +56,39 @@ pub(crate) fn ask_of(alloc: Global, lane: &mut SpinLane, ask: Ask, answer: &mut 
     tell(&outcome, answer)
 }
 
+// Asks for a hub that there can't be, whatever the text is, which so isn't copied.
+fn open_none(
+    alloc: Global,
+    lane: &mut SpinLane,
+    _text: &[u8],
+    lanes: u8,
+    answer: &mut SpinAnswer,
+) -> u32
+    requires { (lanes ≡ 0) ⊎ (MAX_LANES < lanes) }
+    ensures { TellsOf lane.old.kept (asked.Open _text.now lanes) lane.new.kept result answer.new }
+{
+    let text = Octets::new(alloc);
+    ask_of(alloc, lane, Ask::Open { text, lanes }, answer)
+}
+
+// Asks for a hub over a copy of the text.
+fn open_copied(
+    alloc: Global,
+    lane: &mut SpinLane,
+    text: &[u8],
+    lanes: u8,
+    answer: &mut SpinAnswer,
+) -> u32
+    requires some { 0 < lanes }
+    requires few { lanes ≤ MAX_LANES }
+    ensures { TellsOf lane.old.kept (asked.Open text.now lanes) lane.new.kept result answer.new }
+{
+    match Octets::from_bytes(alloc, text) {
+        Ok(text) => ask_of(alloc, lane, Ask::Open { text, lanes }, answer),
+        Err(NoMemory) => tell(&Outcome::NoMemory, answer),
+    }
+}
+
 // Opens a closed handle over a hub of so many lanes, and tells what it comes to.
 pub(crate) fn open_of(
     alloc: Global,
@@ -74,10 +99,10 @@ pub(crate) fn open_of(
 ) -> u32
     ensures { TellsOf lane.old.kept (asked.Open text.now lanes) lane.new.kept result answer.new }
 {
-    match Octets::from_bytes(alloc, text) {
-        Ok(text) => ask_of(alloc, lane, Ask::Open { text, lanes }, answer),
-        Err(NoMemory) => tell(&Outcome::NoMemory, answer),
+    if lanes == 0 || lanes > MAX_LANES {
+        return open_none(alloc, lane, text, lanes, answer);
     }
+    open_copied(alloc, lane, text, lanes, answer)
 }
 
 // Hands the seat of another lane out to another handle, and tells what it comes to.

@@ -72,10 +72,11 @@ fn hand_out(alloc: Global, lane: &mut Lane, number: u8) -> Result<Box<Lane>, Out
         (λ why. (lane.new ≡ lane.old) × IsNoShare lane.old.waiting number why) }
 {
     let at = usize::from(number);
+    let seat = take_waiting(alloc, &mut lane.waiting, at)?;
     let Ok(hub) = Arc::try_clone(&lane.hub) else {
+        lane.waiting.replace(at, Some(seat));
         return Err(Outcome::NoMemory);
     };
-    let seat = take_waiting(alloc, &mut lane.waiting, at)?;
     let (reply, waiting) = (Kept::new(alloc), Waiting::new(alloc));
     let share = Lane {
         hub,

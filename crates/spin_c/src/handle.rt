@@ -45,7 +45,7 @@ impl SpinLane {
 
     // Does the call on what the handle holds. There are no natives.
     pub(crate) fn turn(self, none: Global, call: Call) -> (SpinLane, Outcome)
-        ensures { Turns no_natives self.kept call.ask.value result.0.kept result.1 }
+        ensures { Turns no_natives self.kept call.ask result.0.kept result.1 }
     {
         let SpinLane { at, alloc } = self;
         let natives = Natives::new(none);

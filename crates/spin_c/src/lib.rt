@@ -130,7 +130,8 @@ pub extern "C" fn spin_open(
 
 /// Opens a closed handle over a script as [`spin_open`] does, over a hub with so many lanes: the handle is that of lane
 /// 0, and the seats of the others wait at it for [`spin_seat`]. It answers as `spin_open`, and 13 where it was closed
-/// and no hub has so many lanes: a hub has 1 to 8. Where the text is no script besides, it is 13 that it answers.
+/// and no hub has so many lanes: a hub has 1 to 8. Where the text is no script besides, or there is no memory, it is 13
+/// that it answers.
 #[unsafe(no_mangle)]
 pub extern "C" fn spin_open_lanes(
     alloc: Global,
@@ -147,7 +148,8 @@ pub extern "C" fn spin_open_lanes(
 /// Hands the seat of another lane out, which waits at the handle with which its hub was opened, to a closed handle: the
 /// two share the hub, and nothing else. It answers 0 where the second handle is open now; 1 where there was no memory, 4
 /// where the first handle is closed, 5 where the second is open, 13 where the first has no such lane, as one that was
-/// handed out has none, and 14 where that lane's seat is handed out already. Both handles are as they were then.
+/// handed out has none, and 14 where that lane's seat is handed out already. Both handles are as they were then. Want of
+/// memory is told only where the seat waits.
 #[unsafe(no_mangle)]
 pub extern "C" fn spin_seat(
     alloc: Global,
@@ -203,8 +205,8 @@ pub extern "C" fn spin_raise(
 }
 
 /// Tells the step at an index, counted from 0, of the reply to the last raise. It answers 0 where it is told, and zeros
-/// beside another number: 1 where there was no memory, 4 where the handle is closed, 9 where no reply is kept, since
-/// nothing was raised or a command or a renewal was done since, and 10 where the reply has no step of that index.
+/// beside another number: 4 where the handle is closed, 9 where no reply is kept, since nothing was raised or a command
+/// or a renewal was done since, and 10 where the reply has no step of that index. It asks for no memory.
 #[unsafe(no_mangle)]
 pub extern "C" fn spin_step(
     alloc: Global,
@@ -219,7 +221,7 @@ pub extern "C" fn spin_step(
 
 /// Copies the bytes that the step at an index sends to the front of a buffer, and tells how many they are: none where
 /// it sends nothing. It answers 0 where they are copied; 11 where the buffer is too small, which is as it was then; and
-/// else a number as [`spin_step`], where the buffer is as it was and 0 is told.
+/// else a number as [`spin_step`], or 1 where there was no memory, where the buffer is as it was and 0 is told.
 #[unsafe(no_mangle)]
 pub extern "C" fn spin_step_bytes(
     alloc: Global,
@@ -254,7 +256,8 @@ pub extern "C" fn spin_command(
 /// live bindings are numbered anew, from 1 on in the order of their numbers; [`spin_before`] tells what they were. No
 /// reply is kept then. It answers 0 where it is renewed; 1 where there was no memory, and where there was none to put
 /// the lane back the handle is closed; 4 where the handle is closed, 7 where 4,096 bindings are live, 13 where the
-/// handle's seat was handed out by another, and 14 where it handed a seat of the hub out.
+/// handle's seat was handed out by another, 14 where it handed a seat of the hub out, and 17 where the hub is still
+/// shared by other handles, though all its seats wait. Beside the last three the handle is as it was.
 #[unsafe(no_mangle)]
 pub extern "C" fn spin_renew(alloc: Global, lane: &mut SpinLane, answer: &mut SpinAnswer) -> u32
     ensures { TellsOf lane.old.kept asked.Renew lane.new.kept result answer.new }
@@ -263,8 +266,8 @@ pub extern "C" fn spin_renew(alloc: Global, lane: &mut SpinLane, answer: &mut Sp
 }
 
 /// Tells as the value which number the binding had before the last renewal that is now this index and 1. It answers 0
-/// where there is one, 1 where there was no memory, 4 where the handle is closed, and 15 where the last renewal numbered
-/// no such binding, or there was none.
+/// where there is one, 4 where the handle is closed, and 15 where the last renewal numbered no such binding, or there was
+/// none. It asks for no memory.
 #[unsafe(no_mangle)]
 pub extern "C" fn spin_before(
     alloc: Global,
@@ -277,8 +280,7 @@ pub extern "C" fn spin_before(
     ask_of(alloc, lane, Ask::Before(index), answer)
 }
 
-/// Closes a handle. It answers 0 where it was open and is closed now, 1 where there was no memory for the call, and 4
-/// where it was closed.
+/// Closes a handle. It answers 0 where it was open and is closed now, and 4 where it was closed. It asks for no memory.
 #[unsafe(no_mangle)]
 pub extern "C" fn spin_close(alloc: Global, lane: &mut SpinLane, answer: &mut SpinAnswer) -> u32
     ensures { TellsOf lane.old.kept asked.Close lane.new.kept result answer.new }

@@ -5,7 +5,7 @@ ghost use Rattle.std.specs.Arc.{arc_value};
 ghost use Rattle.spin_table.specs.SetupOf.{data_of};
 ghost use Rattle.spin_seat.specs.RenewedHubs.{AreAllSeats};
 ghost use Rattle.spin_c.specs.Waiting.{IsHome, IsWell, IsWellLane, IsLaid, present};
-ghost use Rattle.spin_c.specs.Renewing.{AreHome, IsNotHome, RenewsAll, RenewsTo, fault_told, number_before};
+ghost use Rattle.spin_c.specs.Renewing.{AreHome, IsLeft, RenewsAll, RenewsTo, fault_told, number_before};
 
 use crate::ask::Outcome;
 use crate::handing::waiting_of;
@@ -58,7 +58,7 @@ fn is_home(slot: &Option<Seat>) -> bool
 // Why a hub can't be renewed at a lane where these wait, if it can't.
 fn why_not(waiting: &[Option<Seat>]) -> Option<Outcome>
     ensures { MatchOption result (AreHome waiting.now)
-        (λ why. IsNotHome waiting.now why) }
+        (λ why. IsLeft waiting.now why) }
 {
     if waiting.is_empty() {
         return Some(Outcome::NoLane);
@@ -143,7 +143,7 @@ fn renew_lane(alloc: Global, lane: Lane) -> (Option<Lane>, Outcome)
     let hub = match Arc::try_unwrap(hub) {
         Ok(hub) => hub,
         // All seats are home, so no other handle has the hub. Of when this call succeeds the library says nothing, so
-        // that no proof can tell that this never comes; it is told as want of memory, and the lane is as it was.
+        // that no proof can tell that this never comes; it is told by a number of its own, and the lane is as it was.
         Err(hub) => {
             let lane = Lane {
                 hub,
@@ -152,7 +152,7 @@ fn renew_lane(alloc: Global, lane: Lane) -> (Option<Lane>, Outcome)
                 waiting,
                 before,
             };
-            return (Some(lane), Outcome::NoMemory);
+            return (Some(lane), Outcome::Shared);
         }
     };
     match gathered(alloc, seat, waiting) {

@@ -106,6 +106,7 @@ pub(crate) fn code_of(outcome: &Outcome) -> u32
         Outcome::NoLane => 13,
         Outcome::Taken => 14,
         Outcome::NoBinding => 15,
+        Outcome::Shared => 17,
     }
 }
 

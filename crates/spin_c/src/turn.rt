@@ -1,6 +1,6 @@
 //! The calls of a handle.
 
-ghost use Rattle.std.specs.Prelude.{◌≡◌, ◌<◌, ◌≤◌, IfOk, IfSome, None, Some, Option};
+ghost use Rattle.std.specs.Prelude.{◌≡◌, ◌<◌, ◌≤◌, IfOk, OnOk, IfSome, None, Some, Option};
 ghost use Rattle.std.specs.Arc.{arc_value};
 ghost use Rattle.spin_word.specs.declared.command.TheConstants.{MAX_LANES};
 ghost use Rattle.spin_script.specs.States.{natives_seen};
@@ -27,6 +27,7 @@ fn start(alloc: Global, setup: Setup, lanes: u8) -> Result<Lane, NoMemory>
     requires some { 0 < lanes }
     requires few { lanes ≤ MAX_LANES }
     ensures setup { IfOk result (λ l. (arc_value l.hub).setup ≡ setup) }
+    ensures lanes { OnOk result ((0 < lanes) × (lanes ≤ MAX_LANES)) }
     ensures started { IfOk result (λ l. IsStarted lanes l) }
     ensures well { IfOk result (λ l. IsWellLane l) }
 {
@@ -132,10 +133,9 @@ pub(crate) fn turn_maybe(maybe: Maybe<Lane>, natives: Natives, call: Call) -> (M
     requires sincere { IfSome maybe.value (λ l. ⟦<Catalogue as Sincere>⟧.sincere (arc_value l.hub).setup.catalogue) }
     requires well { IsWell maybe.value }
     ensures well { IsWell result.0.value }
-    ensures does { Turns (natives_seen natives) maybe.value call.ask.value result.0.value result.1 }
+    ensures does { Turns (natives_seen natives) maybe.value call.ask result.0.value result.1 }
 {
     let Call { alloc, ask } = call;
-    let ask = Box::into_inner(ask);
     let Some(loose) = maybe.into_loose() else {
         return match ask {
             Ask::Open { text, lanes } => open_maybe(alloc, natives, text.as_slice(), lanes),

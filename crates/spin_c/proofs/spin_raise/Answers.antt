@@ -4,4 +4,4 @@ use Rattle.spin_c.proofs.spin_raise.Goals as goal
 
 pub returns-in-Err : goal.returns-in-Err
 returns-in-Err c =
-    inl (search rules, record { told = outcome.NoMemory; called = inr (refl, refl); number_is = c.tell-in-Err.ensures.number; answer_is = c.tell-in-Err.ensures.answer })
+    inl (search rules, record { told = outcome.NoMemory; called = inr (refl, refl, tt); number_is = c.tell-in-Err.ensures.number; answer_is = c.tell-in-Err.ensures.answer })

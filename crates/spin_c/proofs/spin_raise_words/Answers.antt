@@ -6,4 +6,4 @@ pub returns-in-Ok : goal.returns-in-Ok
 returns-in-Ok c = rw c.in-Ok.ensures at c.ask_of.ensures
 
 pub returns-in-Err : goal.returns-in-Err
-returns-in-Err c = record { told = outcome.NoMemory; called = inr (refl, refl); number_is = c.tell.ensures.number; answer_is = c.tell.ensures.answer }
+returns-in-Err c = record { told = outcome.NoMemory; called = inr (refl, refl, tt); number_is = c.tell.ensures.number; answer_is = c.tell.ensures.answer }

@@ -49,3 +49,16 @@ returns-in-Err-Full-clause-commands g c = (
   rw c.in-Err-Full.field-0-is at c.in-Err-Full.ensures.fault,
   c.forget.ensures,
 )
+
+pub returns-in-Err-NoMemory-clause-commands : goal.returns-in-Err-NoMemory-clause-commands
+returns-in-Err-NoMemory-clause-commands g c = (
+  (refl, c.command.ensures.first, refl, refl),
+  (c.in-Some.ensures.stands.0, c.in-Some.ensures.stands.1 ∙ c.if-command-lane.false ∙ c.lane.ensures.lane),
+  c.in-Err-NoMemory.ensures.read,
+  c.forget.ensures,
+  record {
+    command = c.in-Some.command;
+    stands = c.in-Some.ensures.command;
+    unrefused = rw c.in-Err-NoMemory.field-0-is at (rw c.deref.ensures at c.in-Err-NoMemory.ensures.unrefused);
+  },
+)

@@ -7,6 +7,7 @@ returns-in-Ok-start-clause-opens g c = record {
   script = script_seen c.in-Ok.script;
   read = c.in-Ok.ensures.script;
   setup = rw c.in-Ok-start.ensures.setup refl;
+  lanes_are = c.in-Ok-start.ensures.lanes;
   started = c.in-Ok-start.ensures.started;
 }
 

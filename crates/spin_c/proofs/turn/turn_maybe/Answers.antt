@@ -22,8 +22,8 @@ returns-in-Renew g c =
     let renews = subst (λ l. RenewsTo l after told) c.into_box-lane.ensures c.renew_boxed.ensures.renews in
     record {
       well = c.renew_boxed.ensures.well;
-      does = subst (λ l. Turns (natives_seen c.args.natives) l c.args.call.ask.value after told) (sym c.in-Some.ensures)
-          (subst (λ a. Turns (natives_seen c.args.natives) (Some c.in-Some.loose.value) a after told) (sym c.in-Renew.is ∙ c.into_inner-ask.ensures) renews);
+      does = subst (λ l. Turns (natives_seen c.args.natives) l c.args.call.ask after told) (sym c.in-Some.ensures)
+          (subst (λ a. Turns (natives_seen c.args.natives) (Some c.in-Some.loose.value) a after told) (sym c.in-Renew.is) renews);
     }
 
 pub returns : goal.returns
@@ -31,11 +31,10 @@ returns g c =
     let kept = c.of-2.ensures ∙ ap Some c.of.ensures in
     let held = c.deref_mut.ensures.value ∙ c.into_box-lane.ensures in
     let after = c.turn_lane-outcome.new.lane in let told = c.turn_lane-outcome.result in
-    let does = subst (λ l. Does l c.into_inner-ask.result after told) held c.turn_lane-outcome.ensures.does in
-    let open' = stays_open c.in-Some.loose.value after c.into_inner-ask.result told c.in_default-ask-2.not-Close c.in_default-ask-3.not-Renew does in
+    let does = subst (λ l. Does l c.args.call.ask after told) held c.turn_lane-outcome.ensures.does in
+    let open' = stays_open c.in-Some.loose.value after c.args.call.ask told c.in_default-ask-2.not-Close c.in_default-ask-3.not-Renew does in
     record {
       well = subst (λ l. IsWell l) (sym kept) c.turn_lane-outcome.ensures.well;
-      does = subst (λ l. Turns (natives_seen c.args.natives) c.args.maybe.value c.args.call.ask.value l told) (sym kept)
-          (subst (λ l. Turns (natives_seen c.args.natives) l c.args.call.ask.value (Some after) told) (sym c.in-Some.ensures)
-          (subst (λ a. Turns (natives_seen c.args.natives) (Some c.in-Some.loose.value) a (Some after) told) c.into_inner-ask.ensures open'));
+      does = subst (λ l. Turns (natives_seen c.args.natives) c.args.maybe.value c.args.call.ask l told) (sym kept)
+          (subst (λ l. Turns (natives_seen c.args.natives) l c.args.call.ask (Some after) told) (sym c.in-Some.ensures) open');
     }

@@ -13,13 +13,14 @@ use types.ByLocal.{alloc_all, pass_all, free_all, look_at, get, get_in, sets, la
 use types.Part.{agg, sub, whole}
 use contract.Running.{tables}
 use contract.Monad.{fact, fact_i}
-use denote.Exit.{yes}
+use denote.Exit.{yes, Last, left, rest}
 use denote.Laws.{Is, shows}
 use denote.RattleType.{RattleType, owns}
 use denote.Signature.{types_at, plain}
 use denote.RawPtr.{ptr_val}
 use denote.Steps.{nothing, only, heard, peeks}
 use denote.Param.{layout}
+use denote.Param.Mute.{blank}
 use denote.Param.Table.{none, Includes-refl}
 use denote.Struct.Tuple.{Tuple}
 use denote.Triple.Clauses.{Lasts, lasts}
@@ -32,6 +33,7 @@ use Rattle.core.proofs.cell.Inside.{one}
 use Rattle.std.proofs.raw_atomic.Walks.{proved_at, leaves}
 use Rattle.std.specs.Prelude.{IfSome}
 use Rattle.std.specs.Arc.{arc_value}
+use Rattle.std.specs.Global.{Global}
 use Rattle.std_heap.proofs.Global.TheLaws as heap_laws
 use Rattle.spin_objects.specs.Units.{IsSincere}
 use Rattle.spin_objects.specs.contracts.natives.Natives.new as fresh
@@ -45,6 +47,8 @@ use Rattle.spin_c.specs.Turns.{Turns}
 use Rattle.spin_c.specs.Waiting.{IsWell}
 use Rattle.spin_c.specs.Verdicts.{no_natives}
 use Rattle.spin_c.proofs.Laws.{row_laws, Bare, bare_laws, each_some, none_seen}
+use Rattle.spin_c.specs.declared.ask.Ask.{Ask}
+use Rattle.spin_c.specs.declared.ask.Ask.TheVariants as asked
 use Rattle.spin_c.specs.contracts.ask.Call as call
 use Rattle.spin_c.proofs.ask.Call.TheLaws as call_laws
 use Rattle.spin_c.specs.contracts.ask.Outcome as outcome
@@ -69,6 +73,23 @@ no_second' = (none, (λ i. absurd i), (λ i. absurd i), (λ i. absurd i))
 abbrev no_third' : third'.Ghosts
 no_third' = (none, (λ i. absurd i), (λ i. absurd i), (λ i. absurd i))
 
+abbrev Call : RattleType
+Call = call.the_row
+
+abbrev call_of : Global → Ask → Call.Denot
+call_of a asks = record { alloc = a; ask = asks }
+
+-- a call that is used up leaves nothing, whatever it asks
+asks_blank : (a : Global) (asks : Ask) (f : Last (Call.exit yes) (call_of a asks)) → T (blank (left (Call.exit yes) (call_of a asks) f))
+asks_blank a (asked.Open text lanes) f = tt
+asks_blank a (asked.Raise event args) f = tt
+asks_blank a (asked.Command row) f = tt
+asks_blank a (asked.Step index) f = tt
+asks_blank a (asked.Bytes index) f = tt
+asks_blank a (asked.Before index) f = tt
+asks_blank a asked.Renew f = tt
+asks_blank a asked.Close f = tt
+
 pub turn_spec : {M : Type 1} → statement M
 turn_spec 𝓤 𝓛 𝓜 𝓡 wired =
     let H = 𝓛.H in let 𝓣 = tables 𝓤 H 𝓜 𝓡 𝓡.env in let En = ended in let c = clauses 𝓛 𝓜.mem 𝓡.returns in let fn = code.function in
@@ -76,7 +97,7 @@ turn_spec 𝓤 𝓛 𝓜 𝓡 wired =
     let hs : Stays En.signature.params En.kept = (stay_dropped (plain (λ _. Handle)) yes, (stay_dropped (plain (λ _. Z)) yes, (stay_dropped (plain (λ _. C)) yes, tt))) in
     proved_at 𝓛 En hs c 𝓜 𝓡 (
       Goes-dropped 𝓛 0 (plain (λ _. Handle)) yes (λ κs x f. refl),
-      (Goes-dropped 𝓛 0 (plain (λ _. Z)) yes (λ κs x f. refl), (Goes-blank 𝓛 0 (plain (λ _. C)) yes (λ κs x f. tt), tt)),
+      (Goes-dropped 𝓛 0 (plain (λ _. Z)) yes (λ κs x f. refl), (Goes-blank 𝓛 0 (plain (λ _. C)) yes (λ κs x f. asks_blank x.alloc x.ask f), tt)),
     ) #self fn (code.unfolded 𝓤 H 𝓜 𝓡 wired) (λ z are.
     let κs = z.0.0 in let Post : Val → SProp 𝓤 = (walk_of 𝓛 En hs c).post z in let Run : List Val → SProp 𝓤 = λ ws. WpFn 𝓤 H 𝓣.C 𝓣.Λ fn ws Post in
     let d = z.0.3.0 in let b = z.0.3.1.0 in let q = z.0.3.1.1.0 in let a = d.alloc in
@@ -122,9 +143,9 @@ turn_spec 𝓤 𝓛 𝓜 𝓡 wired =
     (Includes-refl no_third.0) (hidden-dyn-1 𝓤 𝓛 𝓜 𝓡 (code.calls-spin_c::turn::turn_maybe 𝓡.env wired)).0 (hidden-dyn-2 𝓤 𝓛 𝓜 𝓡 (code.calls-spin_c::turn::turn_maybe 𝓡.env wired)).0
     (hidden-dyn-3 𝓤 𝓛 𝓜 𝓡 (code.calls-spin_c::turn::turn_maybe 𝓡.env wired)).0) y (and_then ! (get ! refl) (and_then ! (get ! refl) (and_then ! (get ! refl) (no_more !)))) (λ u.
     use1 𝓛 (later (some (λ (r : Mb.Denot × O.Denot). (‵ ftrue ⊛ ‵ (Pair.own_val r (u ∷ []))) ⊛ some (λ (ls : Lasts (callee.ended no_first no_second no_third) tt y.0.3). ‵
-    (lasts (callee.ended no_first no_second no_third) tt y.0.3 ls) ⊛ (raw (fact 𝓤 (IsWell r.0.value)) ⊛ raw (fact 𝓤 (Turns (natives_seen n) d.kept q.ask.value r.0.value r.1))))))) (id⊢ 𝓤 _) $
+    (lasts (callee.ended no_first no_second no_third) tt y.0.3 ls) ⊛ (raw (fact 𝓤 (IsWell r.0.value)) ⊛ raw (fact 𝓤 (Turns (natives_seen n) d.kept q.ask r.0.value r.1))))))) (id⊢ 𝓤 _) $
     await ! tt $ pick ! (λ r. split ! $ move ! (1 ∷ []) $ pick !
-    (λ ls. split3 ! $ drop ! $ heard ! (IsWell r.0.value) (λ whole'. heard ! (Turns (natives_seen n) d.kept q.ask.value r.0.value r.1) (λ does. split ! $ move ! (1 ∷ []) $
+    (λ ls. split3 ! $ drop ! $ heard ! (IsWell r.0.value) (λ whole'. heard ! (Turns (natives_seen n) d.kept q.ask r.0.value r.1) (λ does. split ! $ move ! (1 ∷ []) $
     -- [the pair; the tokens; the requires]
     two_out Mb O r.0 r.1 ! refl refl ((maybe_laws.the_row_laws row_at row_laws).lawful 𝓛) ((outcome_laws.the_row_laws).lawful 𝓛) (u ∷ []) (λ v o gv go eu.
     maybe_out row_at ! r.0 (v ∷ []) (λ h' ev fits'. let p' = r.0.at in let w' : Val = both (ptr_val p') h' in let after : Handle.Denot = record { at = p'; alloc = r.0.alloc; kept = r.0.value } in
@@ -137,7 +158,7 @@ turn_spec 𝓤 𝓛 𝓜 𝓡 wired =
     sets ! (of_opd ! (get_in ! (fld ! refl (stop !)) (sub ! 0 refl (whole !)))) refl (Ptr-Good p') $ sets ! (of_opd ! (get_in ! (fld ! refl (stop !)) (sub ! 1 refl (whole !)))) refl fits' $
     sets ! (of_opd ! (get ! refl)) refl (Ptr-Good p') $ sets ! (agg ! (and_then ! (get ! refl) (and_then ! (get ! refl) (no_more !)))) refl good $ sets ! (of_opd ! (get ! refl)) refl go $
     sets ! (agg ! (and_then ! (get ! refl) (and_then ! (get ! refl) (no_more !)))) refl goods $
-    let Said : Type 0 = Turns no_natives d.kept q.ask.value r.0.value r.1 in
-    use0 𝓛 (raw (fact 𝓤 Said)) (fact_i 𝓤 Said (emp 𝓤) (subst (λ (s : NativeData). Turns s d.kept q.ask.value r.0.value r.1) (none_seen n) does)) $
+    let Said : Type 0 = Turns no_natives d.kept q.ask r.0.value r.1 in
+    use0 𝓛 (raw (fact 𝓤 Said)) (fact_i 𝓤 Said (emp 𝓤) (subst (λ (s : NativeData). Turns s d.kept q.ask r.0.value r.1) (none_seen n) does)) $
     nothing ! $ nothing ! $ fjoin ! $ nothing ! $ fjoin ! $ nothing ! $ fjoin ! $ returns ! (look_at ! 0 refl) $ free_all ! refl $ keep ! (3 ∷ 0 ∷ 2 ∷ 1 ∷ []) $
-    by ! (leaves 𝓛 En hs c z (both w' o) (after, r.1) (tt, (tt, ((tt, (tt, tt)), tt))) (tt, (tt, (tt, tt)))))))))))))))))))
+    by ! (leaves 𝓛 En hs c z (both w' o) (after, r.1) (tt, (tt, (rest (Call.exit yes) q, tt))) (tt, (tt, (tt, tt)))))))))))))))))))
