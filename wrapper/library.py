@@ -88,8 +88,8 @@ def for_pkg_config(prefix, libraries, headers):
 
 
 def call(folder, *words):
-    """Makes a call of the compiler, or of what comes with it, in this folder; one that fails is told with the last that
-    it said."""
+    """Makes a call of the compiler, or of what comes with it, in this folder, and answers what it said; one that fails
+    is told with the last of that."""
     how = {"cwd": folder, "stdin": subprocess.DEVNULL, "stdout": subprocess.PIPE, "stderr": subprocess.STDOUT}
     try:
         ran = subprocess.run([str(word) for word in words], **how, text=True)
@@ -98,6 +98,7 @@ def call(folder, *words):
     if ran.returncode:
         told = (ran.stdout.strip().splitlines() or [f"status {ran.returncode}"])[-1]
         raise NotMade(f"{words[0]} can't link it: {told[:300]}")
+    return ran.stdout
 
 
 def write_texts(folder, proved):
@@ -109,22 +110,28 @@ def write_texts(folder, proved):
     (folder / "told.c").write_text(f'const char *codzvregi_proved(void) {{ return "{told}"; }}\n')
     names = " ".join(f"{name};" for name in calls())
     (folder / "exported").write_text(f"CODZVREGI_1 {{ global: {names} local: *; }};\n")
-    (folder / "kept").write_text("".join(f"{name}\n" for name in calls()))
+
+
+def join(folder, archives):
+    """Joins what the interface wants of all archives into one object, whose other names are its own, so that no host
+    has one of them twice."""
+    call(folder, "cc", "-std=c11", "-O2", "-fPIC", "-c", "told.c")
+    wanted = [f"-Wl,-u,{name}" for name in calls()]
+    # a group of sections would be one with a host's of the same name, though its names are no host's any more
+    how = ["-r", "-nostdlib", "-Wl,--force-group-allocation", "-o", "all.o"]
+    call(folder, "cc", *how, *wanted, "told.o", *(Path(archive).resolve() for archive in archives))
+    # what rustc leaves there for its own linking is code of a compiler that others can't read
+    call(folder, "objcopy", "--remove-section=.llvmbc", "--remove-section=.llvmcmd", "all.o", "bare.o")
+    told = call(folder, "nm", "-g", "--defined-only", "bare.o")
+    names = {line.split()[-1] for line in told.splitlines() if line.strip()}
+    # names that are wanted elsewhere, some of them weakly, stay as they are
+    (folder / "hidden").write_text("".join(f"{name}\n" for name in sorted(names.difference(calls()))))
+    call(folder, "objcopy", "--localize-symbols=hidden", "bare.o", "codzvregi.o")
 
 
 def link(folder, archives):
-    """Links the static and the shared library in this folder, where the texts are: one object with what the interface
-    wants of all archives, whose other names are its own, so that no host has one of them twice."""
-    first, *others = [Path(archive).resolve() for archive in archives]
-    call(folder, "cc", "-std=c11", "-O2", "-fPIC", "-c", "told.c")
-    wanted = [f"-Wl,-u,{name}" for name in calls()]
-    whole = ["-Wl,--whole-archive", first, "-Wl,--no-whole-archive", *others]
-    # a group of sections would be one with a host's of the same name, though its names are no host's any more
-    joined = ["-r", "-nostdlib", "-Wl,--gc-sections", "-Wl,--force-group-allocation"]
-    call(folder, "cc", *joined, "-o", "all.o", *wanted, "told.o", *whole)
-    # what rustc leaves there for its own linking is code of a compiler that others can't read
-    left_out = ["--remove-section=.llvmbc", "--remove-section=.llvmcmd"]
-    call(folder, "objcopy", *left_out, "--keep-global-symbols=kept", "all.o", "codzvregi.o")
+    """Links the static and the shared library in this folder, where the texts are."""
+    join(folder, archives)
     call(folder, "ar", "qcs", ARCHIVE, "codzvregi.o")
     how = [f"-Wl,-soname,{SHARED}", "-Wl,--version-script,exported", "-Wl,--gc-sections", "-Wl,-z,defs"]
     call(folder, "cc", "-shared", "-o", SHARED, *how, "codzvregi.o", "-lpthread", "-lm", "-ldl")
