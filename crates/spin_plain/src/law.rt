@@ -14,7 +14,8 @@ pub fn one_lane_is_plain()
     ensures runs { PlainIsRun }
 {}
 
-/// Scripts whose reports were worked by hand: the plain dispatcher gives just these. It does nothing.
+/// Four scripts of examples/, whose reports were worked by hand: the plain dispatcher gives just these, but for the
+/// numbers of a cycle. It does nothing.
 pub fn examples_are_worked()
     ensures { AreWorked }
 {}
