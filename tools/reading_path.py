@@ -51,6 +51,8 @@ WORDS = [
      "of `join NAME PACKETS` the clause *headline_joined* says the same, over the joined capture",
      ["spin_top:Headline", "spin_top:HeadlineJoined"]),
     ("and the natives do what they were handed in with", "the call's one condition", ["spin_objects:IsSincere"]),
+    ("with one lane", "a law beside the clause: there is one such history, but for the cycle that a conflict tells, that of the"
+     " plain dispatcher as a function of script, capture and endpoints", ["spin_plain:OneLaneIsPlain", "spin_plain:plain_history"]),
 ]
 
 # The first hour: its parts in reading order, each with what it begins with.
