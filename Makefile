@@ -8,20 +8,26 @@ PREFIX ?= /usr/local
 DESTDIR ?=
 FLAGS ?=
 
+LIBRARY = out/library/libcodzvregi.so.1
+
+# The library is made anew where one of these is newer.
+SOURCES := $(shell find crates/*/src -name '*.rt') $(wildcard crates/spin_c/out/libspin_c.a) \
+	bindings/c/spin.h bindings/c/installed.h wrapper/library.py wrapper/plain.py
+
 .PHONY: all install uninstall deb
 
 all:
 	@./spin library $(FLAGS)
 	@tools/install program
 
-out/library/libcodzvregi.so.1:
+$(LIBRARY): $(SOURCES)
 	@./spin library $(FLAGS)
 
-install: out/library/libcodzvregi.so.1
+install: $(LIBRARY)
 	@tools/install put "$(PREFIX)" "$(DESTDIR)"
 
 uninstall:
 	@tools/install remove "$(PREFIX)" "$(DESTDIR)"
 
-deb: out/library/libcodzvregi.so.1
+deb: $(LIBRARY)
 	@tools/install deb
