@@ -26,14 +26,14 @@ sys.dont_write_bytecode = (TOP / "program").is_file()
 from wrapper import commands, program
 
 
-def open_streams():
+def open_streams() -> None:
     """Where standard output or error is closed, what the wrapper writes there goes nowhere, and not to the other."""
     for name in ("stdout", "stderr"):
         if getattr(sys, name) is None:
             setattr(sys, name, open(os.devnull, "w"))
 
 
-def main(words):
+def main(words: list[str]) -> int:
     """Runs a command of the wrapper's own, or the program, and answers the exit status."""
     quiet = words[:1] == [commands.QUIET]
     words = words[1:] if quiet else words

@@ -5,9 +5,11 @@ proves nothing, and judges nothing.
 """
 
 import heapq
+from collections.abc import Sequence
 from dataclasses import dataclass, field, replace
+from typing import NamedTuple
 
-from wrapper.reading import number
+from wrapper.reading import Script, number
 
 RANK = {"first": 0, "free": 1, "last": 2}
 
@@ -21,14 +23,14 @@ class Binding:
     module: int
     handler: int
     guard: int
-    imposed: tuple
+    imposed: tuple[int, ...]
     place: str
-    before: tuple
-    after: tuple
+    before: tuple[int, ...]
+    after: tuple[int, ...]
     mode: str
 
     @property
-    def guards(self):
+    def guards(self) -> tuple[int, ...]:
         """All guards that have to hold, its own first."""
         return ((self.guard,) if self.guard else ()) + self.imposed
 
@@ -38,20 +40,32 @@ class Wish:
     """Where an install asks to stand: its place, the bindings it wants to go before and after, and its mode."""
 
     place: str
-    before: tuple = ()
-    after: tuple = ()
+    before: tuple[int, ...] = ()
+    after: tuple[int, ...] = ()
     mode: str = "plain"
+
+
+# Live bindings by number.
+Live = dict[int, Binding]
 
 
 @dataclass
 class Event:
     """An event's live bindings by number, and its default, 0 where it has none."""
 
-    live: dict = field(default_factory=dict)
+    live: Live = field(default_factory=dict)
     default: int = 0
 
 
-def read_wish(version, words):
+class Effect(NamedTuple):
+    """What a rule brings to a binding: imposed guards, and a forced place and mode, `keep` where nothing is forced."""
+
+    imposed: tuple[int, ...] = ()
+    place: str = "keep"
+    mode: str = "keep"
+
+
+def read_wish(version: int, words: list[str]) -> Wish:
     """What an install asks for, from its words behind the guard."""
     if version < 3:
         if words[0] == "before":
@@ -65,7 +79,7 @@ def read_wish(version, words):
     return Wish(words[0], tuple(map(number, before)), tuple(map(number, rest[2:2 + count])), rest[2 + count])
 
 
-def matches(rule, module, kind, handler, is_foreign):
+def matches(rule: Sequence[str], module: int, kind: str, handler: int, is_foreign: bool) -> bool:
     """Whether a rule speaks of the command; it is foreign where it changes a binding of another module."""
     low, high, what, which, own = rule[:5]
     if not number(low) <= module <= number(high) or what not in ("any", kind):
@@ -73,7 +87,7 @@ def matches(rule, module, kind, handler, is_foreign):
     return (which == "any" or number(which) == handler) and (own == "all" or not is_foreign)
 
 
-def effect_of(script, event, module, kind, handler, is_foreign):
+def effect_of(script: Script, event: int, module: int, kind: str, handler: int, is_foreign: bool) -> Effect:
     """What the rule that lets the command through brings: imposed guards, a forced place and a forced mode."""
     if number(script.events[event][0]) != module:
         for rule in script.rules.get(event, []):
@@ -83,20 +97,21 @@ def effect_of(script, event, module, kind, handler, is_foreign):
                     break
                 end = 2 + number(words[1])
                 place, mode = words[end:] if words[0] == "force" else ("keep", "keep")
-                return tuple(map(number, words[2:end])), place, mode
-    return (), "keep", "keep"
+                return Effect(tuple(map(number, words[2:end])), place, mode)
+    return Effect()
 
 
 class Bindings:
     """The events' bindings; `take` follows an accepted command."""
 
-    def __init__(self, script):
+    def __init__(self, script: Script) -> None:
         """Begins with the script's first defaults and no binding."""
         self.script = script
         self.events = {event: Event(default=script.defaults.get(event, 0)) for event in script.events}
-        self.past, self.orders = {}, {}
+        self.past: dict[int, list[tuple[int, Binding]]] = {}
+        self.orders: dict[int, list[Binding]] = {}
 
-    def take(self, place, words):
+    def take(self, place: int, words: list[str]) -> int:
         """Follows the accepted command that has this place, and answers its event's number."""
         kind, event, module = words[0], number(words[1]), number(words[2])
         self.orders.pop(event, None)
@@ -110,7 +125,7 @@ class Bindings:
             self.events[event].default = number(words[3]) if kind == "default" else 0
         return event
 
-    def install(self, place, event, module, words):
+    def install(self, place: int, event: int, module: int, words: list[str]) -> None:
         """Adds the binding, with what the owner's rule brings."""
         handler = number(words[3])
         wish = read_wish(self.script.version, words[5:])
@@ -122,37 +137,37 @@ class Bindings:
         one = Binding(place, event, module, handler, *guards, wish.place, wish.before, wish.after, mode)
         self.keep(place, one)
 
-    def replace(self, place, event, module, words):
+    def replace(self, place: int, event: int, module: int, words: list[str]) -> None:
         """Gives a binding another handler and other guards."""
         old, handler = self.events[event].live[number(words[3])], number(words[4])
         imposed, _, _ = effect_of(self.script, event, module, "replace", handler, old.module != module)
         self.keep(place, replace(old, handler=handler, guard=number(words[5]), imposed=imposed))
 
-    def keep(self, place, one):
+    def keep(self, place: int, one: Binding) -> None:
         """Makes it the binding of its number from this place on."""
         self.events[one.event].live[one.number] = one
         self.past.setdefault(one.number, []).append((place, one))
 
-    def at(self, place, which):
+    def at(self, place: int, which: int) -> Binding:
         """The binding of that number as it was at the place."""
         return [one for since, one in self.past[which] if since <= place][-1]
 
-    def order(self, event):
+    def order(self, event: int) -> list[Binding]:
         """The event's live bindings in the order in which they run."""
         if event not in self.orders:
             self.orders[event] = least_order(list(self.events[event].live.values()))
         return self.orders[event]
 
 
-def precedes(one, other):
+def precedes(one: Binding, other: Binding) -> bool:
     """Whether the one binding must run before the other."""
     return (RANK[one.place] < RANK[other.place] or other.number in one.before or one.number in other.after)
 
 
-def least_order(bindings):
+def least_order(bindings: Sequence[Binding]) -> list[Binding]:
     """The bindings in the least lawful order."""
     waits = {one.number: 0 for one in bindings}
-    behind = {one.number: [] for one in bindings}
+    behind: dict[int, list[int]] = {one.number: [] for one in bindings}
     for one in bindings:
         for other in bindings:
             if one is not other and precedes(one, other):
@@ -165,8 +180,8 @@ def least_order(bindings):
     while free:
         which = heapq.heappop(free)
         order.append(by_number[which])
-        for other in behind[which]:
-            waits[other] -= 1
-            if not waits[other]:
-                heapq.heappush(free, other)
+        for later in behind[which]:
+            waits[later] -= 1
+            if not waits[later]:
+                heapq.heappush(free, later)
     return order

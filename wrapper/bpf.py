@@ -6,9 +6,12 @@ frame, as behind an IPv4 header, each value of that byte is a case of its own. T
 of which each is small enough for a guard. What a guard can't say is refused by name.
 """
 
+from __future__ import annotations
+
 import ctypes
 import ctypes.util
 import heapq
+from collections.abc import Callable, Iterable, Sequence
 from typing import NamedTuple
 
 ETHERNET, LONGEST, ANY_NETMASK = 1, 262_144, 0xFFFFFFFF
@@ -37,7 +40,7 @@ class Code(ctypes.Structure):
     _fields_ = [("length", ctypes.c_uint), ("at", ctypes.POINTER(Instruction))]
 
 
-def compiled(expression):
+def compiled(expression: str) -> list[tuple[int, int, int, int]]:
     """The program of an expression, for frames of Ethernet."""
     name = ctypes.util.find_library("pcap")
     if name is None:
@@ -57,40 +60,58 @@ def compiled(expression):
         library.pcap_close(handle)
 
 
-# ---- values: a number, a field ("f", offset, width), or (sign, value, value)
+# ---- values
 
 
-def shown(value):
+class Field(NamedTuple):
+    """The number in so many bytes of the frame, from an offset on."""
+
+    offset: int
+    width: int
+
+
+class Reckoning(NamedTuple):
+    """What a sign makes of two values."""
+
+    sign: str
+    left: Value
+    right: Value
+
+
+Value = int | Field | Reckoning
+
+
+def shown(value: Value) -> list[str]:
     """The words of a value, in a script's prefix form."""
     if isinstance(value, int):
         return [str(value)]
-    if value[0] == "f":
-        return ["f", "0", str(value[1]), str(value[2])]
-    if value[0] not in "+&|":
-        raise Unsuited(f"no guard can reckon with {value[0]}")
+    if isinstance(value, Field):
+        return ["f", "0", str(value.offset), str(value.width)]
+    if value.sign not in "+&|":
+        raise Unsuited(f"no guard can reckon with {value.sign}")
     # a sum of a guard has 64 bits, and one of the program 32
-    words = [value[0], *shown(value[1]), *shown(value[2])]
-    return ["&", *words, str(WORD)] if value[0] == "+" else words
+    words = [value.sign, *shown(value.left), *shown(value.right)]
+    return ["&", *words, str(WORD)] if value.sign == "+" else words
 
 
-def fields(value):
+def fields(value: Value) -> set[tuple[Field, int]]:
     """The fields that a value is made of, each with the bits of it that count."""
     if isinstance(value, int):
         return set()
-    if value[0] == "f":
-        return {(value, (1 << 8 * value[2]) - 1)}
-    if value[0] == "&" and isinstance(value[2], int) and value[1][0] == "f":
-        return {(value[1], value[2] & (1 << 8 * value[1][2]) - 1)}
-    return fields(value[1]) | fields(value[2])
+    if isinstance(value, Field):
+        return {(value, (1 << 8 * value.width) - 1)}
+    if value.sign == "&" and isinstance(value.right, int) and isinstance(value.left, Field):
+        return {(value.left, value.right & (1 << 8 * value.left.width) - 1)}
+    return fields(value.left) | fields(value.right)
 
 
-RECKONED = {
+RECKONED: dict[str, Callable[[int, int], int]] = {
     "+": lambda a, b: a + b, "-": lambda a, b: a - b, "*": lambda a, b: a * b, "|": lambda a, b: a | b,
     "&": lambda a, b: a & b, "<<": lambda a, b: a << b if b < 32 else 0, ">>": lambda a, b: a >> b, "^": lambda a, b: a ^ b,
 }
 
 
-def made(sign, left, right):
+def made(sign: str, left: Value, right: Value) -> Value:
     """The value of two, reckoned where both are numbers."""
     if isinstance(left, int) and isinstance(right, int):
         if sign in "/%":
@@ -100,104 +121,141 @@ def made(sign, left, right):
         left, right = right, left
     if sign == "-" and isinstance(right, int):
         sign, right = "+", -right & WORD
-    return left if (sign, right) in (("+", 0), ("|", 0), ("<<", 0), (">>", 0)) else (sign, left, right)
+    return left if (sign, right) in (("+", 0), ("|", 0), ("<<", 0), (">>", 0)) else Reckoning(sign, left, right)
 
 
-def put_in(value, field, mask, bits):
+def put_in(value: Value, field: Field, mask: int, bits: int) -> Value:
     """The value where these bits of the field are known."""
     if isinstance(value, int):
         return value
-    if value == field or value == ("&", field, mask):
+    if value == field or value == Reckoning("&", field, mask):
         return bits
-    if value[0] == "f":
+    if isinstance(value, Field):
         return value
-    return made(value[0], put_in(value[1], field, mask, bits), put_in(value[2], field, mask, bits))
+    return made(value.sign, put_in(value.left, field, mask, bits), put_in(value.right, field, mask, bits))
 
 
-# ---- formulas: True, False, ("has", n), ("==", value, value) and the like, ("all", formulas), ("any", formulas)
+# ---- formulas
+
+
+class Has(NamedTuple):
+    """The frame has so many bytes."""
+
+    length: int
+
+
+class Comparison(NamedTuple):
+    """Two values compare as the sign says."""
+
+    sign: str
+    left: Value
+    right: Value
+
+
+class Joined(NamedTuple):
+    """`all` of these hold, or `any` of them."""
+
+    word: str
+    parts: tuple[Test, ...]
+
+
+# What is neither true nor false of every frame, and what may be.
+Test = Has | Comparison | Joined
+Formula = bool | Test
 
 CONTRARY = {"==": "!=", "!=": "==", "<": ">=", ">=": "<", "<=": ">", ">": "<="}
 
 
-def compare(sign, left, right):
+def compare(sign: str, left: Value, right: Value) -> bool | Comparison:
     """A comparison, decided where both are numbers."""
     if isinstance(left, int) and isinstance(right, int):
         return {"==": left == right, "!=": left != right, "<": left < right, "<=": left <= right}[sign]
-    return (sign, left, right)
+    return Comparison(sign, left, right)
 
 
-def contrary(test):
+def contrary(test: Comparison) -> Comparison:
     """What holds just where the comparison doesn't."""
-    if isinstance(test, bool):
-        return not test
     sign, left, right = test
-    swapped = {"<": ("<=", right, left), "<=": ("<", right, left)}
-    return swapped.get(sign) or (CONTRARY[sign], left, right)
+    swapped = {"<": Comparison("<=", right, left), "<=": Comparison("<", right, left)}
+    return swapped.get(sign) or Comparison(CONTRARY[sign], left, right)
 
 
-def every(tests):
+def parts_of(formula: Formula, word: str) -> tuple[Test, ...]:
+    """The parts of a formula that this word joins; of another one itself, and of what is plainly true or false none."""
+    if isinstance(formula, bool):
+        return ()
+    return formula.parts if isinstance(formula, Joined) and formula.word == word else (formula,)
+
+
+def every(tests: Iterable[Formula]) -> Formula:
     """All of these hold; of lengths only the greatest is asked for."""
-    found, length = [], 0
+    found, length = list[Test](), 0
     for test in tests:
         if test is False:
             return False
-        for part in test[1] if test is not True and test[0] == "all" else [test]:
-            if part is not True and part[0] == "has":
-                length = max(length, part[1])
-            elif part is not True and part not in found:
+        for part in parts_of(test, "all"):
+            if isinstance(part, Has):
+                length = max(length, part.length)
+            elif part not in found:
                 found.append(part)
-    found = [("has", length), *found] if length else found
-    return True if not found else found[0] if len(found) == 1 else ("all", tuple(found))
+    found = [Has(length), *found] if length else found
+    return True if not found else found[0] if len(found) == 1 else Joined("all", tuple(found))
 
 
-def some(tests):
+def some(tests: Iterable[Formula]) -> Formula:
     """One of these holds."""
-    found = []
+    found: list[Test] = []
     for test in tests:
         if test is True:
             return True
-        for part in test[1] if test is not False and test[0] == "any" else [test]:
-            if part is False or part in found:
+        for part in parts_of(test, "any"):
+            if part in found:
                 continue
             # what stands behind a single comparison may hold where that does, so it stays behind it
-            first = max((at + 1 for at, other in enumerate(found) if other[0] in CONTRARY), default=0)
+            first = max((at + 1 for at, other in enumerate(found) if isinstance(other, Comparison)), default=0)
             joined = next(((at, one) for at, other in enumerate(found) if at >= first and (one := merged(other, part))), None)
             if joined:
                 found[joined[0]] = joined[1]
             else:
                 found.append(part)
-    return False if not found else found[0] if len(found) == 1 else ("any", tuple(found))
+    return False if not found else found[0] if len(found) == 1 else Joined("any", tuple(found))
 
 
-def merged(one, other):
+def merged(one: Test, other: Test) -> Test | None:
     """Two conjunctions that differ in one equation of the same value as one; None where they don't."""
-    if not one[0] == other[0] == "all" or len(one[1]) != len(other[1]):
+    ones, others = parts_of(one, "all"), parts_of(other, "all")
+    if len(ones) < 2 or len(ones) != len(others):
         return None
-    left = [part for part in one[1] if part not in other[1]]
-    right = [part for part in other[1] if part not in one[1]]
+    left = [part for part in ones if part not in others]
+    right = [part for part in others if part not in ones]
     if len(left) != 1 or len(right) != 1 or not are_equations(left[0], right[0]):
         return None
-    return every([part if part != left[0] else some([left[0], right[0]]) for part in one[1]])
+    whole = every([part if part != left[0] else some([left[0], right[0]]) for part in ones])
+    assert not isinstance(whole, bool), "no part of it is plainly true or false"
+    return whole
 
 
-def are_equations(one, other):
+def are_equations(one: Test, other: Test) -> bool:
     """Whether both are equations of the same value, or choices of such."""
-    parts = [part for test in (one, other) for part in (test[1] if test[0] == "any" else [test])]
-    return all(part[0] == "==" and part[1] == parts[0][1] for part in parts)
+    values = set()
+    for part in (*parts_of(one, "any"), *parts_of(other, "any")):
+        if not isinstance(part, Comparison) or part.sign != "==":
+            return False
+        values.add(part.left)
+    return len(values) == 1
 
 
-def rules_out(formula, test):
+def rules_out(formula: Formula, test: Comparison) -> bool:
     """Whether no frame for which the formula holds passes the test, which is an equation: the formula has another one."""
-    if isinstance(formula, bool) or formula[0] == "has":
+    if isinstance(formula, (bool, Has)):
         return formula is False
-    if formula[0] == "all":
-        return any(rules_out(part, test) for part in formula[1])
-    if formula[0] == "any":
-        return all(rules_out(part, test) for part in formula[1])
-    return formula[0] == test[0] == "==" and formula[1] == test[1] and formula[2] != test[2]
+    if isinstance(formula, Joined):
+        how = any if formula.word == "all" else all
+        return how(rules_out(part, test) for part in formula.parts)
+    return formula.sign == test.sign == "==" and formula.left == test.left and formula.right != test.right
 
 
-def either(test, then, other):
+def either(test: bool | Comparison, then: Formula, other: Formula) -> Formula:
     """The one where the test holds, the other where it doesn't. Of the parts no two hold at once, but that a single
     comparison may hold where one behind it does."""
     if isinstance(test, bool):
@@ -207,8 +265,10 @@ def either(test, then, other):
     if then is True or other is True:
         return some([test, other] if then is True else [contrary(test), then])
     # behind a single comparison there may be what holds where it does, so the two stay together
-    is_apart = other and other[0] == "any" and (rules_out(other, test) or not any(part[0] in CONTRARY for part in other[1]))
-    rest = [part if rules_out(part, test) else every([contrary(test), part]) for part in (other[1] if is_apart else [other])]
+    parts = parts_of(other, "any")
+    is_apart = rules_out(other, test) or not any(isinstance(part, Comparison) for part in parts)
+    kept = parts if is_apart else (other,)
+    rest = [part if rules_out(part, test) else every([contrary(test), part]) for part in kept]
     return some([every([test, then]), *rest])
 
 
@@ -219,15 +279,19 @@ class State(NamedTuple):
     """Where the program stands, what its registers and its memory hold, and how long the frame is known to be."""
 
     at: int
-    a: object = 0
-    x: object = 0
-    memory: tuple = (0,) * 16
+    a: Value = 0
+    x: Value = 0
+    memory: tuple[Value, ...] = (0,) * 16
     length: int = 0
 
-    def known(self, field, mask, bits):
+    def loaded(self, name: str, value: Value) -> State:
+        """The state with a value in the register of that name."""
+        return self._replace(a=value) if name == "a" else self._replace(x=value)
+
+    def known(self, field: Field, mask: int, bits: int) -> State:
         """The state where these bits of a field are known."""
-        put = lambda value: put_in(value, field, mask, bits)
-        return self._replace(a=put(self.a), x=put(self.x), memory=tuple(map(put, self.memory)))
+        a, x, *memory = (put_in(value, field, mask, bits) for value in (self.a, self.x, *self.memory))
+        return self._replace(a=a, x=x, memory=tuple(memory))
 
 
 SIGNS = {0x00: "+", 0x10: "-", 0x20: "*", 0x30: "/", 0x40: "|", 0x50: "&", 0x60: "<<", 0x70: ">>", 0x90: "%", 0xA0: "^"}
@@ -237,19 +301,22 @@ WIDTHS = {0x00: 4, 0x08: 2, 0x10: 1}
 class Paths:
     """The formula of a program's paths that accept."""
 
-    def __init__(self, program):
-        self.program, self.found = program, {}
+    def __init__(self, program: list[tuple[int, int, int, int]]) -> None:
+        self.program = program
+        self.found: dict[State, Formula] = {}
+        # how many states were begun
+        self.states = 0
 
-    def formula(self, state):
+    def formula(self, state: State) -> Formula:
         """What must hold of a frame, so that the program accepts it from this state on."""
         if state not in self.found:
-            if len(self.found) >= MOST_STATES:
+            if self.states >= MOST_STATES:
                 raise Unsuited("the expression has too many cases")
-            self.found[state] = None
+            self.states += 1
             self.found[state] = self.step(state, *self.program[state.at])
         return self.found[state]
 
-    def step(self, state, code, jt, jf, k):
+    def step(self, state: State, code: int, jt: int, jf: int, k: int) -> Formula:
         """The formula by the instruction at which the state stands."""
         kind, behind = code & 7, state._replace(at=state.at + 1)
         if kind in (0, 1):
@@ -268,35 +335,35 @@ class Paths:
             return k != 0
         return self.formula(behind._replace(x=state.a) if code & 0xF8 == 0 else behind._replace(a=state.x))
 
-    def reckon(self, state, code, k):
+    def reckon(self, state: State, code: int, k: int) -> Value:
         """What a reckoning makes of the accumulator."""
         if code & 0xF0 == 0x80:
             return made("-", 0, state.a)
         return made(SIGNS[code & 0xF0], state.a, state.x if code & 8 else k)
 
-    def load(self, state, behind, code, k):
+    def load(self, state: State, behind: State, code: int, k: int) -> Formula:
         """A load into one of the registers: of a number, of memory, or of the frame, which must be long enough."""
-        name, mode = "ax"[code & 1], code & 0xE0
+        name, mode, x = "ax"[code & 1], code & 0xE0, state.x if code & 0xE0 == 0x40 else 0
         if mode == 0x00:
-            return self.formula(behind._replace(**{name: k}))
+            return self.formula(behind.loaded(name, k))
         if mode == 0x60:
-            return self.formula(behind._replace(**{name: state.memory[k]}))
+            return self.formula(behind.loaded(name, state.memory[k]))
         if mode == 0x80:
             raise Unsuited("no guard knows how long a frame was before it was cut, so len, less and greater can't be said")
-        if mode == 0x40 and not isinstance(state.x, int):
-            return self.by_cases(state, state.x, lambda known, _: self.formula(known))
+        if not isinstance(x, int):
+            return self.by_cases(state, x, lambda known, _: self.formula(known))
         width = 1 if mode == 0xA0 else WIDTHS[code & 0x18]
-        offset = k + (state.x if mode == 0x40 else 0)
+        offset = k + x
         if offset > 65_535:
             return False
-        value = ("f", offset, width)
+        value: Value = Field(offset, width)
         if mode == 0xA0:
-            value = made("<<", ("&", value, 15), 2)
+            value = made("<<", Reckoning("&", value, 15), 2)
         length = max(state.length, offset + width)
-        rest = self.formula(behind._replace(length=length, **{name: value}))
-        return every([("has", length), rest]) if length > state.length else rest
+        rest = self.formula(behind._replace(length=length).loaded(name, value))
+        return every([Has(length), rest]) if length > state.length else rest
 
-    def jump(self, state, code, jt, jf, k):
+    def jump(self, state: State, code: int, jt: int, jf: int, k: int) -> Formula:
         """A jump, always or by a comparison of the accumulator."""
         if code & 0xF0 == 0:
             return self.formula(state._replace(at=state.at + 1 + k))
@@ -312,7 +379,7 @@ class Paths:
         other = self.formula(state._replace(at=state.at + 1 + jf)) if test is not True else False
         return either(test, then, other)
 
-    def by_cases(self, state, value, formula):
+    def by_cases(self, state: State, value: Value, formula: Callable[[State, Value], Formula]) -> Formula:
         """The formula for each value that the bits may have on which this value hangs, each with its equation."""
         hangs_on = list(fields(value))
         if not hangs_on:
@@ -320,24 +387,26 @@ class Paths:
         field, mask = hangs_on[0]
         if len(hangs_on) > 1 or mask.bit_count() > 4:
             raise Unsuited("a place in the frame hangs on more than four bits of it, which are too many cases")
-        cases, bits = [], mask
+        cases, bits = list[Formula](), mask
         while True:
-            test = ("==", ("&", field, mask), bits)
+            test = Comparison("==", Reckoning("&", field, mask), bits)
             cases.append(every([test, formula(state.known(field, mask, bits), put_in(value, field, mask, bits))]))
             if not bits:
                 return some(reversed(cases))
             bits = (bits - 1) & mask
 
 
-def signs(value):
+def signs(value: Value) -> list[str]:
     """The signs of a value."""
-    return [] if isinstance(value, int) else [value[0]] if value[0] == "f" else [value[0], *signs(value[1]), *signs(value[2])]
+    if isinstance(value, int):
+        return []
+    return ["f"] if isinstance(value, Field) else [value.sign, *signs(value.left), *signs(value.right)]
 
 
 # ---- tests that are small enough
 
 
-def measured(words):
+def measured(words: list[str]) -> tuple[int, int, list[str]]:
     """The nodes and the depth of a value's words."""
     if words[0] == "f":
         return 1, 1, words[4:]
@@ -348,57 +417,58 @@ def measured(words):
     return 1 + left + right, 1 + max(deep, deeper), rest
 
 
-def written(formula):
+def written(formula: Formula) -> tuple[int, int, list[str]]:
     """The depth, the nodes and the words of a test; of many parts those that are shallow are put together first."""
     if isinstance(formula, bool):
         return 1, 1, ["true"] if formula else ["not", "true"]
-    if formula[0] == "has":
-        return 1, 1, ["has", "0", str(formula[1])]
-    if formula[0] not in ("all", "any"):
-        left, right = shown(formula[1]), shown(formula[2])
+    if isinstance(formula, Has):
+        return 1, 1, ["has", "0", str(formula.length)]
+    if isinstance(formula, Comparison):
+        left, right = shown(formula.left), shown(formula.right)
         (nodes, deep, _), (more, deeper, _) = measured(left), measured(right)
-        return 1 + max(deep, deeper), 1 + nodes + more, [formula[0], *left, *right]
-    parts = [(depth, at, nodes, words) for at, (depth, nodes, words) in enumerate(map(written, formula[1]))]
+        return 1 + max(deep, deeper), 1 + nodes + more, [formula.sign, *left, *right]
+    parts = [(depth, at, nodes, words) for at, (depth, nodes, words) in enumerate(map(written, formula.parts))]
     heapq.heapify(parts)
     while len(parts) > 1:
         depth, at, nodes, words = heapq.heappop(parts)
         deeper, _, more, others = heapq.heappop(parts)
-        heapq.heappush(parts, (1 + deeper, at, 1 + nodes + more, [formula[0], *words, *others]))
+        heapq.heappush(parts, (1 + deeper, at, 1 + nodes + more, [formula.word, *words, *others]))
     return parts[0][0], parts[0][2], parts[0][3]
 
 
-def fits(formula):
+def fits(formula: Formula) -> bool:
     """Whether the formula can be one guard's test."""
     depth, nodes, _ = written(formula)
     return depth <= MOST_DEPTH and nodes <= MOST_NODES
 
 
-def disjoint(parts):
+def disjoint(parts: Iterable[Test]) -> list[Formula]:
     """The parts of an `any`, each behind the contraries of those single comparisons that stand before it and that it
     doesn't rule out."""
-    before, found = [], []
+    before, found = list[Comparison](), list[Formula]()
     for part in parts:
         found.append(every([*(contrary(test) for test in before if not rules_out(part, test)), part]))
-        if part[0] in CONTRARY:
+        if isinstance(part, Comparison):
             before.append(part)
     return found
 
 
-def cut(formula, beside=()):
+def cut(formula: Formula, beside: Sequence[Formula] = ()) -> list[Formula]:
     """Disjoint tests, each small enough for a guard, of which one holds just where the formula and what is beside it do."""
     whole = every([*beside, formula])
     if whole is False:
         return []
     if fits(whole):
         return [whole]
-    if formula[0] == "all":
-        wide = max((part for part in formula[1] if part[0] == "any"), key=lambda part: written(part)[1], default=None)
+    if isinstance(formula, Joined) and formula.word == "all":
+        choices = [part for part in formula.parts if isinstance(part, Joined) and part.word == "any"]
+        wide = max(choices, key=lambda part: written(part)[1], default=None)
         if wide is not None:
-            return cut(wide, (*beside, *(part for part in formula[1] if part is not wide)))
-    if formula[0] != "any":
+            return cut(wide, (*beside, *(part for part in formula.parts if part is not wide)))
+    if not isinstance(formula, Joined) or formula.word != "any":
         raise Unsuited(f"a part of the expression is larger than a guard's test may be, {MOST_NODES} nodes of {MOST_DEPTH} levels")
-    found, group = [], []
-    for part in disjoint(formula[1]):
+    found, group = list[Formula](), list[Formula]()
+    for part in disjoint(formula.parts):
         if group and not fits(every([*beside, some([*group, part])])):
             found += cut(some(group), beside)
             group = []
@@ -409,7 +479,7 @@ def cut(formula, beside=()):
     return found + (cut(some(group), beside) if group else [])
 
 
-def tests(expression):
+def tests(expression: str) -> list[str]:
     """The words of disjoint tests of a frame, of which one holds just where tcpdump's filter lets the frame through."""
     formula = Paths(compiled(expression)).formula(State(0))
     found = [" ".join(written(test)[2]) for test in cut(formula)]

@@ -15,9 +15,10 @@ import signal
 import sys
 import tempfile
 import time
+from collections.abc import Iterable, Iterator
 
 from wrapper import jobs, kit, libraries, proofs
-from wrapper.program import CRATE, NOT_RUN, PROGRAM, TOP, crates_listed, is_built, stands_on, tell
+from wrapper.program import CRATE, NOT_RUN, PROGRAM, TOP, Crates, crates_listed, is_built, stands_on, tell
 from wrapper.queue import LOGS
 from wrapper.trial import passed
 
@@ -30,7 +31,7 @@ MEMORY, DISK = 3_000_000_000, 6_000_000_000
 TIME = "that takes some 40 minutes on four processors at 2.5 GHz that do nothing else"
 
 
-def is_ready_to_build():
+def is_ready_to_build() -> bool:
     """Whether a build can begin; where it can't, a line says why."""
     if jobs.memory_free() < MEMORY:
         tell(f"a build wants {MEMORY // 10**9} GB of free memory, and there are {jobs.memory_free() / 1e9:.1f}")
@@ -42,7 +43,7 @@ def is_ready_to_build():
     except OSError as fault:
         tell(f"nothing can be built here: {fault.filename}: {fault.strerror}")
         return False
-    for place in (TOP, tempfile.gettempdir()):
+    for place in (str(TOP), tempfile.gettempdir()):
         if shutil.disk_usage(place).free < DISK:
             tell(f"a build wants {DISK // 10**9} GB of free disk, and there are {shutil.disk_usage(place).free / 1e9:.1f}")
             return False
@@ -50,7 +51,7 @@ def is_ready_to_build():
 
 
 @contextlib.contextmanager
-def locked():
+def locked() -> Iterator[None]:
     """No other build runs while what stands below this runs."""
     with open(LOGS / "lock", "a") as lock:
         try:
@@ -61,13 +62,13 @@ def locked():
         yield
 
 
-def stand_below(tops):
+def stand_below(tops: Iterable[str]) -> Crates:
     """The crates that these stand on and they themselves, lowest first, each with those that it stands on."""
     listed = crates_listed()
     return {name: listed[name] for name in stands_on(listed, tops)}
 
 
-def prove(way, crates, programs):
+def prove(way: kit.Way, crates: Crates, programs: tuple[str, ...]) -> bool:
     """Proves these crates as the kit can, with the programs among them, and answers whether they are built."""
     if way is kit.Way.KEPT:
         try:
@@ -77,7 +78,7 @@ def prove(way, crates, programs):
     return libraries.build(crates, programs)
 
 
-def build_programs(its, tops):
+def build_programs(its: kit.Kit, tops: tuple[str, ...]) -> bool:
     """Builds these programs by this kit, and answers whether they are built."""
     began, since = time.time(), time.monotonic()
     crates = stand_below(tops)
@@ -90,7 +91,7 @@ def build_programs(its, tops):
     return True
 
 
-def build_libraries(its):
+def build_libraries(its: kit.Kit) -> bool:
     """Builds the libraries that the program stands on by this kit, and answers whether they are built."""
     since, crates = time.monotonic(), stand_below((CRATE.name,))
     del crates[CRATE.name]
@@ -101,7 +102,7 @@ def build_libraries(its):
     return True
 
 
-def build(words, its):
+def build(words: list[str], its: kit.Kit) -> bool:
     """Builds what is asked for by this kit, unless it is there, and answers whether it is there now."""
     with locked():
         if is_built() and not words:
@@ -112,7 +113,7 @@ def build(words, its):
         return build_programs(its, (CRATE.name, *HOSTS) if words else (CRATE.name,))
 
 
-def where_and_why(fault):
+def where_and_why(fault: OSError) -> str:
     """What the system couldn't do, and why; of many files that couldn't be copied it tells the first."""
     if isinstance(fault, shutil.Error):
         _, place, why = fault.args[0][0]
@@ -120,7 +121,7 @@ def where_and_why(fault):
     return f"{fault.filename}: {fault.strerror}" if fault.filename else str(fault)
 
 
-def main(words):
+def main(words: list[str]) -> int:
     """Proves and builds what is asked for, and answers the exit status."""
     wanted = [word for word in words if word != kit.ANY_LOGIC]
     if wanted not in ([], ["--all"], ["--libraries"]):

@@ -4,6 +4,7 @@
 """
 
 import re
+from collections.abc import Sequence
 
 from wrapper.program import TOP
 
@@ -100,19 +101,19 @@ STATUSES = [
 ]
 
 
-def script_cause(number):
+def script_cause(number: int) -> tuple[str, str]:
     """The name of a script's cause, and where it comes."""
     if 14 <= number <= 19:
         return ACT_FAULTS[number - 14], "the first fault of the line's act, test or merge"
     return next(((name, where) for row, name, where in SCRIPT if row == str(number)), ("", "no cause that is known here"))
 
 
-def trace_cause(number):
+def trace_cause(number: int) -> tuple[str, str]:
     """The name of a trace's cause, and where it comes."""
     return next(((name, where) for row, name, where in TRACE if row == str(number)), ("", "no cause that is known here"))
 
 
-def capture_fault(number):
+def capture_fault(number: int) -> tuple[str, str]:
     """The name of a capture's fault, and where it comes."""
     for names, where in CAPTURE:
         for one in names.split(", "):
@@ -122,12 +123,12 @@ def capture_fault(number):
     return "", "no fault that is known here"
 
 
-def status(number):
+def status(number: int) -> str:
     """When a status comes."""
     return next((when for row, when in STATUSES if row == str(number)), "no status of docs/FORMATS.md")
 
 
-def rows_of(text, heading, head):
+def rows_of(text: str, heading: str, head: str) -> list[tuple[str, ...]]:
     """The cells of the table under a heading whose head line begins so."""
     at = text.index(head, text.index(heading))
     lines = text[at:].splitlines()[2:]
@@ -135,7 +136,7 @@ def rows_of(text, heading, head):
     return [tuple(cell.strip() for cell in re.split(r"(?<!\\)\|", line)[1:-1]) for line in table]
 
 
-def differing():
+def differing() -> list[str]:
     """The rows of docs/FORMATS.md that stand here otherwise, or the contrary."""
     text = FORMATS.read_text()
     shown = {
@@ -144,5 +145,7 @@ def differing():
         "CAPTURE": rows_of(text, "## Captures", "| fault | comes |"),
         "STATUSES": [row[:2] for row in rows_of(text, "## Statuses", "| status | comes | stop line |")],
     }
-    here = {"SCRIPT": SCRIPT, "TRACE": TRACE, "CAPTURE": CAPTURE, "STATUSES": STATUSES}
+    here: dict[str, Sequence[tuple[str, ...]]] = {
+        "SCRIPT": SCRIPT, "TRACE": TRACE, "CAPTURE": CAPTURE, "STATUSES": STATUSES,
+    }
     return [f"{name}: {row}" for name, rows in here.items() for row in sorted(set(rows) ^ set(shown[name]))]

@@ -3,13 +3,22 @@
 The help, the man page and the completions are made from it. A command of the wrapper's own is told of where its module is.
 """
 
-from collections import namedtuple
+from typing import NamedTuple
 
 from wrapper.program import TOP
 
-# A word of a command line in capitals stands for what the caller gives; one in brackets may be left out; `..` is one or
-# more.
-Command = namedtuple("Command", "name words line example")
+
+class Command(NamedTuple):
+    """A command: its name, its words, what it does in a line, and an example.
+
+    A word in capitals stands for what the caller gives; one in brackets may be left out; `..` is one or more.
+    """
+
+    name: str
+    words: str
+    line: str
+    example: str
+
 
 PROGRAM = [
     Command("run", "SCRIPT [PACKETS] [--out FOLDER] [--append] [--convert] [--counts [--json]]",
@@ -51,42 +60,42 @@ FLAGS = {"-h": "help", "--help": "help", "--version": "version"}
 QUIET = "--quiet"
 
 
-def is_there(command):
+def is_there(command: Command) -> bool:
     """Whether the module of a command of the wrapper's own is there."""
     return (TOP / "wrapper" / f"{command.name}.py").is_file()
 
 
-def of_wrapper():
+def of_wrapper() -> list[Command]:
     """The wrapper's own commands that are there."""
     return [command for command in WRAPPER if is_there(command)]
 
 
-def every():
+def every() -> list[Command]:
     """All commands that are there, the program's first."""
     return [*PROGRAM, *of_wrapper()]
 
 
-def named(name):
+def named(name: str) -> Command | None:
     """The command of this name; None where there is none."""
     return next((command for command in every() if command.name == name), None)
 
 
-def is_programs(name):
+def is_programs(name: str) -> bool:
     """Whether the program knows a command of this name."""
     return any(command.name == name for command in PROGRAM)
 
 
-def asks_help(words):
+def asks_help(words: list[str]) -> bool:
     """Whether a word behind the command asks for its help."""
     return any(word in ("-h", "--help") for word in words[1:])
 
 
-def operands(command):
+def operands(command: Command) -> str:
     """The words of a command without the flags, which are the wrapper's own."""
     return command.words.partition(" [--")[0]
 
 
-def how_many(command):
+def how_many(command: Command) -> tuple[int, int]:
     """The least and the greatest number of words behind a command of the program's."""
     words = operands(command).split()
     return sum(not word.startswith("[") for word in words), len(words)

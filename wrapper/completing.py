@@ -3,7 +3,8 @@
 import os
 
 from wrapper import places
-from wrapper.reading import COMMANDS
+from wrapper.bindings import Bindings
+from wrapper.reading import COMMANDS, Script
 
 # The words that begin deeds, before which a session puts the lane.
 DEEDS = (*COMMANDS, "raise", "later", "packet")
@@ -23,7 +24,7 @@ THINGS = {
 NEW = {"event": "events", "handler": "handlers", "guard": "guards", "endpoint": "endpoints"}
 
 
-def files(partial):
+def files(partial: str) -> list[str]:
     """The files whose names begin so, folders with a slash."""
     folder, base = os.path.split(partial)
     try:
@@ -34,12 +35,12 @@ def files(partial):
     return [f"{name}/" if os.path.isdir(name) else name for name in found]
 
 
-def numbers(script, bindings, name, words):
+def numbers(script: Script, bindings: Bindings, name: str, words: list[str]) -> list[int]:
     """The numbers in force of what is called so, where the words of a line so far name an event."""
     if name.startswith("the number of the ") and name.rpartition(" ")[2] in NEW:
         kind = name.rpartition(" ")[2]
         return [len(getattr(script, NEW[kind])) + (kind in ("handler", "guard"))]
-    kind = next((kind for kind, names in THINGS.items() if name in names), None)
+    kind = next((kind for kind, names in THINGS.items() if name in names), "")
     if kind == "module":
         return list(range(script.modules))
     if kind == "binding":
@@ -49,7 +50,7 @@ def numbers(script, bindings, name, words):
     return [0, *found] if name.endswith("0 for none") else found
 
 
-def wanted_words(want, script, bindings, words):
+def wanted_words(want: places.Want | None, script: Script, bindings: Bindings, words: list[str]) -> list[str]:
     """The words that may stand where this is wanted."""
     if want is None:
         return []
@@ -57,21 +58,22 @@ def wanted_words(want, script, bindings, words):
         return list(map(str, numbers(script, bindings, want.name, words)))
     if want.kind == "expression":
         return [f"a{at}" for at in range(8)] + list(places.EXPRESSIONS)
-    if want.kind in ("signature", "guard signature") and want.more:
+    if want.kind in ("signature", "guard signature") and want.behind:
         return ["native"]
     if want.kind == "handler or any":
         return ["any", *map(str, sorted(script.handlers))]
     return places.fixed_words(want)
 
 
-def choices(script, bindings, count, line):
+def choices(script: Script, bindings: Bindings, count: int, line: str) -> list[str]:
     """The words that may take the place of the last one of a line, which may be empty, in a script of so many lines."""
     words = line.split()
     partial = "" if not words or line.endswith((" ", "\t")) else words.pop()
     if not words:
         found = [*OWN, *places.lines(script.version), *DEEDS]
     elif words[0] in OWN and len(words) == 1 and (words[0] != "replace" or not partial):
-        found = files(partial) if OWN[words[0]] == "file" else map(str, range(1, count + 1)) if OWN[words[0]] else []
+        numbered = [str(at) for at in range(1, count + 1)] if OWN[words[0]] else []
+        found = files(partial) if OWN[words[0]] == "file" else numbered
     else:
         words = ["lane", "0", *words] if words[0] in DEEDS else words
         found = wanted_words(places.next_wanted(words, script.version), script, bindings, words)

@@ -13,6 +13,7 @@ import struct
 import subprocess
 import sys
 import tempfile
+from collections.abc import Callable, Iterable, Iterator
 from pathlib import Path
 
 from wrapper import faults
@@ -33,30 +34,30 @@ IPV4, IPV6 = b"\x08\x00", b"\x86\xdd"
 MOST_STEPS = 4
 
 
-def of_ip(packet):
+def of_ip(packet: bytes) -> bytes:
     """The type of a frame around this packet, by the version that it says."""
     return IPV6 if packet[:1] and packet[0] >> 4 == 6 else IPV4
 
 
-def behind_version(packet):
+def behind_version(packet: bytes) -> bytes:
     """A packet of IP as a frame of Ethernet."""
     return BLANK + of_ip(packet) + packet
 
 
-def behind_family(frame):
+def behind_family(frame: bytes) -> bytes:
     """The frame of a loopback interface as one of Ethernet: its first four bytes name the family, of IP in every order."""
     return behind_version(frame[4:])
 
 
 # How a frame of another link type is made one of Ethernet.
-FRAMES = {
+FRAMES: dict[int, Callable[[bytes], bytes]] = {
     0: behind_family, 108: behind_family, 12: behind_version, 101: behind_version,
     228: lambda frame: BLANK + IPV4 + frame, 229: lambda frame: BLANK + IPV6 + frame,
     113: lambda frame: BLANK + frame[14:], 276: lambda frame: BLANK + frame[:2] + frame[20:],
 }
 
 
-def run_tool(name, what, command, source, target):
+def run_tool(name: str, what: str, command: str, source: Path, target: Path) -> None:
     """Runs the tool that makes a file of another, and tells its command line."""
     tool, words = command.split()[0], shlex.split(command.replace("> {1}", ""))
     if not shutil.which(tool):
@@ -64,14 +65,14 @@ def run_tool(name, what, command, source, target):
         raise Refused(f"{name} is {what}, and {missing}", BAD_CAPTURE)
     tell(f"{name} is {what}; it goes through: {command.format(shlex.quote(name), '..')}")
     given = [word.format(str(source), str(target)) for word in words]
-    with open(target, "wb") if "> {1}" in command else contextlib.nullcontext() as out:
-        ran = subprocess.run(given, stdin=subprocess.DEVNULL, stdout=out or subprocess.DEVNULL, stderr=subprocess.PIPE)
+    with open(target if "> {1}" in command else os.devnull, "wb") as out:
+        ran = subprocess.run(given, stdin=subprocess.DEVNULL, stdout=out, stderr=subprocess.PIPE)
     if ran.returncode:
         why = ran.stderr.decode(errors="replace").strip().splitlines()
         raise Refused(f"{tool} can't read {name}: {why[-1] if why else f'status {ran.returncode}'}", BAD_CAPTURE)
 
 
-def put_ethernet(source, target, order, frame_of):
+def put_ethernet(source: Path, target: Path, order: str, frame_of: Callable[[bytes], bytes]) -> None:
     """Writes the capture anew with frames of Ethernet; what is no whole record is left out."""
     fields = struct.Struct(f"{order}IIII")
     with open(source, "rb") as file, open(target, "wb") as out:
@@ -86,7 +87,7 @@ def put_ethernet(source, target, order, frame_of):
             out.write(fields.pack(seconds, parts, len(made), original + len(made) - captured) + made)
 
 
-def step(name, source, target):
+def step(name: str, source: Path, target: Path) -> bool:
     """Makes a file that is nearer to a capture of Ethernet, and answers whether there was anything to be made."""
     with open(source, "rb") as file:
         head = file.read(HEADER)
@@ -105,7 +106,7 @@ def step(name, source, target):
     return True
 
 
-def as_file(name, folder):
+def as_file(name: str, folder: Path) -> Path:
     """The capture as a file that can be read twice: itself, or what a pipe or, for `-`, standard input holds."""
     if name != "-" and not stat.S_ISFIFO(os.stat(name).st_mode):
         return Path(name)
@@ -114,7 +115,7 @@ def as_file(name, folder):
     return folder / "piped"
 
 
-def converted(name, folder, is_asked):
+def converted(name: str, folder: Path, is_asked: bool) -> str:
     """The name of a capture that can be read twice, and that the program reads where that is asked for."""
     if name != "-" and not os.path.exists(name):
         return name
@@ -128,7 +129,7 @@ def converted(name, folder, is_asked):
 
 
 @contextlib.contextmanager
-def all_converted(names, is_asked):
+def all_converted(names: Iterable[str], is_asked: bool) -> Iterator[list[str]]:
     """The names of captures that can be read twice, and that the program reads where `is_asked`, of these in their order."""
     with tempfile.TemporaryDirectory(prefix="spin-convert-") as folder:
         made = []
@@ -145,7 +146,7 @@ FLAG = "--convert"
 
 
 @contextlib.contextmanager
-def in_words(words):
+def in_words(words: list[str]) -> Iterator[list[str]]:
     """The words of the program's command with a capture that it reads in the place of the one that they name, where they
     have the flag `--convert`; else the words as they are."""
     at = PLACES.get(words[0]) if words else None

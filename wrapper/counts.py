@@ -5,6 +5,8 @@ A report has a line for each packet, so what the lines tell is counted by lookin
 
 import re
 from collections import Counter
+from collections.abc import Iterable, Iterator, Mapping
+from typing import BinaryIO
 
 CHUNK = 1_048_576
 
@@ -17,7 +19,7 @@ DROPS = ["short", "version", "header_length", "total_length", "checksum", "fragm
 OTHERS = (b"job ", b"lost ")
 
 
-def whole_lines(file):
+def whole_lines(file: BinaryIO) -> Iterator[bytes]:
     """The text of a file some lines at a time."""
     while text := file.read(CHUNK):
         yield text + file.readline()
@@ -34,8 +36,12 @@ class Report:
     Where hits are asked for, the runs of each binding are counted, and the bytes that were sent to each endpoint.
     """
 
-    def __init__(self, file, endpoints=(), keeps_sends=False, has_hits=False):
-        self.counts, self.last, self.sends, self.has_hits = Counter(), "", [], has_hits
+    def __init__(
+        self, file: BinaryIO, endpoints: Iterable[str] = (), keeps_sends: bool = False, has_hits: bool = False,
+    ) -> None:
+        self.counts: Counter[str] = Counter()
+        self.sends: list[bytes] = []
+        self.last, self.has_hits = "", has_hits
         self.steps = {f"send {number}": f" send {number} ".encode() for number in endpoints}
         for text in whole_lines(file):
             self.take(text)
@@ -43,7 +49,7 @@ class Report:
                 self.sends += [line for line in text.split(b"\n") if b" send " in line]
             self.last = text[text[:-1].rfind(b"\n") + 1 :].decode().rstrip("\n")
 
-    def take(self, text):
+    def take(self, text: bytes) -> None:
         """Counts what some lines tell."""
         self.count(ANSWERS, text)
         self.count(self.steps, text)
@@ -56,12 +62,12 @@ class Report:
         if any(b"\n" + begin in text or text.startswith(begin) for begin in OTHERS):
             self.take_others([line for line in text.split(b"\n") if line.startswith(OTHERS)])
 
-    def count(self, words, text, times=1):
+    def count(self, words: Mapping[str, bytes], text: bytes, times: int = 1) -> None:
         """Adds how often the words stand in the text."""
         for name, what in words.items():
             self.counts[name] += times * text.count(what)
 
-    def take_hits(self, text):
+    def take_hits(self, text: bytes) -> None:
         """Counts the runs of bindings, those that were left to jobs, and the bytes of sends.
 
         What a job does at first is counted by itself too, since the guards of its binding were tested before.
@@ -73,7 +79,7 @@ class Report:
                 self.counts[f"{'run' if kind == b'run' else 'left'} {first.decode()} {second.decode()}"] += times
         self.counts.update(f"again {name.decode()}" for name in FIRST.findall(text))
 
-    def take_others(self, lines):
+    def take_others(self, lines: list[bytes]) -> None:
         """Takes the lines that are no packets'; the answers of jobs don't count among those of packets."""
         jobs = b"".join(line + b"\n" for line in lines if line.startswith(b"job "))
         self.count(ANSWERS, jobs, -1)
@@ -84,7 +90,7 @@ class Report:
                 self.counts[f"lost {endpoint}"] += int(sends)
 
 
-def summary(counts, endpoints):
+def summary(counts: Counter[str], endpoints: Mapping[int, str]) -> list[str]:
     """The lines that tell counts, in a fixed order, zeros too; endpoints are names by number."""
     names = ["captures", "records", "cut", "accepted", "refused", *ANSWERS, *REFUSALS, "jobs"]
     lines = [f"{name} {counts[name]}" for name in names]

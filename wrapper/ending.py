@@ -9,6 +9,9 @@ import contextlib
 import os
 import signal
 import sys
+from collections.abc import Iterator
+from types import FrameType
+from typing import IO
 
 from wrapper import outputs, program
 from wrapper.program import tell
@@ -16,7 +19,7 @@ from wrapper.program import tell
 FORWARDED = (signal.SIGINT, signal.SIGTERM, signal.SIGHUP, signal.SIGQUIT)
 
 
-def waited_for(command, out=None):
+def waited_for(command: list[str], out: IO[bytes] | None = None) -> int:
     """Runs a command line as if it stood in the wrapper's place, signals too, and answers its status, or less a signal.
 
     What it writes goes into the open file `out` where there is one.
@@ -25,7 +28,7 @@ def waited_for(command, out=None):
     actions = [(os.POSIX_SPAWN_DUP2, out.fileno(), 1)] if out else []
     child = os.posix_spawn(command[0], command, os.environ, setsigmask=mask, file_actions=actions)
 
-    def forward(number, _):
+    def forward(number: int, _: FrameType | None) -> None:
         """Hands the signal on to the program."""
         # the program may have ended by the same signal, where that came to both
         with contextlib.suppress(ProcessLookupError):
@@ -39,29 +42,31 @@ def waited_for(command, out=None):
     return os.waitstatus_to_exitcode(how)
 
 
-def end_by(number):
+def end_by(number: int) -> None:
     """Ends this process by the signal that ended the program."""
     signal.signal(number, signal.SIG_DFL)
     os.kill(os.getpid(), number)
 
 
-def wrapped(lines, columns):
+def wrapped(lines: list[str], columns: int) -> list[str]:
     """The lines cut at their blanks to fit so many columns, but for marks and the lines above them, which stay whole."""
     import re
     import textwrap
 
-    width, told = max(40, columns - 1), []
+    width, told = max(40, columns - 1), list[str]()
     for line, below in zip(lines, [*lines[1:], ""]):
         if any(re.fullmatch(" *\\^~*", one) for one in (line, below)):
             told.append(line)
         else:
-            how = {"subsequent_indent": "      ", "break_long_words": False, "break_on_hyphens": False}
-            told += textwrap.wrap(line, width - 6 * (line[:1] != " "), **how)
+            told += textwrap.wrap(
+                line, width - 6 * (line[:1] != " "),
+                subsequent_indent="      ", break_long_words=False, break_on_hyphens=False,
+            )
     return told
 
 
 @contextlib.contextmanager
-def inside(folder):
+def inside(folder: str | None) -> Iterator[None]:
     """What stands below this is done in that folder, where one is named."""
     if folder is None:
         yield
@@ -75,7 +80,7 @@ def inside(folder):
         os.close(here)
 
 
-def tell_reasons(command, words, status, folder="."):
+def tell_reasons(command: list[str] | None, words: list[str], status: int, folder: str = ".") -> None:
     """Tells what the status means of words that ran in a folder; where that fails, the status stays the program's."""
     from wrapper import reasons
 
@@ -89,7 +94,7 @@ def tell_reasons(command, words, status, folder="."):
         tell(line) if line[:1] != " " else print(line, file=sys.stderr)
 
 
-def run(command, words, flags, is_last):
+def run(command: list[str], words: list[str], flags: outputs.Flags, is_last: bool) -> int:
     """Runs the program where the flags say, as the last thing in its place; its status, or less a signal."""
     elsewhere = words if flags.out is None else outputs.from_elsewhere(words)
     line = [*command, *elsewhere]
@@ -99,7 +104,7 @@ def run(command, words, flags, is_last):
         return os.execv(line[0], line) if is_last else waited_for(line)
 
 
-def counted(line, script, flags):
+def counted(line: list[str], script: list[str], flags: outputs.Flags) -> int:
     """Runs the program and writes its counts in the place of the report, which stands where there is no whole one."""
     import shutil
     import tempfile
@@ -121,7 +126,7 @@ def counted(line, script, flags):
     return status
 
 
-def tell_end(command, words, status, flags):
+def tell_end(command: list[str] | None, words: list[str], status: int, flags: outputs.Flags) -> None:
     """Tells what the status means, and of a whole run what it has lost."""
     if status:
         tell_reasons(command, words, status, flags.out or ".")
@@ -129,7 +134,7 @@ def tell_end(command, words, status, flags):
         outputs.tell_lost(words)
 
 
-def run_to_its_end(command, words, quiet):
+def run_to_its_end(command: list[str] | None, words: list[str], quiet: bool) -> int:
     """Runs the program as flags and words say, tells what its status means unless that isn't wanted, and answers it."""
     from wrapper import convert
 
@@ -151,7 +156,7 @@ def run_to_its_end(command, words, quiet):
     return status
 
 
-def main(words, quiet):
+def main(words: list[str], quiet: bool) -> int:
     """Runs the program on these words, and ends with its status."""
     command = program.command()
     try:

@@ -9,8 +9,9 @@ import re
 import shutil
 import subprocess
 import tempfile
-from collections import namedtuple
+from collections.abc import Iterable, Iterator
 from pathlib import Path
+from typing import NamedTuple
 
 from wrapper import convert, ending, outputs, program, why
 from wrapper.picture import ABSENT, NO_RUN, NOT_READ, WRONG_WORDS, Refused
@@ -19,14 +20,22 @@ from wrapper.records import Records
 
 USAGE = "usage: spin explain SCRIPT [LINE] [PACKETS] [--report REPORT] [--convert]"
 
-# What is to be explained: the script, the number of one line, empty for all, the capture and the report, None for none;
-# and whether the capture is made readable first.
-Asked = namedtuple("Asked", "script line packets report is_converted")
+
+class Asked(NamedTuple):
+    """What is to be explained, and whether the capture is made readable first."""
+
+    script: str
+    # the number of one line, empty for all
+    line: str
+    packets: str | None
+    report: str | None
+    is_converted: bool
 
 
-def read_words(words):
+def read_words(words: list[str]) -> Asked:
     """What the words ask for."""
-    files, line, report, rest = [], "", None, [word for word in words if word != convert.FLAG]
+    files, line, rest = list[str](), "", [word for word in words if word != convert.FLAG]
+    report = None
     while rest:
         word = rest.pop(0)
         if word == "--report" and rest:
@@ -39,10 +48,10 @@ def read_words(words):
             files.append(word)
     if not files:
         raise Refused(USAGE, WRONG_WORDS)
-    return Asked(files[0], line, *(files[1:] or [None]), report, convert.FLAG in words)
+    return Asked(files[0], line, files[1] if files[1:] else None, report, convert.FLAG in words)
 
 
-def copied(asked, folder):
+def copied(asked: Asked, folder: str) -> set[str]:
     """Copies the files, so that what is explained is what was run, also where they are pipes; the copies' names."""
     named = {"script": asked.script, "packets": asked.packets, "report": asked.report}
     for name, file in named.items():
@@ -56,14 +65,13 @@ def copied(asked, folder):
     return {name for name, file in named.items() if file is not None}
 
 
-def report_of(asked, folder):
+def report_of(asked: Asked, folder: str) -> str:
     """The text of the report: that of a run, or one that is judged."""
     there = copied(asked, folder)
     capture = ["packets"] * ("packets" in there)
-    how = {"cwd": folder, "stdin": subprocess.DEVNULL, "stdout": subprocess.PIPE}
     words = ["check", "script", "report", *capture] if asked.report else ["run", "script", *capture]
-    ran = program.run(words, **how)
-    named = [asked.script, *([asked.report] if asked.report else []), *([asked.packets] if capture else [])]
+    ran = program.run(words, folder, stdin=subprocess.DEVNULL, stdout=subprocess.PIPE)
+    named = [asked.script, *filter(None, [asked.report, asked.packets])]
     if ran.returncode == NO_RUN:
         raise Refused("the report is that of no run of the script, so it isn't explained", NO_RUN, [words[0], *named])
     if ran.returncode:
@@ -73,7 +81,7 @@ def report_of(asked, folder):
     return text.decode("ascii")
 
 
-def explained(asked, folder):
+def explained(asked: Asked, folder: str) -> Iterator[why.Because]:
     """The script's entries and jobs that are asked for, one after another, each with why it says what it does."""
     lines = (read_line(text) for text in report_of(asked, folder).splitlines())
     script = read_script((Path(folder) / "script").read_text("ascii"))
@@ -83,29 +91,30 @@ def explained(asked, folder):
     return why.explain(script, lines, records, is_wanted)
 
 
-def written(found):
+def written(found: Iterable[why.Because]) -> tuple[int, list[str]]:
     """Writes why each line says what it does; how many there were, and the lines with which the report disagrees."""
-    count, odd = 0, []
+    count, odd = 0, list[str]()
     for count, one in enumerate(found, 1):
         print("".join(f"{line}\n" for line in one.lines), end="")
         odd += [one.line.source] * (not one.agrees)
     return count, odd
 
 
-def main(words):
+def main(words: list[str]) -> int:
     """Explains what the words ask for, and answers the exit status."""
     try:
         asked = read_words(words)
-        named = [asked.packets] * (asked.packets is not None)
+        named = [asked.packets] if asked.packets is not None else []
         with tempfile.TemporaryDirectory() as folder, convert.all_converted(named, asked.is_converted) as captures:
-            count, odd = written(explained(asked._replace(packets=(captures or [None])[0]), folder))
+            packets = captures[0] if captures else None
+            count, odd = written(explained(asked._replace(packets=packets), folder))
     except outputs.Refused as refused:
         program.tell(str(refused))
         return refused.status
     except Refused as refused:
         program.tell(str(refused))
         if refused.judged:
-            ending.tell_reasons(program.command(), refused.judged, refused.status)
+            ending.tell_reasons(program.command(), [*refused.judged], refused.status)
         return refused.status
     if asked.line and not count:
         program.tell(f"line {asked.line} of {asked.script} has no entry in the report")

@@ -5,6 +5,7 @@ import shutil
 import struct
 import sys
 import tempfile
+from collections.abc import Callable, Iterable
 from pathlib import Path
 
 from wrapper import bpf
@@ -13,7 +14,7 @@ from wrapper.pieces import Refused, find_capture
 PACKETS = 1000
 
 
-def script(expression):
+def script(expression: str) -> str:
     """A script that sends the frames to endpoint `out0` which the expression lets through."""
     try:
         tests = bpf.tests(expression)
@@ -25,14 +26,14 @@ def script(expression):
     return "".join(f"{line}\n" for line in [*lines, f"lane 0 packet 0 {PACKETS}"])
 
 
-def empty_capture(captures):
+def empty_capture(captures: Iterable[str]) -> bytes:
     """A capture without records, as the frames of these would be written."""
     found = [find_capture(name) for name in captures]
     magic = 0xA1B23C4D if any(it.second == 1_000_000_000 for it in found) else 0xA1B2C3D4
     return struct.pack("<IHHIIII", magic, 2, 4, 0, 0, max(it.snapped for it in found), 1)
 
 
-def run(options, run_filter):
+def run(options: argparse.Namespace, run_filter: Callable[[argparse.Namespace], list[str]]) -> list[str]:
     """Runs the filter as the options ask for, by `run_filter` over options of a script's, and answers the lines to be written."""
     text = script(options.expression)
     if options.script_only:
@@ -57,7 +58,7 @@ def run(options, run_filter):
     return lines
 
 
-def read_words(words, parser):
+def read_words(words: list[str], parser: argparse.ArgumentParser) -> argparse.Namespace:
     """What the words ask for; the parser knows the flags that both forms of `filter` have."""
     parser.add_argument("-e", dest="expression", required=True)
     parser.add_argument("-w", dest="write", type=Path)

@@ -6,6 +6,7 @@ Nothing is proved of what is told here.
 import os
 import shlex
 import struct
+from typing import BinaryIO
 
 from wrapper import causes
 from wrapper.program import CALLED
@@ -38,7 +39,7 @@ LINKS = {
 }
 
 
-def other_name(name):
+def other_name(name: str) -> str:
     """A name for the capture that a command makes, beside this one."""
     stem = name
     for end in (".gz", ".zst", ".xz", ".bz2", ".zip", ".pcapng", ".pcap", ".cap"):
@@ -46,17 +47,17 @@ def other_name(name):
     return f"{stem}.classic.pcap"
 
 
-def made_of(command, name):
+def made_of(command: str, name: str) -> str:
     """The command that makes another file of the one of this name."""
     return command.format(shlex.quote(name), shlex.quote(other_name(name)))
 
 
-def made_by(command, name):
+def made_by(command: str, name: str) -> str:
     """A line that names the command which makes a capture of the file."""
     return f"make it one with: {made_of(command, name)}"
 
 
-def of_magic(name, head):
+def of_magic(name: str, head: bytes) -> list[str]:
     """What is told of a file whose first bytes are no magic."""
     begins = f"its first 4 bytes are {head[:4].hex(' ')}, where a classic pcap has d4 c3 b2 a1 or a like magic"
     for magic, what, command in OTHERS:
@@ -67,14 +68,14 @@ def of_magic(name, head):
     return [f"{name} is no capture that is known", begins]
 
 
-def of_version(name, head):
+def of_version(name: str, head: bytes) -> list[str]:
     """What is told of a capture of another version."""
     major, minor = struct.unpack(f"{MAGICS[head[:4]]}HH", head[4:8])
     is_one = f"{name} is a pcap of version {major}.{minor}, by offset 4, where 2.4 is read"
     return [is_one, made_by("editcap -F pcap {0} {1}", name)]
 
 
-def of_link(name, head):
+def of_link(name: str, head: bytes) -> list[str]:
     """What is told of a capture of another link type."""
     from wrapper import convert
 
@@ -86,7 +87,7 @@ def of_link(name, head):
     return [*told, "capture on an interface of Ethernet, as tcpdump -i eth0 -w does"]
 
 
-def offset_of(file, order, record):
+def offset_of(file: BinaryIO, order: str, record: int) -> int:
     """Where in a capture the header of the record of this number, counted from 1, begins."""
     at = 24
     for _ in range(record - 1):
@@ -95,7 +96,7 @@ def offset_of(file, order, record):
     return at
 
 
-def of_length(name, record):
+def of_length(name: str, record: int) -> list[str]:
     """What is told of a record whose captured length is over the limit."""
     with open(name, "rb") as file:
         order = MAGICS[file.read(4)]
@@ -110,14 +111,14 @@ def of_length(name, record):
     ]
 
 
-def explain(name, record, fault):
+def explain(name: str, record: int, fault: int) -> list[str]:
     """The lines that tell of a fault of the capture of this name."""
     called, where = causes.capture_fault(fault)
     by_grammar = f"{name}, record {record}, fault {fault} ({called}): {where}"
     return [*what_it_is(name, record, fault), by_grammar]
 
 
-def what_it_is(name, record, fault):
+def what_it_is(name: str, record: int, fault: int) -> list[str]:
     """What the capture is in place of a good one, as far as its bytes tell, and what helps."""
     try:
         with open(name, "rb") as file:

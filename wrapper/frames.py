@@ -3,7 +3,7 @@
 import socket
 
 from wrapper.layers import ipv4
-from wrapper.values import field
+from wrapper.values import bytes_at, field, word_at
 
 IPV4, IPV6 = 0x0800, 0x86DD
 TYPES = {
@@ -13,7 +13,7 @@ PROTOCOLS = {1: "ICMP", 2: "IGMP", 6: "TCP", 17: "UDP", 47: "GRE", 50: "ESP", 58
 WITH_PORTS = (6, 17, 132)
 
 
-def ways(source, target, protocol, payload):
+def ways(source: str, target: str, protocol: int, payload: bytes) -> str:
     """From where a packet comes and where it goes, with ports where it has some."""
     name = PROTOCOLS.get(protocol, f"protocol {protocol}")
     if protocol not in WITH_PORTS or len(payload) < 4:
@@ -23,26 +23,25 @@ def ways(source, target, protocol, payload):
     return f"{name} {source}{between}{ports[0]} → {target}{between}{ports[1]}"
 
 
-def of_ipv4(frame):
+def of_ipv4(frame: bytes) -> str:
     """A frame of IPv4; one that the step `layer ipv4` drops is told with the fault."""
     found = ipv4([frame])
     if isinstance(found, str):
         return f"IPv4 with a fault: {found.replace('_', ' ')}"
-    payload, protocol, source, target = found
-    addresses = (socket.inet_ntop(socket.AF_INET, word.to_bytes(4, "big")) for word in (source, target))
-    return ways(*addresses, protocol, payload)
+    source, target = (socket.inet_ntop(socket.AF_INET, word_at(found, at).to_bytes(4, "big")) for at in (2, 3))
+    return ways(source, target, word_at(found, 1), bytes_at(found, 0))
 
 
-def of_ipv6(frame):
+def of_ipv6(frame: bytes) -> str:
     """A frame of IPv6; what stands between its header and the ports isn't passed over."""
     packet = frame[14:]
     if len(packet) < 40:
         return "IPv6 with a fault: short"
-    addresses = (socket.inet_ntop(socket.AF_INET6, packet[at:at + 16]) for at in (8, 24))
-    return ways(*addresses, packet[6], packet[40:])
+    source, target = (socket.inet_ntop(socket.AF_INET6, packet[at:at + 16]) for at in (8, 24))
+    return ways(source, target, packet[6], packet[40:])
 
 
-def frame_words(frame):
+def frame_words(frame: bytes) -> str:
     """What a frame is."""
     if len(frame) < 14:
         return f"a frame of {len(frame)} bytes"

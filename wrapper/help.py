@@ -2,6 +2,7 @@
 
 import difflib
 import sys
+from collections.abc import Sequence
 
 from wrapper import commands, flags
 from wrapper.program import CALLED, INSTALLED, NAME, tell
@@ -30,13 +31,13 @@ is proved of what is told there.
 {LAST}"""
 
 
-def columns(pairs):
+def columns(pairs: Sequence[tuple[str, str]]) -> str:
     """Lines of two columns, indented."""
     width = max(len(left) for left, _ in pairs)
     return "".join(f"  {left:{width}}  {right}\n" for left, right in pairs)
 
 
-def whole():
+def whole() -> str:
     """The text of all commands."""
     rows = [(command.name, command.line) for command in commands.every()]
     return (
@@ -47,45 +48,45 @@ def whole():
     )
 
 
-def usage(command):
+def usage(command: commands.Command) -> str:
     """The usage line of a command."""
     return f"usage: {CALLED} {command.name} {command.words}".rstrip() + "\n"
 
 
-def of_one(command):
+def of_one(command: commands.Command) -> str:
     """The text of one command."""
     known = flags.FLAGS.get(command.name)
     told = f"{columns(known)}\n" if known else ""
     return f"{usage(command)}\n{command.name}: {command.line}\n\n{told}Example:\n  {CALLED} {command.example}\n"
 
 
-def nearest(word, among):
+def nearest(word: str, among: Sequence[str]) -> str | None:
     """The word among these that is nearest to this one; None where none is near."""
     found = difflib.get_close_matches(word, among, n=1, cutoff=0.5)
     return found[0] if found else None
 
 
-def mistyped(word):
+def mistyped(word: str) -> int:
     """Tells that the word is no command, which is the nearest one, and answers the status."""
     near = nearest(word, [command.name for command in commands.every()] + [commands.QUIET, *commands.FLAGS])
     tell(f"{word!a} is no command" + (f"; the nearest is {near}" if near else f"; {CALLED} help tells them"))
     return 1
 
 
-def no_words():
+def no_words() -> int:
     """Tells the usage where no words are given, and answers the status."""
     sys.stderr.write(whole())
     return 1
 
 
-def answer(name, words):
+def answer(name: str, words: list[str]) -> int:
     """Answers words that no command takes, or that ask for the help of one."""
     if not words:
         return no_words()
     return main([name]) if commands.named(name) else mistyped(name)
 
 
-def main(words):
+def main(words: list[str]) -> int:
     """Writes the text of all commands, or of the one that is named, and answers the exit status."""
     if len(words) > 1:
         tell("help takes one word at most")

@@ -7,11 +7,16 @@ table or as JSON. A guard's count is how often a binding that it guards was let 
 import json
 import re
 from collections import Counter
+from collections.abc import Iterable
+from typing import Any
 
-from wrapper.bindings import Bindings
+from wrapper.bindings import Binding, Bindings
 from wrapper.counts import ANSWERS, DROPS, REFUSALS
-from wrapper.reading import COMMANDS, NAMED
+from wrapper.reading import COMMANDS, NAMED, Line, Script
 from wrapper.told import endpoint_words
+
+# What is told of a run: values of JSON by their names.
+Told = dict[str, Any]
 
 STEP = re.compile(r" (run|job|send|drop) (\w+)(?: ([0-9]+))?")
 
@@ -19,11 +24,12 @@ STEP = re.compile(r" (run|job|send|drop) (\w+)(?: ([0-9]+))?")
 class Hits:
     """The counts of a report's lines so far, each under its name, as `run 0 1` or `bytes 0`."""
 
-    def __init__(self, script):
+    def __init__(self, script: Script) -> None:
         """Begins before the first line."""
-        self.script, self.bindings, self.counts = script, Bindings(script), Counter()
+        self.script, self.bindings = script, Bindings(script)
+        self.counts: Counter[str] = Counter()
 
-    def take(self, line):
+    def take(self, line: Line) -> None:
         """Takes a line of the report."""
         if line.kind == "entry" and line.words[0] in COMMANDS:
             self.counts["accepted" if line.words[1] == "ok" else "refused"] += 1
@@ -36,7 +42,7 @@ class Hits:
         elif line.kind == "end" and len(line.words) > 1:
             self.counts.update(records=int(line.words[2]), used=int(line.words[4]), cut=int(line.words[6]))
 
-    def take_reply(self, line):
+    def take_reply(self, line: Line) -> None:
         """Takes an entry of a raise, or a job; a job's answer isn't a raise's."""
         is_job = line.kind == "job"
         self.counts["jobs"] += is_job
@@ -47,10 +53,10 @@ class Hits:
         # the handler that a job is left runs without a test of its guards
         untested = is_job and self.script.deeds[line.line].words[0] != "later"
         for found in STEP.finditer(f" {' '.join(line.words)}"):
-            self.take_step(line.place, untested, *found.groups())
+            self.take_step(line.place, untested, found[1], found[2], found[3])
             untested = False
 
-    def take_step(self, place, untested, kind, first, second):
+    def take_step(self, place: int, untested: bool, kind: str, first: str, second: str) -> None:
         """Takes a step."""
         if kind == "drop":
             self.counts[f"drop {first}"] += 1
@@ -62,7 +68,7 @@ class Hits:
                 self.counts.update(f"guard {guard}" for guard in self.bindings.at(place, int(second)).guards)
 
 
-def hits_of(script, lines):
+def hits_of(script: Script, lines: Iterable[Line]) -> Told:
     """What a report's lines tell, as `found` has it."""
     hits = Hits(script)
     for line in lines:
@@ -70,7 +76,7 @@ def hits_of(script, lines):
     return found(script, hits.bindings, hits.counts)
 
 
-def add_guards(bindings, counts):
+def add_guards(bindings: Bindings, counts: Counter[str]) -> None:
     """Adds the hits of guards to the counts of bindings that didn't change meanwhile."""
     for number, past in bindings.past.items():
         one = past[-1][1]
@@ -79,7 +85,7 @@ def add_guards(bindings, counts):
         counts.update({f"guard {guard}": hits for guard in one.guards})
 
 
-def of_binding(one, counts):
+def of_binding(one: Binding, counts: Counter[str]) -> dict[str, int | list[int]]:
     """What is told of a binding."""
     name = f"{one.event} {one.number}"
     return {
@@ -88,12 +94,12 @@ def of_binding(one, counts):
     }
 
 
-def names_of(script, kind):
+def names_of(script: Script, kind: str) -> dict[int, str]:
     """The names that comments give to numbers of this kind."""
     return {number: name for (of, number), name in sorted(script.names.items()) if of == kind}
 
 
-def found(script, bindings, counts):
+def found(script: Script, bindings: Bindings, counts: Counter[str]) -> Told:
     """The counts as plain values, zeros too."""
     defaults = {event: counts[f"run {event} 0"] for event in script.events}
     defaults = {event: runs for event, runs in defaults.items() if runs or bindings.events[event].default}
@@ -116,12 +122,12 @@ def found(script, bindings, counts):
     }
 
 
-def as_json(told):
+def as_json(told: Told) -> str:
     """The counts as JSON."""
     return json.dumps(told, indent=1) + "\n"
 
 
-def rows_of(script, told):
+def rows_of(script: Script, told: Told) -> list[tuple[str, int, str]]:
     """The rows of the table: what is counted, how often, and what else there is to it."""
     rows = [(name, told[name], "") for name in ("captures", "records", "used", "cut") if name in told]
     rows += [(f"commands {name}", count, "") for name, count in told["commands"].items()]
@@ -142,7 +148,7 @@ def rows_of(script, told):
     return rows
 
 
-def as_table(script, told):
+def as_table(script: Script, told: Told) -> str:
     """The counts as a table."""
     rows = rows_of(script, told)
     widths = max(len(row[0]) for row in rows), max(len(str(row[1])) for row in rows)

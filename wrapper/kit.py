@@ -40,7 +40,7 @@ class Kit(NamedTuple):
     logic: str
     way: Way
 
-    def is_allowed(self, words):
+    def is_allowed(self, words: list[str]) -> bool:
         """Whether a build by this kit may begin, called with these words; where it may not, a line says why."""
         if self.logic == LOGIC or ANY_LOGIC in words:
             return True
@@ -51,13 +51,15 @@ class Kit(NamedTuple):
         return False
 
 
-def said(*words):
+def said(*words: str) -> str:
     """What `rt` says to these words."""
-    how = {"stdin": subprocess.DEVNULL, "stdout": subprocess.PIPE, "stderr": subprocess.STDOUT, "timeout": SECONDS}
-    return subprocess.run(["rt", *words], **how).stdout.decode(errors="replace")
+    ran = subprocess.run(
+        ["rt", *words], stdin=subprocess.DEVNULL, stdout=subprocess.PIPE, stderr=subprocess.STDOUT, timeout=SECONDS
+    )
+    return ran.stdout.decode(errors="replace")
 
 
-def first_page():
+def first_page() -> str:
     """The page of the kit that is to be read first, which also tells of its commands; empty where it isn't there."""
     try:
         return Path(said("doc").strip()).read_text(errors="replace")
@@ -65,7 +67,7 @@ def first_page():
         return ""
 
 
-def way_of(text):
+def way_of(text: str) -> Way:
     """How the kit proves a crate by itself, by its help and its first page."""
     if not re.search(r"\brt ci (?:\[?--\S+ )*\[?NAME", text):
         return Way.PLAIN
@@ -73,7 +75,7 @@ def way_of(text):
     return Way.KEPT if re.search(r"--anew\b|\brt ci\b(?:[^.]|\.[.\w])*\b(?:keeps?|kept)\b", text) else Way.NAMED
 
 
-def found():
+def found() -> Kit | None:
     """The kit of the command `rt`; None where there is none, and then a line says so."""
     try:
         line = said("version").strip()

@@ -3,12 +3,14 @@
 Each answers the arguments of the raise upwards, or the word for its first fault. Nothing is proved of it.
 """
 
-from wrapper.values import bytes_at, field, word_at
+from collections.abc import Callable, Sequence
+
+from wrapper.values import Argument, bytes_at, field, word_at
 
 ADDRESS = 0xFFFFFFFF
 
 
-def total(content):
+def total(content: bytes) -> int:
     """The sum of the words of 16 bits, with the carries added."""
     padded = content + b"\x00" * (len(content) % 2)
     found = sum(field(padded, at, 2) for at in range(0, len(padded), 2))
@@ -17,7 +19,7 @@ def total(content):
     return found
 
 
-def ipv4(arguments):
+def ipv4(arguments: Sequence[Argument]) -> list[Argument] | str:
     """The payload, the protocol and the addresses of a frame's packet, or its first fault."""
     packet = bytes_at(arguments, 0, 14)
     if len(packet) < 20:
@@ -36,7 +38,7 @@ def ipv4(arguments):
     return [packet[header:length], packet[9], field(packet, 12, 4), field(packet, 16, 4)]
 
 
-def udp(arguments):
+def udp(arguments: Sequence[Argument]) -> list[Argument] | str:
     """The payload, the ports and the addresses of a datagram, or its first fault."""
     datagram = bytes_at(arguments, 0)
     source, target = word_at(arguments, 2) & ADDRESS, word_at(arguments, 3) & ADDRESS
@@ -51,4 +53,4 @@ def udp(arguments):
     return [datagram[8:length], field(datagram, 0, 2), field(datagram, 2, 2), source, target]
 
 
-LAYERS = {"ipv4": ipv4, "udp": udp}
+LAYERS: dict[str, Callable[[Sequence[Argument]], list[Argument] | str]] = {"ipv4": ipv4, "udp": udp}

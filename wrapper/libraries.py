@@ -6,27 +6,29 @@ gone on with by the next.
 
 import os
 import time
+from collections.abc import Collection
 
 from wrapper import jobs, queue, rooms
+from wrapper.program import Crates
 
 
 class Library(queue.Run):
     """A library that is being built."""
 
-    def __init__(self, name, count, niceness, below):
+    def __init__(self, name: str, count: int, niceness: int, below: list[str]) -> None:
         self.furnished, self.room = time.time(), rooms.furnish(name, below)
         super().__init__(name, count, niceness, self.words(count), self.room, {})
 
-    def words(self, count):
+    def words(self, count: int) -> list[str]:
         """The call that builds it, with so many jobs."""
         return ["rt", "lib", "--jobs", str(count)]
 
-    def close(self):
+    def close(self) -> bool:
         """Gives the crate's folder what was built, and answers whether it was."""
         rooms.clear(self.name, super().close())
         return super().close()
 
-    def stop(self):
+    def stop(self) -> None:
         """Ends the call, and gives the crate's folder the functions that are proved already."""
         super().stop()
         rooms.clear(self.name, False)
@@ -35,14 +37,14 @@ class Library(queue.Run):
 class Program(Library):
     """A program that is being proved and linked, and then run as the gate runs it, but in the folder above its data."""
 
-    def words(self, count):
+    def words(self, count: int) -> list[str]:
         """The call that builds and runs it, with so many jobs."""
         file = self.room / "args"
         given = file.read_text().splitlines() if file.is_file() else []
         beside = [f"data/{word}" if (self.room / "data" / word).is_file() else word for word in given]
         return ["rt", "run", "--jobs", str(count), "--", *beside]
 
-    def close(self):
+    def close(self) -> bool:
         """Gives the crate's folder the program, dated so that a source which was written since is newer."""
         program = self.room / "out" / self.name
         if program.is_file():
@@ -50,11 +52,14 @@ class Program(Library):
         return super().close()
 
 
-def build(crates, programs=()):
+def build(crates: Crates, programs: Collection[str] = ()) -> bool:
     """Builds these crates, the programs among them and else libraries, and answers whether all are built.
 
     `crates` has for each crate those that it stands on, lowest first.
     """
-    kind = lambda name: Program if name in programs else Library
-    begin = lambda name, *how: kind(name)(name, *how, rooms.below_all(crates, name))
+    def begin(name: str, count: int, niceness: int) -> Library:
+        """Begins the call that builds this crate."""
+        kind = Program if name in programs else Library
+        return kind(name, count, niceness, rooms.below_all(crates, name))
+
     return queue.build_all(crates, begin, jobs.processors_there())

@@ -7,6 +7,8 @@ the record and its place in the file.
 import os
 import stat
 import struct
+from collections.abc import Iterator
+from io import FileIO
 from typing import NamedTuple
 
 from wrapper import faults
@@ -22,7 +24,7 @@ MAGICS = {0xA1B2C3D4: 1_000_000, 0xA1B23C4D: 1_000_000_000}
 class Refused(Exception):
     """What is asked for can't be done: the exit status, by the program's table, and lines that say why."""
 
-    def __init__(self, status, *lines):
+    def __init__(self, status: int, *lines: str) -> None:
         super().__init__(*lines)
         self.status, self.lines = status, lines
 
@@ -39,7 +41,7 @@ class Capture(NamedTuple):
     second: int
     snapped: int
 
-    def identity(self):
+    def identity(self) -> list[str | int]:
         """What tells this capture from others, and from itself after a change."""
         return [self.path, self.size, self.changed]
 
@@ -53,7 +55,7 @@ class Piece(NamedTuple):
     records: int
 
 
-def order_of(header):
+def order_of(header: bytes) -> str | None:
     """The order of the bytes in a capture's numbers, as struct has it, or None."""
     for order in "><":
         if struct.unpack_from(f"{order}I", header)[0] in MAGICS:
@@ -61,7 +63,7 @@ def order_of(header):
     return None
 
 
-def fault_of(header):
+def fault_of(header: bytes) -> int | None:
     """The number of the first thing that is wrong with a capture's header, or None."""
     if len(header) < HEADER:
         return 5
@@ -72,7 +74,7 @@ def fault_of(header):
     return 3 if (major, minor) != (2, 4) else 4 if link != 1 else None
 
 
-def find_capture(name):
+def find_capture(name: str) -> Capture:
     """The capture in the file of that name; raises `Refused` where it isn't there or the program refuses its header."""
     try:
         found = os.stat(name)
@@ -88,6 +90,7 @@ def find_capture(name):
     if fault:
         raise Refused(3, *faults.explain(name, 0, fault))
     order = order_of(header)
+    assert order, "a header without a fault has an order"
     magic, _, _, _, _, snapped, _ = struct.unpack(f"{order}IHHIIII", header)
     return Capture(name, os.path.realpath(name), found.st_size, found.st_mtime_ns, order, MAGICS[magic], snapped)
 
@@ -95,11 +98,11 @@ def find_capture(name):
 class Walk:
     """Goes through a capture's records. Its end, when all are passed, is that of the last whole one."""
 
-    def __init__(self, capture):
+    def __init__(self, capture: Capture) -> None:
         self.capture, self.end, self.records = capture, HEADER, 0
         self.length_of = struct.Struct(f"{capture.order}8xI4x").unpack_from
 
-    def pieces(self, most):
+    def pieces(self, most: int) -> Iterator[Piece]:
         """The pieces of at most so many records, in order; raises `Refused` at a record that the program refuses."""
         with open(self.capture.name, "rb", buffering=0) as file:
             while True:
@@ -110,7 +113,7 @@ class Walk:
                     return
                 yield Piece(self.capture, start, self.end, self.records - before)
 
-    def pass_block(self, file, most):
+    def pass_block(self, file: FileIO, most: int) -> int:
         """Passes at most so many whole records, those whose headers lie in the next block, and answers how many."""
         block = os.pread(file.fileno(), min(BLOCK, self.capture.size - self.end), self.end)
         length_of, at, last, count = self.length_of, 0, 0, 0
@@ -129,7 +132,7 @@ class Walk:
         return count
 
 
-def places(file, order, at, count):
+def places(file: FileIO, order: str, at: int, count: int) -> Iterator[tuple[int, int]]:
     """Where so many records of a capture stand from a place on, each with its captured length."""
     length_of = struct.Struct(f"{order}8xI4x").unpack
     for _ in range(count):

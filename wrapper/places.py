@@ -4,29 +4,64 @@ The tables are those of docs/FORMATS.md. Nothing is proved of them: they serve t
 """
 
 import re
-from collections import namedtuple
+from collections.abc import Iterable, Mapping
+from typing import NamedTuple
 
-# What is wanted at a place: its kind, what it is called, the range of a number, and what further words it asks for.
-Want = namedtuple("Want", "kind name low high more", defaults=(0, 0, None))
 
-# A word at its place: which word of the line it is, what was wanted there, and how deep it lies in expressions and tests.
-Placed = namedtuple("Placed", "at want word depth")
+class Want(NamedTuple):
+    """What is wanted at a place."""
 
-# Why a line's words can't stand: the cause's number, which word it is (the number of words, where the line ends too early),
-# and what was wanted there.
-Fault = namedtuple("Fault", "cause at want")
+    kind: str
+    name: str
+    # the range of a number
+    low: int = 0
+    high: int = 0
+    # fixed words, each with what is wanted behind it
+    choices: Mapping[str, tuple["Want", ...]] = {}
+    # what is wanted behind a signature that is written out, and as often as a number says behind that
+    behind: tuple["Want", ...] = ()
+    # of numbers that rise, how many there are from this one on
+    left: int = 0
+
+
+class Placed(NamedTuple):
+    """A word at its place: which word of the line it is, what was wanted there, and how deep it lies in expressions and
+    tests."""
+
+    at: int
+    want: Want
+    word: str
+    depth: int
+
+
+class Fault(NamedTuple):
+    """Why a line's words can't stand: the cause's number, which word it is, and what was wanted there.
+
+    Where the line ends too early, that word is the one behind the last.
+    """
+
+    cause: int
+    at: int
+    want: Want | None
+
+
+# Fixed words, each with what is wanted behind it.
+Choices = Mapping[str, tuple[Want, ...]]
+
+# What is wanted behind a word, or the number of the cause why it can't stand.
+After = tuple[Want, ...] | int
 
 GREATEST = 2**64 - 1
 
 
-def number(name, low, high):
+def number(name: str, low: int, high: int) -> Want:
     """A number in a range."""
     return Want("number", name, low, high)
 
 
-def fixed(name, choices, **more):
+def fixed(name: str, choices: str, **more: tuple[Want, ...]) -> Want:
     """One of several fixed words, each with what is wanted behind it."""
-    return Want("fixed", name, more={**dict.fromkeys(choices.split(), ()), **more})
+    return Want("fixed", name, choices={**dict.fromkeys(choices.split(), ()), **more})
 
 
 EVENT = number("the number of an event", 0, 63)
@@ -57,16 +92,16 @@ STEPS = Want("steps", "a step")
 BINDINGS = Want("bindings", "how many numbers of bindings follow", 0, 4)
 
 SIDES = (EXPRESSION, EXPRESSION)
-EXPRESSIONS = {"f": (BYTES_ARGUMENT, OFFSET, WIDTH), "+": SIDES, "&": SIDES, "|": SIDES}
-TESTS = {
+EXPRESSIONS: Choices = {"f": (BYTES_ARGUMENT, OFFSET, WIDTH), "+": SIDES, "&": SIDES, "|": SIDES}
+TESTS: Choices = {
     "true": (), "==": SIDES, "!=": SIDES, "<": SIDES, "<=": SIDES, "has": (BYTES_ARGUMENT, COUNT_OF_BYTES),
     "not": (TEST,), "all": (TEST, TEST), "any": (TEST, TEST),
 }
-PART = Want("part", "a part", more={"w": (EXPRESSION,), "b": (BYTES_ARGUMENT, OFFSET)})
+PART = Want("part", "a part", choices={"w": (EXPRESSION,), "b": (BYTES_ARGUMENT, OFFSET)})
 LAYER = fixed("the headers to read", "ipv4 udp")
-STEP_WORDS = {
+STEP_WORDS: Choices = {
     "set": (ARGUMENT, EXPRESSION), "send": (ENDPOINT, BYTES_ARGUMENT, OFFSET), "result": (EXPRESSION,),
-    "up": (EVENT, Want("counted", "how many parts follow", 0, 8, PART)), "layer": (LAYER, EVENT),
+    "up": (EVENT, Want("counted", "how many parts follow", 0, 8, behind=(PART,))), "layer": (LAYER, EVENT),
 }
 MERGE = fixed("the merge", "last", fold=(EXPRESSION,))
 OP = fixed("what the rule is about", "install remove replace default nodefault any")
@@ -82,20 +117,20 @@ RULE_HANDLER = Want("handler or any", "the number of a handler", 1, 1023)
 VALUES = Want("values", "a value", 0, 8)
 
 
-def effects(version):
+def effects(version: int) -> Want:
     """What a rule may decide, in a script of this version."""
-    choices = {"allow": (), "deny": (), "quota": (QUOTA,)}
-    choices["impose"] = (Want("counted", "how many guards follow", 1, 4, GUARD),)
+    choices: dict[str, tuple[Want, ...]] = {"allow": (), "deny": (), "quota": (QUOTA,)}
+    choices["impose"] = (Want("counted", "how many guards follow", 1, 4, behind=(GUARD,)),)
     if version >= 2:
-        choices["force"] = (Want("counted", "how many guards follow", 0, 4, GUARD), FORCED_PLACE, FORCED_MODE)
-    return Want("fixed", "what the rule decides", more=choices)
+        choices["force"] = (Want("counted", "how many guards follow", 0, 4, behind=(GUARD,)), FORCED_PLACE, FORCED_MODE)
+    return Want("fixed", "what the rule decides", choices=choices)
 
 
-def deeds(version):
+def deeds(version: int) -> Want:
     """What a lane may be told, in a script of this version."""
     target = WIDE_TARGET if version == 3 else TARGET
     place = (PLACE, BEFORE, BINDINGS, AFTER, BINDINGS) if version == 3 else (SPOT,)
-    return Want("fixed", "a deed", more={
+    return Want("fixed", "a deed", choices={
         "raise": (EVENT, VALUES), "later": (EVENT, VALUES),
         "install": (EVENT, MODULE, ASKED_HANDLER, ASKED_GUARD, *place, MODE),
         "remove": (EVENT, MODULE, target),
@@ -105,14 +140,14 @@ def deeds(version):
     })
 
 
-def lines(version):
+def lines(version: int) -> dict[str, tuple[Want, ...]]:
     """The words that begin lines, each with what is wanted behind it, in a script of this version."""
     return {
         "modules": (number("how many modules there are", 1, 256),),
         "event": (NEW_EVENT, OWNER, SIGNATURE, MERGE),
         "endpoint": (NEW_ENDPOINT, NAME),
-        "handler": (NEW_HANDLER, SIGNATURE._replace(more=(STEPS,))),
-        "guard": (NEW_GUARD, GUARD_SIGNATURE._replace(more=(TEST,))),
+        "handler": (NEW_HANDLER, SIGNATURE._replace(behind=(STEPS,))),
+        "guard": (NEW_GUARD, GUARD_SIGNATURE._replace(behind=(TEST,))),
         "rule": (EVENT, MODULE, MODULE, OP, RULE_HANDLER, OWN, effects(version)),
         "authoriser": (EVENT, NAME),
         "default": (EVENT, HANDLER),
@@ -122,7 +157,7 @@ def lines(version):
     }
 
 
-def number_of(word):
+def number_of(word: str) -> int | None:
     """The number that a word is; None where it is none."""
     if re.fullmatch("[0-9]+", word):
         # a number of so many digits is too great, unless zeros lead it
@@ -135,46 +170,46 @@ def number_of(word):
     return found if found <= GREATEST else None
 
 
-def in_range(word, low, high):
+def in_range(word: str, low: int, high: int) -> int | None:
     """The number that a word is, where it lies in the range; else None."""
     found = number_of(word)
     return found if found is not None and low <= found <= high else None
 
 
-def chosen(word, choices):
+def chosen(word: str, choices: Choices) -> After:
     """What is wanted behind a fixed word, or cause 9."""
     return choices.get(word, 9)
 
 
-def after_number(want, word):
+def after_number(want: Want, word: str) -> After:
     """What is wanted behind a number of this kind, or cause 6."""
     found = in_range(word, want.low, want.high)
     if found is None:
         return 6
     if want.kind == "counted":
-        return (want.more,) * found
+        return want.behind * found
     if want.kind == "bindings":
         return (rising(0, found),) if found else ()
-    if want.kind == "rising" and want.more > 1:
-        return (rising(found + 1, want.more - 1),)
+    if want.kind == "rising" and want.left > 1:
+        return (rising(found + 1, want.left - 1),)
     return ()
 
 
-def rising(low, left):
+def rising(low: int, left: int) -> Want:
     """The number of a binding, which is greater than the one before it, and so many in all."""
     name = "the number of a binding" + (", greater than the one before it" if low else "")
-    return Want("rising", name, low, 4096, left)
+    return Want("rising", name, low, 4096, left=left)
 
 
-def after_signature(want, word):
+def after_signature(want: Want, word: str) -> After:
     """What is wanted behind a signature, or cause 7."""
     form = "-|[wbWB]{1,8}" if want.kind == "guard signature" else "(-|[wbWB]{1,8})(:w)?"
-    if want.more and word == "native":
+    if want.behind and word == "native":
         return (NAME,)
-    return (want.more or ()) if re.fullmatch(form, word) else 7
+    return want.behind if re.fullmatch(form, word) else 7
 
 
-def after_value(want, word):
+def after_value(want: Want, word: str) -> After:
     """What is wanted behind a value of a raise, or a cause."""
     if not want.high:
         return 11
@@ -184,7 +219,7 @@ def after_value(want, word):
     return more if number_of(word) is not None else 6
 
 
-def accepts(want, word):
+def accepts(want: Want, word: str) -> After:
     """What is wanted behind a word that stands where this is wanted, or the number of the cause why it can't."""
     if want.kind in ("number", "counted", "bindings", "rising"):
         return after_number(want, word)
@@ -199,7 +234,7 @@ def accepts(want, word):
     if want.kind == "steps":
         return (*STEP_WORDS[word], STEPS) if word in STEP_WORDS else 9
     if want.kind in ("fixed", "part"):
-        return chosen(word, want.more)
+        return chosen(word, want.choices)
     if word[0] in "0123456789":
         low, high = (want.low, want.high) if want.kind == "handler or any" else (0, GREATEST)
         return () if in_range(word, low, high) is not None else 6
@@ -208,10 +243,10 @@ def accepts(want, word):
     return () if re.fullmatch("a[0-7]", word) else chosen(word, EXPRESSIONS)
 
 
-def steps(words, version):
+def steps(words: list[str], version: int) -> tuple[list[Placed], list[tuple[Want, int]], Fault | None]:
     """The words of a line at their places, what is still wanted behind them, the next last, and the first fault."""
     wants = [(want, 1) for want in reversed(lines(version)[words[0]])]
-    placed = []
+    placed: list[Placed] = []
     for at, word in enumerate(words[1:], start=1):
         if not wants:
             return placed, wants, Fault(11, at, None)
@@ -225,7 +260,7 @@ def steps(words, version):
     return placed, wants, None
 
 
-def walk(words, version):
+def walk(words: list[str], version: int) -> tuple[list[Placed], Fault | None]:
     """The words of a line at their places, and the first fault; None where the words can stand so."""
     placed, wants, fault = steps(words, version)
     if not fault and any(want.kind not in ("steps", "values") for want, _ in wants):
@@ -233,7 +268,7 @@ def walk(words, version):
     return placed, fault
 
 
-def next_wanted(words, version):
+def next_wanted(words: list[str], version: int) -> Want | None:
     """What is wanted behind the words that begin a line; None where nothing is, or they can't stand so."""
     if words[0] not in lines(version):
         return None
@@ -256,7 +291,7 @@ DEED_FORMS = {
 WIDE_INSTALL = "install E M H G PLACE before K NUMBERS after K NUMBERS MODE"
 
 
-def form_of(words, version):
+def form_of(words: list[str], version: int) -> str:
     """How a line that begins so is written; empty where no line does."""
     if words[0] == "lane" and len(words) > 2 and words[2] in DEED_FORMS:
         is_wide = version == 3 and words[2] == "install"
@@ -272,19 +307,21 @@ SPOKEN = {
 }
 
 
-def fixed_words(want):
+def fixed_words(want: Want) -> list[str]:
     """The fixed words that may stand at a place."""
-    by_kind = {"test": TESTS, "steps": STEP_WORDS, "expression": EXPRESSIONS, "handler or any": {"any": ()}}
-    return list(by_kind.get(want.kind) or (want.more if want.kind in ("fixed", "part") else ()))
+    by_kind: dict[str, Choices] = {
+        "test": TESTS, "steps": STEP_WORDS, "expression": EXPRESSIONS, "handler or any": {"any": ()},
+    }
+    return list(by_kind.get(want.kind) or want.choices)
 
 
-def either(words):
+def either(words: Iterable[str]) -> str:
     """Words in backticks, the last behind `or`."""
     quoted = [f"`{word}`" for word in words]
     return quoted[0] if len(quoted) == 1 else f"{', '.join(quoted[:-1])} or {quoted[-1]}"
 
 
-def wanted(want):
+def wanted(want: Want | None) -> str:
     """What may stand at a place, in words, and what it is there."""
     if want is None:
         return "nothing more, since the line ends here"
@@ -298,5 +335,5 @@ def wanted(want):
         text = f"a number from {want.low} to {want.high}"
     else:
         text = SPOKEN.get(want.kind) or either(fixed_words(want))
-        text += ", or `native`" * (want.kind in ("signature", "guard signature") and bool(want.more))
+        text += ", or `native`" * (want.kind in ("signature", "guard signature") and bool(want.behind))
     return f"{text} ({want.name})"

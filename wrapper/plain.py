@@ -9,6 +9,9 @@ Rust, `target` what cargo keeps. Two builds wait for each other; one that was ki
 import contextlib
 import os
 import sys
+from collections.abc import Iterator
+from pathlib import Path
+from types import ModuleType
 
 from wrapper.program import NOT_RUN, TOP, crates_listed, stands_on, tell
 
@@ -23,7 +26,7 @@ HOST = TOP / "examples" / "plain_host"
 SUFFIXES = (".rt", ".rs", ".toml", ".py")
 
 
-def inputs():
+def inputs() -> list[str | Path]:
     """The files from which the plain program is made, in a fixed order."""
     folders = [TOOL, *(TOP / "crates" / name / "src" for name in stands_on(crates_listed()))]
     found = [(at, name) for folder in folders for at, _, names in os.walk(folder) for name in names]
@@ -31,7 +34,7 @@ def inputs():
     return [TOP / "crates.txt", *sorted(ours)]
 
 
-def checksum():
+def checksum() -> str:
     """The checksum of these files."""
     import hashlib
 
@@ -43,7 +46,7 @@ def checksum():
     return summed.hexdigest()[:16]
 
 
-def program():
+def program() -> Path | None:
     """The file of the plain program, which is built where it isn't there; None where it can't be built on this machine."""
     file = OUT / checksum() / "spin_main"
     if os.access(file, os.X_OK):
@@ -58,7 +61,7 @@ def program():
         return None
 
 
-def builder():
+def builder() -> str | None:
     """The command that builds it; None where there is none."""
     from shutil import which
 
@@ -66,7 +69,7 @@ def builder():
 
 
 @contextlib.contextmanager
-def locked():
+def locked() -> Iterator[None]:
     """No other build runs while what stands below this runs."""
     import fcntl
 
@@ -80,7 +83,7 @@ def locked():
         yield
 
 
-def build():
+def build() -> Path:
     """Builds the plain program, unless another build has just done so, and answers its file."""
     told = False
     while True:
@@ -97,7 +100,7 @@ def build():
             keep(built, file)
 
 
-def write_sources():
+def write_sources() -> ModuleType:
     """Writes the sources as Rust, and answers the eraser; a file that can't be erased ends the process."""
     sys.path.insert(0, str(TOOL))
     import erase
@@ -110,14 +113,14 @@ def write_sources():
         sys.exit(NOT_RUN)
 
 
-def by_cargo():
+def by_cargo() -> Path:
     """Has cargo build the program, and answers where it lies."""
     words = ["--quiet", "--offline", "--target-dir", str(OUT / "target"), "--package", "spin_main"]
     call(["cargo", "build", *words])
     return OUT / "target" / "debug" / "spin_main"
 
 
-def host():
+def host() -> Path:
     """The file of the host in ordinary Rust, which cargo builds over the sources as Rust."""
     with locked():
         write_sources()
@@ -126,10 +129,10 @@ def host():
     return OUT / "target" / "debug" / HOST.name
 
 
-def library_for_c(sanitiser=None):
+def library_for_c(sanitiser: str | None = None) -> Path:
     """The static library whose calls are for C, which cargo builds of the sources as Rust; where a sanitiser of rustc's
     is named, with its code in all but Rust's own library."""
-    target, variables = OUT / "target", {}
+    target, variables = OUT / "target", dict[str, str]()
     if sanitiser:
         target = OUT / f"target_{sanitiser}"
         flags = f"-Zsanitizer={sanitiser} -Cunsafe-allow-abi-mismatch=sanitizer"
@@ -141,7 +144,7 @@ def library_for_c(sanitiser=None):
     return target / "release" / "libspin_c.a"
 
 
-def by_rustc(erase):
+def by_rustc(erase: ModuleType) -> Path:
     """Has rustc build the program, and answers where it lies."""
     target = OUT / "target" / "rustc"
     target.mkdir(parents=True, exist_ok=True)
@@ -150,20 +153,20 @@ def by_rustc(erase):
     return target / "spin_main"
 
 
-def call(words, **variables):
+def call(words: list[str], **variables: str) -> None:
     """Makes a call of a compiler; what it can't build ends the process, with what it says of the sources."""
     import re
     import subprocess
 
-    how = {"cwd": OUT / "work", "stdin": subprocess.DEVNULL, "capture_output": True, "text": True}
-    ran = subprocess.run(words, env={**os.environ, **variables}, **how)
+    given = {**os.environ, **variables}
+    ran = subprocess.run(words, cwd=OUT / "work", env=given, stdin=subprocess.DEVNULL, capture_output=True, text=True)
     if ran.returncode:
         sys.stderr.write(re.sub(r"(crates/\w+/src/[\w/]+)\.rs\b", r"\1.rt", ran.stderr)[:20_000])
         tell(f"{words[0]} can't build the plain program, for what is told above; it wants Rust 1.85 or later, and a linker")
         sys.exit(NOT_RUN)
 
 
-def keep(built, file):
+def keep(built: Path, file: Path) -> None:
     """Puts what was built under its name, whole or not at all, and drops all but the latest few."""
     import shutil
 

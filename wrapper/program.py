@@ -1,10 +1,17 @@
 """Where the program is, whether it is built, and the best way there is to run it."""
 
+from __future__ import annotations
+
 import contextlib
 import errno
 import os
 import sys
+from collections.abc import Callable, Iterable, Iterator
 from pathlib import Path
+from typing import TYPE_CHECKING, NoReturn
+
+if TYPE_CHECKING:
+    import subprocess
 
 TOP = Path(__file__).resolve().parent.parent
 CRATE = TOP / "crates" / "spin_main"
@@ -20,10 +27,13 @@ FOLDERS = ("src", "specs", "proofs")
 SUFFIXES = (".rt", ".antt")
 
 # What this process has told already: that the plain program runs, or that it can't.
-told = set()
+told: set[str] = set()
+
+# Crates by name, each with those that it stands on.
+Crates = dict[str, list[str]]
 
 
-def tell(text):
+def tell(text: str) -> None:
     """Says a line of the wrapper's own, which is never the program's. Where it can't be said, nothing more is."""
     try:
         print(f"{NAME}: {text}", file=sys.stderr, flush=True)
@@ -31,7 +41,7 @@ def tell(text):
         sys.stderr = open(os.devnull, "w")
 
 
-def below_by_crate():
+def below_by_crate() -> Crates:
     """Of each crate of the repository all that it stands on, the kit's libraries too."""
     crates = {}
     for line in (TOP / "crates.txt").read_text().splitlines():
@@ -41,9 +51,10 @@ def below_by_crate():
     return crates
 
 
-def crates_listed():
+def crates_listed() -> Crates:
     """The repository's crates, each with those of them on which it stands, lowest first."""
-    left, listed = below_by_crate(), {}
+    left = below_by_crate()
+    listed: Crates = {}
     below = {name: [other for other in others if other in left] for name, others in left.items()}
     while below:
         ready = [name for name, others in below.items() if all(other in listed for other in others)]
@@ -54,7 +65,7 @@ def crates_listed():
     return listed
 
 
-def stands_on(crates, tops=("spin_main",)):
+def stands_on(crates: Crates, tops: Iterable[str] = ("spin_main",)) -> list[str]:
     """The names of the crates that these stand on, and their own, lowest first."""
     wanted = set(tops)
     for name in reversed(list(crates)):
@@ -63,7 +74,7 @@ def stands_on(crates, tops=("spin_main",)):
     return [name for name in crates if name in wanted]
 
 
-def sources(name):
+def sources(name: str) -> Iterator[str]:
     """The files from which a crate is proved and built; an editor's backups aren't among them."""
     for folder in FOLDERS:
         for at, _, names in os.walk(TOP / "crates" / name / folder):
@@ -72,7 +83,7 @@ def sources(name):
                     yield os.path.join(at, file)
 
 
-def is_built():
+def is_built() -> bool:
     """Whether the proved program is there and no source of it is newer."""
     if not os.access(PROGRAM, os.X_OK):
         return False
@@ -82,7 +93,7 @@ def is_built():
     return all(os.stat(file).st_mtime <= since for name in stands_on(crates_listed()) for file in sources(name))
 
 
-def command():
+def command() -> list[str] | None:
     """The words that begin the command line of the program to run; None where only a trial is left.
 
     It is the one that is installed with this, or the proved program where that is built, else the plain one, which is
@@ -104,7 +115,7 @@ def command():
     return [str(file)]
 
 
-def tell_plain():
+def tell_plain() -> None:
     """Says that it is the plain program that runs: once in a process, and once a day in this clone."""
     import time
 
@@ -117,19 +128,21 @@ def tell_plain():
         noted.write_text(day)
 
 
-def run(words, **how):
+def run(
+    words: list[str], cwd: str | Path | None = None, stdin: int | None = None, stdout: int | None = None,
+) -> subprocess.CompletedProcess[bytes]:
     """Runs the program on these words as `subprocess.run` would, by the best way there is."""
     import subprocess
 
     begin = command()
     if begin is not None:
-        return subprocess.run([*begin, *words], **how)
+        return subprocess.run([*begin, *words], cwd=cwd, stdin=stdin, stdout=stdout)
     from wrapper import trial
 
-    return trial.run(words, **how)
+    return trial.run(words, cwd, stdout)
 
 
-def named_or_proved(words, at):
+def named_or_proved(words: list[str], at: int) -> str:
     """The program that the words of a script name there, or the proved one; where there is none, the script ends at once."""
     script = os.path.relpath(sys.argv[0], TOP)
     file = os.path.abspath(words[at]) if len(words) > at else str(PROGRAM)
@@ -141,7 +154,7 @@ def named_or_proved(words, at):
     return file
 
 
-def exit_with(main, words):
+def exit_with(main: Callable[[list[str]], int], words: list[str]) -> NoReturn:
     """Ends the process with what `main(words)` answers; an interrupt, a closed pipe or a full disk ends it in one line or none."""
     import signal
 

@@ -10,10 +10,11 @@ import contextlib
 import os
 import shutil
 import tempfile
+from collections.abc import Collection, Iterable, Iterator, Sequence
 from pathlib import Path
 
 from wrapper import jobs, queue, rooms
-from wrapper.program import TOP
+from wrapper.program import TOP, Crates
 
 # What a build doesn't read of a crate's folder.
 LEFT_OUT = ("out", "must-fail", "README.md")
@@ -32,13 +33,13 @@ class NothingKept(Exception):
 class Proof(queue.Run):
     """A crate that is being proved; the kit says how many jobs it takes, where it is to have more than one."""
 
-    def __init__(self, name, count, niceness, copy):
+    def __init__(self, name: str, count: int, niceness: int, copy: Path) -> None:
         # under CI=true rt ci takes no names, since with names it isn't the gate; neither is this. RT_JOBS is read by
         # rt ci alone, and one that doesn't know it gives each crate as many jobs as it likes
         environment = {"CI": "", **({"RT_JOBS": "1"} if count == 1 else {})}
         super().__init__(name, count, niceness, ["rt", "ci", name], copy, environment)
 
-    def close(self):
+    def close(self) -> bool:
         """Answers whether the crate was proved."""
         if super().close() and KEPT not in self.log.read_bytes():
             raise NothingKept
@@ -48,11 +49,11 @@ class Proof(queue.Run):
 class Programs(queue.Run):
     """The call without a name, which proves what isn't proved yet, builds the programs of the copy, and runs them."""
 
-    def __init__(self, name, count, niceness, copy):
+    def __init__(self, name: str, count: int, niceness: int, copy: Path) -> None:
         super().__init__(name, count, niceness, ["rt", "ci"], copy, {})
 
 
-def copy_to(copy, names):
+def copy_to(copy: Path, names: Collection[str]) -> None:
     """Makes the copy, with these crates and no others."""
     for name in names:
         crate = TOP / "crates" / name
@@ -63,7 +64,7 @@ def copy_to(copy, names):
 
 
 @contextlib.contextmanager
-def copied(names):
+def copied(names: Collection[str]) -> Iterator[Path]:
     """The folder of a copy with these crates, which is removed at the end; those of builds that were killed are, too."""
     for other in Path(tempfile.gettempdir()).glob(f"{COPIED}*"):
         process = other.name.removeprefix(COPIED).partition("-")[0]
@@ -77,23 +78,28 @@ def copied(names):
         shutil.rmtree(copy, ignore_errors=True)
 
 
-def give(file, place):
+def give(file: Path, place: Path) -> None:
     """Puts a program that was built in its place, also where the one that was there runs."""
     place.parent.mkdir(exist_ok=True)
     shutil.copy2(file, place.with_suffix(".new"))
     place.with_suffix(".new").replace(place)
 
 
-def prove_all(crates, last, copy):
+def prove_all(crates: Crates, last: str, copy: Path) -> bool:
     """Proves these crates, `last` in the end with a call that builds all programs, and answers whether all went well."""
     # rt gives a crate half of the processors, and the other half to its tests, of which none here has any
     most = max(1, jobs.processors_there() // 2)
-    begin = lambda name, *how: (Programs if name == last else Proof)(name, *how, copy)
+
+    def begin(name: str, count: int, niceness: int) -> queue.Run:
+        """Begins the call that proves this crate."""
+        kind = Programs if name == last else Proof
+        return kind(name, count, niceness, copy)
+
     others = {name: below for name, below in crates.items() if name != last}
     return queue.build_all({**others, last: [*others]}, begin, most, in_advance=True)
 
 
-def build(crates, programs):
+def build(crates: Crates, programs: Sequence[str]) -> bool:
     """Proves these crates, puts the programs among them into their folders, and answers whether all went well.
 
     `crates` has for each crate those that it stands on, lowest first; the first of the programs is proved last. Where what

@@ -7,9 +7,11 @@ import shutil
 import signal
 import subprocess
 import time
+from collections.abc import Callable, Mapping, Set
+from pathlib import Path
 
 from wrapper import jobs
-from wrapper.program import TOP, tell
+from wrapper.program import TOP, Crates, tell
 from wrapper.progress import Progress
 from wrapper.trial import passed
 
@@ -26,7 +28,7 @@ LIBC, SIGNAL_AT_END = ctypes.CDLL(None), 1
 LOOK = 0.2
 
 
-def step_back(niceness):
+def step_back(niceness: int) -> None:
     """What a call does before it begins: it yields so far, and ends where this process is killed."""
     # of its own it gets a group and no session, since the system may share the processors out by sessions first
     os.setpgrp()
@@ -37,7 +39,9 @@ def step_back(niceness):
 class Run:
     """A call of rt that builds a crate with so many jobs, and yields to others as far as `niceness` says."""
 
-    def __init__(self, name, count, niceness, words, folder, environment):
+    def __init__(
+        self, name: str, count: int, niceness: int, words: list[str], folder: Path, environment: Mapping[str, str],
+    ) -> None:
         self.name, self.count, self.began = name, count, time.monotonic()
         self.log = LOGS / f"{name}.log"
         with open(self.log, "wb") as log:
@@ -46,16 +50,16 @@ class Run:
                 stdout=log, stderr=subprocess.STDOUT, preexec_fn=lambda: step_back(niceness),
             )
 
-    def close(self):
+    def close(self) -> bool:
         """What has to be done once the call has ended; answers whether the crate was built."""
         return self.child.returncode == 0
 
-    def kill(self, how):
+    def kill(self, how: signal.Signals) -> None:
         """Signals the call and all that it has started."""
         with contextlib.suppress(ProcessLookupError):
             os.killpg(self.child.pid, how)
 
-    def stop(self):
+    def stop(self) -> None:
         """Ends the call, at once if need be."""
         self.kill(signal.SIGTERM)
         with contextlib.suppress(subprocess.TimeoutExpired):
@@ -63,7 +67,7 @@ class Run:
         self.kill(signal.SIGKILL)
         self.child.wait()
 
-    def why(self):
+    def why(self) -> str:
         """Why the crate wasn't built, as far as it can be seen without knowing what the checker says."""
         status = self.child.returncode
         # rt ends so where its checker was killed
@@ -74,45 +78,52 @@ class Run:
             return f"rt was killed by signal {killed}" + ", as where memory runs out" * (killed == signal.SIGKILL)
         return f"status {status}"
 
-    def tell_failure(self):
+    def tell_failure(self) -> None:
         """Names the crate, which wasn't built, and the file with what the checker said."""
         log = self.log.relative_to(TOP)
         tell(f"{self.name} can't be built: {self.why()}; what rt said is in {log}, and the next build goes on from here")
 
 
+# What begins the call that builds a crate, by its name, with so many jobs, and as nice as that.
+Begin = Callable[[str, int, int], Run]
+
+
 class Queue:
     """Crates that wait, that are being built, and that are built."""
 
-    def __init__(self, crates, begin, jobs_at_most, in_advance):
+    def __init__(self, crates: Crates, begin: Begin, jobs_at_most: int, in_advance: bool) -> None:
         self.crates, self.begin, self.in_advance = crates, begin, in_advance
-        self.waiting, self.running, self.early, self.built = list(crates), {}, {}, set()
+        self.waiting = list(crates)
+        self.running: dict[str, Run] = {}
+        self.early: dict[str, Run] = {}
+        self.built: set[str] = set()
         self.progress = Progress(len(crates))
         lines = {name: jobs.line_counts(name) for name in crates}
         self.need = {name: jobs.memory_of(*counts) for name, counts in lines.items()}
         self.chain = jobs.chains(crates, {name: sum(counts) for name, counts in lines.items()})
         self.limits = jobs.Limits(jobs.processors_there(), jobs.memory_free(), jobs_at_most)
 
-    def times(self):
+    def times(self) -> dict[str, float]:
         """When each that is being built began."""
         return {name: run.began for name, run in self.running.items()}
 
-    def stand_on(self, names):
+    def stand_on(self, names: Set[str]) -> list[str]:
         """The crates that wait and stand on none but these."""
         return [name for name in self.waiting if set(self.crates[name]) <= names]
 
-    def call(self, name, count):
+    def call(self, name: str, count: int) -> Run:
         """Begins the call that builds the crate."""
         heaviest = max(self.chain[it] for it in (name, *self.waiting, *self.running))
         return self.begin(name, count, jobs.niceness(self.chain[name], heaviest))
 
-    def start(self, name, count):
+    def start(self, name: str, count: int) -> None:
         """Begins the crate, unless it was begun in advance."""
         self.waiting.remove(name)
-        run = self.running[name] = self.early.pop(name, None) or self.call(name, count)
+        run = self.running[name] = self.early.pop(name) if name in self.early else self.call(name, count)
         run.began = time.monotonic()
         self.progress.event(f"{name} begins, {run.count} job{'s' * (run.count > 1)}", self.times())
 
-    def start_all(self):
+    def start_all(self) -> None:
         """Begins the crates that may begin now, and one in advance."""
         for name in self.stand_on(self.built):
             if name in self.early:
@@ -122,11 +133,11 @@ class Queue:
             self.start(name, count)
         soon = self.stand_on(self.built | self.running.keys())
         if self.in_advance and not self.early and soon:
-            name = max(soon, key=self.chain.get)
+            name = max(soon, key=self.chain.__getitem__)
             if not self.built.issuperset(self.crates[name]):
                 self.early[name] = self.call(name, min(2, self.limits.jobs))
 
-    def look(self):
+    def look(self) -> Run | None:
         """Notes which have ended, and answers one that wasn't built, if there is one."""
         for run in [run for run in self.running.values() if run.child.poll() is not None]:
             del self.running[run.name]
@@ -138,14 +149,14 @@ class Queue:
         self.progress.look(self.times())
         return None
 
-    def stop(self):
+    def stop(self) -> None:
         """Ends what is being built."""
         self.progress.close()
         for run in (*self.running.values(), *self.early.values()):
             run.stop()
 
 
-def build_all(crates, begin, jobs_at_most, in_advance=False):
+def build_all(crates: Crates, begin: Begin, jobs_at_most: int, in_advance: bool = False) -> bool:
     """Builds these crates, each when those that it stands on are built, and answers whether all are.
 
     `crates` has for each crate those that it stands on, lowest first, and `begin(name, count, niceness)` begins the call

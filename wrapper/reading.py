@@ -5,6 +5,7 @@ nothing itself. The formats are those of docs/FORMATS.md.
 """
 
 import re
+from collections.abc import Iterable, Iterator
 from dataclasses import dataclass, field
 
 DECLARED = {"event": "events", "endpoint": "endpoints", "handler": "handlers", "guard": "guards"}
@@ -18,12 +19,15 @@ NAMED = ("event", "handler", "guard", "endpoint", "module")
 NAMING = re.compile(rf"#\s*({'|'.join(NAMED)})\s+([0-9]+|0x[0-9a-fA-F]+)\s+is\s+([A-Za-z_](?:[\w.-]*\w)?)\s*", re.ASCII)
 
 
-def number(word):
+def number(word: str) -> int:
     """The number that a word of a script writes, in decimal or in hexadecimal digits."""
     return int(word, 16) if word[:2] in ("0x", "0X") else int(word)
 
 
 # ---- scripts
+
+# The names that comments give, by kind and number.
+Names = dict[tuple[str, int], str]
 
 
 @dataclass
@@ -32,7 +36,7 @@ class Deed:
 
     line: int
     lane: int
-    words: list
+    words: list[str]
     segment: int
 
 
@@ -43,31 +47,31 @@ class Script:
 
     version: int = 1
     modules: int = 1
-    events: dict = field(default_factory=dict)
-    endpoints: dict = field(default_factory=dict)
-    handlers: dict = field(default_factory=dict)
-    guards: dict = field(default_factory=dict)
-    rules: dict = field(default_factory=dict)
-    authorisers: dict = field(default_factory=dict)
-    defaults: dict = field(default_factory=dict)
-    deeds: dict = field(default_factory=dict)
-    retired: dict = field(default_factory=dict)
+    events: dict[int, list[str]] = field(default_factory=dict)
+    endpoints: dict[int, list[str]] = field(default_factory=dict)
+    handlers: dict[int, list[str]] = field(default_factory=dict)
+    guards: dict[int, list[str]] = field(default_factory=dict)
+    rules: dict[int, list[list[str]]] = field(default_factory=dict)
+    authorisers: dict[int, str] = field(default_factory=dict)
+    defaults: dict[int, int] = field(default_factory=dict)
+    deeds: dict[int, Deed] = field(default_factory=dict)
+    retired: dict[int, list[int]] = field(default_factory=dict)
     segments: int = 1
     # the names that comments give, by kind and number
-    names: dict = field(default_factory=dict)
+    names: Names = field(default_factory=dict)
 
-    def called(self, kind, which):
+    def called(self, kind: str, which: int | str) -> str:
         """What a thing of this kind and number is called: with its name, where a comment gives it one."""
         return " ".join([kind, str(which), *filter(None, [self.names.get((kind, int(which)))])])
 
 
-def names_in(text):
+def names_in(text: str) -> Names:
     """The names that comments of a script give, by kind and number; of several for one number the last."""
     found = filter(None, (NAMING.fullmatch(line.strip()) for line in text.split("\n") if "#" in line))
     return {(one[1], number(one[2])): one[3] for one in found}
 
 
-def numbered_lines(text):
+def numbered_lines(text: str) -> Iterator[tuple[int, list[str]]]:
     """The lines of a script that aren't skipped: each one's number and its words."""
     for at, line in enumerate(text.split("\n"), 1):
         words = line.split()
@@ -75,7 +79,7 @@ def numbered_lines(text):
             yield at, words
 
 
-def read_script(text):
+def read_script(text: str) -> Script:
     """The script that a text is, which the program has to have accepted."""
     script = Script(names=names_in(text))
     for at, words in numbered_lines(text):
@@ -83,7 +87,7 @@ def read_script(text):
     return script
 
 
-def take_line(script, at, words):
+def take_line(script: Script, at: int, words: list[str]) -> None:
     """Adds one line to the script."""
     word = words[0]
     if word == "spin":
@@ -120,26 +124,26 @@ class Line:
     line: int = 0
     part: int = 0
     index: int = 0
-    words: list = field(default_factory=list)
+    words: list[str] = field(default_factory=list)
 
     @property
-    def source(self):
+    def source(self) -> str:
         """The line of the script as the report names it, with its part where it has one."""
         return f"{self.line}.{self.part}" if self.part else str(self.line)
 
     @property
-    def is_refused(self):
+    def is_refused(self) -> bool:
         """Whether the entry or the job was refused."""
         return "refused" in self.words[:2]
 
 
-def of_deed(kind, text, words, index):
+def of_deed(kind: str, text: str, words: list[str], index: int) -> Line:
     """The line of an entry or a job: its place, lane and line, and then its words."""
     line, _, part = words[2].partition(".")
     return Line(kind, text, int(words[0]), int(words[1]), int(line), int(part or 0), index, words[3:])
 
 
-def read_line(text):
+def read_line(text: str) -> Line:
     """One line of a report."""
     words = text.split()
     if words[0].isdigit():
@@ -153,7 +157,7 @@ def read_line(text):
     return Line(words[0], text, words=words[1:])
 
 
-def read_report(stream):
+def read_report(stream: Iterable[str]) -> Iterator[Line]:
     """The lines of a report one after another, from an open text."""
     for text in stream:
         yield read_line(text.rstrip("\n"))
@@ -168,15 +172,15 @@ class Step:
     are those of a raise upwards."""
 
     kind: str
-    words: list
-    inner: list = field(default_factory=list)
+    words: list[str]
+    inner: list["Step"] = field(default_factory=list)
     answer: str = ""
 
 
 WORDS_OF_STEP = {"run": 2, "result": 1, "send": 2, "drop": 1, "job": 2}
 
 
-def read_answer(words, at):
+def read_answer(words: list[str], at: int) -> tuple[str, int]:
     """The words of an answer from there on, and where it ends."""
     end = at + 1
     if words[at] in ("value", "default") and end < len(words) and words[end].isdigit():
@@ -184,9 +188,9 @@ def read_answer(words, at):
     return " ".join(words[at:end]), end
 
 
-def read_reply(words):
+def read_reply(words: list[str]) -> tuple[list[Step], str]:
     """The steps of a reply, raises upwards as a tree, and its answer, from the words of a report's line."""
-    levels = [[]]
+    levels: list[list[Step]] = [[]]
     at = 0
     while words[at] != "=":
         word = words[at]
@@ -207,14 +211,14 @@ def read_reply(words):
     return levels[0], read_answer(words, at + 1)[0]
 
 
-def reply_of(line):
+def reply_of(line: Line) -> tuple[list[Step], str] | None:
     """The steps and the answer of an entry or a job that has a reply; None where it has none."""
     if line.is_refused or line.kind == "entry" and line.words[0] not in ("raise", "packet"):
         return None
     return read_reply(line.words if line.kind == "job" else line.words[1:])
 
 
-def all_steps(steps):
+def all_steps(steps: Iterable[Step]) -> Iterator[Step]:
     """The steps and those inside them, in their order."""
     for step in steps:
         yield step

@@ -9,6 +9,7 @@ import re
 import select
 import stat
 import subprocess
+from collections.abc import Callable, Iterable, Sequence
 
 from wrapper import causes, commands, faults, marks, outputs, places, strays
 from wrapper.program import CALLED
@@ -19,32 +20,31 @@ WIDTH = 96
 OF_FORM = range(6, 12)
 
 
-def files_of(words):
+def files_of(words: list[str]) -> dict[str, str]:
     """The files that the words name, each as the format calls it, in the order in which the program reads them."""
     order = {"run": "script packets", "join": "script packets", "check": "script report packets", "vm": "script trace"}
     named = dict(zip(order.get(words[0], "").split(), words[1:]))
     return {what: named[what] for what in ("script", "packets", "report", "trace") if what in named}
 
 
-def asked(command, words):
+def asked(command: list[str] | None, words: list[str]) -> str:
     """The last line that the program writes for words which send nothing; empty where that can't be asked."""
     named = files_of(words)
     if command is None or not all(os.path.isfile(name) for name in named.values()):
         return ""
     if words[0] != "vm":
         words = ["check", named["script"], os.devnull, *filter(None, [named.get("packets")])]
-    how = {"stdout": subprocess.PIPE, "stderr": subprocess.DEVNULL}
-    told = subprocess.run([*command, *words], **how).stdout
+    told = subprocess.run([*command, *words], stdout=subprocess.PIPE, stderr=subprocess.DEVNULL).stdout
     return told.decode("ascii", "replace").rstrip("\n").rpartition("\n")[2]
 
 
-def numbers_of(line, status):
+def numbers_of(line: str, status: int) -> list[int]:
     """The numbers of a stop line of this status; none where it is no such line."""
     found = re.fullmatch(rf"stop {status} \w+ (\d+) \w+ (\d+)", line)
     return [int(number) for number in found.groups()] if found else []
 
 
-def meaning(status, numbers=(), letters=""):
+def meaning(status: int, numbers: Iterable[int] = (), letters: str = "") -> str:
     """A status in words, with the numbers of its stop line."""
     text = re.sub(r"\b(exactly|only) where ", "", causes.status(status))
     for letter, number in zip(letters, numbers):
@@ -52,7 +52,7 @@ def meaning(status, numbers=(), letters=""):
     return f"status {status}: {text.partition('; record 0')[0]}"
 
 
-def shown(line, first, last):
+def shown(line: bytes, first: int, last: int) -> list[str]:
     """A line of a file with a mark below the bytes from the first to the last, cut to where the mark is."""
     start = max(0, min(first - WIDTH // 3, len(line) - WIDTH))
     piece = line[start : start + WIDTH].decode("latin-1")
@@ -62,7 +62,7 @@ def shown(line, first, last):
     return [f"    {front}{text}{back}".rstrip(), " " * (4 + len(front) + first - start) + "^" + "~" * (length - 1)]
 
 
-def marked(line, mark):
+def marked(line: bytes, mark: marks.Mark | None) -> list[str]:
     """A line of a file with the words of a mark marked, and what may stand there."""
     if mark is None:
         return shown(line, 0, len(line))[:1]
@@ -76,7 +76,7 @@ def marked(line, mark):
     return told
 
 
-def of_bytes(line, text):
+def of_bytes(line: bytes, text: bytes) -> list[str]:
     """A line with its first byte that isn't ASCII marked."""
     at = next((k for k, byte in enumerate(line) if byte != 9 and not 0x20 <= byte <= 0x7E), None)
     if at is None:
@@ -87,7 +87,7 @@ def of_bytes(line, text):
     return told
 
 
-def of_script_line(text, number, cause):
+def of_script_line(text: bytes, number: int, cause: int) -> list[str]:
     """The line of a script with the mark of the cause, and what may stand there."""
     lines = marks.lines_of(text)
     if not 1 <= number <= len(lines):
@@ -106,7 +106,7 @@ def of_script_line(text, number, cause):
     return [*told, f"    the line is written `{form}`"] if form else told
 
 
-def nearest_word(mark, words):
+def nearest_word(mark: marks.Mark | None, words: list[str]) -> str | None:
     """The word in backticks of what may stand at a mark that is nearest to the one that stands there."""
     if mark is None or not mark.wanted or mark.first >= len(words):
         return None
@@ -114,7 +114,7 @@ def nearest_word(mark, words):
     return found[0] if found and found[0] != words[mark.first] else None
 
 
-def read(name):
+def read(name: str) -> bytes:
     """The bytes of a file; empty where it can't be read."""
     try:
         with open(name, "rb") as file:
@@ -123,7 +123,7 @@ def read(name):
         return b""
 
 
-def of_script(command, words, status):
+def of_script(command: list[str] | None, words: list[str], status: int) -> list[str]:
     """A refused script."""
     numbers = numbers_of(asked(command, words), status)
     if not numbers:
@@ -135,7 +135,7 @@ def of_script(command, words, status):
     return [*told, meaning(status, numbers, "NC")]
 
 
-def of_capture(command, words, status):
+def of_capture(command: list[str] | None, words: list[str], status: int) -> list[str]:
     """A refused capture."""
     numbers = numbers_of(asked(command, words), status)
     if not numbers:
@@ -150,7 +150,7 @@ TRACE_FORMS = {
 }
 
 
-def trace_mark(cause, words):
+def trace_mark(cause: int, words: list[str]) -> marks.Mark:
     """The mark of a trace's line."""
     if cause == 3:
         script = "; this file is a script, which comes before the trace" if words[:1] == ["spin"] else ""
@@ -162,7 +162,7 @@ def trace_mark(cause, words):
     return marks.Mark(*((1, 1) if cause in (5, 6) else (0, len(words) - 1)), None)
 
 
-def of_trace(command, words, status):
+def of_trace(command: list[str] | None, words: list[str], status: int) -> list[str]:
     """A refused trace."""
     numbers = numbers_of(asked(command, words), status)
     if not numbers:
@@ -179,7 +179,7 @@ def of_trace(command, words, status):
     return [*told, meaning(status, numbers, "NC")]
 
 
-def of_unsuited(command, words, status):
+def of_unsuited(command: list[str] | None, words: list[str], status: int) -> list[str]:
     """A script that isn't one for traces."""
     return [
         meaning(status),
@@ -187,9 +187,10 @@ def of_unsuited(command, words, status):
     ]
 
 
-def of_words(command, words, status):
+def of_words(command: list[str] | None, words: list[str], status: int) -> list[str]:
     """A faulty command line."""
     called, given = commands.named(words[0]), words[1:]
+    assert called, "it is a command of the program's that ends so"
     least, most = commands.how_many(called)
     told = [f"{called.name} takes {commands.operands(called)}"]
     if not least <= len(given) <= most:
@@ -206,7 +207,7 @@ def of_words(command, words, status):
     return [*told, meaning(status)]
 
 
-def of_missing(command, words, status):
+def of_missing(command: list[str] | None, words: list[str], status: int) -> list[str]:
     """A file that isn't there."""
     for what, name in files_of(words).items():
         if not os.path.lexists(name):
@@ -220,7 +221,7 @@ def of_missing(command, words, status):
     return [meaning(status)]
 
 
-def of_unread(command, words, status):
+def of_unread(command: list[str] | None, words: list[str], status: int) -> list[str]:
     """A file that can't be read."""
     for what, name in files_of(words).items():
         try:
@@ -231,7 +232,7 @@ def of_unread(command, words, status):
     return [meaning(status)]
 
 
-def of_unwritten(command, words, status):
+def of_unwritten(command: list[str] | None, words: list[str], status: int) -> list[str]:
     """A write that failed; nothing is told where a pipe's reader went away, as `head` does."""
     try:
         kind = os.fstat(1).st_mode
@@ -245,9 +246,9 @@ def of_unwritten(command, words, status):
     return ["standard output took no more bytes; is the disk full?", meaning(status)]
 
 
-def of_endpoint(status, folder):
+def of_endpoint(status: int, folder: str) -> list[str]:
     """An endpoint that failed, whose file is in that folder."""
-    told, where = [], "this folder" if folder == "." else folder
+    told, where = list[str](), "this folder" if folder == "." else folder
     for name in outputs.standing(outputs.NAMES, folder):
         file = os.path.join(folder, name)
         if os.path.isdir(file):
@@ -260,7 +261,7 @@ def of_endpoint(status, folder):
     return [f"what a handler sends to an endpoint goes to the file NAME.bin in {where}", *told, why]
 
 
-def of_no(command, words, status):
+def of_no(command: list[str] | None, words: list[str], status: int) -> list[str]:
     """A report that is judged none: what can be told of it without judging again."""
     script, report, *packets = words[1:]
     if not os.path.isfile(report) or not os.path.isfile(script):
@@ -282,7 +283,7 @@ def of_no(command, words, status):
     return [f"{report} is the report of no run of {script}", *(f"    {one}" for one in told), meaning(status)]
 
 
-def of_capture_named(text, script, report, packets):
+def of_capture_named(text: str, script: str, report: str, packets: Sequence[str]) -> list[str]:
     """What is told where a report is of a run over a capture and none is named, or the contrary."""
     end = re.search(r"^end [0-9]+( records .*)?$", text, re.MULTILINE)
     if not packets and (end and end[1] or re.search(r"^[0-9]+ [0-9]+ [0-9]+\.[0-9]+ packet ", text, re.MULTILINE)):
@@ -292,13 +293,13 @@ def of_capture_named(text, script, report, packets):
     return []
 
 
-REASONS = {
+REASONS: dict[int, Callable[[list[str] | None, list[str], int], list[str]]] = {
     1: of_words, 2: of_script, 3: of_capture, 4: of_unread, 5: of_unwritten, 6: of_missing, 9: of_no, 11: of_trace,
     12: of_unsuited,
 }
 
 
-def of(command, words, status, folder="."):
+def of(command: list[str] | None, words: list[str], status: int, folder: str = ".") -> list[str]:
     """The lines that are told of a status of the program, which ended so on these words and wrote in that folder."""
     if status == 8:
         return of_endpoint(status, folder)

@@ -3,15 +3,17 @@
 import struct
 
 from wrapper.pieces import HEADER, RECORD_HEADER, order_of
-from wrapper.reading import number
+from wrapper.reading import Script, number
 
 
 class Records:
     """The records of a capture that the program has read, found one after another as they are asked for."""
 
-    def __init__(self, script, content):
+    def __init__(self, script: Script, content: bytes) -> None:
         """Takes the script, and the bytes of the capture."""
-        self.content, self.firsts, self.places = content, {}, []
+        self.content = content
+        self.firsts: dict[int, int] = {}
+        self.places: list[tuple[int, int]] = []
         self.end, self.length = HEADER, struct.Struct(f"{order_of(content)}8xI4x")
         count = 0
         for line, deed in script.deeds.items():
@@ -19,7 +21,7 @@ class Records:
                 self.firsts[line] = count
                 count += number(deed.words[2])
 
-    def frame(self, line, part):
+    def frame(self, line: int, part: int) -> bytes:
         """The frame that is a part of a packet line, counted from 1."""
         which = self.firsts[line] + part - 1
         while len(self.places) <= which:

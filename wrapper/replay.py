@@ -5,11 +5,14 @@ that didn't run, the tests of guards, and arguments before and after. Nothing is
 compared with the report.
 """
 
+from collections.abc import Callable, Iterable, Mapping
 from dataclasses import dataclass, field
+from typing import NamedTuple
 
+from wrapper.bindings import Binding, Bindings
 from wrapper.layers import LAYERS
-from wrapper.reading import number
-from wrapper.values import Code, bytes_at
+from wrapper.reading import Script, number
+from wrapper.values import Argument, Code, bytes_at
 
 MOST_STARTS = 4096
 
@@ -32,34 +35,65 @@ class Tested:
     holds: bool
 
 
+class Changed(NamedTuple):
+    """A handler set an argument: which one, its value before and after, and the text of the expression."""
+
+    argument: int
+    before: Argument
+    after: Argument
+    text: str
+
+
+class Gave(NamedTuple):
+    """A handler gave a result, and the text of the expression."""
+
+    value: int
+    text: str
+
+
+class Sent(NamedTuple):
+    """A handler sent so many bytes to an endpoint."""
+
+    endpoint: int
+    length: int
+
+
+class Dropped(NamedTuple):
+    """A handler's layer dropped what it read, for this fault."""
+
+    layer: str
+    fault: str
+
+
+# What a handler did.
+Done = Changed | Gave | Sent | Dropped
+
+
 @dataclass
 class Met:
-    """A binding that a raise came to, None for the event's default; the arguments before and after, and what it did.
-
-    What it did is in order: `set` with the argument, its values and the text; `result` with the value and the text;
-    `send` with the endpoint and the length; `drop` with the layer and the fault.
-    """
+    """A binding that a raise came to, None for the event's default; the arguments before and after, and what it did, in
+    order."""
 
     event: int
-    binding: object
+    binding: Binding | None
     handler: int
-    tested: list = field(default_factory=list)
+    tested: list[Tested] = field(default_factory=list)
     runs: bool = True
     is_left: bool = False
-    before: list = field(default_factory=list)
-    after: list = field(default_factory=list)
-    did: list = field(default_factory=list)
-    ups: list = field(default_factory=list)
+    before: list[Argument] = field(default_factory=list)
+    after: list[Argument] = field(default_factory=list)
+    did: list[Done] = field(default_factory=list)
+    ups: list["Raised"] = field(default_factory=list)
 
     @property
-    def number(self):
+    def number(self) -> int:
         """The binding's number, 0 for the default."""
         return self.binding.number if self.binding else 0
 
     @property
-    def result(self):
+    def result(self) -> int | None:
         """The last result that it gave, None where there is none."""
-        return next((one[1] for one in reversed(self.did) if one[0] == "result"), None)
+        return next((one.value for one in reversed(self.did) if isinstance(one, Gave)), None)
 
 
 @dataclass
@@ -67,19 +101,10 @@ class Raised:
     """A raise of one event: its arguments, the bindings that it came to, the merged results, and its answer."""
 
     event: int
-    arguments: list
-    met: list = field(default_factory=list)
-    merges: list = field(default_factory=list)
+    arguments: list[Argument]
+    met: list[Met] = field(default_factory=list)
+    merges: list[str] = field(default_factory=list)
     answer: str = ""
-
-
-@dataclass
-class Outcome:
-    """What a deed or a job comes to: its raise, None where there is none; the report's words; the calls it leaves."""
-
-    root: object
-    words: list
-    calls: list = field(default_factory=list)
 
 
 @dataclass
@@ -87,59 +112,75 @@ class Call:
     """What is left to a job: a binding of an event, None for a whole raise, and the arguments."""
 
     event: int
-    binding: object
-    arguments: list
+    binding: Binding | None
+    arguments: list[Argument]
 
 
-def code_of(table, natives, which):
+@dataclass
+class Outcome:
+    """What a deed or a job comes to: its raise, None where there is none; the report's words; the calls it leaves."""
+
+    root: Raised | None
+    words: list[str]
+    calls: list[Call] = field(default_factory=list)
+
+
+def code_of(table: Mapping[int, list[str]], natives: Mapping[str, list[str]], which: int) -> list[str]:
     """The signature and the code of a handler or a guard; a native's is what the program was handed in with it."""
     words = table[which]
     return natives[words[1]] if words[0] == "native" else words
 
 
-def handler_code(script, which):
+def handler_code(script: Script, which: int) -> list[str]:
     """The signature and the steps of a handler."""
     return code_of(script.handlers, NATIVE_HANDLERS, which)
 
 
-def guard_code(script, which):
+def guard_code(script: Script, which: int) -> list[str]:
     """The signature and the test of a guard."""
     return code_of(script.guards, NATIVE_GUARDS, which)
 
 
-def kinds(signature):
+def kinds(signature: str) -> str:
     """The kinds of a signature's parameters."""
     return "" if signature.startswith("-") else signature.split(":")[0].lower()
 
 
-def kinds_of(arguments):
+def kinds_of(arguments: Iterable[Argument]) -> str:
     """The kinds of arguments."""
     return "".join("w" if isinstance(one, int) else "b" for one in arguments)
 
 
-def values_of(words):
+def values_of(words: Iterable[str]) -> list[Argument]:
     """The arguments that the words of a raise write."""
     return [bytes.fromhex(word[1:]) if word.startswith("x") else number(word) for word in words]
 
 
-def words_of_met(met):
+def words_of_done(done: Done) -> list[str]:
+    """What a report says of what a handler did; nothing of an argument that it set."""
+    match done:
+        case Gave(value):
+            return ["result", str(value)]
+        case Sent(endpoint, length):
+            return ["send", str(endpoint), str(length)]
+        case Dropped(_, fault):
+            return ["drop", fault]
+    return []
+
+
+def words_of_met(met: Met) -> list[str]:
     """What a report says of a binding that a raise came to."""
     if not met.runs:
         return []
     words = ["job" if met.is_left else "run", str(met.event), str(met.number)]
-    for kind, *more in met.did:
-        if kind == "result":
-            words += ["result", str(more[0])]
-        elif kind == "send":
-            words += ["send", *map(str, more)]
-        elif kind == "drop":
-            words += ["drop", more[1]]
+    for done in met.did:
+        words += words_of_done(done)
     for up in met.ups:
         words += ["up", str(up.event), *words_of(up), "back", *up.answer.split()]
     return words
 
 
-def words_of(raised):
+def words_of(raised: Raised) -> list[str]:
     """What a report says of a raise, but for its answer."""
     return [word for met in raised.met for word in words_of_met(met)]
 
@@ -147,12 +188,13 @@ def words_of(raised):
 class Replay:
     """Works raises and jobs at the bindings as they stand."""
 
-    def __init__(self, script, bindings):
+    def __init__(self, script: Script, bindings: Bindings) -> None:
         """Takes the script, and the bindings that are followed beside it."""
         self.script, self.bindings = script, bindings
-        self.starts, self.calls, self.in_place = 0, [], False
+        self.calls: list[Call] = []
+        self.starts, self.in_place = 0, False
 
-    def deed(self, event, arguments, is_later):
+    def deed(self, event: int, arguments: list[Argument], is_later: bool) -> Outcome:
         """What a raise comes to, or one that is left to a job as a whole."""
         if event not in self.script.events:
             return Outcome(None, ["refused", "1", "unknown_event"])
@@ -162,12 +204,12 @@ class Replay:
             return Outcome(None, ["queued"], [Call(event, None, arguments)])
         return self.outcome(False, lambda: self.raised(event, arguments))
 
-    def job(self, call):
+    def job(self, call: Call) -> Outcome:
         """What the call of a job comes to."""
-        work = self.raised if call.binding is None else lambda event, arguments: self.bound(call)
-        return self.outcome(True, lambda: work(call.event, call.arguments))
+        one = call.binding
+        return self.outcome(True, lambda: self.bound(one, call) if one else self.raised(call.event, call.arguments))
 
-    def outcome(self, in_place, work):
+    def outcome(self, in_place: bool, work: Callable[[], Raised]) -> Outcome:
         """What comes of work, in which asynchronous handlers run in place or are left to jobs."""
         self.starts, self.calls, self.in_place = 0, [], in_place
         try:
@@ -176,22 +218,22 @@ class Replay:
             return Outcome(None, ["refused", "3", "spent"])
         return Outcome(root, [*words_of(root), "=", *root.answer.split()], self.calls)
 
-    def start(self):
+    def start(self) -> None:
         """Counts a handler that starts, or is left to a job."""
         self.starts += 1
         if self.starts > MOST_STARTS:
             raise Spent
 
-    def bound(self, call):
+    def bound(self, one: Binding, call: Call) -> Raised:
         """The job of one binding: its handler runs, and its guards aren't tested."""
-        met = Met(call.event, call.binding, call.binding.handler, before=list(call.arguments))
+        met = Met(call.event, one, one.handler, before=list(call.arguments))
         self.act(met, list(call.arguments))
         answer = "done" if met.result is None else f"value {met.result}"
         return Raised(call.event, list(call.arguments), [met], [], answer)
 
-    def raised(self, event, arguments):
+    def raised(self, event: int, arguments: list[Argument]) -> Raised:
         """A raise of one event, with its raises upwards."""
-        found, now, results = Raised(event, list(arguments)), list(arguments), []
+        found, now, results = Raised(event, list(arguments)), list(arguments), list[int]()
         for one in self.bindings.order(event):
             met = self.meet(event, one, now)
             found.met.append(met)
@@ -204,7 +246,7 @@ class Replay:
             found.answer = self.by_default(event, now, found)
         return found
 
-    def meet(self, event, one, arguments):
+    def meet(self, event: int, one: Binding, arguments: list[Argument]) -> Met:
         """A raise comes to a binding: its guards are tested; where they hold, its handler runs or is left to a job."""
         met = Met(event, one, one.handler, before=list(arguments), after=list(arguments))
         met.tested = [self.tested(which, which in one.imposed, arguments) for which in one.guards]
@@ -217,12 +259,12 @@ class Replay:
             self.act(met, list(arguments))
         return met
 
-    def tested(self, which, is_imposed, arguments):
+    def tested(self, which: int, is_imposed: bool, arguments: list[Argument]) -> Tested:
         """A guard, tested on arguments."""
         holds, text = Code(guard_code(self.script, which)[1:], arguments).test()
         return Tested(which, is_imposed, text, holds)
 
-    def by_default(self, event, arguments, found):
+    def by_default(self, event: int, arguments: list[Argument], found: Raised) -> str:
         """The answer where no binding ran: that of the event's default, if it has one."""
         default = self.bindings.events[event].default
         if not default:
@@ -232,7 +274,7 @@ class Replay:
         self.act(met, list(arguments))
         return "default" if met.result is None else f"default {met.result}"
 
-    def merged(self, event, results, merges):
+    def merged(self, event: int, results: list[int], merges: list[str]) -> str:
         """The answer of handlers that ran, by the event's merge; how results were merged is added to `merges`."""
         if not results:
             return "done"
@@ -247,17 +289,18 @@ class Replay:
             merges.append(f"{', '.join(map(str, results))}: the last one")
         return f"value {found}"
 
-    def act(self, met, arguments):
+    def act(self, met: Met, arguments: list[Argument]) -> None:
         """Does a handler's steps, and then its raises upwards."""
         self.start()
-        ups, code = [], Code(handler_code(self.script, met.handler)[1:], arguments)
+        ups: list[tuple[int, list[Argument]]] = []
+        code = Code(handler_code(self.script, met.handler)[1:], arguments)
         while code.is_left:
             self.step(code, met.did, ups)
         met.after = arguments
         met.ups = [self.raised(event, given) for event, given in ups]
 
     @staticmethod
-    def step(code, did, ups):
+    def step(code: Code, did: list[Done], ups: list[tuple[int, list[Argument]]]) -> None:
         """Does one step on the arguments of the code."""
         kind, arguments = code.word(), code.arguments
         if kind == "set":
@@ -265,22 +308,22 @@ class Replay:
             value, text = code.expression()
             before = arguments[which]
             arguments[which] = value if isinstance(before, int) else before
-            did.append(("set", which, before, arguments[which], text))
+            did.append(Changed(which, before, arguments[which], text))
         elif kind == "send":
             endpoint = code.number()
-            did.append(("send", endpoint, len(bytes_at(arguments, code.number(), code.number()))))
+            did.append(Sent(endpoint, len(bytes_at(arguments, code.number(), code.number()))))
         elif kind == "result":
-            did.append(("result", *code.expression()))
+            did.append(Gave(*code.expression()))
         elif kind == "up":
             event, count = code.number(), code.number()
             ups.append((event, [part(code) for _ in range(count)]))
         else:
             layer, event = code.word(), code.number()
             found = LAYERS[layer](arguments)
-            did.append(("drop", layer, found)) if isinstance(found, str) else ups.append((event, found))
+            did.append(Dropped(layer, found)) if isinstance(found, str) else ups.append((event, found))
 
 
-def part(code):
+def part(code: Code) -> Argument:
     """A part of a raise upwards."""
     if code.word() == "w":
         return code.expression()[0]

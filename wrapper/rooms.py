@@ -9,8 +9,10 @@ import fcntl
 import os
 import re
 import shutil
+from collections.abc import Collection, Iterable
+from pathlib import Path
 
-from wrapper.program import FOLDERS, TOP
+from wrapper.program import FOLDERS, TOP, Crates
 
 ROOMS = TOP / "out" / "build" / "rooms"
 
@@ -18,7 +20,7 @@ ROOMS = TOP / "out" / "build" / "rooms"
 STEPS = ("incremental",)
 
 
-def link(source, target):
+def link(source: str, target: str) -> None:
     """Gives the file a second name, or copies it where the file system has no links: rt writes into no file of a library."""
     try:
         os.link(source, target)
@@ -26,7 +28,7 @@ def link(source, target):
         shutil.copy2(source, target)
 
 
-def copy_top(folder, names):
+def copy_top(folder: Path, names: Collection[str]) -> None:
     """Copies what the top of the repository says of these crates: their lines of crates.txt, and HANDLES."""
     lines = (TOP / "crates.txt").read_text().splitlines()
     listed = [line for line in lines if re.split(r"[\s:]", line)[0] in names]
@@ -34,7 +36,7 @@ def copy_top(folder, names):
     shutil.copy2(TOP / "HANDLES", folder)
 
 
-def copy_below(name, room):
+def copy_below(name: str, room: Path) -> None:
     """Copies a crate that the room's crate stands on: its sources, and what was built of it."""
     crate, copied = TOP / "crates" / name, room / "crates" / name
     for folder in FOLDERS:
@@ -44,7 +46,7 @@ def copy_below(name, room):
         shutil.copytree(crate / "out" / "rlib", copied / "out" / "rlib", copy_function=link)
 
 
-def furnish(name, below):
+def furnish(name: str, below: list[str]) -> Path:
     """Makes the room of a crate that stands on these, and answers the crate's folder in it."""
     room = ROOMS / name
     # that of a build that was killed is there still
@@ -62,7 +64,7 @@ def furnish(name, below):
     return copied
 
 
-def move(one, other, names):
+def move(one: Path, other: Path, names: Iterable[str]) -> None:
     """Moves these, where they are there, from what one folder's crate has built to the other's."""
     for name in names:
         if (one / "out" / name).exists():
@@ -70,7 +72,7 @@ def move(one, other, names):
             (one / "out" / name).replace(other / "out" / name)
 
 
-def clear(name, is_built):
+def clear(name: str, is_built: bool) -> None:
     """Removes the room. What was built in it goes to the crate's own folder, once no call of rt holds that; of a crate
     that wasn't built, the functions that are proved already."""
     crate, copied = TOP / "crates" / name, ROOMS / name / "crates" / name
@@ -85,9 +87,9 @@ def clear(name, is_built):
     shutil.rmtree(ROOMS / name, ignore_errors=True)
 
 
-def below_all(crates, name):
+def below_all(crates: Crates, name: str) -> list[str]:
     """All crates that this one stands on, those below these too; crates.txt has each of them in its line."""
-    found = []
+    found: list[str] = []
     for other in crates[name]:
         found += [it for it in (*below_all(crates, other), other) if it not in found]
     return found

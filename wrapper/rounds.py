@@ -6,6 +6,7 @@ it and on its own records alone, and a piece that begins with a round answers as
 more.
 """
 
+from collections.abc import Iterator
 from typing import NamedTuple
 
 # A script has at most so many deeds and so many bytes, by docs/FORMATS.md.
@@ -22,8 +23,16 @@ RAISES = {"raise", "later"}
 class InTheWay(Exception):
     """A script can't be run in pieces: the line that stands in the way, counted from 1, and why."""
 
-    def __init__(self, line, why):
+    def __init__(self, line: int, why: str) -> None:
         super().__init__(f"line {line}: {why}" if line else why)
+
+
+class Take(NamedTuple):
+    """A packet line: its lane, its event, and how many records it takes at most."""
+
+    lane: int
+    event: int
+    records: int
 
 
 class Rounds(NamedTuple):
@@ -31,26 +40,26 @@ class Rounds(NamedTuple):
 
     head: str
     commands: int
-    # the segments of a round, each a list of lane, event and number of records
-    segments: list
+    # the packet lines of a round, segment by segment
+    segments: list[list[Take]]
     # what is received hangs on segments too, as jobs come at their end and lanes one after another
     has_segments: bool
-    endpoints: dict
+    endpoints: dict[int, str]
 
     @property
-    def step(self):
+    def step(self) -> int:
         """A piece begins at a multiple of so many records."""
-        return sum(deed[2] for segment in self.segments for deed in segment) if self.has_segments else 1
+        return sum(deed.records for segment in self.segments for deed in segment) if self.has_segments else 1
 
-    def text_of_round(self, records):
+    def text_of_round(self, records: int) -> str:
         """The lines of one round that has room for so many records, each segment begun by a barrier."""
         if self.has_segments:
             return "".join("barrier\n" + "".join(map(packet_line, segment)) for segment in self.segments)
         lane, event, _ = self.segments[0][0]
         sizes = [min(SEGMENT, records - at) for at in range(0, records, SEGMENT)]
-        return "".join("barrier\n" + packet_line((lane, event, size)) for size in sizes)
+        return "".join("barrier\n" + packet_line(Take(lane, event, size)) for size in sizes)
 
-    def most(self, wanted):
+    def most(self, wanted: int) -> int:
         """How many records a piece has at most, where so many are wanted: whole rounds, at least one."""
         rounds = max(1, wanted // self.step)
         rounds = min(rounds, (MOST_DEEDS - self.commands) // self.step)
@@ -58,24 +67,24 @@ class Rounds(NamedTuple):
             rounds = min(rounds, (MOST_BYTES - len(self.head)) // len(self.text_of_round(0)))
         return max(1, rounds) * self.step
 
-    def script(self, records):
+    def script(self, records: int) -> str:
         """The script of a piece of so many records."""
         if not self.has_segments:
             return self.head + self.text_of_round(records)
         return self.head + self.text_of_round(0) * -(-records // self.step)
 
 
-def packet_line(deed):
+def packet_line(deed: Take) -> str:
     """The line by which a lane takes so many records for an event."""
-    return "lane {} packet {} {}\n".format(*deed)
+    return f"lane {deed.lane} packet {deed.event} {deed.records}\n"
 
 
-def number(word):
+def number(word: str) -> int:
     """The number that a word of a script spells."""
     return int(word[2:], 16) if word.startswith("0x") else int(word)
 
 
-def packet_lines(text):
+def packet_lines(text: str) -> Iterator[tuple[int, int]]:
     """Of each packet line of a script, in order: its number, and how many records it takes at most."""
     for at, line in enumerate(text.split("\n"), 1):
         words = line.split()
@@ -86,15 +95,15 @@ def packet_lines(text):
 class Reader:
     """What the lines of a script so far say. The program has read the script, so each line is in the grammar."""
 
-    def __init__(self):
+    def __init__(self) -> None:
         self.commands = 0
-        self.commanding = None  # line and lane of the segment's first command
-        self.first = None  # the first packet line
-        self.segments = [[]]
+        self.commanding: tuple[int, int] | None = None  # line and lane of the segment's first command
+        self.first: int | None = None  # the first packet line
+        self.segments: list[list[Take]] = [[]]
         self.is_asynchronous = False
-        self.endpoints = {}
+        self.endpoints: dict[int, str] = {}
 
-    def take(self, line, words):
+    def take(self, line: int, words: list[str]) -> None:
         """Takes a line that isn't skipped, or says that it stands in the way."""
         if words[0] == "lane":
             self.take_deed(line, number(words[1]), words[2:])
@@ -109,7 +118,7 @@ class Reader:
         elif words[0] == "rule" and words[-1] == "async":
             self.is_asynchronous = True
 
-    def take_deed(self, line, lane, words):
+    def take_deed(self, line: int, lane: int, words: list[str]) -> None:
         """Takes a deed of a lane."""
         if words[0] in RAISES:
             raise InTheWay(line, "it raises an event by itself, which each piece would do again")
@@ -124,10 +133,10 @@ class Reader:
             self.is_asynchronous |= words[-1] == "async"
         else:
             self.first = self.first or line
-            self.segments[-1].append((lane, number(words[1]), number(words[2])))
+            self.segments[-1].append(Take(lane, number(words[1]), number(words[2])))
 
 
-def read_rounds(text):
+def read_rounds(text: str) -> Rounds:
     """What a script that the program has read says of pieces; raises `InTheWay` where it can't be run in them."""
     reader, lines = Reader(), text.split("\n")
     for at, line in enumerate(lines, 1):

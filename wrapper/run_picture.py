@@ -4,13 +4,16 @@ It draws what the report says, and needs a report that was judged a run's. Besid
 entry is worked anew: guards that didn't hold, and arguments that changed. Of a large run many entries are drawn as one.
 """
 
-from wrapper.bindings import Bindings
-from wrapper.folding import bands_of, head_of, is_accepted, is_large, told_of
+from collections.abc import Iterable, Mapping, Set
+
+from wrapper.bindings import Binding, Bindings
+from wrapper.folding import Band, Box, bands_of, head_of, is_accepted, is_large, told_of
 from wrapper.frames import frame_words
-from wrapper.reading import COMMANDS, DECLARED, all_steps, number, reply_of
+from wrapper.reading import COMMANDS, DECLARED, Line, Script, all_steps, number, reply_of
+from wrapper.records import Records
 from wrapper.svg import CHAR, KINDS, LINE, PAD, Drawn, Sheet, legend, marks, width_of, wrapped
 from wrapper.told import Row, Teller, guard_text
-from wrapper.why import explain
+from wrapper.why import Because, explain
 
 GUTTER, SIDE, TRACK, TRACKS = 58, 430, 5, 6
 STEP = 9            # how far each level of a reply stands to the right
@@ -20,7 +23,7 @@ DECLARED_MOST = 80
 MARKS = {"plain": "", "filter": " filter", "async": " async"}
 
 
-def constraints(one):
+def constraints(one: Binding) -> str:
     """Where a binding wants to stand, in words."""
     words = [] if one.place == "free" else [one.place]
     for name, numbers in (("before", one.before), ("after", one.after)):
@@ -28,7 +31,7 @@ def constraints(one):
     return " ".join(words)
 
 
-def chip_text(script, one):
+def chip_text(script: Script, one: Binding) -> str:
     """A binding as its chip says it: who asked for it, where there are several modules, and under which guards."""
     guards = [f"if {guard_text(script, one.guard)}"] if one.guard else []
     guards += [f"imposed if {guard_text(script, which)}" for which in one.imposed]
@@ -37,9 +40,9 @@ def chip_text(script, one):
     return " ".join([name, *asked, *guards, constraints(one)]).strip()
 
 
-def segments_of(lines):
+def segments_of(lines: Iterable[Line]) -> list[list[Line]]:
     """The entries, jobs and losses of each segment of a report."""
-    segments = []
+    segments: list[list[Line]] = []
     for line in lines:
         if line.kind == "segment":
             segments.append([])
@@ -48,7 +51,9 @@ def segments_of(lines):
     return segments
 
 
-def explained(script, lines, records, bands):
+def explained(
+    script: Script, lines: Iterable[Line], records: Records | None, bands: Iterable[Band],
+) -> dict[str, Because]:
     """Why the first line of each box says what it does; what a job was left by is worked for it too."""
     first = [box[0] for band in bands for box in band.boxes]
     wanted = {line.text for line in first}
@@ -57,7 +62,7 @@ def explained(script, lines, records, bands):
     return {found.line.text: found for found in explain(script, lines, records, is_wanted)}
 
 
-def short_chip(one):
+def short_chip(one: Binding) -> str:
     """A binding among many."""
     return f"#{one.number}" + {"plain": "", "filter": "f", "async": "a"}[one.mode] + ("g" if one.guards else "")
 
@@ -65,31 +70,32 @@ def short_chip(one):
 class RunPicture:
     """The drawing of one run."""
 
-    def __init__(self, script, lines, records=None):
+    def __init__(self, script: Script, lines: list[Line], records: Records | None = None) -> None:
         """Lays out the columns for the lanes that have entries; without records nothing is worked anew of packets."""
         self.script, self.lines, self.records = script, lines, records
         self.segments = segments_of(lines)
         self.bands = [bands_of(script, found, is_large(lines)) for found in self.segments]
         self.because = explained(script, lines, records, [band for bands in self.bands for band in bands])
-        self.whys = []
+        self.whys: list[str] = []
         self.bindings = Bindings(script)
         self.teller = Teller(script, self.bindings)
         self.lanes = sorted({line.lane for line in lines if line.kind in ("entry", "job")}) or [0]
         self.each = {1: 430, 2: 400, 3: 340, 4: 320}.get(len(self.lanes), 290)
         self.side = GUTTER + self.each * len(self.lanes)
         self.sheet = Sheet(self.side + SIDE)
-        self.y, self.named = 0, 0
-        self.items, self.left, self.tracks = {}, {}, {}
-        self.values = {"lane": set(), "event": set(), "binding": set()}
+        self.y, self.named = 0.0, 0.0
+        self.left: dict[tuple[int, str], tuple[float, float, float]] = {}
+        self.tracks: dict[int, int] = {}
+        self.values: dict[str, set[int]] = {"lane": set(), "event": set(), "binding": set()}
 
-    def at(self, lane):
+    def at(self, lane: int) -> float:
         """Where the column of a lane begins."""
         return GUTTER + self.each * self.lanes.index(lane)
 
-    def draw(self):
+    def draw(self) -> str:
         """Draws all, and answers the picture's text."""
         self.heading()
-        notes, bands = [], iter(zip(self.segments, self.bands))
+        notes, bands = list[Line](), iter(zip(self.segments, self.bands))
         for line in self.lines:
             if line.kind == "segment":
                 self.segment_head(line, notes)
@@ -103,7 +109,7 @@ class RunPicture:
 
     # ---- what stands at the top
 
-    def declared(self):
+    def declared(self) -> list[str]:
         """What the script declares, in its own words."""
         script = self.script
         rows = [f"{script.called('module', which)}" for kind, which in sorted(script.names) if kind == "module"]
@@ -119,7 +125,7 @@ class RunPicture:
             rows = rows[:DECLARED_MOST] + [f"and {len(rows) - DECLARED_MOST} more lines"]
         return rows
 
-    def heading(self):
+    def heading(self) -> None:
         """The legend, and what the script declares in two columns."""
         kinds = {self.kind_of(line) for line in self.lines if line.kind in ("entry", "job")}
         kinds |= {"send"} if any(self.sends(line) for line in self.lines) else set()
@@ -128,7 +134,7 @@ class RunPicture:
         half = self.sheet.width / 2 - 8
         rows = [wrapped(text, half - 16) for text in self.declared()]
         middle = (sum(map(len, rows)) + 1) // 2
-        x, y, done = 8, self.y, 0
+        x, y, done = 8.0, self.y, 0
         for shown in rows:
             if x == 8 and done >= middle:
                 x, y = half + 8, self.y
@@ -138,7 +144,7 @@ class RunPicture:
             done += len(shown)
         self.y += middle_height(rows, middle) + 2
 
-    def lane_names(self):
+    def lane_names(self) -> None:
         """The names of the columns."""
         self.sheet.text(8, self.y + 12, "place", "faint")
         for lane in self.lanes:
@@ -147,10 +153,10 @@ class RunPicture:
         self.y += 18
         self.named = self.y
 
-    def segment_head(self, line, notes):
+    def segment_head(self, line: Line, notes: list[Line]) -> None:
         """The band of a segment, its retirements in it."""
         self.sheet.box(0, self.y, self.sheet.width, 22, "band")
-        x = 8
+        x = 8.0
         text = f"segment {line.index} at place {line.place}"
         self.sheet.text(x, self.y + 15, text, "h")
         x += len(text) * 8 + 20
@@ -168,7 +174,7 @@ class RunPicture:
 
     # ---- a segment
 
-    def segment(self, lines, bands):
+    def segment(self, lines: list[Line], bands: Iterable[Band]) -> None:
         """The bands of a segment's places, of its jobs and of its deliveries."""
         self.left, self.tracks = {}, dict.fromkeys(self.lanes, 0)
         sources = {(line.lane, line.source) for line in lines if line.kind == "job"}
@@ -176,7 +182,7 @@ class RunPicture:
             self.band(band, sources)
         self.deliveries(lines)
 
-    def band(self, band, sources):
+    def band(self, band: Band, sources: Set[tuple[int, str]]) -> None:
         """The boxes of one place, of several, or of the jobs, and the bindings beside them."""
         if self.y - self.named > REPEAT:
             self.lane_names()
@@ -188,13 +194,13 @@ class RunPicture:
         for box in band.boxes:
             lane = box[0].lane
             left = [line for line in box if line.kind == "entry" and (lane, line.source) in sources]
-            draw = self.entry if len(box) == 1 else self.many
-            ends[lane] += draw(box if len(box) > 1 else box[0], self.at(lane), ends[lane], left)
+            where = self.at(lane), ends[lane], left
+            ends[lane] += self.many(box, *where) if len(box) > 1 else self.entry(box[0], *where)
         self.y = max(right, *ends.values()) + 3
 
-    def changed(self, accepted, y):
+    def changed(self, accepted: Iterable[Line], y: float) -> float:
         """Follows accepted commands, and draws the bindings of the events that they change; answers where they end."""
-        places = {}
+        places: dict[int, set[int]] = {}
         for line in sorted(accepted, key=lambda one: one.place):
             event = self.bindings.take(line.place, self.script.deeds[line.line].words)
             places.setdefault(event, set()).add(line.place)
@@ -203,7 +209,7 @@ class RunPicture:
         return y
 
     @staticmethod
-    def kind_of(line):
+    def kind_of(line: Line) -> str:
         """Which kind of box a line has."""
         if line.is_refused:
             return "refused"
@@ -211,15 +217,15 @@ class RunPicture:
             return "later"
         return "ok" if line.words[0] in COMMANDS else line.words[0]
 
-    def found(self, line):
+    def found(self, line: Line) -> dict[str, set[int]]:
         """The events and bindings that a line speaks of."""
         deed = self.script.deeds[line.line].words
-        events, bindings = {number(deed[1])}, set()
+        events, bindings = {number(deed[1])}, set[int]()
         if is_accepted(line) and deed[0] == "install":
             bindings.add(line.place)
         elif deed[0] in ("remove", "replace"):
             bindings.add(number(deed[3]))
-        for step in all_steps((reply_of(line) or ([],))[0]):
+        for step in all_steps((reply_of(line) or ([], ""))[0]):
             if step.kind in ("run", "job"):
                 events.add(int(step.words[0]))
                 bindings |= {int(step.words[1])} - {0}
@@ -227,23 +233,23 @@ class RunPicture:
                 events.add(int(step.words[0]))
         return {"lane": {line.lane}, "event": events, "binding": bindings}
 
-    def rows_of(self, line, why):
+    def rows_of(self, line: Line, why: Because) -> list[Row]:
         """The rows of the box of an entry or a job: of a packet with its addresses."""
-        rows = self.teller.entry(line, why.outcome and why.agrees and why.outcome.root or None)
+        rows = self.teller.entry(line, why.outcome.root if why.outcome and why.agrees else None)
         if line.part and line.kind == "entry" and self.records is not None:
             rows.insert(1, Row(frame_words(self.records.frame(line.line, line.part)), 1))
         return rows
 
-    def entry(self, line, x, y, left):
+    def entry(self, line: Line, x: float, y: float, left: list[Line]) -> float:
         """The box of an entry or a job; answers its height with the room below it."""
         why = self.because[line.text]
         self.sheet.begin(f"item {line.kind}", line.text, self.data(self.found(line), why.lines))
         lead = "" if line.kind == "job" else line.source
         return self.box([line], self.rows_of(line, why), lead, (x, y), left)
 
-    def many(self, box, x, y, left):
+    def many(self, box: Box, x: float, y: float, left: list[Line]) -> float:
         """The box of many entries or jobs; answers its height with the room below it."""
-        found = {}
+        found: dict[str, set[int]] = {}
         for line in box:
             for name, of in self.found(line).items():
                 found.setdefault(name, set()).update(of)
@@ -254,17 +260,17 @@ class RunPicture:
         self.sheet.begin(f"item {box[0].kind}", f"{head}: from `{box[0].text}` to `{box[-1].text}`", data)
         return self.box(box, [Row(head, 0, "b"), *(Row(row, 1) for row in rows)], "", (x, y), left)
 
-    def data(self, found, why):
+    def data(self, found: Mapping[str, set[int]], why: Iterable[str]) -> str:
         """The attributes by which a page finds a box, and why it says what it does."""
         for name, of in found.items():
             self.values[name] |= of
         self.whys.append("\n".join(why))
         return f'{marks(found)} data-why="{len(self.whys) - 1}"'
 
-    def box(self, lines, rows, lead, corner, left):
+    def box(self, lines: Box, rows: list[Row], lead: str, corner: tuple[float, float], left: list[Line]) -> float:
         """Draws the box of these lines at the left of a corner, and what joins it to others; answers its height."""
         x, y = corner[0] + TRACK * TRACKS + 4, corner[1]
-        wide, shown = self.each - TRACK * TRACKS - 12, []
+        wide, shown = self.each - TRACK * TRACKS - 12, list[tuple[float, str, str]]()
         for row in rows:
             indent = row.depth * STEP + (width_of(f"{lead} ") if lead and not row.depth else 0)
             for at, text in enumerate(wrapped(row.text, wide - 2 * PAD - indent - 2 * CHAR)):
@@ -282,7 +288,7 @@ class RunPicture:
             self.join(lines[0], x, y + high / 2)
         return high + 4
 
-    def leave(self, lines, x, y):
+    def leave(self, lines: list[Line], x: float, y: float) -> None:
         """Keeps where entries stand that have left jobs, and by which track these are joined to them."""
         if lines:
             track = self.tracks[lines[0].lane]
@@ -290,7 +296,7 @@ class RunPicture:
         for line in lines:
             self.left[line.lane, line.source] = x, y + 8, x - 4 - TRACK * (track + 1)
 
-    def join(self, line, x, y):
+    def join(self, line: Line, x: float, y: float) -> None:
         """Joins a job, or the first of many, to the entry that left it."""
         there, above, track = self.left[line.lane, line.source]
         shape = f"M{there:.5g} {above:.7g}H{track:.5g}V{y:.7g}H{x:.5g}m-5 -3l5 3l-5 3"
@@ -298,14 +304,15 @@ class RunPicture:
 
     # ---- bindings and deliveries
 
-    def order(self, event, changed, y):
+    def order(self, event: int, changed: Set[int], y: float) -> float:
         """The bindings of an event in their order, as chips, those changed at these places filled; where they end."""
         order = self.bindings.order(event)
         is_short = len(order) > WHOLE_CHIPS
         left = self.side + 8
         name = self.script.called("event", event)
         self.sheet.text(left, y + 13, name, "faint")
-        x = first = left + 62
+        first = left + 62
+        x: float = first
         if width_of(name) > 58:
             y += LINE + 3
         most = self.sheet.width - 8
@@ -325,7 +332,7 @@ class RunPicture:
             x += wide + 4
         return self.default_chip(event, x, y, high, bool(order))
 
-    def default_chip(self, event, x, y, high, has_bindings):
+    def default_chip(self, event: int, x: float, y: float, high: float, has_bindings: bool) -> float:
         """The event's default behind its bindings, and a word where it has neither; answers where they end."""
         default = self.bindings.events[event].default
         text = "" if has_bindings else "no binding, no default"
@@ -336,7 +343,7 @@ class RunPicture:
             self.sheet.text(x + 5, y + 13, text, "faint")
         return y + high + 3
 
-    def chip_title(self, one):
+    def chip_title(self, one: Binding) -> str:
         """What a chip tells: the binding in full, with its handler and guards as the script has them."""
         called = self.script.called
         asked = f"asked for by {called('module', one.module)}: {chip_text(self.script, one)}"
@@ -346,16 +353,17 @@ class RunPicture:
         return "\n".join(rows)
 
     @staticmethod
-    def sends(line):
+    def sends(line: Line) -> list[tuple[int, int]]:
         """The sends of a line: endpoints and lengths."""
         if line.kind not in ("entry", "job"):
             return []
-        steps = all_steps((reply_of(line) or ([],))[0])
-        return [tuple(map(int, step.words)) for step in steps if step.kind == "send"]
+        steps = all_steps((reply_of(line) or ([], ""))[0])
+        return [(int(step.words[0]), int(step.words[1])) for step in steps if step.kind == "send"]
 
-    def deliveries(self, lines):
+    def deliveries(self, lines: list[Line]) -> None:
         """What a segment's sends come to, endpoint by endpoint."""
-        sent, lost = {}, {line.index: line for line in lines if line.kind == "lost"}
+        sent: dict[int, tuple[int, int]] = {}
+        lost = {line.index: line for line in lines if line.kind == "lost"}
         for line in lines:
             for endpoint, length in self.sends(line):
                 count, total = sent.get(endpoint, (0, 0))
@@ -364,7 +372,7 @@ class RunPicture:
             return
         self.sheet.path(f"M0 {self.y:.7g}H{self.sheet.width:.0f}", "rule")
         self.sheet.text(8, self.y + 15, "sent", "b")
-        x, y = GUTTER, self.y + 3
+        x, y = float(GUTTER), self.y + 3
         for endpoint, (count, total) in sorted(sent.items()):
             text = f"{self.teller.endpoint(endpoint)} ← {count} piece{'s' * (count > 1)}, {total} bytes"
             note = lost.get(endpoint)
@@ -378,7 +386,7 @@ class RunPicture:
             x += wide + 8
         self.y = y + 27
 
-    def foot(self, line):
+    def foot(self, line: Line) -> None:
         """The report's last line."""
         self.sheet.box(0, self.y, self.sheet.width, 22, "band", line.text)
         words = line.words
@@ -389,7 +397,7 @@ class RunPicture:
         self.y += 26
 
 
-def middle_height(rows, middle):
+def middle_height(rows: Iterable[list[str]], middle: int) -> int:
     """How high the first of two columns is that part these rows in their middle."""
     first = second = 0
     for shown in rows:
@@ -400,7 +408,7 @@ def middle_height(rows, middle):
     return LINE * max(first, second)
 
 
-def draw(script, lines, records=None):
+def draw(script: Script, lines: Iterable[Line], records: Records | None = None) -> Drawn:
     """The picture of a run, with what each box did and why."""
     picture = RunPicture(script, list(lines), records)
     return Drawn(picture.draw(), picture.values, picture.whys, script.names)

@@ -9,13 +9,15 @@ import re
 import subprocess
 import sys
 import tempfile
+from collections.abc import Callable, Iterable, Iterator
 from pathlib import Path
+from typing import NamedTuple
 
 from wrapper import causes, changes, completing, faults, picture, program, reasons, run_picture
 from wrapper.bindings import Bindings
 from wrapper.completing import DEEDS
 from wrapper.folding import is_accepted, told_of
-from wrapper.reading import NAMING, read_line, read_script
+from wrapper.reading import NAMING, Line, Script, read_line, read_script
 from wrapper.records import Records
 from wrapper.run_picture import chip_text
 from wrapper.svg import TooLarge, page
@@ -48,13 +50,13 @@ QUESTION = "what was changed isn't saved; does the session end all the same (y o
 class Stopped(Exception):
     """The program didn't write a whole report: what it wrote last, and its status."""
 
-    def __init__(self, said, status):
+    def __init__(self, said: str, status: int) -> None:
         """Keeps what was said, and the status."""
         super().__init__(said)
         self.said, self.status = said, status
 
 
-def section_of(line):
+def section_of(line: str) -> int | None:
     """Where a line's section stands among the sections; None for a line that is skipped."""
     words = line.split()
     if not words or words[0].startswith("#"):
@@ -63,33 +65,33 @@ def section_of(line):
     return ORDER.index(word) if word in ORDER else len(ORDER)
 
 
-def place_for(lines, line):
+def place_for(lines: list[str], line: str) -> int:
     """The index at which a line is added: behind the last line whose section isn't behind its own."""
     section, at = section_of(line), 0
     for index, other in enumerate(lines):
         of = section_of(other)
-        if of is not None and of <= section:
+        if of is not None and section is not None and of <= section:
             at = index + 1
     return at
 
 
-def text_of(lines):
+def text_of(lines: Iterable[str]) -> bytes:
     """The script as a file has it, bytes that aren't UTF-8 too."""
     return "".join(f"{line}\n" for line in lines).encode("utf-8", "surrogateescape")
 
 
-def as_deed(words):
+def as_deed(words: list[str]) -> list[str]:
     """The words of a line, with the lane that may be left out before a deed."""
     is_first_default = words[0] == "default" and len(words) == 3
     return ["lane", "0", *words] if words[0] in DEEDS and not is_first_default else words
 
 
-def as_line(text):
+def as_line(text: str) -> str:
     """A line as it is kept: a comment as it was typed, and other words one space apart."""
     return text.strip() if text.strip().startswith("#") else " ".join(as_deed(text.split()))
 
 
-def run(lines, capture):
+def run(lines: list[str], capture: str | None) -> list[Line]:
     """The lines of the report of a run of the script, over the capture where there is one."""
     with tempfile.TemporaryDirectory() as folder:
         (Path(folder) / "script").write_bytes(text_of(lines))
@@ -101,44 +103,56 @@ def run(lines, capture):
     return [read_line(line) for line in text]
 
 
-def stop_words(stopped, lines, capture):
+def stop_words(stopped: Stopped, lines: list[str], capture: str | None) -> list[str]:
     """A stop in words: of a refused script the line, a mark under the word, and what may stand there."""
     found = re.fullmatch(r"stop ([23]) (?:line|record) (\d+) (?:cause|fault) (\d+)", stopped.said)
     if not found:
         return [stopped.said]
     kind, line, cause = map(int, found.groups())
-    if kind == 3:
+    if kind == 3 and capture:
         return faults.explain(capture, line, cause)
     name, where = causes.script_cause(cause)
     more = reasons.of_script_line(text_of(lines), line, cause) if line else []
     return [f"cause {cause} ({name}): {where}", *more]
 
 
+class Past(NamedTuple):
+    """What was changed, and what was before it: the script, the report of its run, and the capture."""
+
+    what: str
+    lines: list[str]
+    report: list[Line]
+    capture: str | None
+
+
 class Session:
     """The script so far, its capture, the report of its last run, what was before each change, and what was saved."""
 
-    def __init__(self, lines, capture=None):
+    def __init__(self, lines: list[str], capture: str | None = None) -> None:
         """Runs the script with which the session begins."""
-        self.lines, self.capture, self.report, self.past = lines, capture, run(lines, capture), []
+        self.lines, self.capture, self.report = lines, capture, run(lines, capture)
+        self.past: list[Past] = []
         self.saved = lines
 
     @property
-    def is_unsaved(self):
+    def is_unsaved(self) -> bool:
         """Whether the script has changed since it was saved, or since the session began."""
         return self.lines != self.saved
 
     @property
-    def script(self):
+    def script(self) -> Script:
         """The script as it is read."""
         return read_script("\n".join(self.lines))
 
-    def records(self):
+    def records(self) -> Records | None:
         """The records of the capture; None where there is none."""
         return Records(self.script, Path(self.capture).read_bytes()) if self.capture else None
 
     # ---- changes
 
-    def change(self, what, lines, moved=lambda line: line, added=0):
+    def change(
+        self, what: str, lines: list[str], moved: Callable[[int], int] = lambda line: line, added: int = 0,
+    ) -> list[str]:
         """Makes these the lines where the program takes them, and answers what that did.
 
         `moved` says which number each line has now, 0 for one that is gone; `added` is the number of the new line.
@@ -148,17 +162,17 @@ class Session:
         except Stopped as stopped:
             first, *more = stop_words(stopped, lines, self.capture)
             return [f"not kept: {first}", *more]
-        before = {(moved(key[0]), *key[1:]): line for key, line in changes.answers(self.report).items()}
+        before = {key._replace(line=moved(key.line)): line for key, line in changes.answers(self.report).items()}
         self.keep(what, lines, report, self.capture)
         told = self.tell(added) if added else []
         return [*told, *changes.told(before, changes.answers(report), lines, lambda line: line in (0, added))]
 
-    def keep(self, what, lines, report, capture):
+    def keep(self, what: str, lines: list[str], report: list[Line], capture: str | None) -> None:
         """Keeps a change, and what was before it."""
-        self.past.append((what, self.lines, self.report, self.capture))
+        self.past.append(Past(what, self.lines, self.report, self.capture))
         self.lines, self.report, self.capture = lines, report, capture
 
-    def take(self, text):
+    def take(self, text: str) -> list[str]:
         """Takes a line of the script, and answers what it did."""
         line = as_line(text)
         at = place_for(self.lines, line)
@@ -167,19 +181,19 @@ class Session:
         moved = lambda number: number + (number > at)
         return self.change(line, [*self.lines[:at], line, *self.lines[at:]], moved, at + 1)
 
-    def name(self, line):
+    def name(self, line: str) -> list[str]:
         """Takes a comment that names a number; it stands at the end, and the run stays as it is."""
         self.keep(line, [*self.lines, line.strip()], self.report, self.capture)
         return [f"kept as line {len(self.lines)}"]
 
-    def replace(self, number, text):
+    def replace(self, number: str, text: str) -> list[str]:
         """Puts a line in the place of another."""
         at = self.index(number)
         if at is None:
             return [f"there is no line {number}"]
         return self.change(self.lines[at], [*self.lines[:at], as_line(text), *self.lines[at + 1:]], added=at + 1)
 
-    def delete(self, number):
+    def delete(self, number: str) -> list[str]:
         """Takes a line away."""
         at = self.index(number)
         if at is None:
@@ -189,11 +203,11 @@ class Session:
         told = self.change(f"deletion of {gone}", [*self.lines[:at], *self.lines[at + 1:]], moved)
         return told if told and told[0].startswith("not kept") else [f"deleted: {gone}", *told]
 
-    def index(self, number):
+    def index(self, number: str) -> int | None:
         """The index of the line of that number; None where there is none."""
         return int(number) - 1 if number.isdecimal() and 0 < int(number) <= len(self.lines) else None
 
-    def load(self, file):
+    def load(self, file: str | None) -> list[str]:
         """Runs over a capture from now on, or over none."""
         if file and not os.path.isfile(file):
             return [f"{file} is no file that is there"]
@@ -208,7 +222,7 @@ class Session:
         told = [f"loaded: {end[2]} records, of which {end[4]} are dispatched"] if file else ["no capture is loaded"]
         return [*told, *changes.told(before, changes.answers(report), self.lines, lambda line: False)]
 
-    def undo(self):
+    def undo(self) -> list[str]:
         """Takes back the last change."""
         if not self.past:
             return ["nothing was added"]
@@ -217,10 +231,10 @@ class Session:
 
     # ---- what is told
 
-    def tell(self, added):
+    def tell(self, added: int) -> list[str]:
         """What the added line did; of a line with many records the first ones, and how the others went."""
         bindings = Bindings(self.script)
-        teller, told, others = Teller(self.script, bindings), [], []
+        teller, told, others = Teller(self.script, bindings), list[str](), list[Line]()
         for line in self.report:
             if line.kind not in ("entry", "job"):
                 continue
@@ -233,7 +247,7 @@ class Session:
             told += [f"and {len(others):,} more:", *(f"  {row}" for row in told_of(others))]
         return told or self.quiet(added)
 
-    def quiet(self, added):
+    def quiet(self, added: int) -> list[str]:
         """What is told of a line that has no entry."""
         words = self.lines[added - 1].split()
         if words[0] == "lane":
@@ -245,7 +259,7 @@ class Session:
         return [f"kept: {notes[-1].text}"] if notes else [f"kept as line {added}"]
 
     @staticmethod
-    def entry(teller, line, event):
+    def entry(teller: Teller, line: Line, event: int | None) -> list[str]:
         """An entry or a job in words: its place, its verdict or chain, its answer, and the bindings in their order."""
         rows = teller.entry(line)
         told = [f"place {line.place}, lane {line.lane}, line {line.source}: {rows[0].text}"]
@@ -255,15 +269,15 @@ class Session:
             told.append(f"  {teller.script.called('event', event)} now runs: {'; '.join(order) or 'nothing'}")
         return told
 
-    def show(self):
+    def show(self) -> list[str]:
         """The script with its lines' numbers."""
         return [f"{at:>4}  {line}" for at, line in enumerate(self.lines, 1)]
 
-    def shown_report(self):
+    def shown_report(self) -> list[str]:
         """The report of the run, as the program wrote it."""
         return [line.text for line in self.report]
 
-    def why(self, line):
+    def why(self, line: str) -> list[str]:
         """Why a line of the script came to what it did."""
         number, _, part = line.partition(".")
         if not number.isdecimal() or part and not part.isdecimal():
@@ -272,14 +286,14 @@ class Session:
         found = explain(self.script, self.report, self.records(), is_wanted)
         return [text for one in found for text in one.lines] or [f"line {line} has no entry"]
 
-    def save(self, file):
+    def save(self, file: str) -> list[str]:
         """Writes the script."""
         fault = written(file, "".join(f"{line}\n" for line in self.lines))
         if not fault:
             self.saved = self.lines
         return [fault or f"written: {len(self.lines)} lines"]
 
-    def draw(self, file):
+    def draw(self, file: str) -> list[str]:
         """Draws the run as it is now."""
         try:
             drawing = run_picture.draw(self.script, self.report, self.records())
@@ -288,7 +302,7 @@ class Session:
         text = page(drawing, "a session") if file.endswith(".html") else drawing.text
         return [written(file, text) or f"drawn: {file}"]
 
-    def choices(self, line):
+    def choices(self, line: str) -> list[str]:
         """The words that may take the place of the last one of a line."""
         script = self.script
         bindings = Bindings(script)
@@ -298,7 +312,7 @@ class Session:
         return completing.choices(script, bindings, len(self.lines), line)
 
 
-def written(file, text):
+def written(file: str, text: str) -> str:
     """Writes a file; answers why it couldn't be, or nothing."""
     try:
         picture.write(text, file)
@@ -307,19 +321,21 @@ def written(file, text):
     return ""
 
 
-def is_edit(words):
+def is_edit(words: list[str]) -> bool:
     """Whether words put a line in the place of another: those of a command `replace` are numbers."""
     return words[0] == "replace" and (len(words) < 3 or not words[2][0].isdecimal())
 
 
-def answer(session, line):
+def answer(session: Session, line: str) -> list[str] | None:
     """What is said to one line of the input; None ends the session."""
     words = line.split()
     if not words or words[0].startswith("#"):
         return session.name(line) if NAMING.fullmatch(line.strip()) else []
     if words in (["quit"], ["exit"]):
         return None
-    alone = {"undo": session.undo, "show": session.show, "report": session.shown_report, "help": HELP.splitlines}
+    alone: dict[str, Callable[[], list[str]]] = {
+        "undo": session.undo, "show": session.show, "report": session.shown_report, "help": HELP.splitlines,
+    }
     with_word = {"save": session.save, "draw": session.draw, "why": session.why, "delete": session.delete}
     if len(words) == 1 and words[0] in alone:
         return alone[words[0]]()
@@ -334,14 +350,14 @@ def answer(session, line):
     return session.take(line)
 
 
-def complete_by(session):
+def complete_by(session: Session) -> None:
     """Has the key TAB complete words, where lines are typed and there is a library for it."""
     try:
         import readline
     except ImportError:
         return
 
-    def completed(_, state):
+    def completed(_: str, state: int) -> str | None:
         """The completion of this number, None behind the last."""
         found = session.choices(readline.get_line_buffer()[:readline.get_endidx()])
         return f"{found[state]}{'' if found[state].endswith('/') else ' '}" if state < len(found) else None
@@ -351,7 +367,7 @@ def complete_by(session):
     readline.parse_and_bind("tab: complete")
 
 
-def inputs(prompt):
+def inputs(prompt: str) -> Iterator[str]:
     """The lines that are typed, or come from a pipe; an interrupt gives up the line that is being typed."""
     while True:
         try:
@@ -364,7 +380,7 @@ def inputs(prompt):
             print()
 
 
-def first_lines(files):
+def first_lines(files: list[str]) -> list[str]:
     """The script with which the session begins, and its lines."""
     if not files:
         return ["spin 2"]
@@ -376,7 +392,7 @@ def first_lines(files):
         raise picture.Refused(f"the script {files[0]} can't be read: {error.strerror}", status)
 
 
-def is_given_up(session):
+def is_given_up(session: Session) -> bool:
     """Whether the session ends: where lines would be lost, that is asked."""
     if not session.is_unsaved:
         return True
@@ -387,7 +403,7 @@ def is_given_up(session):
         return True
 
 
-def talk(session):
+def talk(session: Session) -> None:
     """Answers the lines of the input until it ends or the session is quit."""
     is_typed = sys.stdin.isatty()
     if is_typed:
@@ -403,7 +419,7 @@ def talk(session):
             return
 
 
-def main(words):
+def main(words: list[str]) -> int:
     """Begins a session with the script, and answers the exit status."""
     if len(words) > 2 or any(word.startswith("-") for word in words):
         program.tell(USAGE)

@@ -3,6 +3,7 @@ or never. A report in which nothing of this is found may still be that of no run
 """
 
 import re
+from collections.abc import Mapping
 
 from wrapper import reading
 
@@ -14,7 +15,7 @@ OTHERS = re.compile(
 )
 
 
-def why_stray(line, deeds, last):
+def why_stray(line: str, deeds: Mapping[int, reading.Deed], last: dict[int, tuple[int, int]]) -> str | None:
     """Why a line can't be in the report; None where this doesn't tell. `last` is each lane's last entry so far."""
     if OTHERS.fullmatch(line):
         return None
@@ -34,14 +35,15 @@ def why_stray(line, deeds, last):
     return None
 
 
-def shortened(line):
+def shortened(line: str) -> str:
     """A line of a report, cut where it is long."""
     return line if len(line) <= 60 else f"{line[:56]} ..."
 
 
-def first(script, report):
+def first(script: str, report: str) -> str | None:
     """What is told of the first line of a report that can't be there, or of the first deed without an entry; None else."""
-    deeds, last, lines = reading.read_script(script).deeds, {}, report.splitlines()
+    deeds, lines = reading.read_script(script).deeds, report.splitlines()
+    last: dict[int, tuple[int, int]] = {}
     for at, line in enumerate(lines, 1):
         why = why_stray(line, deeds, last)
         if why:

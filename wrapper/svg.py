@@ -5,8 +5,11 @@ each box says its kind in words or by a mark. A dark scheme is used where the re
 """
 
 import json
-from collections import namedtuple
+from collections.abc import Collection, Iterable, Mapping, Sequence
 from html import escape
+from typing import NamedTuple
+
+from wrapper.reading import Names
 
 CHAR, LINE, PAD = 6.65, 15, 6
 FONT = "'DejaVu Sans Mono',Menlo,Consolas,'Liberation Mono',monospace"
@@ -24,8 +27,13 @@ KINDS = {
 MOST_PARTS = 400_000
 
 
-# A picture, the values of its filter, of each box by its number why it says what it does, and names by kind and number.
-Drawn = namedtuple("Drawn", "text values whys names", defaults=((), {}))
+class Drawn(NamedTuple):
+    """A picture, the values of its filter, why each box says what it does, by its number, and names."""
+
+    text: str
+    values: Mapping[str, set[int]]
+    whys: Sequence[str]
+    names: Names
 
 
 class TooLarge(Exception):
@@ -41,7 +49,7 @@ SCHEMES = {
 }
 
 
-def scheme(name, at):
+def scheme(name: str, at: int) -> str:
     """The rules of style of one scheme."""
     of = SCHEMES[name]
     rules = [f".paper{{fill:{of['paper']}}}text{{fill:{of['ink']}}}.faint{{fill:{of['faint']}}}"]
@@ -52,20 +60,20 @@ def scheme(name, at):
     return "".join(rules)
 
 
-def style():
+def style() -> str:
     """The style that a picture carries."""
     night = f"@media (prefers-color-scheme:dark){{{scheme('night', 1)}}}"
     return f"<style>{COMMON % FONT}\n{scheme('day', 0)}\n{night}</style>"
 
 
-def width_of(text):
+def width_of(text: str) -> float:
     """How wide a text of the common size is at most."""
     return len(text) * CHAR
 
 
-def wrapped(text, width):
+def wrapped(text: str, width: float) -> list[str]:
     """The text in lines that are no wider than that; a word that is too long is broken."""
-    most, lines, line = max(8, int(width / CHAR)), [], ""
+    most, lines, line = max(8, int(width / CHAR)), list[str](), ""
     for word in text.split(" "):
         while len(word) > most:
             room = most - len(line) - 1 if line else most
@@ -82,14 +90,14 @@ def wrapped(text, width):
     return lines + [line] if line or not lines else lines
 
 
-def shortened(word, most=24):
+def shortened(word: str, most: int = 24) -> str:
     """A long value of bytes with its middle left out, and how many bytes it has."""
     if len(word) <= most or not word.startswith("x"):
         return word
     return f"{word[:most - 8]}…{word[-4:]}({(len(word) - 1) // 2} bytes)"
 
 
-def marks(values):
+def marks(values: Mapping[str, Collection[int]]) -> str:
     """Attributes by which a page's filter finds a box: each name with its numbers."""
     return "".join(f' data-{name}="{" ".join(map(str, sorted(set(of))))}"' for name, of in values.items() if of)
 
@@ -97,41 +105,42 @@ def marks(values):
 class Sheet:
     """What is drawn so far, in the order of drawing."""
 
-    def __init__(self, width):
+    def __init__(self, width: float) -> None:
         """Begins an empty sheet."""
-        self.width, self.parts = width, []
+        self.width = width
+        self.parts: list[str] = []
 
-    def add(self, part):
+    def add(self, part: str) -> None:
         """Adds a part, of which there is a most."""
         if len(self.parts) >= MOST_PARTS:
             raise TooLarge
         self.parts.append(part)
 
-    def text(self, x, y, text, look=""):
+    def text(self, x: float, y: float, text: str, look: str = "") -> None:
         """A line of text whose base line is at y."""
         of = f' class="{look}"' if look else ""
         self.add(f'<text x="{x:.5g}" y="{y:.7g}"{of}>{escape(text)}</text>')
 
-    def box(self, x, y, width, height, look, title=""):
+    def box(self, x: float, y: float, width: float, height: float, look: str, title: str = "") -> None:
         """A box, which tells its title."""
         inside = f"><title>{escape(title)}</title></rect>" if title else "/>"
         place = f'x="{x:.5g}" y="{y:.7g}" width="{width:.5g}" height="{height:.6g}"'
         self.add(f'<rect {place} rx="3" class="{look}"{inside}')
 
-    def path(self, shape, look, title="", data=""):
+    def path(self, shape: str, look: str, title: str = "", data: str = "") -> None:
         """A line along a shape."""
         inside = f"><title>{escape(title)}</title></path>" if title else "/>"
         self.add(f'<path d="{shape}" class="{look}"{data}{inside}')
 
-    def begin(self, look, title="", data=""):
+    def begin(self, look: str, title: str = "", data: str = "") -> None:
         """Begins a group, whose title each thing in it tells."""
         self.add(f'<g class="{look}"{data}>' + (f"<title>{escape(title)}</title>" if title else ""))
 
-    def end(self):
+    def end(self) -> None:
         """Ends the group."""
         self.add("</g>")
 
-    def write(self, height, title):
+    def write(self, height: float, title: str) -> str:
         """The whole picture as SVG."""
         head = (
             f'<svg xmlns="http://www.w3.org/2000/svg" width="{self.width:.0f}" height="{height:.0f}" '
@@ -141,7 +150,7 @@ class Sheet:
         return "\n".join([f"{head}{style()}{paper}", *self.parts, "</svg>"]) + "\n"
 
 
-def legend(sheet, x, y, kinds):
+def legend(sheet: Sheet, x: float, y: float, kinds: Mapping[str, str]) -> float:
     """The legend of these kinds, each with its words, in rows from there on; answers where it ends."""
     left = x
     for kind, text in kinds.items():
@@ -200,14 +209,14 @@ choose();
 """
 
 
-def choice(name, values, names):
+def choice(name: str, values: Iterable[int], names: Mapping[tuple[str, int], str]) -> str:
     """A list of a page's filter, from which one number is chosen; those that have names are shown with them."""
     shown = {value: f"{value} {names.get((name, value), '')}".strip() for value in sorted(values)}
     options = "".join(f'<option value="{value}">{escape(text)}</option>' for value, text in shown.items())
     return f'<label>{name} <select name="{name}"><option value="">all</option>{options}</select></label>'
 
 
-def page(drawn, title):
+def page(drawn: Drawn, title: str) -> str:
     """The picture in a page with a filter by the names of its values; a click on a box tells why."""
     choices = "".join(choice(name, of, drawn.names) for name, of in drawn.values.items() if of)
     whys = json.dumps(list(drawn.whys)).replace("<", "\\u003c")

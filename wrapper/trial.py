@@ -13,6 +13,7 @@ import sys
 import tempfile
 import threading
 import time
+from collections.abc import Callable, Iterator
 from pathlib import Path
 
 from wrapper import kit, plain
@@ -22,7 +23,7 @@ from wrapper.program import CRATE, NOT_RUN, tell
 READERS = ("run", "check", "join", "vm")
 
 
-def has_toolchain(otherwise=kit.NOT_FOUND):
+def has_toolchain(otherwise: str = kit.NOT_FOUND) -> bool:
     """Whether the toolchain is installed; where it isn't, this line is told."""
     try:
         subprocess.run(["rt", "version"], stdout=subprocess.DEVNULL, stderr=subprocess.DEVNULL)
@@ -32,18 +33,19 @@ def has_toolchain(otherwise=kit.NOT_FOUND):
     return True
 
 
-def passed(since):
+def passed(since: float) -> str:
     """How long it has been, in words."""
     minutes, seconds = divmod(int(time.monotonic() - since), 60)
     return f"{minutes} min {seconds} s"
 
 
 @contextlib.contextmanager
-def each_minute(say):
+def each_minute(say: Callable[[], None]) -> Iterator[None]:
     """Makes this call once a minute, while what stands below this runs."""
     ended = threading.Event()
 
-    def watch():
+    def watch() -> None:
+        """Makes the call until the end."""
         while not ended.wait(60):
             say()
 
@@ -56,9 +58,9 @@ def each_minute(say):
         thread.join()
 
 
-def handed_in(words, folder, beside):
+def handed_in(words: list[str], folder: str | Path, beside: Path) -> tuple[list[str], list[str]]:
     """The words as a trial gets them, and the flags that hand in what they name; `beside` is a folder for what is read."""
-    given, flags = list(words), []
+    given, flags = list(words), list[str]()
     for at, word in enumerate(words[1:], start=1) if words[:1] and words[0] in READERS else []:
         try:
             file = os.path.join(folder, word)
@@ -77,14 +79,16 @@ def handed_in(words, folder, beside):
     return given, flags
 
 
-def ended(words, stdout, status):
+def ended(words: list[str], stdout: bytes | None, status: int) -> subprocess.CompletedProcess[bytes]:
     """What a run that ended so answers."""
     return subprocess.CompletedProcess(words, status, stdout, b"")
 
 
-def run(words, cwd=None, capture_output=False, stdout=None, **_):
+def run(
+    words: list[str], cwd: str | Path | None = None, stdout: int | None = None,
+) -> subprocess.CompletedProcess[bytes]:
     """Runs the words on the program as it stands, with no proof, and answers what `subprocess.run` would."""
-    keeps = capture_output or stdout == subprocess.PIPE
+    keeps = stdout == subprocess.PIPE
     why = "the plain program can't be built" if plain.builder() else "cargo isn't found"
     if not has_toolchain(f"{why}, and the command rt isn't found: cargo builds the plain program, rt the proved one"):
         return ended(words, b"", NOT_RUN)

@@ -4,47 +4,51 @@ An argument is a number or bytes. Nothing is proved of what is worked here.
 """
 
 import re
+from collections.abc import Callable, Iterable, Sequence
 
 from wrapper.reading import number
 
+# An argument of a raise.
+Argument = int | bytes
+
 WORD = 1 << 64
 WIDTHS = (1, 2, 4, 8)
-COMPARES = {
+COMPARES: dict[str, Callable[[int, int], bool]] = {
     "==": lambda left, right: left == right, "!=": lambda left, right: left != right,
     "<": lambda left, right: left < right, "<=": lambda left, right: left <= right,
 }
-SUMS = {
+SUMS: dict[str, Callable[[int, int], int]] = {
     "+": lambda left, right: (left + right) % WORD, "&": lambda left, right: left & right,
     "|": lambda left, right: left | right,
 }
-JOINS = {"all": (" and ", all), "any": (" or ", any)}
+JOINS: dict[str, tuple[str, Callable[[Iterable[bool]], bool]]] = {"all": (" and ", all), "any": (" or ", any)}
 
 
-def word_at(arguments, which):
+def word_at(arguments: Sequence[Argument], which: int) -> int:
     """The number that an argument is; 0 where it is none."""
     found = arguments[which] if which < len(arguments) else 0
     return found if isinstance(found, int) else 0
 
 
-def bytes_at(arguments, which, start=0):
+def bytes_at(arguments: Sequence[Argument], which: int, start: int = 0) -> bytes:
     """The bytes of an argument from there on; none where it is none."""
     found = arguments[which] if which < len(arguments) else b""
     return b"" if isinstance(found, int) else found[start:]
 
 
-def field(content, offset, width):
+def field(content: bytes, offset: int, width: int) -> int:
     """The number in so many bytes; 0 where they reach past the end."""
     if width not in WIDTHS or offset + width > len(content):
         return 0
     return int.from_bytes(content[offset:offset + width], "big")
 
 
-def in_brackets(text):
+def in_brackets(text: str) -> str:
     """A text that stands within another one."""
     return f"({text})" if " " in text else text
 
 
-def alike(text, other):
+def alike(text: str, other: str) -> str:
     """A number in hexadecimal digits where the other side of a comparison is written so."""
     if text.isdigit() and re.fullmatch("0[xX][0-9a-fA-F]+", other):
         return f"0x{int(text):0{len(other) - 2}x}"
@@ -54,25 +58,25 @@ def alike(text, other):
 class Code:
     """Words in prefix form, read one after another over arguments."""
 
-    def __init__(self, words, arguments):
+    def __init__(self, words: list[str], arguments: list[Argument]) -> None:
         """Begins with the first word."""
         self.words, self.arguments, self.at = words, arguments, 0
 
     @property
-    def is_left(self):
+    def is_left(self) -> bool:
         """Whether a word is left."""
         return self.at < len(self.words)
 
-    def word(self):
+    def word(self) -> str:
         """The next word."""
         self.at += 1
         return self.words[self.at - 1]
 
-    def number(self):
+    def number(self) -> int:
         """The number that the next word is."""
         return number(self.word())
 
-    def expression(self):
+    def expression(self) -> tuple[int, str]:
         """The value of the next expression, and its text."""
         word = self.word()
         if word in SUMS:
@@ -87,7 +91,7 @@ class Code:
             return found, str(found)
         return number(word), word
 
-    def test(self, is_part=False):
+    def test(self, is_part: bool = False) -> tuple[bool, str]:
         """Whether the next test holds, and its text; of a part of a greater one it says where it doesn't."""
         word = self.word()
         if word in JOINS:
@@ -106,7 +110,7 @@ class Code:
             holds, text = COMPARES[word](left, right), f"{sides[0]} {word} {sides[1]}"
         return holds, f"{text} (no)" if is_part and not holds else text
 
-    def joined(self, word):
+    def joined(self, word: str) -> tuple[bool, str]:
         """Whether both of the next two tests hold, or one of them, and their text."""
         between, how = JOINS[word]
         found = []

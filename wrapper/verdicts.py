@@ -5,8 +5,8 @@ Nothing is proved of it; what it comes to is compared with the report.
 
 from dataclasses import dataclass, field
 
-from wrapper.bindings import Binding, effect_of, least_order, matches, read_wish
-from wrapper.reading import number
+from wrapper.bindings import Binding, Bindings, Live, Wish, effect_of, least_order, matches, read_wish
+from wrapper.reading import Script, number
 from wrapper.replay import guard_code, handler_code, kinds
 
 # The program's native authoriser, as rules would write it.
@@ -27,28 +27,31 @@ class Asked:
     target: int = 0
     handler: int = 0
     guard: int = 0
-    wish: object = None
+    wish: Wish | None = None
 
 
 @dataclass
 class Verdict:
     """What is answered: the report's words, the rules that were gone through, and why."""
 
-    words: list
-    rules: list = field(default_factory=list)
+    words: list[str]
+    rules: list[str] = field(default_factory=list)
     why: str = ""
 
 
-def read_asked(version, words):
+def read_asked(version: int, words: list[str]) -> Asked:
     """What the words of a command ask for."""
     if words[0] == "install":
         event, module, handler, guard = map(number, words[1:5])
         return Asked("install", event, module, 0, handler, guard, read_wish(version, words[5:]))
-    found = [number(word) for word in words[1:]]
-    return Asked("default", *found[:2], 0, found[2]) if words[0] == "default" else Asked(words[0], *found)
+    event, module, *found = map(number, words[1:])
+    if words[0] == "default":
+        return Asked("default", event, module, handler=found[0])
+    target, handler, guard = [*found, 0, 0, 0][:3]
+    return Asked(words[0], event, module, target, handler, guard)
 
 
-def steps_raise_down(script, asked):
+def steps_raise_down(script: Script, asked: Asked) -> bool:
     """Whether the handler raises an event that isn't greater than the command's."""
     words = handler_code(script, asked.handler)[1:]
     raised = [number(words[at + 1]) for at, word in enumerate(words) if word == "up"]
@@ -59,11 +62,11 @@ def steps_raise_down(script, asked):
 class Judge:
     """Judges a command at the bindings as they stand."""
 
-    def __init__(self, script, bindings):
+    def __init__(self, script: Script, bindings: Bindings) -> None:
         """Takes the script, and the bindings that are followed beside it."""
         self.script, self.bindings = script, bindings
 
-    def judge(self, words):
+    def judge(self, words: list[str]) -> Verdict:
         """What is answered to the words of a command."""
         asked = read_asked(self.script.version, words)
         if asked.event not in self.script.events:
@@ -77,15 +80,15 @@ class Judge:
         return self.by_owner(asked, live)
 
     @staticmethod
-    def refused(name, why, more=()):
+    def refused(name: str, why: str) -> Verdict:
         """A refusal."""
-        return Verdict(["refused", str(NUMBERS[name]), name, *map(str, more)], [], why)
+        return Verdict(["refused", str(NUMBERS[name]), name], [], why)
 
-    def handler(self, asked):
+    def handler(self, asked: Asked) -> str:
         """The handler that a command uses."""
         return self.script.called("handler", asked.handler)
 
-    def of_units(self, asked, live):
+    def of_units(self, asked: Asked, live: Live) -> tuple[str, str] | None:
         """What is wrong with the handler, guard and bindings that a command names, and why; None where all is well."""
         script, signature = self.script, self.script.events[asked.event][1]
         event = script.called("event", asked.event)
@@ -107,7 +110,7 @@ class Judge:
             return "wrong_type", f"{its}, and {event} has {signature}"
         return self.of_steps(asked, live) if uses_handler else None
 
-    def of_steps(self, asked, live):
+    def of_steps(self, asked: Asked, live: Live) -> tuple[str, str] | None:
         """What is wrong with the steps of the handler, and why; None where they are well."""
         if steps_raise_down(self.script, asked):
             return "downward", f"{self.handler(asked)} raises an event that isn't greater than {asked.event}"
@@ -116,22 +119,22 @@ class Judge:
             return "wrong_mode", f"{self.handler(asked)} changes an argument, which only a filter may do"
         return None
 
-    def by_owner(self, asked, live):
+    def by_owner(self, asked: Asked, live: Live) -> Verdict:
         """What the owner's rules answer, and what comes of it."""
         which, is_allowed, rules = self.decided(asked, live)
         verdict = Verdict(["ok"], rules)
         if not is_allowed:
             verdict.words = ["refused", "9", "denied", str(which)]
-        elif asked.kind == "install":
-            self.of_install(asked, live, which, verdict)
+        elif asked.wish:
+            self.of_install(asked, asked.wish, live, which, verdict)
         return verdict
 
-    def of_install(self, asked, live, which, verdict):
+    def of_install(self, asked: Asked, wish: Wish, live: Live, which: int, verdict: Verdict) -> None:
         """What comes of an install that the owner allows."""
         most = 64 if self.script.version == 3 else 32
         imposed, place, mode = effect_of(self.script, asked.event, asked.module, "install", asked.handler, False)
-        one = Binding(4097, asked.event, asked.module, asked.handler, asked.guard, imposed, asked.wish.place,
-                      asked.wish.before, asked.wish.after, asked.wish.mode)
+        one = Binding(4097, asked.event, asked.module, asked.handler, asked.guard, imposed, wish.place,
+                      wish.before, wish.after, wish.mode)
         if place != "keep":
             one.place, one.before, one.after = place, (), ()
         if mode == "async" and "set" in handler_code(self.script, asked.handler):
@@ -144,11 +147,11 @@ class Judge:
             verdict.words = ["refused", "11", "conflict"]
             verdict.why = "with it the bindings would have no order, since some would have to run before each other"
 
-    def decided(self, asked, live):
+    def decided(self, asked: Asked, live: Live) -> tuple[int, bool, list[str]]:
         """The number of the rule that decides, whether it allows, and what is told of the rules up to it."""
         if number(self.script.events[asked.event][0]) == asked.module:
             return 0, True, [f"{self.script.called('module', asked.module)} owns the event, so no rule is asked"]
-        native, told = self.script.authorisers.get(asked.event), []
+        native, told = self.script.authorisers.get(asked.event), list[str]()
         rules = OWN_TWO if native else self.script.rules.get(asked.event, [])
         is_foreign = asked.target != 0 and live[asked.target].module != asked.module
         for which, rule in enumerate(rules, 1):
@@ -161,7 +164,7 @@ class Judge:
             told.append(f"{text}: it doesn't speak of this")
         return 0, False, [*told, "no rule speaks of this, so it is denied"]
 
-    def effect(self, asked, effect, live):
+    def effect(self, asked: Asked, effect: list[str], live: Live) -> tuple[bool, str]:
         """Whether a rule that decides allows the command, and why."""
         if effect[0] == "deny":
             return False, "denied"

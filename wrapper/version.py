@@ -9,14 +9,14 @@ from wrapper.program import TOP, tell
 LANGUAGES = "scripts of version 1 to 3, reports and traces of version 1"
 
 
-def which():
+def which() -> str:
     """Which program would run."""
     if program.INSTALLED.is_file():
         return (TOP / "proved").read_text().strip()
     return "the proved program is built" if program.is_built() else "the proved program isn't built"
 
 
-def commit():
+def commit() -> str:
     """The commit that is checked out, as git tells it; empty where there is none."""
     words = ["git", "-C", str(TOP), "describe", "--always", "--dirty"]
     try:
@@ -26,7 +26,7 @@ def commit():
     return told.stdout.decode().strip() if told.returncode == 0 else ""
 
 
-def main(words):
+def main(words: list[str]) -> int:
     """Writes what this is, and answers the exit status."""
     if words:
         tell("version takes no further word")

@@ -12,7 +12,9 @@ import signal
 import struct
 import subprocess
 import sys
+from collections.abc import Iterable, Mapping
 from pathlib import Path
+from typing import TypedDict
 
 sys.path.insert(0, str(Path(__file__).resolve().parent.parent))
 from wrapper.counts import Report
@@ -24,8 +26,39 @@ DONE = "done.json"
 # The endpoints whose files hold what was sent, as it was sent.
 PLAIN_NAMES = ("out0", "out1", "out2", "out3")
 
+# What a finished piece was made of, as JSON has it.
+Key = dict[str, object]
 
-def copy_piece(task, file):
+
+class Task(TypedDict):
+    """What a worker is told of a piece, as JSON has it."""
+
+    folder: str
+    key: Key
+    command: list[str]
+    script: str
+    # the names of endpoints by their numbers
+    names: dict[str, str]
+    capture: str
+    order: str
+    captured_second: int
+    start: int
+    end: int
+    records: int
+    # how many parts of a second the records that are written count, None where none are
+    second: int | None
+    hits: bool
+
+
+class Answer(TypedDict, total=False):
+    """What a worker answers: the counts of a piece, or the status and why there are none."""
+
+    counts: Mapping[str, int]
+    status: int
+    why: str
+
+
+def copy_piece(task: Task, file: Path) -> None:
     """Writes a piece of a capture as a capture of its own."""
     with open(task["capture"], "rb", buffering=0) as source, open(file, "wb", buffering=0) as target:
         for at, end in ((0, HEADER), (task["start"], task["end"])):
@@ -36,7 +69,7 @@ def copy_piece(task, file):
                 at += sent
 
 
-def run_program(task, work):
+def run_program(task: Task, work: Path) -> Report:
     """Runs the program on a piece in its folder, and answers what its report says."""
     words = [*task["command"], "run", "piece.spin", "piece.pcap"]
     with open(work / "report", "w+b") as file:
@@ -53,9 +86,9 @@ def run_program(task, work):
     return report
 
 
-def senders(lines, bases):
+def senders(lines: Iterable[bytes], bases: Mapping[int, int]) -> dict[str, list[int]]:
     """Of each endpoint's number the records whose raises sent to it, in the order of the sends."""
-    found = {}
+    found: dict[str, list[int]] = {}
     for line in lines:
         words = line.decode().split()
         number, part = words[3 if words[0] == "job" else 2].split(".")
@@ -65,9 +98,11 @@ def senders(lines, bases):
     return found
 
 
-def write_frames(task, work, endpoint, name, records):
-    """Writes what an endpoint received as records of a capture, where each is the frame of the record that sent it."""
-    scale = task["second"] // task["captured_second"]
+def write_frames(task: Task, work: Path, scale: int, name: str, records: Iterable[int]) -> None:
+    """Writes what an endpoint received as records of a capture, where each is the frame of the record that sent it.
+
+    A part of a second of the capture that was read is `scale` of those that are written.
+    """
     fields = struct.Struct(f"{task['order']}IIII")
     with open(work / "piece.pcap", "rb", buffering=0) as capture:
         stands = list(places(capture, task["order"], HEADER, task["records"]))
@@ -85,19 +120,19 @@ def write_frames(task, work, endpoint, name, records):
     os.remove(work / f"{name}.pcap")
 
 
-def write_all_frames(task, work, report):
+def write_all_frames(task: Task, second: int, work: Path, report: Report) -> None:
     """Writes the frames of each endpoint that received some."""
     bases, total = {}, 0
     for line, records in packet_lines(task["script"]):
         bases[line] = total
         total += records
-    for endpoint, records in senders(report.sends, bases).items():
+    for endpoint, sent in senders(report.sends, bases).items():
         name = task["names"][endpoint]
         if name in PLAIN_NAMES and (work / f"{name}.bin").exists():
-            write_frames(task, work, endpoint, name, records)
+            write_frames(task, work, second // task["captured_second"], name, sent)
 
 
-def run_piece(task):
+def run_piece(task: Task) -> Mapping[str, int]:
     """Runs the program on a piece, leaves the piece's folder, and answers its counts."""
     work = Path(f"{task['folder']}.{os.getpid()}")
     shutil.rmtree(work, ignore_errors=True)
@@ -106,7 +141,7 @@ def run_piece(task):
     copy_piece(task, work / "piece.pcap")
     report = run_program(task, work)
     if task["second"] is not None:
-        write_all_frames(task, work, report)
+        write_all_frames(task, task["second"], work, report)
     for name in ("piece.spin", "piece.pcap", "report"):
         os.remove(work / name)
     (work / DONE).write_text(json.dumps({"key": task["key"], "counts": report.counts}))
@@ -117,12 +152,12 @@ def run_piece(task):
     return report.counts
 
 
-def serve():
+def serve() -> None:
     """Runs each piece that the standard input names."""
     signal.signal(signal.SIGINT, signal.SIG_IGN)
     for line in sys.stdin:
         try:
-            answer = {"counts": run_piece(json.loads(line))}
+            answer: Answer = {"counts": run_piece(json.loads(line))}
         except Refused as refused:
             answer = {"status": refused.status, "why": str(refused)}
         except OSError as error:
