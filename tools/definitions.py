@@ -5,6 +5,7 @@
 
 import os
 import re
+from collections.abc import Iterator
 from dataclasses import dataclass, field
 
 TOP = os.path.dirname(os.path.dirname(os.path.realpath(__file__)))
@@ -19,17 +20,17 @@ class Definition:
     name: str
     file: str
     line: int
-    text: list = field(default_factory=list)
-    comment: list = field(default_factory=list)
-    module: object = None
+    text: list[str] = field(default_factory=list)
+    comment: list[str] = field(default_factory=list)
+    module: "Module | None" = None
     is_spec: bool = False
 
     @property
-    def key(self):
+    def key(self) -> tuple[str, int]:
         """What tells it from every other one."""
         return self.file, self.line
 
-    def lines(self):
+    def lines(self) -> int:
         """How many lines it has without comments."""
         return sum(1 for line in self.text if line.strip() and not line.strip().startswith(("--", "//")))
 
@@ -38,14 +39,14 @@ class Definition:
 class Module:
     """A file of definitions: what it has, and what the names and aliases of its imports stand for."""
 
-    own: dict
-    names: dict
-    aliases: dict
+    own: dict[str, Definition]
+    names: dict[str, tuple[str, str]]
+    aliases: dict[str, str]
 
 
-def imports(text):
+def imports(text: str) -> tuple[dict[str, tuple[str, str]], dict[str, str]]:
     """The names that the imports bring in, and the aliases of modules."""
-    names, aliases = {}, {}
+    names, aliases = dict[str, tuple[str, str]](), dict[str, str]()
     for path, items, alias in re.findall(r"^\s*(?:ghost )?use ([\w.]+?)(?:\.\{([^}]*)\}|(?: as (\w+)))?;?\s*$", text, re.M):
         if alias:
             aliases[alias] = path
@@ -55,11 +56,12 @@ def imports(text):
     return names, aliases
 
 
-def read_module(file):
+def read_module(file: str) -> Module:
     """The definitions of a file of specs/."""
     with open(f"{TOP}/{file}", encoding="utf-8") as it:
         text = it.read()
-    own, last, comment = {}, None, []
+    own, comment = dict[str, Definition](), list[str]()
+    last = None
     for number, line in enumerate(text.split("\n"), 1):
         head = HEAD.match(line)
         if head:
@@ -78,7 +80,7 @@ def read_module(file):
     return module
 
 
-def modules():
+def modules() -> dict[str, Module]:
     """The files of specs/, by the paths under which they are imported."""
     found = {}
     for crate in sorted(os.listdir(f"{TOP}/crates")):
@@ -91,7 +93,7 @@ def modules():
     return found
 
 
-def declared(path, name):
+def declared(path: str, name: str) -> Definition | None:
     """The type or constant of the sources that `declared` speaks of, with its lines."""
     words = path.split(".")
     if len(words) < 4 or words[3] != "declared":
@@ -110,7 +112,7 @@ def declared(path, name):
     return None
 
 
-def item_of(file, name):
+def item_of(file: str, name: str) -> Definition | None:
     """The item of that name in a source file."""
     with open(f"{TOP}/{file}", encoding="utf-8") as it:
         lines = it.read().split("\n")
@@ -121,7 +123,7 @@ def item_of(file, name):
         if not re.search(r"[;}]\s*$", line):
             while not lines[end].startswith(("}", "]", ")")):
                 end += 1
-        comment, above = [], at - 1
+        comment, above = list[str](), at - 1
         while above >= 0 and lines[above].startswith(("///", "#[")):
             if lines[above].startswith("///"):
                 comment.insert(0, lines[above][3:].strip())
@@ -130,7 +132,7 @@ def item_of(file, name):
     return None
 
 
-def bound(definition):
+def bound(definition: Definition) -> set[str]:
     """The names that the definition itself brings in: parameters, variables and fields."""
     text = "\n".join(definition.text)
     found = re.findall(r"λ ([^.]*)\.", text) + re.findall(r"\(([\w' -]+) :", text)
@@ -140,12 +142,12 @@ def bound(definition):
     return {name for words in found for name in re.findall(NAME, words)}
 
 
-def rust_cited(definition):
+def rust_cited(definition: Definition) -> Iterator[Definition | None]:
     """The types and constants of the repository that a type of the sources names."""
     with open(f"{TOP}/{definition.file}", encoding="utf-8") as it:
         source = it.read()
     crate = definition.file.split("/")[1]
-    brought = {}
+    brought: dict[str, str] = {}
     for path, some, one in re.findall(r"^use ((?:crate|spin_\w+)(?:::\w+)*)::(?:\{([^}]*)\}|(\w+));", source, re.M):
         brought.update({name.strip(): path for name in (some or one).split(",")})
     text = re.sub(r"//.*|#\[.*\]", "", "\n".join(definition.text))
@@ -158,7 +160,7 @@ def rust_cited(definition):
             yield handed_out(brought[word].split("::")[0], word)
 
 
-def handed_out(crate, name):
+def handed_out(crate: str, name: str) -> Definition | None:
     """The type or constant that a crate hands out under that name, where it is its own."""
     for folder, _, files in os.walk(f"{TOP}/crates/{crate}/src"):
         for file in sorted(files):
@@ -171,25 +173,25 @@ def handed_out(crate, name):
 class Names:
     """What the names in a text stand for, in the module of the file that it stands in."""
 
-    def __init__(self):
+    def __init__(self) -> None:
         """Reads all definitions."""
         self.known = modules()
 
-    def cited(self, definition):
+    def cited(self, definition: Definition) -> list[Definition]:
         """The definitions that a definition cites, in the order of its text, each once."""
         if definition.module is None:
             return [it for it in rust_cited(definition) if it and it.key != definition.key]
         module = definition.module
-        own = bound(definition) if definition.is_spec else frozenset()
+        own = bound(definition) if definition.is_spec else set()
         text = "\n".join(re.sub(r"(--|//).*", "", it) for it in definition.text)
-        found = []
+        found: list[Definition] = []
         for word in re.findall(rf"{NAME}(?:\.{NAME})*", text):
             its = None if word.partition(".")[0] in own else self.look_up(word, module)
             if its and its.key != definition.key and its.key not in [it.key for it in found]:
                 found.append(its)
         return found
 
-    def look_up(self, word, module):
+    def look_up(self, word: str, module: Module) -> Definition | None:
         """The definition that a word stands for in a module, if it is one of the repository."""
         first, _, rest = word.partition(".")
         if first in module.aliases and rest:
@@ -198,13 +200,13 @@ class Names:
             return module.own[first]
         return self.meet(*module.names[first]) if first in module.names else None
 
-    def meet(self, path, name):
+    def meet(self, path: str, name: str) -> Definition | None:
         """The definition of that name in the module of that path, or the type or constant of the sources."""
         if path in self.known and name in self.known[path].own:
             return self.known[path].own[name]
         return declared(path, name) if ".declared." in path else None
 
-    def named(self, name):
+    def named(self, name: str) -> Definition:
         """The definition that a name with its crate, as `spin_run:IsWhole`, stands for."""
         crate, _, its = name.partition(":")
         for path, module in self.known.items():

@@ -3,11 +3,12 @@
 import os
 import re
 import sys
+from collections.abc import Iterator, Mapping
 
 TOP = os.path.dirname(os.path.dirname(os.path.realpath(__file__)))
 
 
-def written(path):
+def written(path: str) -> str | None:
     """The text of a page, none where it isn't there."""
     if not os.path.isfile(f"{TOP}/{path}"):
         return None
@@ -15,7 +16,7 @@ def written(path):
         return it.read()
 
 
-def settle(texts, tool):
+def settle(texts: Mapping[str, str], tool: str) -> int:
     """Writes the pages, given by their paths, or under `--check` names each that is another; answers the exit status."""
     stale = []
     for path, text in texts.items():
@@ -29,14 +30,14 @@ def settle(texts, tool):
     return 1 if stale else 0
 
 
-def anchors(path):
+def anchors(path: str) -> set[str]:
     """The anchors of a page's headings."""
     with open(path, encoding="utf-8") as it:
         heads = re.findall(r"^#+ (.*)$", it.read(), re.M)
     return {re.sub(r"[^\w\- ]", "", head.lower()).strip().replace(" ", "-") for head in heads}
 
 
-def is_lost(folder, target):
+def is_lost(folder: str, target: str) -> bool:
     """Whether a link of a page in that folder leads to no file, no line of its file, or no heading of its page."""
     file, _, anchor = target.partition("#")
     full = os.path.normpath(f"{folder}/{file}")
@@ -49,7 +50,7 @@ def is_lost(folder, target):
     return bool(anchor) and full.endswith(".md") and anchor not in anchors(full)
 
 
-def lost_links(path):
+def lost_links(path: str) -> Iterator[str]:
     """The links of a page that lead to no file of the repository, or to no place in one."""
     with open(f"{TOP}/{path}", encoding="utf-8") as it:
         text = re.sub(r"^```.*?^```", "", it.read(), flags=re.M | re.S)

@@ -5,6 +5,7 @@
 
 import os
 import re
+from collections.abc import Iterator, Sequence
 from dataclasses import dataclass, field
 
 TOP = os.path.dirname(os.path.dirname(os.path.realpath(__file__)))
@@ -21,22 +22,22 @@ class Item:
     file: str
     line: int
     comment: str = ""
-    clauses: list = field(default_factory=list)
+    clauses: list[tuple[str, str]] = field(default_factory=list)
 
 
-def read(path):
+def read(path: str) -> list[str]:
     """The lines of a file of the repository."""
     with open(f"{TOP}/{path}", encoding="utf-8") as it:
         return it.read().split("\n")
 
 
-def crates():
+def crates() -> list[str]:
     """The names of the crates, in the order of crates.txt."""
     lines = [line.split("#")[0].strip() for line in read("crates.txt")]
     return [line.split(":")[0].split()[0] for line in lines if line]
 
 
-def sources(crate):
+def sources(crate: str) -> list[str]:
     """The source files of a crate."""
     found = []
     for folder, _, files in os.walk(f"{TOP}/crates/{crate}/src"):
@@ -44,7 +45,7 @@ def sources(crate):
     return sorted(found)
 
 
-def public_names(crate):
+def public_names(crate: str) -> list[tuple[str, str]]:
     """What `src/lib.rt` hands out: pairs of the path that it takes a name from, and the name."""
     path = f"crates/{crate}/src/lib.rt"
     if not os.path.isfile(f"{TOP}/{path}"):
@@ -56,9 +57,9 @@ def public_names(crate):
     return found
 
 
-def comment_above(lines, at):
+def comment_above(lines: Sequence[str], at: int) -> str:
     """The comment of the item in that line, in one line."""
-    words = []
+    words: list[str] = []
     at -= 1
     while at >= 0 and lines[at].strip().startswith(("///", "#[", "//")):
         text = lines[at].strip()
@@ -68,9 +69,9 @@ def comment_above(lines, at):
     return " ".join(words).split("  ")[0]
 
 
-def clauses_below(lines, at):
+def clauses_below(lines: Sequence[str], at: int) -> list[tuple[str, str]]:
     """The clauses of the function whose head begins in that line."""
-    found, depth = [], 0
+    found, depth = list[tuple[str, str]](), 0
     for line in lines[at:]:
         text = line.split("//")[0].rstrip()
         clause = CLAUSE.match(text)
@@ -84,7 +85,7 @@ def clauses_below(lines, at):
     return found
 
 
-def item(crate, name):
+def item(crate: str, name: str) -> Item | None:
     """The public item of that name, or none."""
     wanted = re.compile(ITEM.format(name=re.escape(name)))
     for path in sources(crate):
@@ -97,7 +98,7 @@ def item(crate, name):
     return None
 
 
-def blocks_of(lines, name):
+def blocks_of(lines: Sequence[str], name: str) -> Iterator[tuple[int, int]]:
     """The first and last lines of the inherent blocks and of the trait of that name."""
     head = re.compile(rf"^(?:impl(?:<[^{{]*?>)? |pub trait ){name}\b(?!.* for )")
     for at, line in enumerate(lines):
@@ -108,7 +109,7 @@ def blocks_of(lines, name):
             yield at, end
 
 
-def methods(crate, name):
+def methods(crate: str, name: str) -> list[Item]:
     """The public calls of a type, or those of a trait, in the order of the sources."""
     found = []
     for path in sources(crate):
@@ -123,9 +124,9 @@ def methods(crate, name):
     return found
 
 
-def end_of(lines, at):
+def end_of(lines: Sequence[str], at: int) -> int:
     """The last line of what begins in that line: a definition ends before a blank line, a function at its own brace."""
-    indent = re.match(r" *", lines[at])[0]
+    indent = lines[at][: len(lines[at]) - len(lines[at].lstrip(" "))]
     if not re.search(r"\bfn ", lines[at]) and lines[at].rstrip().endswith((";", "}")):
         return at
     closing = at
@@ -139,7 +140,7 @@ def end_of(lines, at):
     return closing - 1
 
 
-def span(path, name):
+def span(path: str, name: str) -> tuple[int, int] | None:
     """The first and last lines, from 1 on, of the definition, function or type of that name in a file, or none."""
     lines = read(path)
     owner, _, plain = name.rpartition("::")

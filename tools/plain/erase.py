@@ -10,7 +10,9 @@ nothing is built.
 
 import re
 import sys
+from collections.abc import Iterable, Iterator
 from pathlib import Path
+from typing import NoReturn
 
 HERE = Path(__file__).resolve().parent
 sys.path.insert(0, str(HERE.parent.parent))
@@ -61,7 +63,7 @@ class Refused(Exception):
     """A file that can't be erased, with its line and why."""
 
 
-def is_space(token):
+def is_space(token: str) -> bool:
     """Whether a token is a comment or white space."""
     return token.isspace() or token.startswith(("//", "/*"))
 
@@ -69,29 +71,30 @@ def is_space(token):
 class Source:
     """A file of Rattle, cut into tokens, and the tokens that are left of it."""
 
-    def __init__(self, name, text):
-        self.name, self.tokens, self.left = name, [found[0] for found in TOKEN.finditer(text)], []
+    def __init__(self, name: str, text: str) -> None:
+        self.name, self.tokens = name, [found[0] for found in TOKEN.finditer(text)]
+        self.left: list[str] = []
 
-    def refuse(self, at, why):
+    def refuse(self, at: int, why: str) -> NoReturn:
         """Ends at this token."""
         line = 1 + "".join(self.tokens[:at]).count("\n")
         raise Refused(f"{self.name}:{line}: {why}")
 
-    def token(self, at):
+    def token(self, at: int) -> str:
         """The token there; an empty one behind the last."""
         return self.tokens[at] if at < len(self.tokens) else ""
 
-    def behind_space(self, at):
+    def behind_space(self, at: int) -> int:
         """The first place at or behind this one that is neither comment nor white space."""
         while at < len(self.tokens) and is_space(self.tokens[at]):
             at += 1
         return at
 
-    def behind_word(self, at):
+    def behind_word(self, at: int) -> int:
         """The next such place behind the token there."""
         return self.behind_space(at + 1)
 
-    def behind_pair(self, at, pair="{}"):
+    def behind_pair(self, at: int, pair: str = "{}") -> int:
         """The place behind the bracket that closes the one there."""
         if self.token(at) != pair[0]:
             self.refuse(at, f"{pair[0]} is missing")
@@ -102,7 +105,7 @@ class Source:
                 return place + 1
         self.refuse(at, f"this {pair[0]} isn't closed")
 
-    def behind_ghost(self, at):
+    def behind_ghost(self, at: int) -> int:
         """The place behind the ghost item there: an import, a member, its type or a fact of a struct."""
         place = self.behind_word(at)
         if self.token(place) == "use":
@@ -114,12 +117,13 @@ class Source:
         place = self.behind_word(place)
         if self.token(place) not in (":", "="):
             self.refuse(at, "this ghost item has neither a type nor a value")
+        end = place
         while self.token(place) in (":", "=", "by"):
             end = self.behind_pair(self.behind_word(place))
             place = self.behind_space(end)
         return place + 1 if self.token(place) in (";", ",") else end
 
-    def behind_clause(self, at):
+    def behind_clause(self, at: int) -> int:
         """The place behind the clause there."""
         place = self.behind_word(at)
         for pattern in (r"\*", r"\w+", r"\*"):
@@ -127,7 +131,7 @@ class Source:
                 place = self.behind_word(place)
         return self.behind_pair(place)
 
-    def leave_out_visibility(self):
+    def leave_out_visibility(self) -> None:
         """Leaves out the `pub`, or the `pub(crate)`, that stands right before what is left out next."""
         place = len(self.left) - 1
         while place >= 0 and self.left[place].isspace():
@@ -138,7 +142,7 @@ class Source:
                 del self.left[begin:]
                 return
 
-    def leave_out(self, at, end, has_docs=False):
+    def leave_out(self, at: int, end: int, has_docs: bool = False) -> int:
         """Leaves the tokens out, but for their line ends; an item's comments before it go too."""
         place = len(self.left) - 1
         while has_docs and place >= 0 and (self.left[place].isspace() or self.left[place].startswith("///")):
@@ -148,7 +152,7 @@ class Source:
         self.left.append("\n" * "".join(self.tokens[at:end]).count("\n"))
         return end
 
-    def behind_attribute(self, at):
+    def behind_attribute(self, at: int) -> int:
         """The place behind the attribute there, of which is kept what Rust has too."""
         begin = at + (self.token(at + 1) == "!")
         end = self.behind_pair(begin + 1, "[]")
@@ -162,7 +166,7 @@ class Source:
         self.left.append(kept)
         return end
 
-    def erase(self):
+    def erase(self) -> str:
         """The text that is left."""
         at = 0
         while at < len(self.tokens):
@@ -180,13 +184,14 @@ class Source:
         return "".join(self.left)
 
 
-def check_left(name, left):
+def check_left(name: str, left: list[str]) -> None:
     """Refuses tokens that can be no Rust: words of a clause, and a bracket without its other."""
 
-    def refuse(at, why):
+    def refuse(at: int, why: str) -> NoReturn:
+        """Ends at this token."""
         raise Refused(f"{name}:{1 + ''.join(left[:at]).count(chr(10))}: {why}")
 
-    opened = []
+    opened: list[int] = []
     for at, token in enumerate(left):
         if token in OPEN:
             opened.append(at)
@@ -199,7 +204,7 @@ def check_left(name, left):
         refuse(opened[-1], f"this {left[opened[-1]]} isn't closed")
 
 
-def erased(name, text):
+def erased(name: str, text: str) -> str:
     """A file of Rattle as Rust, with the same lines."""
     source = Source(name, text)
     text = source.erase()
@@ -227,17 +232,17 @@ panic = "abort"
 """
 
 
-def covered():
+def covered() -> list[str]:
     """The names of the crates that are covered, lowest first."""
     return stands_on(crates_listed(), TOPS)
 
 
-def stands_in(name):
+def stands_in(name: str) -> Path | None:
     """The folder of what stands in for a library of the kit; None where nothing does."""
     return HERE / name if (HERE / name / "Cargo.toml").is_file() else None
 
 
-def packages(name, below):
+def packages(name: str, below: Iterable[str]) -> dict[str, tuple[str, Path]]:
     """The packages that a crate stands on, by the names that it calls them, each with its folder."""
     found, crates = {"std": ("plain_std", HERE / "std")}, crates_listed()
     for other in below:
@@ -249,7 +254,7 @@ def packages(name, below):
     return found
 
 
-def manifest(name, below):
+def manifest(name: str, below: Iterable[str]) -> str:
     """The manifest of a crate that stands on these."""
     kind = '[lib]\ncrate-type = ["staticlib"]\n\n' if name == FOR_C else ""
     text = f'[package]\nname = "{name}"\nversion = "0.1.0"\nedition = "2024"\n\n{kind}[dependencies]\n'
@@ -258,12 +263,13 @@ def manifest(name, below):
     return text
 
 
-def calls_of_rustc(work, target):
+def calls_of_rustc(work: Path, target: Path) -> Iterator[list[str]]:
     """The calls that build the program without cargo, one after another: of what stands in, then of each crate."""
     below = below_by_crate()
     needed = {other for name in stands_on(crates_listed()) for other in below[name] if stands_in(other)}
-    builds = [("plain_std", HERE / "std" / "src" / "lib.rs", {})]
-    builds += [(name, HERE / name / "src" / "lib.rs", {"plain_std": ("plain_std", None)}) for name in sorted(needed)]
+    std = {"plain_std": ("plain_std", HERE / "std")}
+    builds = [("plain_std", HERE / "std" / "src" / "lib.rs", dict[str, tuple[str, Path]]())]
+    builds += [(name, HERE / name / "src" / "lib.rs", std) for name in sorted(needed)]
     for name in stands_on(crates_listed()):
         src = work / "crates" / name / "src"
         root = src / "main.rs" if (src / "main.rs").is_file() else src / "lib.rs"
@@ -277,12 +283,12 @@ def calls_of_rustc(work, target):
         yield [*call, "-o", f"{target}/{name if is_program else f'lib{name}.rlib'}"]
 
 
-def root_of(text, is_program):
+def root_of(text: str, is_program: bool) -> str:
     """The first file of a crate, with the attributes of the whole on its first line."""
     return f"#![no_std] #![allow(warnings)] {'#![no_main] ' if is_program else ''}{text}"
 
 
-def files_of(name, below):
+def files_of(name: str, below: Iterable[str]) -> dict[str, str]:
     """The files of a crate as Rust, by their places in the workspace."""
     files = {f"crates/{name}/Cargo.toml": manifest(name, below)}
     src = TOP / "crates" / name / "src"
@@ -296,7 +302,7 @@ def files_of(name, below):
     return files
 
 
-def write_workspace(target):
+def write_workspace(target: Path) -> int:
     """Writes the workspace: only files that change, so that cargo builds only what changed."""
     below, files = below_by_crate(), {"Cargo.toml": MANIFEST}
     for name in covered():
@@ -312,7 +318,7 @@ def write_workspace(target):
     return len(files)
 
 
-def main():
+def main() -> None:
     """Writes the workspace into the folder that is named."""
     if len(sys.argv) != 2:
         sys.exit("usage: erase.py TARGET")
