@@ -6,6 +6,7 @@ and the summary.
 import hashlib
 import struct
 import sys
+from collections.abc import Callable, Iterator
 
 LANES = range(8)
 PLACES = ("free", "first", "last")
@@ -30,11 +31,12 @@ HEAD = [
 SOURCE, DESTINATION = bytes([10, 0, 0, 1]), bytes([10, 0, 0, 2])
 
 
-def drawing(number):
+def drawing(number: int) -> Callable[[int], int]:
     """The one row of numbers: each call draws the next, below the one that is given."""
     state = number
 
-    def draw(below):
+    def draw(below: int) -> int:
+        """The next number."""
         nonlocal state
         state = (6364136223846793005 * state + 1442695040888963407) % 2**64
         return (state >> 33) % below
@@ -42,7 +44,7 @@ def drawing(number):
     return draw
 
 
-def script(draw):
+def script(draw: Callable[[int], int]) -> Iterator[str]:
     """The lines of the script."""
     yield from HEAD
     for _ in range(4):
@@ -59,7 +61,7 @@ def script(draw):
         yield f"lane {lane} packet 8 125"
 
 
-def checksum(octets):
+def checksum(octets: bytes) -> bytes:
     """The checksum of RFC 1071 of an even number of bytes."""
     total = sum(struct.unpack(f">{len(octets) // 2}H", octets))
     while total >> 16:
@@ -67,7 +69,8 @@ def checksum(octets):
     return struct.pack(">H", 0xFFFF - total)
 
 
-def frame(number, port):
+def frame(number: int, port: int) -> bytes:
+    """The frame of a record: a datagram to this port, which has the record's number."""
     payload = struct.pack(">Q", number)
     ports = struct.pack(">HHH", 40000, port, 16)
     whole = checksum(SOURCE + DESTINATION + bytes([0, 17, 0, 16]) + ports + bytes(2) + payload)
@@ -77,7 +80,7 @@ def frame(number, port):
     return bytes.fromhex("0200000000020200000000010800") + packet + datagram
 
 
-def generated(number):
+def generated(number: int) -> tuple[str, list[int], bytes]:
     """The script, the ports of the capture's records, and the capture."""
     draw = drawing(number)
     text = "".join(f"{line}\n" for line in script(draw))
@@ -88,10 +91,10 @@ def generated(number):
     return text, ports, capture
 
 
-def summary(number):
+def summary(number: int) -> str:
     """The six lines. Each lane works on its own event, so they are the same in whatever order the lanes come."""
     text, ports, _ = generated(number)
-    guards = {}
+    guards: dict[str, list[int]] = {}
     entries = accepted = refused = runs = sends = 0
     for line in text.splitlines()[len(HEAD) - 3 :]:
         match line.split():
@@ -115,13 +118,14 @@ def summary(number):
     return "".join(f"{word} {count}\n" for word, count in counts.items())
 
 
-def sent(number):
+def sent(number: int) -> bytes:
     """What the file of the endpoint receives: a piece for each datagram to a port below 512, in the records' order."""
     _, ports, _ = generated(number)
     return b"".join(struct.pack(">IQ", 8, at) for at, port in enumerate(ports) if port < 512)
 
 
-def main():
+def main() -> None:
+    """Prints what is made of each number that is given."""
     for word in sys.argv[1:]:
         text, _, capture = generated(int(word))
         first = text.splitlines()[len(HEAD) + 1 : len(HEAD) + 3]

@@ -3,7 +3,9 @@ captures that cases name."""
 
 import re
 import struct
+from collections.abc import Iterable, Iterator, Sequence
 from pathlib import Path
+from typing import NamedTuple
 
 HEAD = "spin 1\nevent 0 0 - last\nhandler 1 -\n"
 WIDE_HEAD = HEAD.replace("spin 1", "spin 3")
@@ -11,22 +13,26 @@ INSTALL = "lane 0 install 0 0 1 0 free plain\n"
 WIDE_INSTALL = "lane 0 install 0 0 1 0 free before 0 after 0 plain\n"
 DEFAULT = "lane 0 default 0 0 1\n"
 
+# A case: its name, its script, and what must be written.
+Made = tuple[str, str, str]
 
-def report(entries, end):
+
+def report(entries: Iterable[str], end: int) -> str:
     """The report of one segment with these entries, after which so many commands were accepted."""
     return "".join(f"{line}\n" for line in ["report 1", "segment 0 at 0", *entries, f"end {end}"])
 
 
-def stop(line, cause):
+def stop(line: int, cause: int) -> str:
+    """What is written where a script is refused at a line."""
     return f"stop 2 line {line} cause {cause}\n"
 
 
-def accepted(word, count):
+def accepted(word: str, count: int) -> list[str]:
     """The entries of so many commands, which stand from line 4 on."""
     return [f"{number} 0 {3 + number} {word} ok" for number in range(1, count + 1)]
 
 
-def limits():
+def limits() -> Iterator[Made]:
     """As many of a kind as there may be, and one more."""
     for limit, head, install in [(32, HEAD, INSTALL), (64, WIDE_HEAD, WIDE_INSTALL)]:
         refused = f"{limit} 0 {limit + 4} install refused 10 too_many"
@@ -49,7 +55,7 @@ def limits():
     yield "a_very_long_act", "spin 1\nhandler 1 -:w" + " result + 1 1" * 75_000, stop(2, 15)
 
 
-def raises():
+def raises() -> Iterator[Made]:
     """A raise of event 0 raises event 1 so often, and each of these event 2 64 times."""
     leaf = "up 2 run 2 3 back done"
     branch = " ".join(["up 1 run 1 2"] + [leaf] * 64 + ["back done"])
@@ -65,7 +71,7 @@ def raises():
         yield f"a_raise_that_starts_{1 + 65 * ups}_handlers", script, report(installed + [f"3 0 11 {answer}"], 3)
 
 
-def sum_of_nodes(nodes):
+def sum_of_nodes(nodes: int) -> str:
     """A sum of so many nodes, a power of two less one, whose depth is small."""
     if nodes == 1:
         return " 0"
@@ -81,7 +87,7 @@ STEPS = [
 ]
 
 
-def test_of_leaves(leaves):
+def test_of_leaves(leaves: int) -> str:
     """A test of so many comparisons, a power of two, whose depth is small."""
     if leaves == 1:
         return " == 1 1"
@@ -93,7 +99,7 @@ TESTS = [(" not" * 8 + " true", 14), (test_of_leaves(32), 15), (" == a7 0", 16),
 MERGES = [(DEEP_SUM, 14), (sum_of_nodes(127), 15), (" a2", 16), (" f 0 0 1", 17)]
 
 
-def pairs():
+def pairs() -> Iterator[Made]:
     """Two causes in one line, of which the first counts; and both count after a number that isn't the next one."""
     for what, line, front, both, parts in [
         ("steps", 3, "spin 1\nevent 0 0 w last\nhandler {} bw", "", STEPS),
@@ -121,7 +127,7 @@ BAD_LINES = {
 }
 
 
-def lines():
+def lines() -> Iterator[Made]:
     """What is wrong with a line as a whole counts before what is wrong with its words."""
     for cause, (before, bad) in BAD_LINES.items():
         line = 2 + before.count("\n")
@@ -143,7 +149,7 @@ CODE_LINES = [
 ]
 
 
-def code():
+def code() -> Iterator[Made]:
     """Handlers, guards and merges with one fault, and others that just have none."""
     for at, (line, cause) in enumerate(CODE_LINES):
         yield f"code_line_{at}", f"spin 1\nevent 0 0 w last\n{line}\n", stop(3, cause) if cause else report([], 0)
@@ -156,7 +162,7 @@ TCP_HEADER = "4500003c1c4640004006b1e6ac100a63ac100a0c"
 TO_1024 = "00350400000a"
 
 
-def prefixes(layer, kinds, texts):
+def prefixes(layer: str, kinds: str, texts: Sequence[tuple[str, str]]) -> tuple[str, str]:
     """Raises of a layer's handler on prefixes of bytes: each text is the words of a raise and what it comes to."""
     head = f"spin 1\nevent 0 0 {kinds} last\nevent 1 0 {'bwww' if layer == 'ipv4' else 'bwwww'}:w last\n"
     units = f"handler 1 {kinds} layer {layer} 1\n" + {
@@ -169,10 +175,11 @@ def prefixes(layer, kinds, texts):
     return head + units + installs + raises, report(entries, 2)
 
 
-def headers():
+def headers() -> Iterator[Made]:
     """Every prefix of a packet and of datagrams; options, fragments and another address."""
 
-    def read(value):
+    def read(value: int) -> str:
+        """What a header comes to that is read, where the handler behind it gives this value."""
         return f"up 1 run 1 2 result {value} back value {value}"
 
     packet = TCP_HEADER + "00" * 44
@@ -207,13 +214,13 @@ TWO_EVENTS = ["event 0 0 b last", "event 1 0 bwww last", "handler 1 b layer ipv4
 TWO_LAYERS = ["event 0 0 bwww last", "event 1 0 bwwww last", "handler 1 bwww layer udp 1", INSTALL.strip()]
 
 
-def of_causes():
+def of_causes() -> Iterator[tuple[int, list[str], int]]:
     """For each cause the lines behind `spin 1` of a script that is refused for it, and that line's number."""
     for cause, (before, bad) in BAD_LINES.items():
         yield cause, before.splitlines() + [bad], 2 + before.count("\n")
 
 
-def of_refusals():
+def of_refusals() -> Iterator[tuple[str, list[str], list[str]]]:
     """What the dispatcher refuses: the lines behind the version, and the entries."""
     ok, head = "install ok", ["event 0 0 - last", "handler 1 -", INSTALL.strip()]
     first = INSTALL.strip().replace("free", "first")
@@ -240,7 +247,7 @@ def of_refusals():
     yield "raise run 0 1 drop udp_length = done", TWO_LAYERS + [raised], [ok]
 
 
-def of_captures():
+def of_captures() -> Iterator[tuple[str, str]]:
     """The name of a capture that is refused, or isn't there, and what stands instead of a report."""
     yield "next.pcapng", "stop 3 record 0 fault 2"
     yield "version.pcap", "stop 3 record 0 fault 3"
@@ -249,33 +256,42 @@ def of_captures():
     yield "nowhere.pcap", "stop 6 packets"
 
 
-def smallest():
-    """Each smallest example: its name, its lines, further words of the command line, and what must be written."""
-    yield "smallest_report", ["spin 1"], [], report([], 0)
-    yield "smallest_usage", ["spin 1"], ["packets", "more"], USAGE
-    yield "smallest_cause_2", ["spin 1", "\x01"], [], stop(2, 2)
-    yield "smallest_cause_3", ["spin 9"], [], stop(1, 3)
+class Smallest(NamedTuple):
+    """A smallest example: its name, its lines, further words of the command line, and what must be written."""
+
+    name: str
+    lines: list[str]
+    words: list[str]
+    stdout: str
+
+
+def smallest() -> Iterator[Smallest]:
+    """Each smallest example."""
+    yield Smallest("smallest_report", ["spin 1"], [], report([], 0))
+    yield Smallest("smallest_usage", ["spin 1"], ["packets", "more"], USAGE)
+    yield Smallest("smallest_cause_2", ["spin 1", "\x01"], [], stop(2, 2))
+    yield Smallest("smallest_cause_3", ["spin 9"], [], stop(1, 3))
     for cause, lines_, line in of_causes():
-        yield f"smallest_cause_{cause}", ["spin 1"] + lines_, [], stop(line, cause)
+        yield Smallest(f"smallest_cause_{cause}", ["spin 1"] + lines_, [], stop(line, cause))
     for at, (last, lines_, before) in enumerate(of_refusals()):
         line = len(lines_) + 1 - len(before)
         entries = [f"{n} 0 {line + n - 1} {text}" for n, text in enumerate(before, 1)]
         entries.append(f"{len(before)} 0 {len(lines_) + 1} {last}")
-        yield f"smallest_refusal_{at}", ["spin 1"] + lines_, [], report(entries, len(before))
+        yield Smallest(f"smallest_refusal_{at}", ["spin 1"] + lines_, [], report(entries, len(before)))
     forced = ["modules 2", "event 0 0 W last", "handler 1 W set 0 1", "rule 0 1 1 any any all force 0 keep async"]
     forced += ["lane 0 install 0 1 1 0 free filter"]
     entry = "0 0 6 install refused 12 forced_mode 1"
-    yield "smallest_forced_mode", ["spin 2"] + forced, [], report([entry], 0)
-    for capture, line in of_captures():
-        yield f"smallest_{capture.replace('.', '_')}", ["spin 1"], [capture], f"{line}\n"
+    yield Smallest("smallest_forced_mode", ["spin 2"] + forced, [], report([entry], 0))
+    for capture, told in of_captures():
+        yield Smallest(f"smallest_{capture.replace('.', '_')}", ["spin 1"], [capture], f"{told}\n")
     long_ = "report 1\nsegment 0 at 0\nstop 3 record 3 fault 6\n"
-    yield "smallest_long_pcap", ["spin 1"], ["long.pcap"], long_
+    yield Smallest("smallest_long_pcap", ["spin 1"], ["long.pcap"], long_)
 
 
 SHOWN = re.compile(r"^(stop|usage|end|.* refused|.* drop ).*$")
 
 
-def table():
+def table() -> str:
     """The smallest examples as docs/FORMATS.md shows them: the line that tells, and the script's lines."""
     rows = ["| what is written | script, and further words |", "|---|---|"]
     for _, lines_, words, stdout in smallest():
@@ -292,19 +308,21 @@ FORMATS = Path(__file__).resolve().parent.parent / "docs" / "FORMATS.md"
 MARKS = "<!-- written by cases/made.py -->\n", "\n<!-- to here -->"
 
 
-def shown_table():
+def shown_table() -> tuple[str, str, str]:
     """The table that docs/FORMATS.md has, and the text before and behind it."""
     before, _, rest = FORMATS.read_text().partition(MARKS[0])
     text, _, behind = rest.partition(MARKS[1])
     return before, text, behind
 
 
-def cases():
+def cases() -> Iterator[Made]:
+    """All cases that are made."""
     for make in (limits, raises, pairs, lines, code, headers):
         yield from make()
 
 
-def frame_header(destination, source, kind):
+def frame_header(destination: int, source: int, kind: str) -> bytes:
+    """A header of Ethernet."""
     return bytes.fromhex(f"0200000000{destination:02}0200000000{source:02}{kind}")
 
 
@@ -321,7 +339,7 @@ ANSWER = frame_header(1, 2, "0800") + bytes.fromhex(
 )
 
 
-def capture_header(order="<", magic=0xA1B2C3D4, minor=4, link=1):
+def capture_header(order: str = "<", magic: int = 0xA1B2C3D4, minor: int = 4, link: int = 1) -> bytes:
     """The header of a capture whose numbers have the least byte first, or with `>` the greatest."""
     return struct.pack(f"{order}IHHIIII", magic, 2, minor, 0, 0, 262_144, link)
 
@@ -335,17 +353,18 @@ FRAGMENTS = [
 ]
 
 
-def records(frames, order="<"):
+def records(frames: Iterable[bytes], order: str = "<") -> Iterator[bytes]:
+    """These frames as the records of a capture."""
     for number, frame in enumerate(frames, 1):
         yield struct.pack(f"{order}IIII", 1_700_000_000 + number, 0, len(frame), len(frame)) + frame
 
 
-def example_capture():
+def example_capture() -> bytes:
     """The capture of the example of packets: ARP, TCP, a query of DNS and its answer, twice."""
     return capture_header() + b"".join(records([ARP, TCP, QUERY, ANSWER] * 2))
 
 
-def captures():
+def captures() -> Iterator[tuple[str, bytes]]:
     """The captures, each with its name. Those of examples lie beside them, as `python3 cases/made.py` writes them."""
     mixed = list(records([ARP, TCP, QUERY, ANSWER] * 10))
     yield "packets.pcap", example_capture()
@@ -368,7 +387,7 @@ def captures():
     yield "next.pcapng", bytes.fromhex("0a0d0d0a1c0000004d3c2b1a01000000ffffffffffffffff1c000000")
 
 
-def traces():
+def traces() -> Iterator[tuple[str, bytes]]:
     """The traces that are too long to lie beside their cases, each with its name."""
     regions = "".join(f"region 0 {2 * at} 1 r\n" for at in range(257))
     yield "regions.trace", f"vm 1\nspace 0\n{regions}".encode()
@@ -376,7 +395,7 @@ def traces():
     yield "largest.trace", b"vm 1\n" + b"#" * 1_048_571
 
 
-def reports():
+def reports() -> Iterator[tuple[str, bytes]]:
     """The reports that are too long to lie beside their cases, each with its name."""
     yield "largest.report", b"#" * 67_108_864
     yield "large.report", b"#" * 67_108_865
