@@ -11,7 +11,9 @@ from pathlib import Path
 from wrapper import kit
 from wrapper.tests import make_repository, stand_in
 
-CRATES = {"low": [], "left": ["low"], "right": ["low"], "spin_main": ["left", "right"], "aside": ["low"]}
+CRATES: dict[str, list[str]] = {
+    "low": [], "left": ["low"], "right": ["low"], "spin_main": ["left", "right"], "aside": ["low"],
+}
 
 # By $KIND it is a kit that keeps what `rt ci NAME` proved, one that doesn't, or one that knows a plain `rt ci` alone.
 #
@@ -85,7 +87,7 @@ class Building(unittest.TestCase):
     # The kind of the kit that the script stands in for.
     kind = "kept"
 
-    def setUp(self):
+    def setUp(self) -> None:
         self.top = Path(tempfile.mkdtemp())
         self.addCleanup(shutil.rmtree, self.top)
         make_repository(self.top, CRATES)
@@ -94,39 +96,41 @@ class Building(unittest.TestCase):
         stand_in(self.top, "rt", RT)
         self.journal = self.top / "journal"
 
-    def begin(self, *words, **environment):
+    def begin(self, *words: str, **environment: str) -> subprocess.Popen[str]:
         """Begins a build."""
         given = {"PATH": f"{self.top}/bin:{os.environ['PATH']}", "JOURNAL": str(self.journal), "KIND": self.kind,
                  "KEPT": f"{self.top}/kept", "TMPDIR": f"{self.top}/tmp", "CI": "true", **environment}
-        how = {"stdout": subprocess.PIPE, "stderr": subprocess.PIPE, "text": True, "start_new_session": True}
-        return subprocess.Popen([self.top / "spin", "build", *words], env={**os.environ, **given}, **how)
+        return subprocess.Popen(
+            [self.top / "spin", "build", *words], env={**os.environ, **given},
+            stdout=subprocess.PIPE, stderr=subprocess.PIPE, text=True, start_new_session=True,
+        )
 
-    def build(self, *words, **environment):
+    def build(self, *words: str, **environment: str) -> tuple[int, str]:
         """The status of a build, and what it says."""
         child = self.begin(*words, **environment)
         _, told = child.communicate(timeout=60)
         return child.returncode, told
 
-    def lines(self):
+    def lines(self) -> list[str]:
         """What rt did."""
         return self.journal.read_text().splitlines() if self.journal.is_file() else []
 
-    def begun(self):
+    def begun(self) -> list[str]:
         """The crates at which rt was at work, in order."""
         return [line.split()[1] for line in self.lines() if line.startswith("begin")]
 
-    def assert_in_order(self):
+    def assert_in_order(self) -> None:
         """Each crate began when those below it had ended."""
         for name in self.begun():
             for other in CRATES[name]:
                 self.assertLess(self.lines().index(f"end {other}"), self.lines().index(f"begin {name}"))
 
-    def assert_side_by_side(self):
+    def assert_side_by_side(self) -> None:
         """Two crates that share one below them didn't wait for each other."""
         begun, ended = ([self.lines().index(f"{word} {name}") for name in ("left", "right")] for word in ("begin", "end"))
         self.assertLess(max(begun), min(ended))
 
-    def wait_for(self, word):
+    def wait_for(self, word: str) -> None:
         """Waits until rt did something."""
         for _ in range(200):
             if any(word in line for line in self.lines()):

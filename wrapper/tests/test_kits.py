@@ -23,14 +23,14 @@ check    checks the crate, says how far it is as it goes, and keeps its work in 
 class Ways(unittest.TestCase):
     """How a kit proves a crate by itself, by what it says."""
 
-    def test_a_name_behind_rt_ci_and_what_is_kept_are_looked_for(self):
+    def test_a_name_behind_rt_ci_and_what_is_kept_are_looked_for(self) -> None:
         named = PLAIN.replace("rt ci  ", "rt ci [NAME..]  ")
         anew = PLAIN.replace("rt ci  ", "rt ci [--anew] [NAME..]  ")
         kept = f"{PLAIN}    rt ci NAME ..         proves these crates, and those that\n        they stand on, and what passed is kept\n"
         ways = [kit.Way.PLAIN, kit.Way.NAMED, kit.Way.KEPT, kit.Way.KEPT]
         self.assertEqual([kit.way_of(text) for text in (PLAIN, named, anew, kept)], ways)
 
-    def test_the_readme_names_kits_of_the_logic_that_proved_the_sources(self):
+    def test_the_readme_names_kits_of_the_logic_that_proved_the_sources(self) -> None:
         kits = re.findall(r"`(rattle-kit-\w+) logic (\w+)`", (TOP / "README.md").read_text())
         self.assertGreaterEqual(len(kits), 2)
         self.assertEqual({logic for _, logic in kits}, {kit.LOGIC})
@@ -41,7 +41,7 @@ class Plain(Building):
 
     kind = "plain"
 
-    def test_libraries_are_built_and_the_program_over_them(self):
+    def test_libraries_are_built_and_the_program_over_them(self) -> None:
         status, told = self.build()
         self.assertEqual(status, 0, told)
         self.assertEqual(sorted(self.begun()), ["left", "low", "right", "spin_main"])
@@ -51,11 +51,11 @@ class Plain(Building):
         self.assertIn("spin: built: crates/spin_main/out/spin_main", told)
         self.assertEqual(self.build(), (0, "spin: the proved program is built\n"))
 
-    def test_crates_that_share_one_below_them_do_not_wait_for_each_other(self):
+    def test_crates_that_share_one_below_them_do_not_wait_for_each_other(self) -> None:
         self.assertEqual(self.build(SLEEP="1")[0], 0)
         self.assert_side_by_side()
 
-    def test_the_program_is_run_as_the_gate_runs_it(self):
+    def test_the_program_is_run_as_the_gate_runs_it(self) -> None:
         crate = self.top / "crates" / "spin_main"
         (crate / "data").mkdir()
         (crate / "data" / "first").write_text("")
@@ -63,14 +63,14 @@ class Plain(Building):
         self.assertEqual(self.build()[0], 0)
         self.assertEqual(self.lines()[-1], "given run data/first")
 
-    def test_a_build_that_was_killed_is_gone_on_with(self):
+    def test_a_build_that_was_killed_is_gone_on_with(self) -> None:
         child = self.begin(SLEEP="2")
         self.wait_for("begin left")
         child.terminate()
         child.communicate(timeout=20)
         self.assertEqual((self.build()[0], self.begun().count("low"), self.begun().count("left")), (0, 1, 2))
 
-    def test_a_build_that_was_killed_at_once_leaves_nothing_that_runs(self):
+    def test_a_build_that_was_killed_at_once_leaves_nothing_that_runs(self) -> None:
         child = self.begin(SLEEP="2")
         self.wait_for("begin left")
         child.kill()
@@ -80,12 +80,12 @@ class Plain(Building):
         self.assertTrue((self.top / "out" / "build" / "rooms" / "left").is_dir())
         self.assertEqual((self.build()[0], self.begun().count("low")), (0, 1))
 
-    def test_a_program_that_fails_is_named_and_not_built(self):
+    def test_a_program_that_fails_is_named_and_not_built(self) -> None:
         status, told = self.build(FAILS="spin_main")
         self.assertEqual((status, len(re.findall("can't be built: status 1", told))), (126, 1))
         self.assertFalse((self.top / "crates" / "spin_main" / "out" / "spin_main").exists())
 
-    def test_a_source_that_changes_meanwhile_is_newer(self):
+    def test_a_source_that_changes_meanwhile_is_newer(self) -> None:
         child = self.begin(SLEEP="0.5")
         self.wait_for("begin spin_main")
         (self.top / "crates" / "low" / "src" / "lib.rt").write_text("\n")
@@ -102,7 +102,7 @@ class Named(Plain):
 class KeptNowhere(Building):
     """A kit that keeps what `rt ci NAME` proved, on a machine where it can't."""
 
-    def test_the_first_crate_shows_it_and_libraries_are_built(self):
+    def test_the_first_crate_shows_it_and_libraries_are_built(self) -> None:
         status, told = self.build(FULL="1")
         self.assertEqual(status, 0, told)
         self.assertEqual((self.begun()[:2], sorted(self.begun()[2:])), (["low", "low"], ["left", "right", "spin_main"]))
@@ -112,50 +112,50 @@ class KeptNowhere(Building):
 class Refused(Building):
     """What ends a build in one line."""
 
-    def refused(self, *words, **environment):
+    def refused(self, *words: str, **environment: str) -> str:
         """The one line of a build that fails at once, in which nothing was begun."""
         status, told = self.build(*words, **environment)
         self.assertEqual((status, told.count("\n"), self.begun()), (126, 1, []), told)
         return told
 
-    def failed(self, **environment):
+    def failed(self, **environment: str) -> str:
         """The last line of a build in which one crate failed."""
         status, told = self.build(**environment)
         self.assertEqual(status, 126)
         self.assertNotIn("the checker on", told)
         return told.splitlines()[-1]
 
-    def test_an_rt_of_no_kit(self):
+    def test_an_rt_of_no_kit(self) -> None:
         told = self.refused(LINE="RT 5.0\nand more")
         self.assertIn("bin/rt is the rt of no Rattle kit: to `rt version` it answers RT 5.0\n", told)
         (self.top / "bin" / "rt").write_text("no program\n")
         alone = f"{self.top}/bin:/usr/bin:/bin"
         self.assertIn("to `rt version` it answers Exec format error", self.refused(PATH=alone))
 
-    def test_no_rt(self):
+    def test_no_rt(self) -> None:
         (self.top / "bin" / "rt").unlink()
         self.assertIn("rt isn't found", self.refused(PATH="/usr/bin:/bin"))
 
-    def test_a_kit_of_another_logic_begins_only_where_that_is_asked_for(self):
+    def test_a_kit_of_another_logic_begins_only_where_that_is_asked_for(self) -> None:
         line = "rattle-kit-99z logic 0123456789abcdef"
         told = self.refused("--all", LINE=line)
         self.assertIn("nothing was begun: rattle-kit-99z has the logic 0123456789abcdef, and these sources were", told)
         self.assertEqual(self.build("--any-logic", LINE=line)[0], 0)
 
-    def test_other_words(self):
+    def test_other_words(self) -> None:
         self.assertIn("usage: ./spin build [--all|--libraries] [--any-logic]", self.refused("--every"))
 
-    def test_an_rt_that_is_killed(self):
+    def test_an_rt_that_is_killed(self) -> None:
         for kind in ("kept", "plain"):
             told = self.failed(FAILS="left", ENDS="kill -9 0", KIND=kind)
             self.assertIn("left can't be built: rt was killed by signal 9, as where memory runs out; what rt", told)
         self.assertIn("left can't be built: rt was killed by signal 9", self.failed(FAILS="left", ENDS="exit 247"))
 
-    def test_a_disk_that_is_full_by_what_rt_says(self):
+    def test_a_disk_that_is_full_by_what_rt_says(self) -> None:
         told = self.failed(FAILS="left", ENDS="eval echo No space left on device; exit 2")
         self.assertIn("left can't be built: the disk is full; what rt said is in out/build/left.log", told)
 
-    def test_a_disk_that_is_full_by_what_the_system_says(self):
+    def test_a_disk_that_is_full_by_what_the_system_says(self) -> None:
         full = OSError(errno.ENOSPC, "No space left on device", "/some/file")
         many = build.shutil.Error([("one", "/some/file", "No space left on device"), ("two", "other", "why")])
         for fault in (full, many):

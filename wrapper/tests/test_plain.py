@@ -88,11 +88,11 @@ fn double(word: &Word) -> Result<Box<u8>, NoMemory>
 class Eraser(unittest.TestCase):
     """What is left of a file."""
 
-    def test_each_line_that_is_left_stays_where_it_is(self):
+    def test_each_line_that_is_left_stays_where_it_is(self) -> None:
         left = erase.erased("lib.rt", RATTLE).splitlines()
         self.assertEqual([line.rstrip() for line in left][: RUST.count("\n")], RUST.splitlines())
 
-    def test_what_cannot_be_erased_is_named_with_its_line(self):
+    def test_what_cannot_be_erased_is_named_with_its_line(self) -> None:
         for text, line in [
             ("fn f()\n    ensures = {}\n", 2), ("\nghost name;\n", 2), ("ghost use A.{b}", 1), ("fn f() {\n{\n}\n", 1),
             ("fn f() }\n", 1), ("fn f(x: ℕ) {}\n", 1), ("fn f()\n    requires { a\n{}\n", 2),
@@ -104,30 +104,32 @@ class Eraser(unittest.TestCase):
 class Plain(unittest.TestCase):
     """Calls of ./spin where cargo is found."""
 
-    def setUp(self):
+    def setUp(self) -> None:
         self.top = Path(tempfile.mkdtemp())
         self.addCleanup(shutil.rmtree, self.top)
-        crates = {name: [] for name in ("spin_main", *build.HOSTS)}
+        crates: dict[str, list[str]] = {name: [] for name in ("spin_main", *build.HOSTS)}
         make_repository(self.top, crates)
         stand_in(self.top, "cargo", CARGO, "sh", "env", "python3", "dirname", "mkdir", "chmod", "sleep")
 
-    def begin(self, *flags, **environment):
+    def begin(self, *flags: str, **environment: str) -> subprocess.Popen[str]:
         """Begins a run."""
-        how = {"stdout": subprocess.PIPE, "stderr": subprocess.PIPE, "text": True}
-        return subprocess.Popen([self.top / "spin", *flags, "run", "x"], env={"PATH": f"{self.top}/bin", **environment}, **how)
+        return subprocess.Popen(
+            [self.top / "spin", *flags, "run", "x"], env={"PATH": f"{self.top}/bin", **environment},
+            stdout=subprocess.PIPE, stderr=subprocess.PIPE, text=True,
+        )
 
-    def spin(self, *flags, **environment):
+    def spin(self, *flags: str, **environment: str) -> tuple[int, str, list[str]]:
         """The status of a run, what is written, and the lines that are told."""
         child = self.begin(*flags, **environment)
         written, told = child.communicate(timeout=60)
         return child.returncode, written, told.splitlines()
 
-    def builds(self):
+    def builds(self) -> int:
         """How often cargo was called."""
         journal = self.top / "journal"
         return len(journal.read_text().splitlines()) if journal.is_file() else 0
 
-    def test_it_is_built_once_and_again_where_a_source_is_another(self):
+    def test_it_is_built_once_and_again_where_a_source_is_another(self) -> None:
         first, second = self.spin(), self.spin()
         self.assertEqual([first[:2], second[:2]], [(0, "the program on run x\n")] * 2)
         self.assertEqual(self.builds(), 1)
@@ -140,21 +142,21 @@ class Plain(unittest.TestCase):
         self.spin()
         self.assertEqual(self.builds(), 2)
 
-    def test_that_nothing_of_it_is_proved_is_told_once_a_day(self):
+    def test_that_nothing_of_it_is_proved_is_told_once_a_day(self) -> None:
         first, second = self.spin(), self.spin()
         self.assertEqual([len(first[2]), len(second[2])], [2, 0])
         self.assertIn("of which nothing is proved; ./spin build makes the proved one", first[2][1])
         (self.top / "out" / "plain" / "told").write_text("2001-01-01")
         self.assertEqual([len(self.spin("--quiet")[2]), len(self.spin()[2])], [0, 1])
 
-    def test_rustc_builds_it_where_there_is_no_cargo(self):
+    def test_rustc_builds_it_where_there_is_no_cargo(self) -> None:
         (self.top / "bin" / "cargo").unlink()
         (self.top / "bin" / "rustc").write_text(RUSTC)
         (self.top / "bin" / "rustc").chmod(0o755)
         self.assertEqual(self.spin()[:2], (0, "the program on run x\n"))
         self.assertEqual((self.top / "journal").read_text(), "rustc libplain_std.rlib\nrustc spin_main\n")
 
-    def test_two_builds_wait_for_each_other(self):
+    def test_two_builds_wait_for_each_other(self) -> None:
         first = self.begin(SLEEP="2")
         while not self.builds():
             self.assertIsNone(first.poll())
@@ -162,19 +164,19 @@ class Plain(unittest.TestCase):
         first.communicate(timeout=60)
         self.assertEqual((second[0], second[2][0], self.builds()), (0, "spin: waiting for another build to end", 1))
 
-    def test_a_source_that_cannot_be_erased_is_named(self):
+    def test_a_source_that_cannot_be_erased_is_named(self) -> None:
         (self.top / "crates" / "spin_main" / "src" / "main.rt").write_text("\nghost name;\n")
         status, written, told = self.spin()
         self.assertEqual((status, written), (126, ""))
         self.assertIn("crates/spin_main/src/main.rt:2: this ghost item has neither a type nor a value", told[-1])
 
-    def test_what_cargo_cannot_build_is_told_in_the_words_of_the_sources(self):
+    def test_what_cargo_cannot_build_is_told_in_the_words_of_the_sources(self) -> None:
         status, written, told = self.spin(FAILS="1")
         self.assertEqual((status, written), (126, ""))
         self.assertEqual(told[-2], "error at crates/spin_main/src/main.rt:3")
         self.assertEqual(self.spin()[0], 0)
 
-    def test_where_nothing_can_be_written_one_line_says_so(self):
+    def test_where_nothing_can_be_written_one_line_says_so(self) -> None:
         (self.top / "out").write_text("no folder")
         status, written, told = self.spin()
         self.assertEqual((status, written, len(told)), (126, "", 2), told)
