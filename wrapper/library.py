@@ -13,6 +13,7 @@ import shutil
 import subprocess
 import sys
 import tempfile
+from collections.abc import Iterable
 from pathlib import Path
 
 from wrapper import plain
@@ -38,7 +39,7 @@ class NotMade(Exception):
     """Why no library is made, in a line."""
 
 
-def is_proved_there():
+def is_proved_there() -> bool:
     """Whether the proved library is there, and the allocation that it calls, and no source of it is newer."""
     if not PROVED.is_file() or not HEAP.is_file():
         return False
@@ -47,7 +48,7 @@ def is_proved_there():
     return all(os.stat(file).st_mtime <= since for file in files)
 
 
-def kit_told():
+def kit_told() -> str:
     """The line of the kit that is there, by which the proved library is told; where none answers, that."""
     try:
         told = subprocess.run(["rt", "version"], stdin=subprocess.DEVNULL, capture_output=True, text=True)
@@ -56,7 +57,7 @@ def kit_told():
     return told.stdout.strip() or "a kit that doesn't tell its name"
 
 
-def chosen(only_plain):
+def chosen(only_plain: bool) -> tuple[list[Path], str]:
     """What is linked, that of the library first, and what is proved of it in a line."""
     if not only_plain and is_proved_there():
         return [PROVED, HEAP], f"the proved library, each call of it by {kit_told()}"
@@ -66,18 +67,18 @@ def chosen(only_plain):
     return [plain.library_for_c()], NOTHING_PROVED
 
 
-def calls():
+def calls() -> list[str]:
     """The names of the calls that the header declares, and does not define, in its order."""
     found = re.findall(r"^[a-z][\w ]*[ *](\w+)\([^{;]*\);", f"{HEADER.read_text()}\n{MORE.read_text()}", re.MULTILINE)
     return list(dict.fromkeys(found))
 
 
-def header():
+def header() -> str:
     """The header as it is installed."""
     return f"{HEADER.read_text()}\n{MORE.read_text()}"
 
 
-def for_pkg_config(prefix, libraries, headers):
+def for_pkg_config(prefix: str, libraries: str, headers: str) -> str:
     """The text for pkg-config. Its folders are told by the one in which it lies, so an installed tree can be moved."""
     return (
         f"prefix={prefix}\nlibdir={libraries}\nincludedir={headers}\n\n"
@@ -87,12 +88,14 @@ def for_pkg_config(prefix, libraries, headers):
     )
 
 
-def call(folder, *words):
+def call(folder: Path, *words: object) -> str:
     """Makes a call of the compiler, or of what comes with it, in this folder, and answers what it said; one that fails
     is told with the last of that."""
-    how = {"cwd": folder, "stdin": subprocess.DEVNULL, "stdout": subprocess.PIPE, "stderr": subprocess.STDOUT}
+    given = [str(word) for word in words]
     try:
-        ran = subprocess.run([str(word) for word in words], **how, text=True)
+        ran = subprocess.run(
+            given, cwd=folder, stdin=subprocess.DEVNULL, stdout=subprocess.PIPE, stderr=subprocess.STDOUT, text=True
+        )
     except OSError:
         raise NotMade(f"there is no {words[0]}, without which it can't be linked") from None
     if ran.returncode:
@@ -101,7 +104,7 @@ def call(folder, *words):
     return ran.stdout
 
 
-def write_texts(folder, proved):
+def write_texts(folder: Path, proved: str) -> None:
     """Writes what is text, and the C code of the call that tells what is proved."""
     (folder / "codzvregi.h").write_text(header())
     (folder / "codzvregi.pc").write_text(for_pkg_config("${pcfiledir}", "${prefix}", "${prefix}"))
@@ -112,7 +115,7 @@ def write_texts(folder, proved):
     (folder / "exported").write_text(f"CODZVREGI_1 {{ global: {names} local: *; }};\n")
 
 
-def join(folder, archives):
+def join(folder: Path, archives: Iterable[Path]) -> None:
     """Joins what the interface wants of all archives into one object, whose other names are its own, so that no host
     has one of them twice."""
     call(folder, "cc", "-std=c11", "-O2", "-fPIC", "-c", "told.c")
@@ -129,7 +132,7 @@ def join(folder, archives):
     call(folder, "objcopy", "--localize-symbols=hidden", "bare.o", "codzvregi.o")
 
 
-def link(folder, archives):
+def link(folder: Path, archives: Iterable[Path]) -> None:
     """Links the static and the shared library in this folder, where the texts are."""
     join(folder, archives)
     call(folder, "ar", "qcs", ARCHIVE, "codzvregi.o")
@@ -137,7 +140,7 @@ def link(folder, archives):
     call(folder, "cc", "-shared", "-o", SHARED, *how, "codzvregi.o", "-lpthread", "-lm", "-ldl")
 
 
-def prepare(folder):
+def prepare(folder: Path) -> None:
     """Makes the folder where it isn't there; what can't be written is found before anything is built."""
     try:
         folder.mkdir(parents=True, exist_ok=True)
@@ -149,7 +152,7 @@ def prepare(folder):
         raise NotMade(f"{folder} can't be written: Permission denied")
 
 
-def make(archives, proved, folder):
+def make(archives: Iterable[Path], proved: str, folder: Path) -> None:
     """Makes all files of these archives and puts them into the folder, which is there."""
     try:
         with tempfile.TemporaryDirectory(prefix=".making-", dir=folder) as made:
@@ -162,7 +165,7 @@ def make(archives, proved, folder):
         raise NotMade(f"{folder} can't be written: {fault.strerror}") from None
 
 
-def asked(words):
+def asked(words: list[str]) -> tuple[bool, Path] | None:
     """Whether the plain library is asked for, and the folder; none where the words have another form."""
     rest = [word for word in words if word != "--plain"]
     if len(words) - len(rest) > 1 or rest and (len(rest) != 2 or rest[0] != "--out"):
@@ -170,7 +173,7 @@ def asked(words):
     return "--plain" in words, Path(os.path.abspath(rest[1])) if rest else OUT
 
 
-def main(words):
+def main(words: list[str]) -> int:
     """Makes the library, and answers the exit status."""
     given = asked(words)
     if given is None:
