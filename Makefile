@@ -8,7 +8,7 @@ PREFIX ?= /usr/local
 DESTDIR ?=
 FLAGS ?=
 
-LIBRARY = out/library/libcodzvregi.so.1
+LIBRARY = out/library/libcodzvregi.so.2
 
 # The library is made anew where one of these is newer.
 SOURCES := $(shell find crates/*/src -name '*.rt') $(wildcard crates/spin_c/out/libspin_c.a) \

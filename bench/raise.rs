@@ -1,5 +1,6 @@
 //! raise CASE CALL COUNT: a bare host that raises one event again and again on one seat, and tells how many requests
-//! for memory the raises made, and how many handlers the last one ran. `bench/raise` builds it over the plain sources.
+//! for memory the raises made, and how many handlers the last one ran. The call `install` installs so many bindings, each
+//! after the one before. `bench/raise` builds it over the plain sources.
 
 use kit::alloc::Global;
 use kit::boxed::boxed;
@@ -10,7 +11,7 @@ use spin_script::{Script, read_script};
 use spin_seat::{Hub, Seat};
 use spin_table::Verdicted;
 use spin_values::{Args, EventType, Kind, NoMemory, Param, Params, Text, Value};
-use spin_word::{Command, Mode, Op};
+use spin_word::{Command, Mode, NO_BINDING, Op};
 use std::alloc::{GlobalAlloc, Layout, System};
 use std::sync::atomic::{AtomicU64, Ordering::Relaxed};
 
@@ -63,41 +64,50 @@ fn natives(alloc: Global) -> Natives {
     natives
 }
 
-/// What a case raises, and what it binds to that: so many bindings, each with a handler, whether it has a guard, and a
-/// mode.
+/// What a case raises, and what it binds to that: so many bindings, each with a handler, the guard of the first, 0 being
+/// none, and a mode.
 struct Case {
     event: u8,
     bindings: u16,
     handler: u16,
-    guarded: bool,
+    first_guard: u16,
     mode: Mode,
 }
+
+/// The first of the guards that want a word, each another one.
+const KEYED: u16 = 1;
+
+/// The first of the guards that want a range, which no index serves. The last of them holds.
+const RANGED: u16 = 65;
 
 /// The case of a name.
 fn case(name: &str) -> Case {
     let event = if name == "filter" { 1 } else { 0 };
-    let (bindings, handler, guarded, mode) = match name {
-        "none" => (0, 1, false, Mode::Plain),
-        "bare" => (1, 1, false, Mode::Plain),
-        "one" => (1, 1, true, Mode::Plain),
-        "eight" => (8, 1, true, Mode::Plain),
-        "many" => (64, 1, true, Mode::Plain),
-        "all_eight" => (8, 1, false, Mode::Plain),
-        "all_many" => (64, 1, false, Mode::Plain),
-        "filter" => (1, 2, true, Mode::Filter),
-        "up" => (1, 3, true, Mode::Plain),
-        "native" => (1, 4, true, Mode::Plain),
+    let (bindings, handler, first_guard, mode) = match name {
+        "none" | "unfit" => (0, 1, 0, Mode::Plain),
+        "bare" => (1, 1, 0, Mode::Plain),
+        "one" => (1, 1, KEYED, Mode::Plain),
+        "eight" => (8, 1, KEYED, Mode::Plain),
+        "many" => (64, 1, KEYED, Mode::Plain),
+        "ranges" => (64, 1, RANGED, Mode::Plain),
+        "all_eight" => (8, 1, 0, Mode::Plain),
+        "all_many" => (64, 1, 0, Mode::Plain),
+        "filter" => (1, 2, KEYED, Mode::Filter),
+        "up" => (1, 3, KEYED, Mode::Plain),
+        "native" => (1, 4, KEYED, Mode::Plain),
         _ => panic!("no such case"),
     };
-    Case { event, bindings, handler, guarded, mode }
+    Case { event, bindings, handler, first_guard, mode }
 }
 
-/// Three events, four handlers, and 64 guards that each want another word.
+/// Three events, four handlers, 64 guards that each want another word, and 64 that want a range.
 fn script() -> String {
     let mut text = String::from("spin 3\nevent 0 0 w:w last\nevent 1 0 W:w last\nevent 2 0 w last\n");
     text += "handler 1 w:w result + a0 1\nhandler 2 W:w set 0 + a0 1 result a0\n";
     text += "handler 3 w:w result + a0 1 up 2 1 w a0\nhandler 4 native next\n";
-    (1..=64).for_each(|guard| text += &format!("guard {guard} w == a0 {guard}\n"));
+    (KEYED..RANGED).for_each(|guard| text += &format!("guard {guard} w == a0 {guard}\n"));
+    (RANGED..RANGED + 63).for_each(|guard| text += &format!("guard {guard} w < {guard} a0\n"));
+    text += &format!("guard {} w < a0 {}\n", RANGED + 63, RANGED);
     text
 }
 
@@ -109,13 +119,27 @@ fn open(alloc: Global, case: &Case) -> (Hub, Seat) {
     let (hub, mut seats) = Hub::new(alloc, setup, 1).unwrap();
     let mut seat = seats.take_first().unwrap();
     for number in 1..=case.bindings {
-        let guard = if case.guarded { number } else { 0 };
+        let guard = if case.first_guard == 0 { 0 } else { case.first_guard + number - 1 };
         let bare = Command::bare(Op::Install, 0, case.event, 0);
-        let install = Command { handler: case.handler, guard, mode: case.mode, ..bare };
-        let judged = seat.command(alloc, &hub, &install).unwrap();
-        assert!(matches!(judged.verdict, Verdicted::Accepted));
+        ask(alloc, &hub, &mut seat, &Command { handler: case.handler, guard, mode: case.mode, ..bare });
     }
     (hub, seat)
+}
+
+/// Has a command accepted.
+fn ask(alloc: Global, hub: &Hub, seat: &mut Seat, command: &Command) {
+    let judged = seat.command(alloc, hub, command).unwrap();
+    assert!(matches!(judged.verdict, Verdicted::Accepted));
+}
+
+/// Installs so many bindings, each after the one before.
+fn install_in_order(alloc: Global, hub: &Hub, seat: &mut Seat, count: u16) {
+    let none = NO_BINDING;
+    for number in 1..=count {
+        let before = if number == 1 { none } else { number - 1 };
+        let bare = Command::bare(Op::Install, 0, 0, 0);
+        ask(alloc, hub, seat, &Command { handler: 1, after: [before, none, none, none], ..bare });
+    }
 }
 
 /// How many handlers ran.
@@ -133,6 +157,9 @@ fn main() {
     let (hub, mut seat) = open(alloc, &case);
     let mut args = Args::new(alloc);
     args.push(Value::Word(1)).unwrap();
+    if name == "unfit" {
+        args.push(Value::Word(1)).unwrap();
+    }
     let deed = Deed::Raise { event: case.event, args };
     let ran;
     let before = REQUESTS.load(Relaxed);
@@ -150,6 +177,10 @@ fn main() {
                 seat.raise_into(alloc, &hub, &deed, &mut buffer).unwrap();
             }
             ran = handlers(buffer.trace());
+        }
+        "install" => {
+            install_in_order(alloc, &hub, &mut seat, count as u16);
+            ran = 0;
         }
         _ => panic!("no such call"),
     }

@@ -1,6 +1,6 @@
 """The definitions of specs/, the types and constants of the sources, and what the names in them stand for.
 
-`headline` follows them. Names of the standard library and of the kit's crates stand for nothing here.
+`headline` and `define` follow them. Names of the standard library and of the kit's crates stand for nothing here.
 """
 
 import os
@@ -207,9 +207,12 @@ class Names:
         return declared(path, name) if ".declared." in path else None
 
     def named(self, name: str) -> Definition:
-        """The definition that a name with its crate, as `spin_run:IsWhole`, stands for."""
+        """The definition, or else the type of the sources, that a name with its crate, as `spin_run:IsWhole`, stands for."""
         crate, _, its = name.partition(":")
         for path, module in self.known.items():
             if path.startswith(f"Rattle.{crate}.") and its in module.own:
                 return module.own[its]
+        found = handed_out(crate, its)
+        if found:
+            return found
         raise SystemExit(f"no definition {name}")

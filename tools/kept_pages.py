@@ -30,24 +30,29 @@ def settle(texts: Mapping[str, str], tool: str) -> int:
     return 1 if stale else 0
 
 
+def anchor(head: str) -> str:
+    """The anchor of a heading."""
+    return re.sub(r"[^\w\- ]", "", head.lower()).strip().replace(" ", "-")
+
+
 def anchors(path: str) -> set[str]:
     """The anchors of a page's headings."""
     with open(path, encoding="utf-8") as it:
         heads = re.findall(r"^#+ (.*)$", it.read(), re.M)
-    return {re.sub(r"[^\w\- ]", "", head.lower()).strip().replace(" ", "-") for head in heads}
+    return {anchor(head) for head in heads}
 
 
 def is_lost(folder: str, target: str) -> bool:
     """Whether a link of a page in that folder leads to no file, no line of its file, or no heading of its page."""
-    file, _, anchor = target.partition("#")
+    file, _, place = target.partition("#")
     full = os.path.normpath(f"{folder}/{file}")
     if not os.path.exists(full):
         return True
-    line = re.fullmatch(r"L(\d+)(?:-L\d+)?", anchor)
+    line = re.fullmatch(r"L(\d+)(?:-L\d+)?", place)
     if line:
         with open(full, encoding="utf-8") as it:
             return int(line[1]) > it.read().count("\n") + 1
-    return bool(anchor) and full.endswith(".md") and anchor not in anchors(full)
+    return bool(place) and full.endswith(".md") and place not in anchors(full)
 
 
 def lost_links(path: str) -> Iterator[str]:

@@ -3,19 +3,37 @@
 A definition is named by its crate and its name.
 """
 
+from typing import NamedTuple
+
+
+class Apart(NamedTuple):
+    """What is named on the path and goes by itself: how it is asked for, what it begins with, its title, and what it says."""
+
+    option: str
+    roots: list[str]
+    title: str
+    says: str
+
+
 CALL, SOURCE = "pub fn spin<", "crates/spin_top/src/top.rt"
 # The clauses that the headline is: its condition, and what status 0 means.
 CLAUSES = ["sincere", "headline"]
 # The clauses that say the same of another command, and what they rest on beside.
 BESIDE = ["headline_joined"]
-BESIDE_IS = (
-    "what the clause *headline_joined* rests on beside, which says the same of `join` over the joined capture, and no page "
-    "has"
-)
-# What is named on the path and has pages of its own, one level deeper.
-APART = "spin_script:IsScript"
-APART_IS = "When the text of a script is accepted"
-APART_SAYS = "by which no line of the script is refused, on pages of its own"
+BESIDE_IS = "what the clause *headline_joined* rests on beside, which says the same of `join` over the joined capture"
+# What is named on the path and goes one level deeper, by itself: a table that is only looked up, and `IsScript`.
+APART = [
+    Apart("--lines", ["spin_grammar:line_form"], "The words of each line", "the words of each line"),
+    Apart("--standards",
+          ["spin_headers:ether_of", "spin_headers:ipv4_of", "spin_headers:udp_of", "spin_headers:ipv4_payload",
+           "spin_headers:udp_payload", "spin_headers:Ether", "spin_headers:Ipv4", "spin_headers:Udp"],
+          "Tables that are taken from standards", "the headers of Ethernet, IPv4 and UDP, taken from RFC 894, 791 and 768"),
+    Apart("--natives",
+          ["spin_objects:Natives", "spin_objects:native_handlers", "spin_objects:native_guards", "spin_objects:native_authorisers"],
+          "The natives as they are handed in", "the natives as they are handed in"),
+    Apart("--script", ["spin_script:IsScript"], "When the text of a script is accepted",
+          "when the text of a script is accepted, no line of it being refused"),
+]
 
 HEADLINE = (
     "For every script, capture and interleaving of the lanes, what the program writes is one legal history of the plain "
@@ -29,7 +47,7 @@ WORDS = [
     ("For every script", "the text that was read under the script's name says that script, line by line, and no line of it "
      "is refused", ["spin_top:WasRunWhole", "spin_stages:SaysScript", "spin_script:IsScript"]),
     ("capture", "the records are those of the capture's file, up to a rest that is empty or cut; none where no capture is named",
-     ["spin_stages:IsCapturedWhole", "spin_stages:HasHeader", "spin_stages:HoldsRecords"]),
+     ["spin_stages:IsNamedCapture", "spin_stages:HasFileHeader", "spin_stages:HoldsRecords"]),
     ("and interleaving of the lanes", "the clause has no premise on the order of the lanes' steps",
      ["spin_top:Headline"]),
     ("what the program writes", "the bytes appended to the sink are the report's text, where shelf and sink tell what they hold; "
@@ -60,14 +78,14 @@ PARTS = [
     ("From the clause to a run", "What status 0 means under `run`, and what is seen before and after the call.",
      ["spin_top:Headline"]),
     ("Run", "Which histories are those of a script: segment after segment, with what is retired, sent and lost.",
-     ["spin_report:HistorySeen", "spin_report:Standing", "spin_report:IsRun"]),
+     ["spin_report:HistorySeen", "spin_report:RunPoint", "spin_report:IsRun"]),
     ("Legal", "Which entries and jobs answer what a segment asks of its lanes.", ["spin_report:IsWoven"]),
     ("Step", "What becomes of a command at a state.", ["spin_table:IsStep"]),
     ("Reply", "What a raise, or the call of a job, comes to at a state.", ["spin_proto:IsDeedReply", "spin_proto:IsJobReply"]),
     ("Report", "The lines of a history's report.", ["spin_report:report_text"]),
     ("Script", "What the text under the script's name says, and what natives it may name.",
      ["spin_stages:SaysScript", "spin_script:ScriptData", "spin_script:natives_seen", "spin_script:NativeData"]),
-    ("Capture", "The records of the capture that is named.", ["spin_stages:IsCapturedWhole"]),
+    ("Capture", "The records of the capture that is named.", ["spin_stages:IsNamedCapture"]),
 ]
 
 # Where the first hour stops: these, and what only they cite, come behind it.
@@ -76,15 +94,18 @@ DEEPER = [
     "spin_place:IsTheOrder", "spin_table:bindings_after",
     "spin_proto:raised", "spin_proto:raised_after", "spin_proto:job_of", "spin_proto:reply_of", "spin_proto:are_fit",
     "spin_report:entry_line", "spin_report:job_line",
-    "spin_stages:script_with", "spin_stages:line_form", "spin_grammar:LineMeaning", "spin_stages:IsSignature",
+    "spin_stages:script_with", "spin_grammar:LineMeaning", "spin_stages:IsSignature",
     "spin_grammar:number", "spin_grammar:hex_bytes", "spin_outside:Keep",
     "spin_objects:HandlerUnit", "spin_objects:GuardUnit",
-    "spin_objects:native_handlers", "spin_objects:native_guards", "spin_objects:native_authorisers",
 ]
+# The definitions that the page shows with their texts.
+SHOWN = ["spin_top:Headline", "spin_top:WasRunWhole"]
 # Types of the sources that come behind the first hour, too: long lists of cases, and what acts and policies are made of.
-LATER_TYPES = ["Command", "Refusal", "JobCall", "End", "RunEnd", "Test", "Rule", "Act", "EventType", "Natives"]
+LATER_TYPES = ["Command", "Refusal", "JobCall", "End", "RunEnd", "Test", "Rule", "Act", "EventType"]
 
 # The contracts that alone tie what is seen to calls, and how two values are seen: the file, and where the text begins.
+# The clauses of LEFT_OUT are left out: only another clause needs them, the bound on how much of a file is read.
+LEFT_OUT = ["named", "under", "none_left"]
 CONTRACTS = [
     ("Shelf", "crates/spin_outside/src/shelf.rt", "pub trait Shelf"),
     ("Sink", "crates/spin_outside/src/sink.rt", "pub trait Sink"),

@@ -1,6 +1,6 @@
 """The live bindings of each event after each accepted command, and the order in which they run.
 
-They are worked from the script and from what the report accepted, by docs/DEFINITIONS.md. It is for pictures: what
+They are worked from the script and from what the report accepted, by the definitions in specs/. It is for pictures: what
 proves nothing, and judges nothing.
 """
 

@@ -43,7 +43,7 @@ def name_of(key: Key, lines: list[str]) -> str:
 def told(
     before: Mapping[Key, Line], after: Mapping[Key, Line], lines: list[str], is_own: Callable[[int], bool],
 ) -> list[str]:
-    """What is told of the answers before and after a change; those of lines that are its own are left out."""
+    """What is said of the answers before and after a change; those of lines that are its own are left out."""
     rows = []
     for key, line in after.items():
         old = before.get(key)

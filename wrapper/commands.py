@@ -1,6 +1,6 @@
 """The one table of the commands of `./spin`: those of the program, and those of the wrapper, each a module of its name.
 
-The help, the man page and the completions are made from it. A command of the wrapper's own is told of where its module is.
+The help, the man page and the completions are made from it. A command of the wrapper's own is described where its module is.
 """
 
 from typing import NamedTuple

@@ -58,7 +58,7 @@ def made_by(command: str, name: str) -> str:
 
 
 def of_magic(name: str, head: bytes) -> list[str]:
-    """What is told of a file whose first bytes are no magic."""
+    """What is said of a file whose first bytes are no magic."""
     begins = f"its first 4 bytes are {head[:4].hex(' ')}, where a classic pcap has d4 c3 b2 a1 or a like magic"
     for magic, what, command in OTHERS:
         if head.startswith(magic):
@@ -69,14 +69,14 @@ def of_magic(name: str, head: bytes) -> list[str]:
 
 
 def of_version(name: str, head: bytes) -> list[str]:
-    """What is told of a capture of another version."""
+    """What is said of a capture of another version."""
     major, minor = struct.unpack(f"{MAGICS[head[:4]]}HH", head[4:8])
     is_one = f"{name} is a pcap of version {major}.{minor}, by offset 4, where 2.4 is read"
     return [is_one, made_by("editcap -F pcap {0} {1}", name)]
 
 
 def of_link(name: str, head: bytes) -> list[str]:
-    """What is told of a capture of another link type."""
+    """What is said of a capture of another link type."""
     from wrapper import convert
 
     (link,) = struct.unpack(f"{MAGICS[head[:4]]}I", head[20:24])
@@ -97,7 +97,7 @@ def offset_of(file: BinaryIO, order: str, record: int) -> int:
 
 
 def of_length(name: str, record: int) -> list[str]:
-    """What is told of a record whose captured length is over the limit."""
+    """What is said of a record whose captured length is over the limit."""
     with open(name, "rb") as file:
         order = MAGICS[file.read(4)]
         at = offset_of(file, order, record)

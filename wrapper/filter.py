@@ -207,7 +207,7 @@ class Filter:
         }
 
     def task(self, piece: Piece, folder: Path) -> Task:
-        """What a worker is told of a piece."""
+        """What a worker is said of a piece."""
         return {
             "folder": str(folder), "key": self.key(piece), "command": self.command,
             "script": self.rounds.script(piece.records),

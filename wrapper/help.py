@@ -13,7 +13,7 @@ FLAGS_LINES = [
     ("--quiet", "before a command: nothing is told beside what it writes"),
 ]
 
-# Before what is told of the program, and behind it: where this is installed there is no repository.
+# Before what is said of the program, and behind it: where this is installed there is no repository.
 FIRST, LAST = ("", "To read on: man codzvregi.\n") if INSTALLED.is_file() else (
     "Example, on a fresh clone:\n  ./spin run examples/first.spin\n\n",
     """\

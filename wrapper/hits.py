@@ -15,7 +15,7 @@ from wrapper.counts import ANSWERS, DROPS, REFUSALS
 from wrapper.reading import COMMANDS, NAMED, Line, Script
 from wrapper.told import endpoint_words
 
-# What is told of a run: values of JSON by their names.
+# What is said of a run: values of JSON by their names.
 Told = dict[str, Any]
 
 STEP = re.compile(r" (run|job|send|drop) (\w+)(?: ([0-9]+))?")
@@ -86,7 +86,7 @@ def add_guards(bindings: Bindings, counts: Counter[str]) -> None:
 
 
 def of_binding(one: Binding, counts: Counter[str]) -> dict[str, int | list[int]]:
-    """What is told of a binding."""
+    """What is said of a binding."""
     name = f"{one.event} {one.number}"
     return {
         "binding": one.number, "event": one.event, "module": one.module, "handler": one.handler,

@@ -1,4 +1,4 @@
-"""library [--plain] [--out FOLDER]: makes the library as it is installed: libcodzvregi.a, libcodzvregi.so.1, its header
+"""library [--plain] [--out FOLDER]: makes the library as it is installed: libcodzvregi.a, libcodzvregi.so.2, its header
 codzvregi.h, and codzvregi.pc for pkg-config.
 
 It is of the proved library of crates/spin_c where `rt lib` has made that and no source is newer, and else, or with
@@ -27,9 +27,9 @@ OUT = TOP / "out" / "library"
 HEADER, MORE = TOP / "bindings" / "c" / "spin.h", TOP / "bindings" / "c" / "installed.h"
 
 # The release of all that is installed. Its first number is the version of the calls.
-RELEASE = "1.0.0"
+RELEASE = "2.0.0"
 
-ARCHIVE, SHARED, LINK = "libcodzvregi.a", "libcodzvregi.so.1", "libcodzvregi.so"
+ARCHIVE, SHARED, LINK = "libcodzvregi.a", "libcodzvregi.so.2", "libcodzvregi.so"
 FILES = (ARCHIVE, SHARED, "codzvregi.h", "codzvregi.pc", "proved")
 
 NOTHING_PROVED = "the plain library, of which nothing is proved"
@@ -112,7 +112,7 @@ def write_texts(folder: Path, proved: str) -> None:
     told = proved.replace("\\", "\\\\").replace('"', '\\"')
     (folder / "told.c").write_text(f'const char *codzvregi_proved(void) {{ return "{told}"; }}\n')
     names = " ".join(f"{name};" for name in calls())
-    (folder / "exported").write_text(f"CODZVREGI_1 {{ global: {names} local: *; }};\n")
+    (folder / "exported").write_text(f"CODZVREGI_2 {{ global: {names} local: *; }};\n")
 
 
 def join(folder: Path, archives: Iterable[Path]) -> None:

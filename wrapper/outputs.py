@@ -1,4 +1,4 @@
-"""Where a run leaves what its endpoints receive, and what is told of it: the flags of the wrapper for such a run.
+"""Where a run leaves what its endpoints receive, and what is said of it: the flags of the wrapper for such a run.
 
 The program appends to the files of its endpoints, in the folder where it is called. So a run may be sent into a folder
 of its own, and where a file stands already that is told, or refused. The flags never reach the program.

@@ -1,4 +1,4 @@
-"""What a status of the program means: the lines that are told of it.
+"""What a status of the program means: the lines that are said of it.
 
 The program is asked anew by words that send nothing, and only over regular files, which a second reading doesn't change.
 """
@@ -300,7 +300,7 @@ REASONS: dict[int, Callable[[list[str] | None, list[str], int], list[str]]] = {
 
 
 def of(command: list[str] | None, words: list[str], status: int, folder: str = ".") -> list[str]:
-    """The lines that are told of a status of the program, which ended so on these words and wrote in that folder."""
+    """The lines that are said of a status of the program, which ended so on these words and wrote in that folder."""
     if status == 8:
         return of_endpoint(status, folder)
     if status in REASONS:

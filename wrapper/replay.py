@@ -1,4 +1,4 @@
-"""Raises and jobs worked anew, binding by binding, by docs/DEFINITIONS.md.
+"""Raises and jobs worked anew, binding by binding, by the definitions in specs/.
 
 It works from a script and from the bindings as the report has them, and keeps what the report doesn't tell: bindings
 that didn't run, the tests of guards, and arguments before and after. Nothing is proved of it; what it comes to is

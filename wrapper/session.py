@@ -248,7 +248,7 @@ class Session:
         return told or self.quiet(added)
 
     def quiet(self, added: int) -> list[str]:
-        """What is told of a line that has no entry."""
+        """What is said of a line that has no entry."""
         words = self.lines[added - 1].split()
         if words[0] == "lane":
             return ["kept: no records are left" if self.capture else "kept: no records, since no capture is loaded"]

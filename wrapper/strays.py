@@ -41,7 +41,7 @@ def shortened(line: str) -> str:
 
 
 def first(script: str, report: str) -> str | None:
-    """What is told of the first line of a report that can't be there, or of the first deed without an entry; None else."""
+    """What is said of the first line of a report that can't be there, or of the first deed without an entry; None else."""
     deeds, lines = reading.read_script(script).deeds, report.splitlines()
     last: dict[int, tuple[int, int]] = {}
     for at, line in enumerate(lines, 1):

@@ -1,4 +1,4 @@
-"""Commands judged anew, by docs/DEFINITIONS.md: which rule of an event's owner decides, and why one is refused.
+"""Commands judged anew, by the definitions in specs/: which rule of an event's owner decides, and why one is refused.
 
 Nothing is proved of it; what it comes to is compared with the report.
 """
@@ -148,7 +148,7 @@ class Judge:
             verdict.why = "with it the bindings would have no order, since some would have to run before each other"
 
     def decided(self, asked: Asked, live: Live) -> tuple[int, bool, list[str]]:
-        """The number of the rule that decides, whether it allows, and what is told of the rules up to it."""
+        """The number of the rule that decides, whether it allows, and what is said of the rules up to it."""
         if number(self.script.events[asked.event][0]) == asked.module:
             return 0, True, [f"{self.script.called('module', asked.module)} owns the event, so no rule is asked"]
         native, told = self.script.authorisers.get(asked.event), list[str]()

@@ -21,7 +21,7 @@ INDENT = "  "
 
 @dataclass
 class Because:
-    """What is told of a line of a report: lines of text, what the replay comes to, and whether the report says so."""
+    """What is said of a line of a report: lines of text, what the replay comes to, and whether the report says so."""
 
     line: Line
     lines: list[str]
@@ -139,7 +139,7 @@ class Why:
     # ---- raises
 
     def of_outcome(self, line: Line, deed: list[str], outcome: Outcome) -> list[str]:
-        """What is told of a raise or a job."""
+        """What is said of a raise or a job."""
         if outcome.root is not None:
             rows = self.of_raised(outcome.root, line.kind == "job" and deed[0] != "later")
             return [INDENT + row for row in rows]

@@ -31,7 +31,7 @@ Key = dict[str, object]
 
 
 class Task(TypedDict):
-    """What a worker is told of a piece, as JSON has it."""
+    """What a worker is said of a piece, as JSON has it."""
 
     folder: str
     key: Key

@@ -2,7 +2,8 @@
  *
  * Every call answers SPIN_OK or the number of an error, whose name spin_error_name tells. What is proved of the calls
  * themselves is said in crates/spin_c/README.md. The inline functions here are C, of which nothing is proved: they test
- * for null, which the proved calls can't be handed, and else pass on what they are handed.
+ * for null, which the proved calls can't be handed, and for numbers that have no room in a call, which C would cut, and
+ * else pass on what they are handed.
  *
  * Left to C is what no call can test:
  * - a pointer that isn't null leads to memory that is as long as its length says, and that nothing else writes
@@ -14,7 +15,8 @@
  * - malloc, realloc and free are those of one allocator.
  *
  * Each call below says whether it asks for memory. One that asks for none never answers SPIN_NO_MEMORY. One that does
- * answers it where there was none, and not in place of SPIN_NO_LANE, SPIN_TAKEN, SPIN_SHARED or SPIN_NO_COMMAND.
+ * answers it where there was none, and not in place of SPIN_NO_LANE, SPIN_TAKEN, SPIN_SHARED, SPIN_HUB_ENDED or
+ * SPIN_NO_COMMAND; a handle is as it was then, but that its seat may know of more commands.
  */
 #ifndef SPIN_H
 #define SPIN_H
@@ -27,7 +29,7 @@ extern "C" {
 #endif
 
 /* What spin_version answers of the library whose calls these are. */
-#define SPIN_VERSION 1
+#define SPIN_VERSION 2
 
 enum spin_error {
     SPIN_OK = 0,
@@ -36,20 +38,25 @@ enum spin_error {
     SPIN_NO_HISTORY = 3,   /* the report isn't that of a history of the script */
     SPIN_CLOSED = 4,       /* the handle is closed */
     SPIN_OPEN = 5,         /* the handle is open already */
-    SPIN_NO_COMMAND = 6,   /* the row stands for no command of the handle's lane */
-    SPIN_FULL = 7,         /* the row stands for a command of the lane, and the log has as many as it holds */
+    SPIN_NO_COMMAND = 6,   /* the row stands for no command */
+    SPIN_FULL = 7,         /* the log has as many commands as it holds, or an install would leave none to get out by */
     SPIN_REFUSED = 8,      /* the command is refused: its place, and the number of the refusal, are told */
     SPIN_NO_REPLY = 9,     /* no reply is kept: nothing was raised yet, or a command or a renewal was done since */
     SPIN_NO_STEP = 10,     /* the reply has no step of that index */
     SPIN_TOO_SMALL = 11,   /* the bytes don't fit the buffer; how many they are is told */
     SPIN_NO_ARGUMENT = 12, /* an argument is neither a word nor a range within the bytes: nothing is done */
-    SPIN_NO_LANE = 13,     /* no hub has so many lanes; or the handle has no such lane to hand out, or none to renew */
-    SPIN_TAKEN = 14,       /* the seat of the lane is handed out already; or some seat is, so the hub isn't renewed */
-    SPIN_NO_BINDING = 15,  /* the last renewal numbered no such binding, or there was none */
+    SPIN_NO_LANE = 13,     /* no hub has so many lanes, or the hub no such lane; or this is, or isn't, its opener */
+    SPIN_TAKEN = 14,       /* the seat of the lane is out; or some seat is, so the hub is neither renewed nor ended */
+    SPIN_NO_BINDING = 15,  /* the last renewal numbered no such binding, or the last cycle has none */
     SPIN_BAD_CAPTURE = 16, /* the bytes are refused as a capture: the record, and the number of the fault, are told */
-    SPIN_SHARED = 17,      /* the hub is still shared by other handles, so it isn't renewed */
+    SPIN_SHARED = 17,      /* a handle whose seat came home is still being closed: the hub may be asked again */
+    SPIN_NO_JOB = 18,      /* the reply leaves no job of that index */
+    SPIN_HUB_ENDED = 19,   /* the hub was ended: its handle tells rows, and is closed */
+    SPIN_NO_ROW = 20,      /* the log has no row of that index, or the hub wasn't ended */
+    SPIN_NO_TEXT = 21,     /* there is no cause, or no fault, of that number */
     SPIN_NULL = 100,       /* a pointer is null that may not be */
-    SPIN_SAME = 101        /* one handle is handed in as two */
+    SPIN_SAME = 101,       /* one handle is handed in as two */
+    SPIN_WIDE = 102        /* a number has no room in what it is handed to: nothing is asked */
 };
 
 /* Where a text is no script, or a capture is refused, and why; zeros where nothing is told. */
@@ -59,13 +66,14 @@ struct spin_fault {
     uint32_t cause; /* the number of the cause, or of the capture's fault, as docs/FORMATS.md has them */
 };
 
-/* A handle: a seat of a hub over a script; closed where it is {NULL}. A hub has a seat for each lane, and each seat is
- * one handle's; the last handle that is closed frees the hub. */
+/* A handle: a seat of a hub over a script; closed where it is {NULL}. A hub has a seat for each lane. Its opener, the
+ * handle with which it was opened, has that of lane 0 and hands the others out; each that comes home may go out again.
+ * The last handle that is closed frees the hub. */
 struct spin_lane {
     void *at;
 };
 
-/* The kinds of answers to a raise; from SPIN_UNKNOWN_EVENT on there is none. */
+/* The kinds of answers to a raise; from SPIN_UNKNOWN_EVENT to SPIN_TOO_MANY_HANDLERS there is none. */
 enum spin_kind {
     SPIN_NO_HANDLER = 0,       /* no binding ran, and there is no default */
     SPIN_DONE = 1,             /* bindings ran, and gave no result */
@@ -74,15 +82,16 @@ enum spin_kind {
     SPIN_DEFAULT = 4,          /* the default ran, and gave no result */
     SPIN_UNKNOWN_EVENT = 5,    /* there is no event of that number */
     SPIN_WRONG_ARGUMENTS = 6,  /* the arguments don't fit the event */
-    SPIN_TOO_MANY_HANDLERS = 7 /* more than 4096 handlers would start: nothing is done */
+    SPIN_TOO_MANY_HANDLERS = 7, /* more than 4096 handlers would start: nothing is done */
+    SPIN_QUEUED = 8             /* the raise is left to a job, job 0 of the reply */
 };
 
 /* What a call of a handle tells besides its number; zeros where nothing is told. */
 struct spin_answer {
     uint32_t place; /* the number of commands that were accepted up to the answer; of a bad script its first bad line */
     uint32_t kind;  /* the kind of an answer to a raise; the number of a refusal; of a bad script the cause */
-    uint64_t value; /* the value of an answer to a raise, where it has one */
-    uint64_t steps; /* the number of steps of a raise */
+    uint64_t value; /* the value of an answer to a raise, where it has one; the rule of a refusal by one */
+    uint64_t steps; /* the number of steps of a raise; of a conflict how many bindings are in its cycle */
 };
 
 /* The kinds of steps of a reply. */
@@ -129,12 +138,25 @@ uint32_t spin_raise_words(struct spin_lane *lane, uint8_t event, const uint64_t 
                           struct spin_answer *answer);
 uint32_t spin_raise(struct spin_lane *lane, uint8_t event, const uint8_t *bytes, size_t length,
                     const struct spin_arg *args, size_t count, struct spin_answer *answer);
+uint32_t spin_later(struct spin_lane *lane, uint8_t event, const uint8_t *bytes, size_t length,
+                    const struct spin_arg *args, size_t count, struct spin_answer *answer);
 uint32_t spin_step(struct spin_lane *lane, uint64_t index, struct spin_step *step);
 uint32_t spin_step_bytes(struct spin_lane *lane, uint64_t index, uint8_t *buffer, size_t room, uint64_t *length);
+uint32_t spin_job(struct spin_lane *lane, uint64_t index, struct spin_answer *answer);
+uint32_t spin_job_step(struct spin_lane *lane, uint64_t index, struct spin_step *step);
+uint32_t spin_job_bytes(struct spin_lane *lane, uint64_t index, uint8_t *buffer, size_t room, uint64_t *length);
 uint32_t spin_command(struct spin_lane *lane, const struct spin_row *row, struct spin_answer *answer);
+uint32_t spin_cycle(struct spin_lane *lane, uint64_t index, struct spin_answer *answer);
+uint32_t spin_return(struct spin_lane *lane, struct spin_answer *answer);
+uint32_t spin_gather(struct spin_lane *lane, struct spin_answer *answer);
 uint32_t spin_renew(struct spin_lane *lane, struct spin_answer *answer);
 uint32_t spin_before(struct spin_lane *lane, uint64_t index, struct spin_answer *answer);
+uint32_t spin_end(struct spin_lane *lane, struct spin_answer *answer);
+uint32_t spin_row_at(struct spin_lane *lane, uint64_t index, struct spin_row *row);
 uint32_t spin_close(struct spin_lane *lane, struct spin_answer *answer);
+
+uint32_t spin_cause_text(uint32_t cause, uint8_t *buffer, size_t room, uint64_t *length);
+uint32_t spin_fault_text(uint32_t fault, uint8_t *buffer, size_t room, uint64_t *length);
 
 /* Bytes that are handed in: null stands for none where the length is 0. */
 static inline const uint8_t *spin_bytes(const void *at, size_t length) {
@@ -177,36 +199,58 @@ static inline uint32_t spin_lane_open(struct spin_lane *lane, const void *text, 
     return spin_open(bytes, length, lane, answer);
 }
 
-/* Opens a closed handle over a script with a hub of so many lanes, 1 to 8. The handle is that of lane 0, and the seats
- * of the others wait at it for spin_lane_seat. Another number of lanes is SPIN_NO_LANE, whatever the text is. It asks
- * for memory. */
-static inline uint32_t spin_lane_open_hub(struct spin_lane *lane, uint8_t lanes, const void *text, size_t length,
+/* Opens a closed handle over a script with a hub of so many lanes, 1 to 8. The handle is the hub's opener, at which the
+ * seats of the other lanes wait for spin_lane_seat. Another number of lanes is SPIN_NO_LANE, whatever the text is. It
+ * asks for memory. */
+static inline uint32_t spin_lane_open_hub(struct spin_lane *lane, uint64_t lanes, const void *text, size_t length,
                                           struct spin_answer *answer) {
     const uint8_t *bytes = spin_bytes(text, length);
     if (bytes == NULL || lane == NULL || answer == NULL) {
         return SPIN_NULL;
     }
-    return spin_open_lanes(bytes, length, lanes, lane, answer);
+    return lanes > UINT8_MAX ? (uint32_t)SPIN_WIDE : spin_open_lanes(bytes, length, (uint8_t)lanes, lane, answer);
 }
 
-/* Hands the seat of another lane out, which waits at the handle with which its hub was opened, to a closed handle. Each
- * lane has one seat. It asks for memory. */
-static inline uint32_t spin_lane_seat(struct spin_lane *lane, uint8_t number, struct spin_lane *seat) {
+/* Hands the seat of another lane out, by the hub's opener, to a closed handle. It asks for memory. */
+static inline uint32_t spin_lane_seat(struct spin_lane *lane, uint64_t number, struct spin_lane *seat) {
     if (lane == NULL || seat == NULL) {
         return SPIN_NULL;
     }
-    return lane == seat ? (uint32_t)SPIN_SAME : spin_seat(lane, number, seat);
+    if (lane == seat) {
+        return SPIN_SAME;
+    }
+    return number > UINT8_MAX ? (uint32_t)SPIN_WIDE : spin_seat(lane, (uint8_t)number, seat);
+}
+
+/* Closes a handle whose seat was handed out: the seat comes home, and may go out again by spin_lane_seat. The opener is
+ * SPIN_NO_LANE, and stays open. It asks for no memory. */
+static inline uint32_t spin_lane_return(struct spin_lane *lane, struct spin_answer *answer) {
+    if (lane == NULL || answer == NULL) {
+        return SPIN_NULL;
+    }
+    return spin_return(lane, answer);
+}
+
+/* Takes the seats in that came home, by the hub's opener, and tells how many are still out. It asks for no memory. */
+static inline uint32_t spin_lane_gather(struct spin_lane *lane, uint64_t *out) {
+    if (lane == NULL || out == NULL) {
+        return SPIN_NULL;
+    }
+    struct spin_answer answer;
+    const uint32_t error = spin_gather(lane, &answer);
+    *out = answer.value;
+    return error;
 }
 
 /* Raises an event with words as its arguments. It asks for memory. */
-static inline uint32_t spin_lane_raise(struct spin_lane *lane, uint8_t event, const uint64_t *words, size_t count,
+static inline uint32_t spin_lane_raise(struct spin_lane *lane, uint64_t event, const uint64_t *words, size_t count,
                                        struct spin_answer *answer) {
     static const uint64_t none[1] = {0};
     const uint64_t *given = words == NULL && count == 0 ? none : words;
     if (given == NULL || lane == NULL || answer == NULL) {
         return SPIN_NULL;
     }
-    return spin_raise_words(lane, event, given, count, answer);
+    return event > UINT8_MAX ? (uint32_t)SPIN_WIDE : spin_raise_words(lane, (uint8_t)event, given, count, answer);
 }
 
 /* An argument that is a word. */
@@ -222,7 +266,7 @@ static inline struct spin_arg spin_range(uint64_t start, uint64_t length) {
 }
 
 /* Raises an event with these arguments, words and ranges of these bytes. It asks for memory. */
-static inline uint32_t spin_lane_raise_args(struct spin_lane *lane, uint8_t event, const void *bytes, size_t length,
+static inline uint32_t spin_lane_raise_args(struct spin_lane *lane, uint64_t event, const void *bytes, size_t length,
                                             const struct spin_arg *args, size_t count, struct spin_answer *answer) {
     static const struct spin_arg none[1] = {{SPIN_WORD, 0, 0}};
     const struct spin_arg *given = args == NULL && count == 0 ? none : args;
@@ -230,7 +274,22 @@ static inline uint32_t spin_lane_raise_args(struct spin_lane *lane, uint8_t even
     if (at == NULL || given == NULL || lane == NULL || answer == NULL) {
         return SPIN_NULL;
     }
-    return spin_raise(lane, event, at, length, given, count, answer);
+    return event > UINT8_MAX ? (uint32_t)SPIN_WIDE
+                             : spin_raise(lane, (uint8_t)event, at, length, given, count, answer);
+}
+
+/* Leaves a raise of an event with these arguments to a job, as a script's `later` does: the answer is SPIN_QUEUED, or
+ * that of a raise that is refused, and spin_lane_job does job 0. It asks for memory. */
+static inline uint32_t spin_lane_later(struct spin_lane *lane, uint64_t event, const void *bytes, size_t length,
+                                       const struct spin_arg *args, size_t count, struct spin_answer *answer) {
+    static const struct spin_arg none[1] = {{SPIN_WORD, 0, 0}};
+    const struct spin_arg *given = args == NULL && count == 0 ? none : args;
+    const uint8_t *at = spin_bytes(bytes, length);
+    if (at == NULL || given == NULL || lane == NULL || answer == NULL) {
+        return SPIN_NULL;
+    }
+    return event > UINT8_MAX ? (uint32_t)SPIN_WIDE
+                             : spin_later(lane, (uint8_t)event, at, length, given, count, answer);
 }
 
 /* Tells the step at an index, counted from 0, of the reply to the last raise. It is kept until the next raise, and the
@@ -254,10 +313,39 @@ static inline uint32_t spin_lane_step_bytes(struct spin_lane *lane, uint64_t ind
     return spin_step_bytes(lane, index, at, room, length);
 }
 
-/* Renews the hub of a handle with which it was opened, and no seat of which was handed out: it goes on over a new log,
- * so that its bindings may change again, and nothing is lost that is bound. The live bindings are numbered anew, from 1
- * on in the order of their numbers. SPIN_TAKEN comes only where a seat was handed out. It asks for memory; where none is
- * left for the renewed lane, the handle is closed. */
+/* Does the job at an index, counted from 0, of those that the reply to the last raise leaves, as its steps tell them in
+ * order. It is done on the bindings at the place of that raise, whatever was bound since, and its answer is told as a
+ * raise's. A job may be done again, and answers the same. It asks for memory. */
+static inline uint32_t spin_lane_job(struct spin_lane *lane, uint64_t index, struct spin_answer *answer) {
+    if (lane == NULL || answer == NULL) {
+        return SPIN_NULL;
+    }
+    return spin_job(lane, index, answer);
+}
+
+/* Tells the step at an index of the reply to the last job, which is kept beside that to the raise, and as long as it.
+ * SPIN_NO_REPLY says that no job of it was done. It asks for no memory. */
+static inline uint32_t spin_lane_job_step(struct spin_lane *lane, uint64_t index, struct spin_step *step) {
+    if (lane == NULL || step == NULL) {
+        return SPIN_NULL;
+    }
+    return spin_job_step(lane, index, step);
+}
+
+/* Copies the bytes that such a step sends, as spin_lane_step_bytes does. It asks for memory. */
+static inline uint32_t spin_lane_job_bytes(struct spin_lane *lane, uint64_t index, void *buffer, size_t room,
+                                           uint64_t *length) {
+    uint8_t none[1] = {0};
+    uint8_t *at = buffer == NULL && room == 0 ? none : (uint8_t *)buffer;
+    if (at == NULL || lane == NULL || length == NULL) {
+        return SPIN_NULL;
+    }
+    return spin_job_bytes(lane, index, at, room, length);
+}
+
+/* Renews a hub all of whose seats are its opener's or home, by the opener: it goes on over a new log, so that its
+ * bindings may change again, and nothing is lost that is bound. The live bindings are numbered anew, from 1 on in the
+ * order of their numbers. SPIN_TAKEN comes where a seat is out. It asks for memory. */
 static inline uint32_t spin_lane_renew(struct spin_lane *lane, struct spin_answer *answer) {
     if (lane == NULL || answer == NULL) {
         return SPIN_NULL;
@@ -276,7 +364,28 @@ static inline uint32_t spin_lane_number_before(struct spin_lane *lane, uint64_t 
     return error;
 }
 
-/* Closes a handle. It asks for no memory. */
+/* Ends a hub all of whose seats are its opener's or home, by the opener, and tells how many rows its log has: the
+ * commands that were accepted since it was opened or renewed, which with all that was answered are one history.
+ * SPIN_TAKEN comes where a seat is out. It asks for memory. */
+static inline uint32_t spin_lane_end(struct spin_lane *lane, uint64_t *rows) {
+    if (lane == NULL || rows == NULL) {
+        return SPIN_NULL;
+    }
+    struct spin_answer answer;
+    const uint32_t error = spin_end(lane, &answer);
+    *rows = answer.value;
+    return error;
+}
+
+/* Tells the row at an index, counted from 0, of the log of a hub that was ended. It asks for no memory. */
+static inline uint32_t spin_lane_row_at(struct spin_lane *lane, uint64_t index, struct spin_row *row) {
+    if (lane == NULL || row == NULL) {
+        return SPIN_NULL;
+    }
+    return spin_row_at(lane, index, row);
+}
+
+/* Closes a handle; a seat that was handed out comes home. It asks for no memory. */
 static inline uint32_t spin_lane_close(struct spin_lane *lane, struct spin_answer *answer) {
     if (lane == NULL || answer == NULL) {
         return SPIN_NULL;
@@ -288,50 +397,107 @@ enum spin_op { SPIN_INSTALL = 1, SPIN_REMOVE = 2, SPIN_REPLACE = 3, SPIN_SET_DEF
 enum spin_place { SPIN_FREE = 0, SPIN_FIRST = 1, SPIN_LAST = 2 };
 enum spin_mode { SPIN_PLAIN = 0, SPIN_FILTER = 1, SPIN_ASYNC = 2 };
 
-/* A command, of the lane of its handle. What its op doesn't use is 0. `before` and `after` name up to four bindings
- * each, rising, and then 0. */
+/* A command, which is one of the lane of the handle that does it. What its op doesn't use is 0. `before` and `after`
+ * name up to four bindings each, rising, and then 0. */
 struct spin_command_words {
     enum spin_op op;
-    uint16_t event, requester, handler, guard, target;
     enum spin_place place;
     enum spin_mode mode;
-    uint16_t before[4], after[4];
-    uint8_t lane;
+    uint64_t event, requester, handler, guard, target, before[4], after[4];
 };
 
+/* Whether each number has room in a row. */
+static inline int spin_has_room(const struct spin_command_words *c) {
+    int is_wide = (unsigned)c->op >> 3 || (unsigned)c->place >> 3 || (unsigned)c->mode >> 2 || c->event >> 6 ||
+                  c->requester >> 8 || c->handler >> 10 || c->guard >> 10 || c->target >> 13;
+    for (int at = 0; at < 4; at++) {
+        is_wide = is_wide || c->before[at] >= UINT16_MAX || c->after[at] >= UINT16_MAX;
+    }
+    return !is_wide;
+}
+
 /* Four numbers of bindings as one word, 65535 standing for none. */
-static inline uint64_t spin_quarters(const uint16_t numbers[4]) {
+static inline uint64_t spin_quarters(const uint64_t numbers[4]) {
     uint64_t word = 0;
     for (int at = 3; at >= 0; at--) {
-        word = word << 16 | (numbers[at] == 0 ? 65535u : numbers[at]);
+        word = word << 16 | (numbers[at] == 0 ? UINT16_MAX : numbers[at]);
     }
     return word;
 }
 
-/* The row of a command; where a number has no room in it, a row that stands for none. */
-static inline struct spin_row spin_row_of(const struct spin_command_words *command) {
-    const struct spin_command_words c = *command;
-    const struct spin_row none = {UINT64_MAX, UINT64_MAX, UINT64_MAX, UINT64_MAX};
-    if ((unsigned)c.op >> 3 || c.event >> 6 || c.requester >> 8 || c.handler >> 10 || c.guard >> 10 ||
-        c.target >> 13 || (unsigned)c.place >> 3 || (unsigned)c.mode >> 2 || c.lane >> 4) {
-        return none;
-    }
-    struct spin_row row = {(uint64_t)c.mode | (uint64_t)c.place << 2 | (uint64_t)c.guard << 15 |
-                               (uint64_t)c.handler << 25 | (uint64_t)c.requester << 35 | (uint64_t)c.event << 43 |
-                               (uint64_t)c.lane << 49 | (uint64_t)c.op << 53,
-                           c.target, spin_quarters(c.before), spin_quarters(c.after)};
+/* The row of a command, each number of which has room in it. That of its lane is 0. */
+static inline struct spin_row spin_row_of(const struct spin_command_words *c) {
+    const struct spin_row row = {(uint64_t)c->mode | (uint64_t)c->place << 2 | c->guard << 15 | c->handler << 25 |
+                                     c->requester << 35 | c->event << 43 | (uint64_t)c->op << 53,
+                                 c->target, spin_quarters(c->before), spin_quarters(c->after)};
     return row;
 }
 
-/* Does a command. SPIN_NO_COMMAND says that it is none of the handle's lane, however full the log is, and the reply to
- * the last raise is kept then. It asks for memory. */
+/* The lane of a row of a log. */
+static inline uint64_t spin_row_lane(const struct spin_row *row) { return row->a >> 49 & 15; }
+
+/* The command of a row of a log. */
+static inline struct spin_command_words spin_row_command(const struct spin_row *row) {
+    struct spin_command_words command = {(enum spin_op)(row->a >> 53 & 7), (enum spin_place)(row->a >> 2 & 7),
+                                         (enum spin_mode)(row->a & 3),     row->a >> 43 & 63,
+                                         row->a >> 35 & 255,               row->a >> 25 & 1023,
+                                         row->a >> 15 & 1023,              row->b,
+                                         {0, 0, 0, 0},                     {0, 0, 0, 0}};
+    for (int at = 0; at < 4; at++) {
+        const uint64_t before = row->c >> 16 * at & UINT16_MAX, after = row->d >> 16 * at & UINT16_MAX;
+        command.before[at] = before == UINT16_MAX ? 0 : before;
+        command.after[at] = after == UINT16_MAX ? 0 : after;
+    }
+    return command;
+}
+
+/* Does a command, and tells its place, which is the number, too, of the binding that it installs. SPIN_NO_COMMAND says
+ * that it is none, however full the log is, and the reply to the last raise is kept then. SPIN_FULL says of an install
+ * besides that with it, and one by each other lane, 4096 bindings would be live, so that after a renewal nothing could
+ * be removed. It asks for memory. */
 static inline uint32_t spin_lane_command(struct spin_lane *lane, const struct spin_command_words *command,
                                          struct spin_answer *answer) {
     if (lane == NULL || command == NULL || answer == NULL) {
         return SPIN_NULL;
     }
+    if (!spin_has_room(command)) {
+        return SPIN_WIDE;
+    }
     const struct spin_row row = spin_row_of(command);
     return spin_command(lane, &row, answer);
+}
+
+/* Tells the binding at an index, counted from 0, of the cycle of the last command, where that was refused as a
+ * conflict. It is kept as long as a reply. It asks for no memory. */
+static inline uint32_t spin_lane_cycle(struct spin_lane *lane, uint64_t index, uint64_t *binding) {
+    if (lane == NULL || binding == NULL) {
+        return SPIN_NULL;
+    }
+    struct spin_answer answer;
+    const uint32_t error = spin_cycle(lane, index, &answer);
+    *binding = answer.value;
+    return error;
+}
+
+/* Copies the sentence of why a script is refused, by the number of the cause, into a buffer, null standing for one of
+ * no bytes, and tells how many bytes it has. It asks for no memory. */
+static inline uint32_t spin_tell_cause(uint64_t cause, void *buffer, size_t room, uint64_t *length) {
+    uint8_t none[1] = {0};
+    uint8_t *at = buffer == NULL && room == 0 ? none : (uint8_t *)buffer;
+    if (at == NULL || length == NULL) {
+        return SPIN_NULL;
+    }
+    return cause > UINT32_MAX ? (uint32_t)SPIN_WIDE : spin_cause_text((uint32_t)cause, at, room, length);
+}
+
+/* Copies the sentence of why a capture is refused, by the number of the fault, as spin_tell_cause does. */
+static inline uint32_t spin_tell_fault(uint64_t fault, void *buffer, size_t room, uint64_t *length) {
+    uint8_t none[1] = {0};
+    uint8_t *at = buffer == NULL && room == 0 ? none : (uint8_t *)buffer;
+    if (at == NULL || length == NULL) {
+        return SPIN_NULL;
+    }
+    return fault > UINT32_MAX ? (uint32_t)SPIN_WIDE : spin_fault_text((uint32_t)fault, at, room, length);
 }
 
 /* The name of a refusal, as reports have it, and "unknown" of any other number. */
@@ -361,11 +527,16 @@ static inline const char *spin_error_name(uint32_t error) {
     case SPIN_NO_ARGUMENT: return "no argument";
     case SPIN_NO_LANE: return "no such lane";
     case SPIN_TAKEN: return "the seat is taken";
-    case SPIN_NO_BINDING: return "no such binding was renewed";
+    case SPIN_NO_BINDING: return "no such binding";
     case SPIN_BAD_CAPTURE: return "no capture";
     case SPIN_SHARED: return "the hub is shared";
+    case SPIN_NO_JOB: return "no such job";
+    case SPIN_HUB_ENDED: return "the hub was ended";
+    case SPIN_NO_ROW: return "no such row";
+    case SPIN_NO_TEXT: return "no such text";
     case SPIN_NULL: return "null";
     case SPIN_SAME: return "one handle twice";
+    case SPIN_WIDE: return "a number is too wide";
     default: return "unknown";
     }
 }

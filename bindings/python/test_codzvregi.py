@@ -8,6 +8,7 @@ import unittest
 from pathlib import Path
 
 import codzvregi
+from codzvregi import Command, Job, Kind, Mode, Op, Place, Refusal, Reply, Row, Step, StepKind
 
 TOP = Path(__file__).resolve().parent.parent.parent
 sys.path.append(str(TOP / "cases"))
@@ -49,7 +50,7 @@ class Judging(unittest.TestCase):
             return f"stop 2 line {fault.line} cause {fault.cause}\n"
 
     def test_version(self):
-        self.assertEqual(self.library.version(), 1)
+        self.assertEqual(self.library.version(), 2)
 
     def test_what_is_proved(self):
         self.assertEqual(self.library.proved(), "a library that is being tested")
@@ -83,7 +84,8 @@ class Judging(unittest.TestCase):
         with self.assertRaises(codzvregi.BadScript) as told:
             self.library.judge(b"spin 1\nevent\n", REPORT)
         self.assertEqual((told.exception.line, told.exception.cause), (2, 11))
-        self.assertEqual(str(told.exception), "line 2 is bad: cause 11")
+        said = "end: the line ends too early, or a word is left over"
+        self.assertTrue(str(told.exception).startswith(f"line 2 is bad: cause 11, {said}"))
 
     def test_captures(self):
         names = ("packets.spin", "packets.report", "packets.pcap")
@@ -93,7 +95,8 @@ class Judging(unittest.TestCase):
         with self.assertRaises(codzvregi.BadCapture) as told:
             self.library.judge(script, report, STANDING, b"")
         self.assertEqual((told.exception.record, told.exception.fault), (0, 5))
-        self.assertEqual(str(told.exception), "record 0 is bad: fault 5")
+        said = "short: where fewer than 24 bytes are there"
+        self.assertEqual(str(told.exception), f"record 0 is bad: fault 5, {said}")
 
     def test_empty_texts(self):
         self.assertFalse(self.library.judge(SCRIPT, b""))
@@ -117,31 +120,61 @@ class Lanes(unittest.TestCase):
 
     def test_raises_by_the_commands_before_them(self):
         with self.library.open(self.SCRIPT) as lane:
-            self.assertEqual(lane.raise_event(0, 41), codzvregi.Reply(0, "no handler", None, 0))
-            self.assertEqual(lane.command(0, 1, handler=1), 1)
-            self.assertEqual(lane.raise_event(0, 41), codzvregi.Reply(1, "value", 42, 2))
-            self.assertEqual(lane.command(0, 3, target=1, handler=2), 2)
+            self.assertEqual(lane.raise_event(0, 41), Reply(0, Kind.NO_HANDLER, None, 0))
+            self.assertEqual(lane.command(0, Op.INSTALL, handler=1), 1)
+            self.assertEqual(lane.raise_event(0, 41), Reply(1, Kind.VALUE, 42, 2))
+            self.assertEqual(lane.command(0, Op.REPLACE, target=1, handler=2), 2)
             self.assertEqual(lane.raise_event(0, 41).value, 43)
-            self.assertEqual(lane.command(0, 2, target=1), 3)
-            self.assertEqual(lane.command(0, 4, handler=1), 4)
-            self.assertEqual(lane.raise_event(0, 1), codzvregi.Reply(4, "default value", 2, 2))
+            self.assertEqual(lane.command(0, Op.REMOVE, target=1), 3)
+            self.assertEqual(lane.command(0, Op.SET_DEFAULT, handler=1), 4)
+            self.assertEqual(lane.raise_event(0, 1), Reply(4, Kind.DEFAULT_VALUE, 2, 2))
 
     def test_refused_raises_and_commands_change_nothing(self):
         with self.library.open(self.SCRIPT) as lane:
-            self.assertEqual(lane.raise_event(1, 41).kind, "unknown event")
-            self.assertEqual(lane.raise_event(0).kind, "wrong arguments")
+            self.assertEqual(lane.raise_event(1, 41).kind, Kind.UNKNOWN_EVENT)
+            self.assertEqual(lane.raise_event(0).kind, Kind.WRONG_ARGUMENTS)
             for number, words in ((6, {"handler": 3}), (3, {"handler": 9}), (9, {"handler": 1, "requester": 1})):
                 with self.assertRaises(codzvregi.Refused) as refused:
-                    lane.command(0, 1, **words)
-                self.assertEqual((refused.exception.number, refused.exception.place), (number, 0))
-                self.assertEqual(refused.exception.name, codzvregi.REFUSALS[number - 1])
+                    lane.command(0, Op.INSTALL, **words)
+                self.assertEqual((refused.exception.refusal, refused.exception.place), (number, 0))
+                said = f"refused {number} {Refusal(number).name.lower()}{' 1' if number == 9 else ''} at 0"
+                self.assertEqual(str(refused.exception), said)
             self.assertEqual(lane.raise_event(0, 1).place, 0)
-            for op, words in ((7, {}), (1, {"handler": 1024}), (8, {}), (2, {"target": 8192})):
-                with self.assertRaisesRegex(codzvregi.Fault, "no command"):
+            unused, far = {"target": 1, "handler": 1}, {"before": [4097]}
+            for op, words in ((7, {}), (0, {}), (Op.REMOVE, unused), (Op.INSTALL, far)):
+                with self.assertRaises(codzvregi.NoCommand):
                     lane.command(0, op, **words)
             for event, word in ((256, 1), (0, -1), (0, 2**64)):
                 with self.assertRaises(ValueError):
                     lane.raise_event(event, word)
+
+    def test_numbers_without_room(self):
+        wide = ({"handler": 1024}, {"handler": -1}, {"target": 8192}, {"requester": 256}, {"guard": 1024}, {"place": 8})
+        lists = ({"before": [65535]}, {"after": [-1]}, {"before": [1, 2, 3, 4, 5]})
+        with self.library.open(self.SCRIPT) as lane:
+            for words in (*wide, *lists):
+                with self.subTest(**words), self.assertRaises(ValueError):
+                    lane.command(0, Op.INSTALL, **words)
+            for event, op in ((64, Op.INSTALL), (-1, Op.INSTALL), (0, 8)):
+                with self.assertRaises(ValueError):
+                    lane.command(event, op, handler=1)
+            self.assertEqual(lane.command(0, Op.INSTALL, handler=1), 1)
+
+    def test_places_and_modes(self):
+        with self.library.open(self.SCRIPT) as lane:
+            for place, words in enumerate((
+                {"handler": 1}, {"handler": 2, "before": [1]}, {"handler": 2, "after": [2, 1]},
+                {"handler": 1, "place": Place.FIRST}, {"handler": 1, "place": Place.LAST, "mode": Mode.FILTER},
+                {"handler": 2, "mode": Mode.ASYNC},
+            ), 1):
+                self.assertEqual(lane.command(0, Op.INSTALL, **words), place)
+            lane.raise_event(0, 10)
+            ran = [(step.kind, step.number) for step in lane.steps() if step.number is not None]
+            jobs = [number for kind, number in ran if kind is StepKind.JOB]
+            order = [number for kind, number in ran if kind is StepKind.RUN]
+            self.assertEqual((jobs, order[0], order[-1]), ([6], 4, 5))
+            self.assertLess(order.index(2), order.index(1))
+            self.assertLess(order.index(1), order.index(3))
 
     TRAIL = (
         b"spin 1\nevent 0 0 bw:w last\nevent 1 0 b last\nevent 2 0 bwww last\nendpoint 0 out0\n"
@@ -152,85 +185,175 @@ class Lanes(unittest.TestCase):
         with self.library.open(self.TRAIL) as lane:
             with self.assertRaisesRegex(codzvregi.Fault, "no reply"):
                 lane.steps()
-            lane.command(0, 1, handler=1)
-            lane.command(1, 1, handler=2)
-            self.assertEqual(lane.raise_event(0, b"bcd", 7), codzvregi.Reply(2, "value", 7, 7))
+            lane.command(0, Op.INSTALL, handler=1)
+            lane.command(1, Op.INSTALL, handler=2)
+            self.assertEqual(lane.raise_event(0, b"bcd", 7), Reply(2, Kind.VALUE, 7, 7))
             self.assertEqual(
                 lane.steps(),
                 [
-                    *(codzvregi.Step("run", 0, 1), codzvregi.Step("send", number=0, data=b"cd")),
-                    codzvregi.Step("result", value=7),
-                    *(codzvregi.Step("up", 1), codzvregi.Step("run", 1, 2), codzvregi.Step("dropped", number=1)),
-                    codzvregi.Step("back", answer="done"),
+                    *(Step(StepKind.RUN, 0, 1), Step(StepKind.SEND, number=0, data=b"cd")),
+                    Step(StepKind.RESULT, value=7),
+                    *(Step(StepKind.UP, 1), Step(StepKind.RUN, 1, 2), Step(StepKind.DROPPED, number=1)),
+                    Step(StepKind.BACK, answer=Kind.DONE),
                 ],
             )
             with self.assertRaises(codzvregi.NoStep):
                 lane.step(7)
-            self.assertEqual(lane.raise_event(0, 7, b"").kind, "wrong arguments")
+            self.assertEqual(lane.raise_event(0, 7, b"").kind, Kind.WRONG_ARGUMENTS)
             self.assertEqual(lane.steps(), [])
-            lane.command(0, 4, handler=3)
+            lane.command(0, Op.SET_DEFAULT, handler=3)
             with self.assertRaisesRegex(codzvregi.Fault, "no reply"):
                 lane.step(0)
 
     def test_bytes_are_sent_as_they_are_handed_in(self):
         with self.library.open(self.TRAIL) as lane:
-            lane.command(0, 1, handler=1)
+            lane.command(0, Op.INSTALL, handler=1)
             for data in (b"", b"x", bytes(range(256)) * 200):
                 lane.raise_event(0, data, 1)
                 self.assertEqual(lane.step(1).data, data[1:])
 
-    def test_seats_of_one_hub_on_threads(self):
-        seats = self.library.open_lanes(self.SCRIPT, 8)
-        self.assertEqual([seat.number for seat in seats], list(range(8)))
-        places, raised = [[] for _ in seats], [[] for _ in seats]
+    def take_part(self, seat, told):
+        """Sets the default again and again, raises, and gives the seat back where it isn't the opener's."""
+        for turn in range(100):
+            handler = 1 + (turn + seat.number) % 2
+            told.append((seat.command(0, Op.SET_DEFAULT, handler=handler), handler, seat.raise_event(0, 10)))
+        if seat.number:
+            seat.give_back()
 
-        def take_part(seat):
-            for turn in range(100):
-                handler = 1 + (turn + seat.number) % 2
-                places[seat.number].append((seat.command(0, 4, handler=handler), handler))
-                raised[seat.number].append(seat.raise_event(0, 10))
-            seat.close()
-
-        threads = [threading.Thread(target=take_part, args=(seat,)) for seat in seats]
-        for thread in threads:
-            thread.start()
-        for thread in threads:
-            thread.join()
-        handlers = dict(place for each in places for place in each)
-        self.assertEqual(sorted(handlers), list(range(1, 801)))
-        for reply in (reply for each in raised for reply in each):
-            self.assertEqual((reply.kind, reply.value), ("default value", 10 + handlers[reply.place]))
+    def test_seats_on_threads_over_renewals(self):
+        opener = self.library.open(self.SCRIPT, 8)
+        for last in (False, False, True):
+            seats = [opener, *(opener.seat(number) for number in range(1, 8))]
+            told = [[] for _ in seats]
+            threads = [threading.Thread(target=self.take_part, args=it) for it in zip(seats, told)]
+            for thread in threads:
+                thread.start()
+            for thread in threads:
+                thread.join()
+            answers = [it for each in told for it in each]
+            handlers = {place: handler for place, handler, _ in answers}
+            self.assertEqual(sorted(handlers), list(range(1, 801)))
+            for _, _, reply in answers:
+                self.assertEqual((reply.kind, reply.value), (Kind.DEFAULT_VALUE, 10 + handlers[reply.place]))
+            opener.end() if last else opener.renew()
+        self.assertEqual([row.command.handler for row in opener.rows()], [handlers[at] for at in range(1, 801)])
+        opener.close()
 
     def test_renewals(self):
         with self.library.open(self.SCRIPT) as lane:
             with self.assertRaises(codzvregi.NoBinding):
                 lane.number_before(1)
             for _ in range(3):
-                lane.command(0, 1, handler=1)
-            lane.command(0, 2, target=1)
+                lane.command(0, Op.INSTALL, handler=1)
+            lane.command(0, Op.REMOVE, target=1)
             lane.renew()
             self.assertEqual([lane.number_before(number) for number in (1, 2)], [2, 3])
             for number in (0, 3):
                 with self.assertRaises(codzvregi.NoBinding):
                     lane.number_before(number)
-            self.assertEqual(lane.raise_event(0, 41), codzvregi.Reply(2, "value", 42, 4))
+            self.assertEqual(lane.raise_event(0, 41), Reply(2, Kind.VALUE, 42, 4))
             for turn in range(3000):
-                lane.command(0, 3, target=1, handler=1 + turn % 2)
+                lane.command(0, Op.REPLACE, target=1, handler=1 + turn % 2)
             lane.renew()
             for turn in range(3000):
-                lane.command(0, 3, target=1, handler=1 + turn % 2)
+                lane.command(0, Op.REPLACE, target=1, handler=1 + turn % 2)
 
-    def test_no_renewal_where_a_seat_is_handed_out(self):
-        first, second = self.library.open_lanes(self.SCRIPT, 2)
-        for seat, why in ((first, "taken"), (second, "no such lane")):
-            with self.assertRaisesRegex(codzvregi.Fault, why):
-                seat.renew()
-            self.assertEqual(seat.raise_event(0, 1).kind, "no handler")
-            seat.close()
+    def test_renewals_by_seats_that_come_home(self):
+        opener = self.library.open(self.SCRIPT, 3)
+        with opener:
+            for turn in range(40):
+                first, second = (opener.seat(number) for number in (1, 2))
+                self.assertEqual((opener.gather(), first.command(0, Op.INSTALL, handler=1)), (2, 1))
+                for seat, why in ((opener, codzvregi.Taken), (second, codzvregi.NoLane)):
+                    for call in (seat.renew, seat.end):
+                        with self.assertRaises(why):
+                            call()
+                with self.assertRaises(codzvregi.NoLane):
+                    opener.give_back()
+                self.assertEqual(second.raise_event(0, 41).value, 42)
+                first.command(0, Op.REMOVE, target=1)
+                first.give_back()
+                self.assertEqual(opener.gather(), 1)
+                second.close()
+                self.assertEqual(opener.gather(), 0)
+                with self.assertRaises(codzvregi.Closed):
+                    first.raise_event(0, 1)
+                opener.renew()
+
+    def test_ends(self):
+        with self.library.open(self.SCRIPT, 2) as opener:
+            with opener.seat(1) as seat:
+                seat.command(0, Op.INSTALL, handler=1)
+                opener.command(0, Op.INSTALL, handler=2, after=[1], place=Place.LAST)
+            with self.assertRaises(codzvregi.NoRow):
+                opener.row(0)
+            self.assertEqual(opener.end(), 2)
+            rows = [
+                Row(1, Command(0, Op.INSTALL, handler=1)),
+                Row(0, Command(0, Op.INSTALL, handler=2, after=(1,), place=Place.LAST)),
+            ]
+            self.assertEqual(opener.rows(), rows)
+            with self.assertRaises(codzvregi.NoRow):
+                opener.row(2)
+            calls = (opener.renew, opener.end, opener.gather, opener.give_back, lambda: opener.raise_event(0, 1))
+            for call in (*calls, opener.steps, lambda: opener.seat(1), lambda: opener.job(0)):
+                with self.assertRaises(codzvregi.Ended):
+                    call()
+
+    def test_rows_are_those_of_their_commands(self):
+        wide = Command(63, Op.REPLACE, 255, 1023, 1023, 4096)
+        far = Command(1, Op.INSTALL, 2, 3, 4, 0, Place.LAST, Mode.FILTER, (0, 1, 4096), (2, 3, 4, 5))
+        for command in (wide, far, Command(0, Op.NO_DEFAULT), Command(5, Op.SET_DEFAULT, 1, 2)):
+            self.assertEqual(Row.of(command.row()), Row(0, command))
+
+    JOBS = (
+        b"spin 1\nevent 0 0 bw:w last\nevent 1 0 b last\nendpoint 0 out0\nhandler 1 bw:w up 1 1 b 0 0 result a1\n"
+        b"handler 2 b send 0 0 1\nhandler 3 bw:w result + a1 1\n"
+    )
+
+    def test_jobs_are_done_on_the_bindings_of_their_raise(self):
+        with self.library.open(self.JOBS, 2) as lane, lane.seat(1) as other:
+            with self.assertRaises(codzvregi.NoReply):
+                lane.job(0)
+            other.command(0, Op.INSTALL, handler=1)
+            other.command(1, Op.INSTALL, handler=2, mode=Mode.ASYNC)
+            other.command(0, Op.INSTALL, handler=3, mode=Mode.ASYNC)
+            lane.raise_event(0, b"abc", 7)
+            other.command(0, Op.REMOVE, target=3)
+            sends = [Step(StepKind.RUN, 1, 2), Step(StepKind.SEND, number=0, data=b"bc")]
+            gives = [Step(StepKind.RUN, 0, 3), Step(StepKind.RESULT, value=8)]
+            done = [Job(0, Reply(3, Kind.DONE, None, 2), sends), Job(1, Reply(3, Kind.VALUE, 8, 2), gives)]
+            for _ in range(2):
+                self.assertEqual(list(lane.jobs()), done)
+            self.assertEqual(lane.job(1), done[1])
+            with self.assertRaises(codzvregi.NoJob):
+                lane.job(2)
+            self.assertEqual(lane.later(0, b"abc", 7), Reply(4, Kind.QUEUED, None, 0))
+            self.assertEqual([job.reply for job in lane.jobs()], [Reply(4, Kind.VALUE, 7, 6)])
+            self.assertEqual((lane.later(9).kind, list(lane.jobs())), (Kind.UNKNOWN_EVENT, []))
+            with self.assertRaises(ValueError):
+                lane.later(256)
+
+    def test_refusals_tell_their_rule_and_their_cycle(self):
+        with self.library.open(self.SCRIPT) as lane:
+            for after in ((), (1,)):
+                lane.command(0, Op.INSTALL, handler=1, after=after)
+            with self.assertRaises(codzvregi.Refused) as denied:
+                lane.command(0, Op.INSTALL, handler=1, requester=1)
+            with self.assertRaises(codzvregi.Refused) as conflict:
+                lane.command(0, Op.INSTALL, handler=1, after=[2], before=[1])
+            self.assertEqual((denied.exception.rule, denied.exception.cycle), (1, ()))
+            self.assertEqual((conflict.exception.rule, conflict.exception.cycle), (None, (1, 2, 3)))
+            self.assertEqual(str(conflict.exception), "refused 11 conflict 1 2 3 at 2")
+
+    def test_texts(self):
+        self.assertTrue(self.library.cause_text(4).startswith("keyword: "))
+        self.assertTrue(self.library.fault_text(5).startswith("short: "))
+        self.assertEqual((self.library.cause_text(25), self.library.fault_text(0)), ("", ""))
 
     def test_no_hub_has_no_lanes_or_9(self):
         for lanes in (-1, 0, 9, 256):
-            with self.assertRaisesRegex(codzvregi.Fault, "no such lane"):
+            with self.assertRaises(codzvregi.NoLane):
                 self.library.open_lanes(self.SCRIPT, lanes)
 
     def test_a_closed_lane(self):

@@ -22,7 +22,10 @@ from wrapper.program import TOP, below_by_crate, crates_listed, stands_on
 FOR_C = "spin_c"
 
 # The crates that are covered are those that these stand on, and they themselves.
-TOPS = ("spin_main", "host_filter", "host_logger", "host_plugins", "host_renewal", "host_workers", FOR_C)
+TOPS = (
+    *("spin_main", "spin_filter", "host_filter", "host_logger", "host_plugins", "host_renewal", "host_workers"),
+    *("spin_host", "spin_whole", FOR_C),
+)
 
 # Of the kit's libraries, those that are part of Rust's.
 OF_RUST = ("core", "std_alloc", "std_collections", "std_heap")
@@ -223,6 +226,7 @@ members = ["crates/*"]
 [profile.dev]
 debug = 0
 incremental = false
+opt-level = 1
 overflow-checks = true
 panic = "abort"
 
@@ -277,7 +281,8 @@ def calls_of_rustc(work: Path, target: Path) -> Iterator[list[str]]:
     for name, root, others in builds:
         is_program = root.stem == "main"
         call = ["rustc", "--edition", "2024", "--crate-name", name, "--crate-type", "bin" if is_program else "rlib"]
-        call += ["-A", "warnings", "-C", "overflow-checks=on", "-C", "panic=abort", "-L", str(target), str(root)]
+        call += ["-A", "warnings", "-C", "opt-level=1", "-C", "overflow-checks=on", "-C", "panic=abort"]
+        call += ["-L", str(target), str(root)]
         for alias, (package, _) in others.items():
             call += ["--extern", f"{alias}={target}/lib{package}.rlib"]
         yield [*call, "-o", f"{target}/{name if is_program else f'lib{name}.rlib'}"]

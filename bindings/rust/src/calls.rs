@@ -1,5 +1,6 @@
 //! The proved calls, and what stands for them in Rust. All unsafe code of this crate stands here.
 
+use crate::command::Refusal;
 use crate::fault::Fault;
 use std::ffi::c_void;
 use std::ptr::null_mut;
@@ -35,7 +36,6 @@ unsafe extern "C" {
         standing_length: usize,
         fault: *mut SpinFault,
     ) -> u32;
-    fn spin_open(text: *const u8, text_length: usize, lane: *mut SpinLane, answer: *mut SpinAnswer) -> u32;
     fn spin_open_lanes(
         text: *const u8,
         text_length: usize,
@@ -60,12 +60,30 @@ unsafe extern "C" {
         count: usize,
         answer: *mut SpinAnswer,
     ) -> u32;
+    fn spin_later(
+        lane: *mut SpinLane,
+        event: u8,
+        bytes: *const u8,
+        length: usize,
+        args: *const SpinArg,
+        count: usize,
+        answer: *mut SpinAnswer,
+    ) -> u32;
     fn spin_step(lane: *mut SpinLane, index: u64, step: *mut SpinStep) -> u32;
     fn spin_step_bytes(lane: *mut SpinLane, index: u64, buffer: *mut u8, room: usize, length: *mut u64) -> u32;
+    fn spin_job(lane: *mut SpinLane, index: u64, answer: *mut SpinAnswer) -> u32;
+    fn spin_job_step(lane: *mut SpinLane, index: u64, step: *mut SpinStep) -> u32;
+    fn spin_job_bytes(lane: *mut SpinLane, index: u64, buffer: *mut u8, room: usize, length: *mut u64) -> u32;
     fn spin_command(lane: *mut SpinLane, row: *const [u64; 4], answer: *mut SpinAnswer) -> u32;
+    fn spin_cycle(lane: *mut SpinLane, index: u64, answer: *mut SpinAnswer) -> u32;
+    fn spin_gather(lane: *mut SpinLane, answer: *mut SpinAnswer) -> u32;
     fn spin_renew(lane: *mut SpinLane, answer: *mut SpinAnswer) -> u32;
     fn spin_before(lane: *mut SpinLane, index: u64, answer: *mut SpinAnswer) -> u32;
+    fn spin_end(lane: *mut SpinLane, answer: *mut SpinAnswer) -> u32;
+    fn spin_row_at(lane: *mut SpinLane, index: u64, row: *mut [u64; 4]) -> u32;
     fn spin_close(lane: *mut SpinLane, answer: *mut SpinAnswer) -> u32;
+    fn spin_cause_text(cause: u32, buffer: *mut u8, room: usize, length: *mut u64) -> u32;
+    fn spin_fault_text(fault: u32, buffer: *mut u8, room: usize, length: *mut u64) -> u32;
 }
 
 pub(crate) fn version() -> u32 {
@@ -107,6 +125,28 @@ pub(crate) fn check_packets(text: &[u8], packets: &[u8], report: &[u8], standing
         )
     };
     verdict_of(number, &fault)
+}
+
+/// A call that tells the sentence of a number.
+type Tell = unsafe extern "C" fn(u32, *mut u8, usize, *mut u64) -> u32;
+
+/// The sentence that a call has for a number, if it has one.
+fn text_of(tell: Tell, number: u32) -> Option<String> {
+    let (mut bytes, mut length) = (Vec::new(), 0);
+    // SAFETY: a slice with its length, and a number of this function.
+    unsafe { tell(number, bytes.as_mut_ptr(), bytes.len(), &mut length) };
+    bytes.resize(length as usize, 0);
+    // SAFETY: as above.
+    let told = unsafe { tell(number, bytes.as_mut_ptr(), bytes.len(), &mut length) };
+    (told == 0).then(|| String::from_utf8_lossy(&bytes).into_owned())
+}
+
+pub(crate) fn cause_text(cause: u32) -> Option<String> {
+    text_of(spin_cause_text, cause)
+}
+
+pub(crate) fn fault_text(fault: u32) -> Option<String> {
+    text_of(spin_fault_text, fault)
 }
 
 fn verdict_of(number: u32, fault: &SpinFault) -> Result<bool, Fault> {
@@ -167,7 +207,7 @@ struct SpinLane {
     at: *mut c_void,
 }
 
-/// A handle that is open.
+/// A handle.
 pub(crate) struct Held {
     lane: SpinLane,
 }
@@ -179,125 +219,160 @@ unsafe impl Send for Held {}
 // SAFETY: no call of the library is made by a shared reference to a handle, so threads that share one make none of it.
 unsafe impl Sync for Held {}
 
-/// The fault that a number tells, where it isn't one of those that the call is asked for.
-fn fault_of(number: u32, answer: &SpinAnswer) -> Fault {
-    match number {
+/// What a number tells.
+fn tell(number: u32, answer: SpinAnswer) -> Result<SpinAnswer, Fault> {
+    Err(match number {
+        0 => return Ok(answer),
         1 => Fault::NoMemory,
         2 => Fault::BadScript { line: answer.place, cause: answer.kind },
-        4 => Fault::Closed,
         6 => Fault::NoCommand,
         7 => Fault::Full,
+        8 => Fault::Refused(Refusal::of(answer.kind, answer.place, answer.value)),
         9 => Fault::NoReply,
         10 => Fault::NoStep,
         13 => Fault::NoLane,
         14 => Fault::Taken,
         15 => Fault::NoBinding,
         17 => Fault::Shared,
+        18 => Fault::NoJob,
+        19 => Fault::Ended,
         other => Fault::Unknown(other),
-    }
+    })
+}
+
+/// Whose steps are told.
+#[derive(Clone, Copy)]
+pub(crate) enum Of {
+    /// Those of the last raise.
+    Raise,
+    /// Those of the last job of it.
+    Job,
 }
 
 impl Held {
-    pub(crate) fn open(text: &[u8]) -> Result<Held, Fault> {
-        let (mut lane, mut answer) = (SpinLane { at: null_mut() }, SpinAnswer::default());
-        // SAFETY: a slice with its length, and two values of this function.
-        match unsafe { spin_open(text.as_ptr(), text.len(), &mut lane, &mut answer) } {
-            0 => Ok(Held { lane }),
-            number => Err(fault_of(number, &answer)),
-        }
+    /// One that is closed.
+    fn closed() -> Held {
+        Held { lane: SpinLane { at: null_mut() } }
     }
 
-    pub(crate) fn open_lanes(text: &[u8], lanes: u8) -> Result<Held, Fault> {
-        let (mut lane, mut answer) = (SpinLane { at: null_mut() }, SpinAnswer::default());
-        // SAFETY: a slice with its length, and two values of this function.
-        match unsafe { spin_open_lanes(text.as_ptr(), text.len(), lanes, &mut lane, &mut answer) } {
-            0 => Ok(Held { lane }),
-            number => Err(fault_of(number, &answer)),
-        }
+    /// Makes a call with this handle and an answer, and answers what it tells.
+    fn ask(&mut self, call: impl FnOnce(&mut SpinLane, &mut SpinAnswer) -> u32) -> Result<SpinAnswer, Fault> {
+        let mut answer = SpinAnswer::default();
+        tell(call(&mut self.lane, &mut answer), answer)
+    }
+
+    /// The opener of a hub.
+    pub(crate) fn open(text: &[u8], lanes: u8) -> Result<Held, Fault> {
+        let mut held = Held::closed();
+        // SAFETY: a slice with its length; the handle is closed, and nobody else has it or the answer.
+        held.ask(|lane, answer| unsafe { spin_open_lanes(text.as_ptr(), text.len(), lanes, lane, answer) })?;
+        Ok(held)
     }
 
     pub(crate) fn seat(&mut self, number: u8) -> Result<Held, Fault> {
-        let mut lane = SpinLane { at: null_mut() };
-        // SAFETY: the handle is this value's own, and the other is one of this function, which is closed.
-        match unsafe { spin_seat(&mut self.lane, number, &mut lane) } {
-            0 => Ok(Held { lane }),
-            number => Err(fault_of(number, &SpinAnswer::default())),
-        }
+        let mut other = Held::closed();
+        // SAFETY: the handle is this value's own, and the other is closed; nobody else has either.
+        tell(unsafe { spin_seat(&mut self.lane, number, &mut other.lane) }, SpinAnswer::default())?;
+        Ok(other)
     }
 
     pub(crate) fn raise(&mut self, event: u8, words: &[u64]) -> Result<SpinAnswer, Fault> {
-        let mut answer = SpinAnswer::default();
-        // SAFETY: the handle is this value's own; a slice with its length, and a value of this function.
-        match unsafe { spin_raise_words(&mut self.lane, event, words.as_ptr(), words.len(), &mut answer) } {
-            0 => Ok(answer),
-            number => Err(fault_of(number, &answer)),
-        }
+        // SAFETY: the handle is this value's own; a slice with its length, and an answer that nobody else has.
+        self.ask(|lane, answer| unsafe { spin_raise_words(lane, event, words.as_ptr(), words.len(), answer) })
     }
 
     pub(crate) fn raise_args(&mut self, event: u8, bytes: &[u8], args: &[SpinArg]) -> Result<SpinAnswer, Fault> {
-        let mut answer = SpinAnswer::default();
-        let (at, length) = (bytes.as_ptr(), bytes.len());
-        // SAFETY: the handle is this value's own; two slices with their lengths, and a value of this function.
-        match unsafe { spin_raise(&mut self.lane, event, at, length, args.as_ptr(), args.len(), &mut answer) } {
-            0 => Ok(answer),
-            number => Err(fault_of(number, &answer)),
-        }
+        let (data, length, count) = (bytes.as_ptr(), bytes.len(), args.len());
+        // SAFETY: as above, with two slices and their lengths.
+        self.ask(|lane, answer| unsafe { spin_raise(lane, event, data, length, args.as_ptr(), count, answer) })
     }
 
-    pub(crate) fn step(&mut self, index: u64) -> Result<SpinStep, Fault> {
-        let mut step = SpinStep::default();
-        // SAFETY: the handle is this value's own; the step is a value of this function.
-        match unsafe { spin_step(&mut self.lane, index, &mut step) } {
-            0 => Ok(step),
-            number => Err(fault_of(number, &SpinAnswer::default())),
-        }
+    pub(crate) fn later(&mut self, event: u8, bytes: &[u8], args: &[SpinArg]) -> Result<SpinAnswer, Fault> {
+        let (data, length, count) = (bytes.as_ptr(), bytes.len(), args.len());
+        // SAFETY: as above.
+        self.ask(|lane, answer| unsafe { spin_later(lane, event, data, length, args.as_ptr(), count, answer) })
     }
 
-    pub(crate) fn step_bytes(&mut self, index: u64, length: u64) -> Result<Vec<u8>, Fault> {
-        let (mut bytes, mut wanted) = (vec![0; length as usize], 0);
-        let (at, room) = (bytes.as_mut_ptr(), bytes.len());
-        // SAFETY: the handle is this value's own; a slice with its length, and a value of this function.
-        match unsafe { spin_step_bytes(&mut self.lane, index, at, room, &mut wanted) } {
-            0 => Ok(bytes),
-            number => Err(fault_of(number, &SpinAnswer::default())),
+    /// A step, and the bytes that it sends.
+    pub(crate) fn step(&mut self, of: Of, index: u64) -> Result<(SpinStep, Vec<u8>), Fault> {
+        let (mut step, mut length, lane) = (SpinStep::default(), 0, &mut self.lane);
+        // SAFETY: the handle is this value's own, and the step is one of this function.
+        let number = unsafe {
+            match of {
+                Of::Raise => spin_step(lane, index, &mut step),
+                Of::Job => spin_job_step(lane, index, &mut step),
+            }
+        };
+        tell(number, SpinAnswer::default())?;
+        if step.length == 0 {
+            return Ok((step, Vec::new()));
         }
+        let mut bytes = vec![0; step.length as usize];
+        let (buffer, room) = (bytes.as_mut_ptr(), bytes.len());
+        // SAFETY: the handle is this value's own; a slice with its length, and a number of this function.
+        let number = unsafe {
+            match of {
+                Of::Raise => spin_step_bytes(lane, index, buffer, room, &mut length),
+                Of::Job => spin_job_bytes(lane, index, buffer, room, &mut length),
+            }
+        };
+        tell(number, SpinAnswer::default())?;
+        Ok((step, bytes))
     }
 
-    pub(crate) fn command(&mut self, row: [u64; 4]) -> Result<(bool, SpinAnswer), Fault> {
-        let mut answer = SpinAnswer::default();
-        // SAFETY: the handle is this value's own; the row and the answer are values of this function.
-        match unsafe { spin_command(&mut self.lane, &row, &mut answer) } {
-            0 => Ok((true, answer)),
-            8 => Ok((false, answer)),
-            number => Err(fault_of(number, &answer)),
-        }
+    pub(crate) fn job(&mut self, index: u64) -> Result<SpinAnswer, Fault> {
+        // SAFETY: the handle is this value's own, and nobody else has the answer.
+        self.ask(|lane, answer| unsafe { spin_job(lane, index, answer) })
     }
-}
 
-impl Held {
-    pub(crate) fn renew(&mut self) -> Result<(), Fault> {
-        let mut answer = SpinAnswer::default();
-        // SAFETY: the handle is this value's own, and the answer is a value of this function.
-        match unsafe { spin_renew(&mut self.lane, &mut answer) } {
-            0 => Ok(()),
-            number => Err(fault_of(number, &answer)),
+    pub(crate) fn command(&mut self, row: [u64; 4]) -> Result<SpinAnswer, Fault> {
+        // SAFETY: the handle is this value's own; the row is one of this function, and nobody else has the answer.
+        let mut told = self.ask(|lane, answer| unsafe { spin_command(lane, &row, answer) });
+        if let Err(Fault::Refused(refusal)) = &mut told {
+            refusal.cycle = self.cycle();
         }
+        told
+    }
+
+    /// The bindings of the cycle for which the last command was refused.
+    fn cycle(&mut self) -> Vec<u64> {
+        // SAFETY: the handle is this value's own, and nobody else has the answer.
+        let mut binding = |index| self.ask(|lane, answer| unsafe { spin_cycle(lane, index, answer) });
+        (0..).map_while(|index| binding(index).ok()).map(|told| told.value).collect()
+    }
+
+    pub(crate) fn gather(&mut self) -> Result<SpinAnswer, Fault> {
+        // SAFETY: the handle is this value's own, and nobody else has the answer.
+        self.ask(|lane, answer| unsafe { spin_gather(lane, answer) })
+    }
+
+    pub(crate) fn end(&mut self) -> Result<SpinAnswer, Fault> {
+        // SAFETY: as above.
+        self.ask(|lane, answer| unsafe { spin_end(lane, answer) })
+    }
+
+    pub(crate) fn row_at(&mut self, index: u64) -> Result<[u64; 4], Fault> {
+        let mut row = [0; 4];
+        // SAFETY: the handle is this value's own, and the row is one of this function.
+        tell(unsafe { spin_row_at(&mut self.lane, index, &mut row) }, SpinAnswer::default())?;
+        Ok(row)
+    }
+
+    pub(crate) fn renew(&mut self) -> Result<SpinAnswer, Fault> {
+        // SAFETY: the handle is this value's own, and nobody else has the answer.
+        self.ask(|lane, answer| unsafe { spin_renew(lane, answer) })
     }
 
     pub(crate) fn before(&mut self, index: u64) -> Result<SpinAnswer, Fault> {
-        let mut answer = SpinAnswer::default();
-        // SAFETY: the handle is this value's own, and the answer is a value of this function.
-        match unsafe { spin_before(&mut self.lane, index, &mut answer) } {
-            0 => Ok(answer),
-            number => Err(fault_of(number, &answer)),
-        }
+        // SAFETY: as above.
+        self.ask(|lane, answer| unsafe { spin_before(lane, index, answer) })
     }
 }
 
 impl Drop for Held {
     fn drop(&mut self) {
-        let mut answer = SpinAnswer::default();
-        // SAFETY: the handle is this value's own, and isn't used again. The call asks for no memory.
-        unsafe { spin_close(&mut self.lane, &mut answer) };
+        // SAFETY: the handle is this value's own, and isn't used again. The call asks for no memory, and one that is
+        // closed stays closed.
+        let _ = self.ask(|lane, answer| unsafe { spin_close(lane, answer) });
     }
 }

@@ -1,10 +1,12 @@
 //! Why a call has no answer.
 
+use crate::calls::{cause_text, fault_text};
+use crate::command::Refusal;
 use std::error::Error;
 use std::fmt::{self, Display, Formatter};
 
 /// Why a call has no answer.
-#[derive(Clone, Copy, Debug, PartialEq, Eq)]
+#[derive(Clone, Debug, PartialEq, Eq)]
 #[non_exhaustive]
 pub enum Fault {
     /// There was no memory.
@@ -13,32 +15,39 @@ pub enum Fault {
     BadScript {
         /// Its first bad line, counted from 1; 0 where the text is too large.
         line: u32,
-        /// The number of the cause.
+        /// The number of the cause, whose sentence [`cause_text`](crate::cause_text) has.
         cause: u32,
     },
-    /// The lane is closed, since there was no memory for it when its hub was renewed.
-    Closed,
-    /// A number of the command has no room in it, or a field is used that its op doesn't use.
+    /// A number of the command has no room in it, or more than four bindings are named.
+    Wide,
+    /// The command names a binding twice, or one that no log has.
     NoCommand,
-    /// The log has as many commands as it holds.
+    /// The log has as many commands as it holds; or with the binding that would be installed, and one by each other
+    /// lane, 4,096 would be live, so that after a renewal nothing could be removed.
     Full,
-    /// No reply is kept: nothing was raised yet, or a command was done since.
+    /// The command is refused.
+    Refused(Refusal),
+    /// No reply is kept: nothing was raised yet, or a command or a renewal was done since.
     NoReply,
     /// The reply has no step of that index.
     NoStep,
-    /// No hub has so many lanes, or the hub has no such lane.
+    /// The reply leaves no job of that index.
+    NoJob,
+    /// No hub has so many lanes, or the hub has no such lane; or this isn't its opener.
     NoLane,
-    /// The seat of the lane is taken already, or another is, so that the hub isn't renewed.
+    /// The seat of the lane is out, or another is, so that the hub is neither renewed nor ended.
     Taken,
     /// The last renewal numbered no such binding, or there was none.
     NoBinding,
-    /// The hub is still shared by other seats, so that it isn't renewed.
+    /// A seat that came home is still being given back: the hub may be asked again.
     Shared,
+    /// The hub was ended.
+    Ended,
     /// The bytes are refused as a capture.
     BadCapture {
         /// The record, counted from 1; 0 where it is the header.
         record: u32,
-        /// The number of the fault.
+        /// The number of the fault, whose sentence [`fault_text`](crate::fault_text) has.
         fault: u32,
     },
     /// The library answered a number that this crate doesn't know.
@@ -50,17 +59,24 @@ impl Display for Fault {
         match self {
             Fault::NoMemory => write!(out, "there was no memory"),
             Fault::BadScript { line: 0, .. } => write!(out, "the script is too large"),
-            Fault::BadScript { line, cause } => write!(out, "line {line} is bad: cause {cause}"),
-            Fault::Closed => write!(out, "the lane is closed"),
+            Fault::BadScript { line, cause } => {
+                write!(out, "line {line} is bad: cause {cause}, {}", cause_text(*cause).unwrap_or_default())
+            }
+            Fault::Wide => write!(out, "a number has no room in its command"),
             Fault::NoCommand => write!(out, "that is no command"),
             Fault::Full => write!(out, "the log is full"),
+            Fault::Refused(refusal) => write!(out, "{refusal}"),
             Fault::NoReply => write!(out, "no reply is kept"),
             Fault::NoStep => write!(out, "the reply has no such step"),
             Fault::NoLane => write!(out, "there is no such lane"),
             Fault::Taken => write!(out, "the seat is taken"),
             Fault::NoBinding => write!(out, "no such binding was renewed"),
             Fault::Shared => write!(out, "the hub is shared"),
-            Fault::BadCapture { record, fault } => write!(out, "record {record} is bad: fault {fault}"),
+            Fault::Ended => write!(out, "the hub was ended"),
+            Fault::NoJob => write!(out, "the reply has no such job"),
+            Fault::BadCapture { record, fault } => {
+                write!(out, "record {record} is bad: fault {fault}, {}", fault_text(*fault).unwrap_or_default())
+            }
             Fault::Unknown(number) => write!(out, "the library answered {number}"),
         }
     }

@@ -15,13 +15,15 @@
 #![warn(missing_docs)]
 
 mod calls;
+mod command;
 mod fault;
 mod lane;
 mod reply;
 
+pub use command::{Command, Install, Mode, Op, Place, Reason, Refusal, Row};
 pub use fault::Fault;
-pub use lane::{Arg, Command, Hub, Lane, Mode, Op, Place, Refusal};
-pub use reply::{Answer, Reply, Step};
+pub use lane::{Arg, Hub, Jobs, Lane};
+pub use reply::{Answer, Job, Reply, Step};
 
 /// A seat of a hub, which is what a lane has.
 pub type Seat = Lane;
@@ -35,6 +37,16 @@ pub fn version() -> u32 {
 /// is. What linked the library tells it, and nothing is proved of that.
 pub fn proved() -> &'static str {
     env!("CODZVREGI_PROVED")
+}
+
+/// The sentence of why a script is refused, by the number of the cause, if there is one such.
+pub fn cause_text(cause: u32) -> Option<String> {
+    calls::cause_text(cause)
+}
+
+/// The sentence of why a capture is refused, by the number of the fault, if there is one such.
+pub fn fault_text(fault: u32) -> Option<String> {
+    calls::fault_text(fault)
 }
 
 /// Whether the report is that of one legal history of the script, which is run without a capture, `standing` being the

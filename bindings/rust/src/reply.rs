@@ -20,6 +20,8 @@ pub enum Answer {
     WrongArguments,
     /// More than 4096 handlers would start, and nothing was done.
     TooManyHandlers,
+    /// The raise is left to a job, the one job of its reply.
+    Queued,
 }
 
 /// The reply to a raise.
@@ -31,6 +33,15 @@ pub struct Reply {
     pub answer: Answer,
     /// The number of its steps.
     pub steps: u64,
+}
+
+/// A job that was done.
+#[derive(Clone, Debug, PartialEq, Eq)]
+pub struct Job {
+    /// Its own reply, at the place of the one that left it.
+    pub reply: Reply,
+    /// The steps of that.
+    pub steps: Vec<Step>,
 }
 
 /// A step of a raise with its raises upwards.
@@ -79,6 +90,7 @@ impl Answer {
             5 => Answer::UnknownEvent,
             6 => Answer::WrongArguments,
             7 => Answer::TooManyHandlers,
+            8 => Answer::Queued,
             other => return Err(Fault::Unknown(other)),
         })
     }

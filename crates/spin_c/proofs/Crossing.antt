@@ -1,4 +1,5 @@
--- A handle may go to another thread, since its lane may, and the hub that lanes share may be used by several threads.
+-- A handle may go to another thread, since what it holds may, and the party that lanes share may be used by several
+-- threads.
 use mir.Raw.{raw}
 use base.Shift.{Keyless}
 use denote.RattleType.{RattleType}
@@ -32,17 +33,26 @@ use Rattle.spin_objects.specs.contracts.unit.Check as Check
 use Rattle.spin_objects.specs.contracts.catalogue.Catalogue as Catalogue
 use Rattle.spin_table.specs.contracts.event.EventDef as EventDef
 use Rattle.spin_table.specs.contracts.setup.Setup as Setup
-use Rattle.spin_c.proofs.kept.Kept.TheSendSync as kept
+use Rattle.spin_homes.proofs.homes.Homes.TheSendSync as homes
+use Rattle.spin_homes.proofs.homes.Ticket.TheSendSync as ticket
+use Rattle.spin_proto.proofs.lent.ReplyBuffer.TheSendSync as buffer
+use Rattle.spin_proto.proofs.reply.Reply.TheSendSync as reply
+use Rattle.spin_c.proofs.kept.Last.TheSendSync as last
+use Rattle.spin_c.specs.contracts.kept.Kept as Kept
 use Rattle.spin_seat.specs.contracts.hub.Hub as Hub
+use Rattle.spin_seat.specs.contracts.party.Away as Away
+use Rattle.spin_seat.specs.contracts.party.Party as Party
 use Rattle.spin_seat.specs.contracts.seat.Seat as Seat
 use Rattle.spin_jobs.proofs.ThreadCrossing.{setup_sync, version_send, version_sync}
+use Rattle.spin_c.specs.contracts.lane.Held as Held
 use Rattle.spin_c.specs.contracts.lane.Lane as Lane
+use Rattle.spin_c.specs.contracts.lane.Room as Room
 use Rattle.spin_c.specs.contracts.handle.SpinLane as Handle
 use Rattle.spin_c.specs.contracts.turn.turn_maybe.dyn-1 as first
 use Rattle.spin_c.specs.contracts.turn.turn_maybe.dyn-2 as second
 use Rattle.spin_c.specs.contracts.turn.turn_maybe.dyn-3 as third
 use Rattle.spin_c.specs.Owned.{maybe_owns}
-use Rattle.spin_c.specs.Lanes.{row_at, LaneAt, no_first, no_second, no_third}
+use Rattle.spin_c.specs.Lanes.{row_at, HeldAt, no_first, no_second, no_third}
 
 act_send : IsSend (Act.the_field).row
 act_send = search (expr.crosses, crosses, sendable) depth 60 fits 20000
@@ -62,8 +72,20 @@ event_send = search (expr.crosses, crosses, sendable) depth 60 fits 20000
 seat_send : IsSend Seat.the_row
 seat_send = search (pen.the_send, version_send, version_sync, crosses, sendable) depth 60 fits 20000
 
-slot_send : IsSend (Option'.the_row Seat.the_row)
-slot_send = search (seat_send, crosses, sendable) depth 30 fits 20000
+away_send : IsSend Away.the_row
+away_send = search (ticket.the_send, seat_send, crosses, sendable) depth 60 fits 20000
+
+away_field_send : IsSend (Away.the_field).row
+away_field_send = search (ticket.the_send, seat_send, crosses, sendable) depth 60 fits 20000
+
+room_field_send : IsSend (Room.the_field).row
+room_field_send = search (ticket.the_send, seat_send, crosses, sendable) depth 60 fits 20000
+
+kept_send : IsSend Kept.the_row
+kept_send = search (buffer.the_send, last.the_send, reply.the_send, version_send, version_sync, crosses, sendable) depth 60 fits 20000
+
+slot_send : IsSend (Option'.the_row Away.the_row)
+slot_send = search (away_send, crosses, sendable) depth 30 fits 20000
 
 module _ (A B C : RattleType) (a : Ghosts A.Denot) (b : Ghosts B.Denot) (c : Ghosts C.Denot)
     (handlers : Sends (table_of A.Denot a)) (guards : Sends (table_of B.Denot b)) (authorisers : Sends (table_of C.Denot c))
@@ -100,34 +122,43 @@ module _ (A B C : RattleType) (a : Ghosts A.Denot) (b : Ghosts B.Denot) (c : Gho
   module _ (handlers' : Syncs (table_of A.Denot a)) (guards' : Syncs (table_of B.Denot b)) (authorisers' : Syncs (table_of C.Denot c))
       (sync_a : IsSync A) (sync_b : IsSync B) (sync_c : IsSync C) where
     -- several threads may use the hub
-    pub hub_sync : IsSync (Hub.the_row A B C a b c)
-    hub_sync =
-        recorded_sync (Hub.the_field A B C a b c).row _ _ (Hub.the_type A B C a b c).to_one
-        (struct_sync (shape (Hub.the_type A B C a b c)) (log.the_sync, (setup_sync A B C a b c handlers' guards' authorisers' sync_a sync_b sync_c, tt)))
+    hub_sync : IsSync (Hub.the_field A B C a b c).row
+    hub_sync = struct_sync (shape (Hub.the_type A B C a b c)) (log.the_sync, (setup_sync A B C a b c handlers' guards' authorisers' sync_a sync_b sync_c, tt))
 
-    hub_send : IsSend (Hub.the_row A B C a b c)
-    hub_send =
-        recorded_send (Hub.the_field A B C a b c).row _ _ (Hub.the_type A B C a b c).to_one
-        (struct_send (shape (Hub.the_type A B C a b c)) (log.the_send, (setup_send, tt)))
+    hub_send : IsSend (Hub.the_field A B C a b c).row
+    hub_send = struct_send (shape (Hub.the_type A B C a b c)) (log.the_send, (setup_send, tt))
 
-    lane_send : IsSend (Lane.the_row A B C a b c)
+    -- and so the party
+    pub party_sync : IsSync (Party.the_row A B C a b c)
+    party_sync =
+        recorded_sync (Party.the_field A B C a b c).row _ _ (Party.the_type A B C a b c).to_one
+        (struct_sync (shape (Party.the_type A B C a b c)) (hub_sync, (search (homes.the_field_sync, seat_send, crosses, sendable) depth 60 fits 20000, tt)))
+
+    party_send : IsSend (Party.the_row A B C a b c)
+    party_send =
+        recorded_send (Party.the_field A B C a b c).row _ _ (Party.the_type A B C a b c).to_one
+        (struct_send (shape (Party.the_type A B C a b c)) (hub_send, (search (homes.the_field_send, seat_send, crosses, sendable) depth 60 fits 20000, tt)))
+
+    lane_send : IsSend (Lane.the_field A B C a b c).row
     lane_send =
-        recorded_send (Lane.the_field A B C a b c).row _ _ (Lane.the_type A B C a b c).to_one
-        (struct_send (shape (Lane.the_type A B C a b c)) (
-          search (hub_send, hub_sync, crosses, sendable),
-          (search (seat_send, sendable), (kept.the_send, (list.the_send (Option'.the_row Seat.the_row) slot_send, (search (list.the_send, crosses, sendable), tt)))),
-        ))
+        struct_send (shape (Lane.the_type A B C a b c)) (
+          search (party_send, party_sync, crosses, sendable),
+          (away_field_send, (kept_send, (list.the_send (Option'.the_row Away.the_row) slot_send, (room_field_send, (search (list.the_send, crosses, sendable), (search sendable, tt)))))),
+        )
 
--- the lane that a handle holds may go to another thread
-pub held_send : IsSend row_at
-held_send =
-    lane_send (first.Any no_first).2 (second.Any no_second).2 (third.Any no_third).2 (first.Any no_first).3 (second.Any no_second).3 (third.Any no_third).3
+    held_send : IsSend (Held.the_row A B C a b c)
+    held_send = search (lane_send, list.the_send, crosses, sendable) depth 60 fits 20000
+
+-- what a handle holds may go to another thread
+pub all_send : IsSend row_at
+all_send =
+    held_send (first.Any no_first).2 (second.Any no_second).2 (third.Any no_third).2 (first.Any no_first).3 (second.Any no_second).3 (third.Any no_third).3
     (λ i. absurd i) (λ i. absurd i) (λ i. absurd i) (search sendable) (search sendable) (search sendable)
     (λ i. absurd i) (λ i. absurd i) (λ i. absurd i) (search sendable) (search sendable) (search sendable)
 
-owned_keyless : (a : Global) (p : Ptr) (kept : Option LaneAt) → Keyless (maybe_owns row_at a p kept)
+owned_keyless : (a : Global) (p : Ptr) (kept : Option HeldAt) → Keyless (maybe_owns row_at a p kept)
 owned_keyless a p None = tt
-owned_keyless a p (Some l) = (lies row_at held_send p l, frees.frees a (raw (lone row_at.mir)) p)
+owned_keyless a p (Some l) = (lies row_at all_send p l, frees.frees a (raw (lone row_at.mir)) p)
 
 pub handle_send : IsSend Handle.the_row
 handle_send = owning_send Handle.the_type (search sendable, (search sendable, tt)) (λ d. (owned_keyless d.alloc d.at d.kept, λ _. tt)) (λ k x w. tt)

@@ -1,9 +1,14 @@
 pub mod Crossing
+pub mod JobReplies
+pub mod Judged
 pub mod Lanes
 pub mod Laws
+pub mod LiveNumbers
 pub mod Maybes
 pub mod Opening
+pub mod RoomLeft
 pub mod Sharing
 pub mod Turning
+pub mod Ungiven
 pub mod Untold
 pub mod Values

@@ -1,5 +1,5 @@
 -- What a handle owns: a lane over a script without natives, whose boxed objects are of no type, so that there are none;
--- or nothing where it is closed.
+-- or the rows of a hub that was ended; or nothing where it is closed.
 use base.Fml.{Fml, ftrue, fsep, fex}
 use base.Stored.{Coded}
 use denote.RattleType.{RattleType}
@@ -8,7 +8,7 @@ use denote.Param.Table.{none}
 use Rattle.std.specs.Prelude.{Option}
 use Rattle.std.specs.Coded.{coded_option}
 use Rattle.std.specs.Global.{Global}
-use Rattle.spin_c.specs.contracts.lane.Lane.{the_row}
+use Rattle.spin_c.specs.contracts.lane.Held.{the_row}
 use Rattle.spin_c.specs.contracts.turn.turn_maybe.dyn-1 as first
 use Rattle.spin_c.specs.contracts.turn.turn_maybe.dyn-2 as second
 use Rattle.spin_c.specs.contracts.turn.turn_maybe.dyn-3 as third
@@ -29,12 +29,12 @@ abbrev pub row_at : RattleType
 row_at = the_row (first.Any no_first).2 (second.Any no_second).2 (third.Any no_third).2
     (first.Any no_first).3 (second.Any no_second).3 (third.Any no_third).3
 
-abbrev pub LaneAt : Type 0
-LaneAt = row_at.Denot
+abbrev pub HeldAt : Type 0
+HeldAt = row_at.Denot
 
--- the pointer is null, or it owns a lane whose seat, and those that wait at it, are seats of its hub
-abbrev pub handle_owns : Global → Ptr → Option LaneAt → Fml
+-- the pointer is null, or it owns what is held: a lane's seat, and those that wait at it, are seats of its hub
+abbrev pub handle_owns : Global → Ptr → Option HeldAt → Fml
 handle_owns a p kept = fsep (maybe_owns row_at a p kept) (fex (IsWell kept) (λ _. ftrue))
 
-abbrev pub kept_coded : Coded (Option LaneAt)
+abbrev pub kept_coded : Coded (Option HeldAt)
 kept_coded = coded_option row_at.coded

@@ -1,4 +1,9 @@
+pub mod Crowded
+pub mod Cycles
 pub mod Given
+pub mod Inner
+pub mod Jobs
+pub mod Judging
 pub mod Kept
 pub mod Lanes
 pub mod Owned
@@ -6,6 +11,7 @@ pub mod Packets
 pub mod Renewing
 pub mod Shares
 pub mod Tellings
+pub mod Texts
 pub mod Trails
 pub mod Turns
 pub mod Verdicts

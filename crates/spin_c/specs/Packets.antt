@@ -7,7 +7,7 @@ use Rattle.spin_pcap.specs.declared.next.Next.{Next}
 use Rattle.spin_pcap.specs.declared.order.Order.{Order}
 use Rattle.spin_pcap.specs.Captures.{IsCapture}
 use Rattle.spin_pcap.specs.Whole.{IsRefused, cut_of}
-use Rattle.spin_report.specs.Runs.{Captured}
+use Rattle.spin_report.specs.Runs.{CaptureSeen}
 
 -- what contracts see of a source of bytes that are handed in: it has these left, and never fails
 abbrev pub packets_seen : List ℕ → SourceSeen
@@ -19,12 +19,12 @@ packets_seen bytes = record {
 }
 
 -- The bytes are a good capture with these records, behind which so many bytes are no record.
-abbrev pub IsWhole : List ℕ → Captured → Type 0
+abbrev pub IsWhole : List ℕ → CaptureSeen → Type 0
 IsWhole bytes capture =
     (way : Order) × (last : Next) × IsCapture bytes way capture.frames (Ok last) × (capture.cut ≡ cut_of last)
 
 -- This is what the capture of these bytes has; where none is handed in there is none.
-abbrev pub AreCaptured : Option (List ℕ) → Option Captured → Type 0
+abbrev pub AreCaptured : Option (List ℕ) → Option CaptureSeen → Type 0
 AreCaptured None None = ⊤
 AreCaptured (Some bytes) (Some capture) = IsWhole bytes capture
 AreCaptured bytes other = ⊥

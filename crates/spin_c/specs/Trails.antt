@@ -1,5 +1,6 @@
 -- By which numbers a reply is told, and its steps one by one.
 use Rattle.std.specs.Prelude.{◌≡◌, ◌⊎◌, ℕ, List, [], Option, None, Some, Result, Ok, Err, length, ok_or, slice_get}
+use Rattle.std.specs.Option.{option_map}
 use Rattle.spin_headers.specs.declared.fault.HeaderFault.{HeaderFault}
 use Rattle.spin_headers.specs.declared.fault.HeaderFault.TheVariants as header
 use Rattle.spin_raise.specs.declared.answer.Answer.{Answer}
@@ -68,10 +69,14 @@ abbrev pub bytes_of : Step → List ℕ
 bytes_of (step.Send endpoint bytes) = bytes
 bytes_of other = []
 
--- the step at an index of the reply that is kept, or why there is none
+-- the step at an index of those of a reply, if there is one, or why there is none
+abbrev pub step_of : Option (List Step) → ℕ → Result Step Outcome
+step_of None index = Err outcome.NoReply
+step_of (Some steps) index = ok_or (slice_get steps index) outcome.NoStep
+
+-- the same of this reply, if there is one
 abbrev pub step_at : Option Reply → ℕ → Result Step Outcome
-step_at None index = Err outcome.NoReply
-step_at (Some kept) index = ok_or (slice_get (trace_in kept) index) outcome.NoStep
+step_at reply index = step_of (option_map trace_in reply) index
 
 -- it is told, or why there is none
 abbrev pub IsTold : Result Step Outcome → Outcome → Type 0

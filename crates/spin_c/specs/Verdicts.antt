@@ -1,7 +1,7 @@
 -- What a report is judged to be, and by which numbers that is told.
 use Rattle.std.specs.Prelude.{ℕ, Bool, true, false, List, [], Option, Ok, Decides, ⊤}
 use Rattle.spin_endpoint.specs.Named.{NamedEnd}
-use Rattle.spin_report.specs.Runs.{Captured}
+use Rattle.spin_report.specs.Runs.{CaptureSeen}
 use Rattle.spin_script.specs.Language.{IsScript}
 use Rattle.spin_script.specs.Scripts.{IsBad}
 use Rattle.spin_script.specs.States.{NativeData, ScriptData}
@@ -23,7 +23,7 @@ pub record IsJudged (natives : NativeData) (text : List ℕ) (packets : Option (
     (report : List ℕ) (yes : Bool) : Type 0 where
   pub script : ScriptData
   pub read : IsScript natives text (Ok script)
-  pub capture : Option Captured
+  pub capture : Option CaptureSeen
   pub captured : AreCaptured packets capture
   pub judged : (ends : List NamedEnd) → StandAs script.endpoints names ends
       → Decides yes (IsRunText script capture ends report)

@@ -1,7 +1,6 @@
 //! What is asked of a handle, and what it comes to.
 
 use crate::step::SpinStep;
-use spin_seat::Judged;
 use spin_values::{Args, Octets};
 use spin_word::Row;
 use std::alloc::Global;
@@ -23,16 +22,39 @@ pub enum Ask {
         /// Its arguments.
         args: Args,
     },
+    /// To leave the raise of an event to a job.
+    Later {
+        /// The number of the event.
+        event: u8,
+        /// Its arguments.
+        args: Args,
+    },
+    /// To do the job at this index of those that the reply leaves that is kept.
+    Job(u64),
     /// To do the command of this row.
     Command(Row),
     /// To tell the step at this index of the reply that is kept.
     Step(u64),
     /// To hand out the bytes of the step at this index of the reply that is kept.
     Bytes(u64),
+    /// To tell the step at this index of the reply to its last job that was done.
+    JobStep(u64),
+    /// To hand out the bytes of such a step.
+    JobBytes(u64),
     /// To tell the number that a binding had before the hub was renewed, which is now this index and 1.
     Before(u64),
+    /// To take in the seats of its hub that are at home.
+    Gather,
+    /// To tell the binding at this index of the cycle for which the last command was refused.
+    Cycle(u64),
     /// To renew its hub.
     Renew,
+    /// To end its hub.
+    End,
+    /// To tell the row at this index of the hub that was ended.
+    RowAt(u64),
+    /// To close it, if its seat was handed out, which goes home.
+    Return,
     /// To close it.
     Close,
 }
@@ -63,6 +85,17 @@ pub struct Told {
     pub steps: u64,
 }
 
+/// Why a command is refused, in numbers.
+#[derive(Clone, Copy, PartialEq, Eq, Debug)]
+pub struct Why {
+    /// The number of the refusal, from 1 to 12.
+    pub kind: u32,
+    /// The number of the rule by which it is refused, and 0 where there is none.
+    pub rule: u64,
+    /// How many bindings the cycle has that it would make, and 0 where it would make none.
+    pub bindings: u64,
+}
+
 /// What a call comes to.
 #[derive(Drop)]
 pub enum Outcome {
@@ -81,9 +114,9 @@ pub enum Outcome {
         /// The number of the cause.
         cause: u8,
     },
-    /// The row stands for no command of the handle's lane.
+    /// The row stands for no command, whatever its lane.
     NoCommand,
-    /// The log is full.
+    /// The log is full, or a hub without room for its renewal would come of it.
     Full,
     /// No reply is kept.
     NoReply,
@@ -95,14 +128,35 @@ pub enum Outcome {
     NoLane,
     /// The seat of the lane is handed out already.
     Taken,
-    /// The library doesn't hand the hub out of what its handles share.
+    /// Other handles still share the hub, or the library doesn't share a version.
     Shared,
-    /// No binding of that number was renewed.
+    /// The reply leaves no job at the index.
+    NoJob,
+    /// No binding of that number was renewed, or the cycle has none of that index.
     NoBinding,
     /// The number that a binding had.
     Before(u16),
-    /// The verdict on a command.
-    Judged(Judged),
+    /// How many seats are neither at the handle nor at home.
+    Out(u64),
+    /// The hub was ended, so that this isn't done any more.
+    Ended,
+    /// The hub was ended now, and its log has so many rows.
+    Rows(u16),
+    /// A row of its log.
+    Row(Row),
+    /// The hub wasn't ended, or its log has no row at the index.
+    NoRow,
+    /// A binding of a cycle.
+    InCycle(u16),
+    /// The command is accepted, and its row has this place.
+    Accepted(u16),
+    /// The command is refused.
+    Refused {
+        /// The place of the version at which it was judged.
+        place: u16,
+        /// Why.
+        why: Why,
+    },
     /// The reply to a raise.
     Raised {
         /// The place of the version on which it was done.

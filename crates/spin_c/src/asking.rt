@@ -6,13 +6,14 @@ ghost use Rattle.spin_values.specs.declared.values.Value.TheVariants as value;
 ghost use Rattle.spin_c.specs.declared.ask.Ask.TheVariants as asked;
 ghost use Rattle.spin_c.specs.Turns.{Turns};
 ghost use Rattle.spin_c.specs.Verdicts.{no_natives};
-ghost use Rattle.spin_c.specs.Tellings.{HandsBytes, TellsOf, TellsShare, TellsStep, answer_of, code_of};
+ghost use Rattle.spin_c.specs.Tellings.{HandsBytes, TellsOf, TellsRow, TellsShare, TellsStep, answer_of, code_of};
 
 use crate::ask::{Ask, Call, Outcome, Pick};
 use crate::copying::hand_to;
 use crate::handle::SpinLane;
+use crate::row::SpinRow;
 use crate::step::SpinStep;
-use crate::told::{SpinAnswer, answer_of, code_of, step_of};
+use crate::told::{SpinAnswer, answer_of, code_of, row_of, step_of};
 use spin_values::{Args, NoMemory, Octets, Value};
 use spin_word::MAX_LANES;
 use std::alloc::Global;
@@ -117,25 +118,34 @@ pub(crate) fn share_of(alloc: Global, lane: &mut SpinLane, number: u8, seat: &mu
     code_of(&outcome)
 }
 
-// Tells the step at an index of the reply that is kept.
-pub(crate) fn ask_step(alloc: Global, lane: &mut SpinLane, index: u64, step: &mut SpinStep) -> u32
-    ensures { TellsStep lane.old.kept index lane.new.kept result step.new }
+// Asks for a step, and tells it.
+pub(crate) fn ask_step(alloc: Global, lane: &mut SpinLane, ask: Ask, step: &mut SpinStep) -> u32
+    ensures { TellsStep lane.old.kept ask lane.new.kept result step.new }
 {
-    let outcome = call_on(alloc, lane, Ask::Step(index));
+    let outcome = call_on(alloc, lane, ask);
     *step = step_of(&outcome);
     code_of(&outcome)
 }
 
-// Copies the bytes of such a step into a buffer.
+// Asks for the bytes of a step, and copies them into a buffer.
 pub(crate) fn ask_bytes(
     alloc: Global,
     lane: &mut SpinLane,
-    index: u64,
+    ask: Ask,
     buffer: &mut [u8],
     wanted: &mut u64,
 ) -> u32
-    ensures { HandsBytes lane.old.kept index buffer.old lane.new.kept result buffer.new wanted.new }
+    ensures { HandsBytes lane.old.kept ask buffer.old lane.new.kept result buffer.new wanted.new }
 {
-    let outcome = call_on(alloc, lane, Ask::Bytes(index));
+    let outcome = call_on(alloc, lane, ask);
     hand_to(&outcome, buffer, wanted)
+}
+
+// Tells the row at an index of the hub that was ended.
+pub(crate) fn ask_row(alloc: Global, lane: &mut SpinLane, index: u64, row: &mut SpinRow) -> u32
+    ensures { TellsRow lane.old.kept index lane.new.kept result row.new }
+{
+    let outcome = call_on(alloc, lane, Ask::RowAt(index));
+    *row = row_of(&outcome);
+    code_of(&outcome)
 }

@@ -6,7 +6,7 @@ use crate::ask::Outcome;
 use crate::told::code_of;
 
 // Copies bytes to the front of a buffer, where it has room for them.
-fn copy_to(bytes: &[u8], buffer: &mut [u8]) -> u32
+pub(crate) fn copy_to(bytes: &[u8], buffer: &mut [u8]) -> u32
     ensures { AreCopied bytes.now buffer.old result buffer.new }
 {
     let count = bytes.len();

@@ -1,9 +1,10 @@
 //! Arguments as C hands them in.
 
-ghost use Rattle.std.specs.Prelude.{◌≡◌, ◌↔◌, IfOk, IsTrue, map};
+ghost use Rattle.std.specs.Prelude.{◌≡◌, ◌↔◌, IfOk, IsTrue, MatchResult, map};
 ghost use Rattle.std.specs.List.{All};
-ghost use Rattle.spin_c.specs.Given.{IsGiven, value_of};
+ghost use Rattle.spin_c.specs.Given.{IsGiven, IsUngiven, value_of};
 
+use crate::ask::Outcome;
 use spin_values::{Args, NoMemory, Octets, Value};
 use std::alloc::Global;
 
@@ -32,7 +33,7 @@ fn is_given(bytes: &[u8], arg: &SpinArg) -> bool
 }
 
 // Whether all are words, or ranges of these bytes.
-pub(crate) fn are_given(bytes: &[u8], args: &[SpinArg]) -> bool
+fn are_given(bytes: &[u8], args: &[SpinArg]) -> bool
     ensures { IsTrue result ↔ All (IsGiven bytes.now) args.now }
 {
     args.iter().all(|arg| is_given(bytes, arg))
@@ -51,8 +52,8 @@ fn value_of(alloc: Global, bytes: &[u8], arg: &SpinArg) -> Result<Value, NoMemor
     Ok(Value::Bytes(Octets::from_bytes(alloc, &bytes[start..end])?))
 }
 
-// The values that these arguments are.
-pub(crate) fn values_of(alloc: Global, bytes: &[u8], given: &[SpinArg]) -> Result<Args, NoMemory>
+// The values that these arguments are, which are given.
+fn values_of(alloc: Global, bytes: &[u8], given: &[SpinArg]) -> Result<Args, NoMemory>
     requires { All (IsGiven bytes.now) given.now }
     ensures { IfOk result (λ args. args ≡ map (value_of bytes.now) given.now) }
 {
@@ -61,4 +62,19 @@ pub(crate) fn values_of(alloc: Global, bytes: &[u8], given: &[SpinArg]) -> Resul
         args.push(value_of(alloc, bytes, arg)?)?;
     }
     Ok(args)
+}
+
+// The values that these arguments are, or why there are none.
+pub(crate) fn given_of(alloc: Global, bytes: &[u8], given: &[SpinArg]) -> Result<Args, Outcome>
+    ensures { MatchResult result
+        (λ args. All (IsGiven bytes.now) given.now × (args ≡ map (value_of bytes.now) given.now))
+        (IsUngiven bytes.now given.now) }
+{
+    if !are_given(bytes, given) {
+        return Err(Outcome::NoArgument);
+    }
+    match values_of(alloc, bytes, given) {
+        Ok(args) => Ok(args),
+        Err(NoMemory) => Err(Outcome::NoMemory),
+    }
 }

@@ -1,14 +1,14 @@
 //! What C holds: a pointer that owns a lane, or null.
 
 ghost use Rattle.std.specs.Prelude.{◌≡◌, None, Option};
-ghost use Rattle.spin_c.specs.Lanes.{LaneAt, kept_coded, handle_owns};
+ghost use Rattle.spin_c.specs.Lanes.{HeldAt, kept_coded, handle_owns};
 ghost use Rattle.spin_c.specs.Shares.{Shares};
 ghost use Rattle.spin_c.specs.Turns.{Turns};
 ghost use Rattle.spin_c.specs.Verdicts.{no_natives};
 
 use crate::ask::{Call, Outcome, Pick};
 use crate::handing::hand_out_maybe;
-use crate::lane::Lane;
+use crate::lane::Held;
 use crate::maybe::Maybe;
 use crate::turn::turn_maybe;
 use spin_objects::Natives;
@@ -22,7 +22,7 @@ use std::ptr::null_mut;
 pub struct SpinLane {
     at: *mut u8,
     alloc: Global,
-    pub ghost kept: { Option LaneAt } by { kept_coded },
+    pub ghost kept: { Option HeldAt } by { kept_coded },
 }
 
 impl Model for SpinLane {
@@ -51,7 +51,7 @@ impl SpinLane {
         let natives = Natives::new(none);
         let (maybe, outcome) = turn_maybe(
             Maybe {
-                at: at as *mut Lane,
+                at: at as *mut Held,
                 alloc,
             },
             natives,
@@ -75,11 +75,11 @@ impl SpinLane {
         let SpinLane { at: to, alloc: its } = other;
         let (maybe, share, outcome) = hand_out_maybe(
             Maybe {
-                at: at as *mut Lane,
+                at: at as *mut Held,
                 alloc,
             },
             Maybe {
-                at: to as *mut Lane,
+                at: to as *mut Held,
                 alloc: its,
             },
             pick,

@@ -1,58 +1,77 @@
-//! The reply to the last raise, in room that the next one takes over.
+//! What the last raise or command of a handle left, in room that the next reply takes over.
 
-ghost use Rattle.std.specs.Prelude.{◌≡◌, None, Some, IfOk, OnErr, MatchOption};
+ghost use Rattle.std.specs.Prelude.{◌≡◌, None, Option, Some, IfOk, OnErr};
 ghost use Rattle.spin_log.specs.Pens.{IsSamePen};
 ghost use Rattle.spin_table.specs.SetupOf.{data_of};
 ghost use Rattle.spin_proto.specs.declared.reply.Reply.{Reply as ReplyValue};
 ghost use Rattle.spin_proto.specs.Parts.{trace_in};
+ghost use Rattle.spin_proto.specs.Replies.{calls_left};
+ghost use Rattle.spin_seat.specs.Replay.{IsReplayFrom};
 ghost use Rattle.spin_seat.specs.Seats.{IsSeat};
 ghost use Rattle.spin_seat.specs.Calls.{AddsAtMostAPin, GivesFrom, reply_answer};
-ghost use Rattle.spin_c.specs.Kept.{kept_in};
+ghost use Rattle.std.specs.Option.{option_copied, option_map};
+ghost use Rattle.std.specs.Arc.{arc_value};
+ghost use Rattle.spin_table.specs.States.{State};
+ghost use Rattle.spin_c.specs.Jobs.{IsWellLeft};
+ghost use Rattle.spin_c.specs.Kept.{cycle_left, job_left, left_in, pinned_for, replied, reply_left};
 ghost use Rattle.spin_c.specs.Trails.{told_of};
 
 use crate::ask::Told;
 use crate::trail::{answer_told, reply_told};
 use spin_code::Sincere;
 use spin_objects::Catalogue;
-use spin_proto::{Reply, ReplyBuffer, Step};
+use spin_proto::{JobCall, Reply, ReplyBuffer, Step};
 use spin_seat::{Hub, Seat};
-use spin_values::NoMemory;
+use spin_table::Version;
+use spin_values::{NoMemory, Numbers};
 use spin_word::Deed;
 use std::alloc::Global;
 use std::marker::Model;
 use std::mem;
+use std::sync::Arc;
 
-// Where the reply stands.
+// What is left, and where it stands.
 #[derive(Drop)]
 pub(crate) enum Last {
-    // Nowhere: none is kept.
+    // Nothing.
     None,
-    // In the buffer.
+    // A reply, in the buffer.
     Buffer,
-    // Here, and it has no steps.
+    // A reply, which is here, and has no steps.
     Other(Reply),
+    // The cycle for which a command was refused.
+    Cycle(Numbers),
 }
 
-/// The reply to the last raise, where it is kept. Contracts see it, or that there is none.
+/// What the last raise or command left: the reply to a raise, where it leaves jobs the version on which they are done, and
+/// the reply to the last of them that was done; or the cycle for which a command was refused. Contracts see that.
 #[derive(Drop)]
 pub struct Kept {
-    buffer: ReplyBuffer,
-    last: Last,
+    pub(crate) buffer: ReplyBuffer,
+    pub(crate) last: Last,
+    pub(crate) pinned: Option<Arc<Version>>,
+    pub(crate) job: Option<Reply>,
 }
 
 impl Model for Kept {
     ghost use Rattle.std.specs.Prelude.{Option};
-    ghost use Rattle.spin_proto.specs.declared.reply.Reply.{Reply};
-    ghost use Rattle.spin_c.specs.Kept.{kept_in};
+    ghost use Rattle.std.specs.Arc.{arc_value};
+    ghost use Rattle.std.specs.Coded.{codes};
+    ghost use Rattle.std.specs.Option.{option_map};
+    ghost use Rattle.spin_code.specs.contracts.test.Test as test;
+    ghost use Rattle.spin_c.specs.Kept.{Left, left_in};
 
-    ghost Value = { Option Reply };
+    ghost Value = { Option Left };
 
-    ghost view = { λ k. kept_in k.last k.buffer };
+    ghost coded = { Prim.hlevel (codes, test.the_row.coded) };
+
+    ghost view = { λ k. left_in k.last k.buffer (option_map (λ v. arc_value v) k.pinned) k.job };
 }
 
 // Keeps the reply that stands in a buffer, and tells it.
 fn keep(alloc: Global, buffer: &mut ReplyBuffer) -> (Last, Told)
-    ensures kept { kept_in result.0 buffer.new ≡ Some buffer.old }
+    ensures kept { (pinned : Option State) → (job : Option ReplyValue)
+        → left_in result.0 buffer.new pinned job ≡ Some (replied record { reply = buffer.old; pinned = pinned; job = job }) }
     ensures told { result.1 ≡ told_of buffer.old }
 {
     let steps = buffer.trace().len() as u64;
@@ -66,37 +85,84 @@ fn keep(alloc: Global, buffer: &mut ReplyBuffer) -> (Last, Told)
     }
 }
 
+// The version of the seat, where these calls are left to jobs that are done on it.
+fn pinned(seat: &Seat, calls: &[JobCall]) -> Result<Option<Arc<Version>>, NoMemory>
+    ensures { IfOk result (λ pinned. option_map (λ v. arc_value v) pinned ≡ pinned_for calls.now seat.now.state) }
+{
+    if calls.is_empty() {
+        return Ok(None);
+    }
+    Ok(Some(seat.version()?))
+}
+
 impl Kept {
-    // No reply. It takes no memory until one is kept.
+    // Nothing. It takes no memory until a reply is kept.
     pub(crate) fn new(alloc: Global) -> Kept
         ensures { result ≡ None }
     {
         Kept {
             buffer: ReplyBuffer::new(alloc),
             last: Last::None,
+            pinned: None,
+            job: None,
         }
     }
 
-    // Lets go of the reply.
+    // Lets go of what is left.
     pub(crate) fn forget(&mut self)
         ensures { self.new ≡ None }
     {
         self.last = Last::None;
+        self.pinned = None;
+        self.job = None;
     }
 
     // The steps of the reply, where one is kept.
     pub(crate) fn steps(&self) -> Option<&[Step]>
-        ensures { MatchOption result (self.now ≡ None) (λ steps.
-            (reply : ReplyValue) × (self.now ≡ Some reply) × (steps.now ≡ trace_in reply)) }
+        ensures { option_copied result ≡ option_map trace_in (reply_left self.now) }
     {
         match &self.last {
-            Last::None => None,
+            Last::None | Last::Cycle(_) => None,
             Last::Buffer => Some(self.buffer.trace()),
             Last::Other(reply) => Some(reply.trace()),
         }
     }
 
-    // Does the raise on the seat, keeps its reply, and tells its place and the reply.
+    // The steps of the reply to its last job, where one was done.
+    pub(crate) fn job_steps(&self) -> Option<&[Step]>
+        ensures { option_copied result ≡ option_map trace_in (job_left self.now) }
+    {
+        match &self.last {
+            Last::None | Last::Cycle(_) => None,
+            Last::Buffer | Last::Other(_) => match &self.job {
+                None => None,
+                Some(reply) => Some(reply.trace()),
+            },
+        }
+    }
+
+    // The calls that the reply leaves to jobs, where one is kept.
+    pub(crate) fn calls(&self) -> Option<&[JobCall]>
+        ensures { option_copied result ≡ option_map calls_left (reply_left self.now) }
+    {
+        match &self.last {
+            Last::None | Last::Cycle(_) => None,
+            Last::Buffer => Some(self.buffer.view().calls()),
+            Last::Other(reply) => Some(reply.view().calls()),
+        }
+    }
+
+    // The bindings of the cycle for which the last command was refused; none where it was for none.
+    pub(crate) fn cycle(&self) -> &[u16]
+        ensures { result.now ≡ cycle_left self.now }
+    {
+        match &self.last {
+            Last::Cycle(cycle) => cycle.as_slice(),
+            Last::None | Last::Buffer | Last::Other(_) => &[],
+        }
+    }
+
+    // Does the deed on the seat, keeps its reply, and tells its place and the reply.
     pub(crate) fn raise(
         &mut self,
         alloc: Global,
@@ -110,17 +176,27 @@ impl Kept {
         ensures seat { IsSeat (data_of hub.now.setup) seat.new }
         ensures first { seat.new.first ≡ seat.old.first }
         ensures same { IsSamePen seat.old.pen seat.new.pen }
+        ensures well { IsWellLeft (data_of hub.now.setup) self.new }
         ensures answer { let d = data_of hub.now.setup in
             let pen = seat.old.pen in
             IfOk result (λ told.
-            (reply : ReplyValue) × (self.new ≡ Some reply) × (told.1 ≡ told_of reply)
+            (reply : ReplyValue)
+            × (self.new ≡ Some (replied record {
+              reply = reply;
+              pinned = pinned_for (calls_left reply) seat.new.state;
+              job = None;
+            }))
+            × (told.1 ≡ told_of reply)
+            × IsReplayFrom d seat.old.first seat.new.pen.front seat.new.state
             × GivesFrom d seat.old.first pen (reply_answer pen.lane deed.now told.0 reply) seat.new.pen) }
         ensures err { OnErr result (AddsAtMostAPin seat.old.pen seat.new.pen × (self.new ≡ None)) }
     {
-        self.last = Last::None;
+        self.forget();
         let place = seat.raise_into(alloc, hub, deed, &mut self.buffer)?;
+        self.pinned = pinned(seat, self.buffer.view().calls())?;
         let (last, told) = keep(alloc, &mut self.buffer);
         self.last = last;
+        self.job = None;
         Ok((place, told))
     }
 }

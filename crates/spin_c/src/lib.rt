@@ -1,12 +1,11 @@
 //! The dispatcher for hosts that aren't Rattle: the calls that `bindings/c/spin.h` declares.
 //!
 //! - [`verdict`] has what a report is judged to be, [`judge`] judges it, and [`packets`] reads a capture beside it;
-//! - [`lane`] is what a handle holds, a seat with its hub, [`handing`] hands the seats of other lanes out, and [`handle`] is
-//!   the handle, over [`maybe`] and [`loose`]:
-//!   pointers that own a box, or may be null;
+//! - [`lane`] is what a handle holds, a seat with its hub, [`handing`] hands the seats of other lanes out and gives them
+//!   home, and [`handle`] is the handle, over [`maybe`] and [`loose`]: pointers that own a box, or may be null;
 //! - [`ask`] is what is asked of a handle and what it comes to, [`turn`] does it, and [`asking`] asks;
-//! - [`renewing`] renews the hub of a lane;
-//! - [`row`] is a command as it is handed in, and [`given`] the arguments of a raise;
+//! - [`gathering`] takes in the seats that are at home, and [`renewing`] renews the hub of a lane, or ends it;
+//! - [`row`] is a command as it is handed in, or a row of the log, and [`given`] the arguments of a raise;
 //! - [`trail`] tells a reply in numbers, and its steps one by one as a [`step`]; [`told`] tells whatever else a call
 //!   comes to, and [`copying`] copies bytes into a buffer.
 #![tactic(auto)]
@@ -16,41 +15,52 @@ ghost use Rattle.spin_values.specs.declared.values.Value.TheVariants as value;
 ghost use Rattle.spin_grammar.specs.Words.{words};
 ghost use Rattle.spin_c.specs.declared.verdict.Verdict.{Verdict as VerdictValue};
 ghost use Rattle.spin_c.specs.declared.ask.Ask.TheVariants as asked;
-ghost use Rattle.spin_c.specs.Tellings.{HandsBytes, TellsOf, TellsOfArgs, TellsShare, TellsStep, row_from};
+ghost use Rattle.spin_c.specs.Tellings.{HandsBytes, TellsOf, TellsOfArgs, TellsRow, TellsShare, TellsStep, row_from};
+ghost use Rattle.spin_values.specs.First.{numbered};
+ghost use Rattle.spin_c.specs.Texts.{TellsText};
+ghost use Rattle.spin_c.specs.declared.texts.TheConstants.{CAUSES, FAULTS};
 ghost use Rattle.spin_c.specs.Verdicts.{IsVerdict, no_natives, fault_of, number_of};
 
 mod ask;
 mod asking;
 mod copying;
+mod crowded;
+mod cycles;
+mod gathering;
 mod given;
 mod handing;
 mod handle;
+mod jobs;
 mod judge;
 mod kept;
 mod lane;
+mod law;
 mod loose;
 mod maybe;
 mod packets;
 mod renewing;
 mod row;
 mod step;
+mod texts;
 mod told;
 mod trail;
 mod turn;
 mod verdict;
 
 use ask::{Ask, Outcome};
-use asking::{args_of, ask_bytes, ask_of, ask_step, open_of, share_of, tell};
+use asking::{args_of, ask_bytes, ask_of, ask_row, ask_step, open_of, share_of, tell};
 pub use given::SpinArg;
-use given::{are_given, values_of};
+use given::given_of;
 pub use handle::SpinLane;
 use judge::judge;
+pub use law::commands_leave_room;
 pub use row::SpinRow;
 use row::row_from;
 use spin_objects::Natives;
 use spin_values::NoMemory;
 use std::alloc::Global;
 pub use step::SpinStep;
+use texts::{cause_text, fault_text, tell_text};
 pub use told::{SpinAnswer, SpinFault};
 use told::{fault_of, number_of};
 pub use verdict::Verdict;
@@ -58,9 +68,9 @@ pub use verdict::Verdict;
 /// The version of these calls. It grows by 1 where one of them is changed, and not where one is added.
 #[unsafe(no_mangle)]
 pub extern "C" fn spin_version() -> u32
-    ensures { result ≡ 1 }
+    ensures { result ≡ 2 }
 {
-    1
+    2
 }
 
 /// Judges whether a text is the report of one legal history of a script without a capture, where of the script's
@@ -113,6 +123,24 @@ pub extern "C" fn spin_check_packets(
     number_of(&verdict)
 }
 
+/// Copies the sentence of why a script is refused by a cause of this number to the front of a buffer, and tells how many
+/// bytes it has. It answers 0 where it is copied; 11 where the buffer is too small, which is as it was then; and 21 where
+/// there is no such cause, and tells 0. It asks for no memory.
+#[unsafe(no_mangle)]
+pub extern "C" fn spin_cause_text(cause: u32, buffer: &mut [u8], wanted: &mut u64) -> u32
+    ensures { TellsText (numbered (map (λ t. t.now) CAUSES) cause) buffer.old result buffer.new wanted.new }
+{
+    tell_text(cause_text(cause), buffer, wanted)
+}
+
+/// The same of why a capture is refused by a fault of this number.
+#[unsafe(no_mangle)]
+pub extern "C" fn spin_fault_text(fault: u32, buffer: &mut [u8], wanted: &mut u64) -> u32
+    ensures { TellsText (numbered (map (λ t. t.now) FAULTS) fault) buffer.old result buffer.new wanted.new }
+{
+    tell_text(fault_text(fault), buffer, wanted)
+}
+
 /// Opens a closed handle over a script: a hub with one lane over what the script declares, at its start, where nothing
 /// is bound. Its lane lines aren't done. It answers a number: 0 where it is open now, 1 where there was no memory, 2
 /// where the text is no script, whose first bad line and cause it tells as place and kind, and 5 where it was open.
@@ -145,11 +173,12 @@ pub extern "C" fn spin_open_lanes(
     open_of(alloc, lane, text, lanes, answer)
 }
 
-/// Hands the seat of another lane out, which waits at the handle with which its hub was opened, to a closed handle: the
-/// two share the hub, and nothing else. It answers 0 where the second handle is open now; 1 where there was no memory, 4
-/// where the first handle is closed, 5 where the second is open, 13 where the first has no such lane, as one that was
-/// handed out has none, and 14 where that lane's seat is handed out already. Both handles are as they were then. Want of
-/// memory is told only where the seat waits.
+/// Hands the seat of another lane out to a closed handle: the seat waits at the handle with which its hub was opened,
+/// or is at home, since it was handed out before and came back. The two share the hub, and nothing else. It answers 0
+/// where the second handle is open now; 1 where there was no memory, 4 where the first handle is closed, 5 where the
+/// second is open, 13 where the first has no such lane, as one that was handed out has none, 14 where that lane's seat
+/// is out, and 19 where the hub was ended. All else of both handles is as it was then. Want of memory is told only
+/// where the seat isn't out.
 #[unsafe(no_mangle)]
 pub extern "C" fn spin_seat(
     alloc: Global,
@@ -160,6 +189,26 @@ pub extern "C" fn spin_seat(
     ensures { TellsShare lane.old.kept seat.old.kept number lane.new.kept seat.new.kept result }
 {
     share_of(alloc, lane, number, seat)
+}
+
+/// Closes a handle whose seat was handed out: the seat goes home, and [`spin_seat`] hands it out again. It answers 0
+/// where the handle is closed now, 4 where it was closed, 13 where it is the one with which its hub was opened, which
+/// stays open, and 19 where its hub was ended. It asks for no memory.
+#[unsafe(no_mangle)]
+pub extern "C" fn spin_return(alloc: Global, lane: &mut SpinLane, answer: &mut SpinAnswer) -> u32
+    ensures { TellsOf lane.old.kept asked.Return lane.new.kept result answer.new }
+{
+    ask_of(alloc, lane, Ask::Return, answer)
+}
+
+/// Takes in the seats that are at home, and tells as the value how many of the hub's seats are still out. It answers 0
+/// where it is told, 4 where the handle is closed, 13 where the handle's seat was handed out by another, and 19 where
+/// the hub was ended. It asks for no memory.
+#[unsafe(no_mangle)]
+pub extern "C" fn spin_gather(alloc: Global, lane: &mut SpinLane, answer: &mut SpinAnswer) -> u32
+    ensures { TellsOf lane.old.kept asked.Gather lane.new.kept result answer.new }
+{
+    ask_of(alloc, lane, Ask::Gather, answer)
 }
 
 /// Raises an event with these words as its arguments, and tells the answer: its place, the number of its kind, its
@@ -193,14 +242,30 @@ pub extern "C" fn spin_raise(
     args: &[SpinArg],
     answer: &mut SpinAnswer,
 ) -> u32
-    ensures { TellsOfArgs lane.old.kept event bytes.now args.now lane.new.kept result answer.new }
+    ensures { TellsOfArgs lane.old.kept (asked.Raise event) bytes.now args.now lane.new.kept result answer.new }
 {
-    if !are_given(bytes, args) {
-        return tell(&Outcome::NoArgument, answer);
-    }
-    match values_of(alloc, bytes, args) {
+    match given_of(alloc, bytes, args) {
         Ok(args) => ask_of(alloc, lane, Ask::Raise { event, args }, answer),
-        Err(NoMemory) => tell(&Outcome::NoMemory, answer),
+        Err(why) => tell(&why, answer),
+    }
+}
+
+/// Queues a raise of an event with these arguments, each a word or a range of the bytes, as a script's `later` does: it is
+/// job 0 of its reply. It tells the answer as [`spin_raise_words`] does, and answers as [`spin_raise`].
+#[unsafe(no_mangle)]
+pub extern "C" fn spin_later(
+    alloc: Global,
+    lane: &mut SpinLane,
+    event: u8,
+    bytes: &[u8],
+    args: &[SpinArg],
+    answer: &mut SpinAnswer,
+) -> u32
+    ensures { TellsOfArgs lane.old.kept (asked.Later event) bytes.now args.now lane.new.kept result answer.new }
+{
+    match given_of(alloc, bytes, args) {
+        Ok(args) => ask_of(alloc, lane, Ask::Later { event, args }, answer),
+        Err(why) => tell(&why, answer),
     }
 }
 
@@ -214,9 +279,9 @@ pub extern "C" fn spin_step(
     index: u64,
     step: &mut SpinStep,
 ) -> u32
-    ensures { TellsStep lane.old.kept index lane.new.kept result step.new }
+    ensures { TellsStep lane.old.kept (asked.Step index) lane.new.kept result step.new }
 {
-    ask_step(alloc, lane, index, step)
+    ask_step(alloc, lane, Ask::Step(index), step)
 }
 
 /// Copies the bytes that the step at an index sends to the front of a buffer, and tells how many they are: none where
@@ -230,15 +295,64 @@ pub extern "C" fn spin_step_bytes(
     buffer: &mut [u8],
     wanted: &mut u64,
 ) -> u32
-    ensures { HandsBytes lane.old.kept index buffer.old lane.new.kept result buffer.new wanted.new }
+    ensures { HandsBytes lane.old.kept (asked.Bytes index) buffer.old lane.new.kept result buffer.new wanted.new }
 {
-    ask_bytes(alloc, lane, index, buffer, wanted)
+    ask_bytes(alloc, lane, Ask::Bytes(index), buffer, wanted)
 }
 
-/// Does the command of a row, and tells the place of its verdict and the number of its refusal. It answers 0 where it
-/// is accepted, 1 where there was no memory, 4 where the handle is closed, 6 where the row stands for no command of the
-/// handle's lane, and where it stands for one 7 where the log is full, and 8 where the command is refused. Beside 6 the
-/// reply to the last raise is still kept.
+/// Does the job at an index, counted from 0, of those that the reply to the last raise leaves, on the version of that
+/// raise, and tells the answer as a raise does, with the place of that version. Its own reply is kept beside the raise's
+/// until another job of it is done. It answers 0 where it is done, 1 where there was no memory, 4 where the handle is
+/// closed, 9 where no reply is kept, and 18 where the reply leaves no job of that index.
+#[unsafe(no_mangle)]
+pub extern "C" fn spin_job(
+    alloc: Global,
+    lane: &mut SpinLane,
+    index: u64,
+    answer: &mut SpinAnswer,
+) -> u32
+    ensures { TellsOf lane.old.kept (asked.Job index) lane.new.kept result answer.new }
+{
+    ask_of(alloc, lane, Ask::Job(index), answer)
+}
+
+/// Tells the step at an index of the reply to the last job that was done of the reply that is kept, as [`spin_step`]
+/// tells that of the raise. It answers 9 where none was done.
+#[unsafe(no_mangle)]
+pub extern "C" fn spin_job_step(
+    alloc: Global,
+    lane: &mut SpinLane,
+    index: u64,
+    step: &mut SpinStep,
+) -> u32
+    ensures { TellsStep lane.old.kept (asked.JobStep index) lane.new.kept result step.new }
+{
+    ask_step(alloc, lane, Ask::JobStep(index), step)
+}
+
+/// Copies the bytes that such a step sends to the front of a buffer, as [`spin_step_bytes`] does.
+#[unsafe(no_mangle)]
+pub extern "C" fn spin_job_bytes(
+    alloc: Global,
+    lane: &mut SpinLane,
+    index: u64,
+    buffer: &mut [u8],
+    wanted: &mut u64,
+) -> u32
+    ensures { HandsBytes lane.old.kept (asked.JobBytes index) buffer.old lane.new.kept result buffer.new wanted.new }
+{
+    ask_bytes(alloc, lane, Ask::JobBytes(index), buffer, wanted)
+}
+
+/// Does the command of a row, whose lane is the handle's, whatever the row's four bits of a lane are, and tells the place
+/// of its verdict, and of a refusal the number; the number of the rule as
+/// the value, where it is by one; and the number of bindings in the cycle that it would make as that of the steps, which
+/// [`spin_cycle`] tells. It answers 0 where it is accepted, 1 where there was no memory, 4 where the handle is closed, 6
+/// where the row stands for no command, and where it stands for one 7 where the log is full, and 8
+/// where the command is refused. 7 is also what an install is answered where with one more for each lane 4,096 bindings
+/// would be live, so far as the handle has read: else none of the hub's places might be left by a renewal. 17 is what it
+/// is answered where the library doesn't share a version, which no handle in use meets; nothing is done then. Beside 6
+/// the reply to the last raise is still kept.
 #[unsafe(no_mangle)]
 pub extern "C" fn spin_command(
     alloc: Global,
@@ -251,13 +365,29 @@ pub extern "C" fn spin_command(
     ask_of(alloc, lane, Ask::Command(row_from(row)), answer)
 }
 
-/// Renews the hub of a handle with which it was opened, and at which the seats of all its other lanes wait: it goes on
-/// over a new log, with room for 4,096 commands less one for each live binding, and nothing is lost that is bound. The
-/// live bindings are numbered anew, from 1 on in the order of their numbers; [`spin_before`] tells what they were. No
-/// reply is kept then. It answers 0 where it is renewed; 1 where there was no memory, and where there was none to put
-/// the lane back the handle is closed; 4 where the handle is closed, 7 where 4,096 bindings are live, 13 where the
-/// handle's seat was handed out by another, 14 where it handed a seat of the hub out, and 17 where the hub is still
-/// shared by other handles, though all its seats wait. Beside the last three the handle is as it was.
+/// Tells as the value the binding at an index, counted from 0, of the cycle for which the last command was refused. It
+/// answers 0 where there is one, 4 where the handle is closed, and 15 where the cycle has no such binding, or none is kept:
+/// the last command of a row made none, or something was raised or the hub renewed since. It asks for no memory.
+#[unsafe(no_mangle)]
+pub extern "C" fn spin_cycle(
+    alloc: Global,
+    lane: &mut SpinLane,
+    index: u64,
+    answer: &mut SpinAnswer,
+) -> u32
+    ensures { TellsOf lane.old.kept (asked.Cycle index) lane.new.kept result answer.new }
+{
+    ask_of(alloc, lane, Ask::Cycle(index), answer)
+}
+
+/// Renews the hub of a handle with which it was opened, where no seat of it is out; those at home are taken in. The
+/// hub goes on over a new log, with room for 4,096 commands less one for each live binding, and nothing is lost that
+/// is bound. The live bindings are numbered anew, from 1 on in the order of their numbers; [`spin_before`] tells what
+/// they were. No reply is kept then. It answers 0 where it is renewed; 1 where there was no memory, 4 where the handle
+/// is closed, 7 where 4,096 bindings are live, 13 where the handle's seat was handed out by another, 14 where a seat
+/// is out, 17 where other handles still share the hub, though no seat is out, and 19 where the hub was ended. Beside
+/// another number than 0 the handle is as it was, but for the seats that it took in, which after 1 and 7 may have read
+/// on.
 #[unsafe(no_mangle)]
 pub extern "C" fn spin_renew(alloc: Global, lane: &mut SpinLane, answer: &mut SpinAnswer) -> u32
     ensures { TellsOf lane.old.kept asked.Renew lane.new.kept result answer.new }
@@ -265,9 +395,37 @@ pub extern "C" fn spin_renew(alloc: Global, lane: &mut SpinLane, answer: &mut Sp
     ask_of(alloc, lane, Ask::Renew, answer)
 }
 
+/// Ends the hub of a handle with which it was opened, where no seat of it is out; those at home are taken in. It tells
+/// as the value, and as the place, how many rows the log has: they are clean, and with all that the hub's seats
+/// answered one legal history. The handle stays open, to tell the rows. It answers 0 where the hub is ended now, 1
+/// where there was no memory, 4 where the handle is closed, 13 where its seat was handed out by another, 14 where a
+/// seat is out, 17 where other handles still share the hub, though no seat is out, and 19 where it was ended before.
+/// Beside another number than 0 the handle is as it was, but for the seats that it took in.
+#[unsafe(no_mangle)]
+pub extern "C" fn spin_end(alloc: Global, lane: &mut SpinLane, answer: &mut SpinAnswer) -> u32
+    ensures { TellsOf lane.old.kept asked.End lane.new.kept result answer.new }
+{
+    ask_of(alloc, lane, Ask::End, answer)
+}
+
+/// Tells the row at an index, counted from 0, of a hub that was ended. It answers 0 where it is told, and zeros beside
+/// another number: 4 where the handle is closed, and 20 where the hub wasn't ended, or its log has no such row. It asks
+/// for no memory.
+#[unsafe(no_mangle)]
+pub extern "C" fn spin_row_at(
+    alloc: Global,
+    lane: &mut SpinLane,
+    index: u64,
+    row: &mut SpinRow,
+) -> u32
+    ensures { TellsRow lane.old.kept index lane.new.kept result row.new }
+{
+    ask_row(alloc, lane, index, row)
+}
+
 /// Tells as the value which number the binding had before the last renewal that is now this index and 1. It answers 0
-/// where there is one, 4 where the handle is closed, and 15 where the last renewal numbered no such binding, or there was
-/// none. It asks for no memory.
+/// where there is one, 4 where the handle is closed, and 15 where the last renewal numbered no such binding, or there
+/// was none. It asks for no memory.
 #[unsafe(no_mangle)]
 pub extern "C" fn spin_before(
     alloc: Global,
@@ -280,7 +438,8 @@ pub extern "C" fn spin_before(
     ask_of(alloc, lane, Ask::Before(index), answer)
 }
 
-/// Closes a handle. It answers 0 where it was open and is closed now, and 4 where it was closed. It asks for no memory.
+/// Closes a handle. A seat that was handed out goes home. It answers 0 where the handle was open and is closed now,
+/// and 4 where it was closed. It asks for no memory.
 #[unsafe(no_mangle)]
 pub extern "C" fn spin_close(alloc: Global, lane: &mut SpinLane, answer: &mut SpinAnswer) -> u32
     ensures { TellsOf lane.old.kept asked.Close lane.new.kept result answer.new }

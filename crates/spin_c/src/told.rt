@@ -1,15 +1,14 @@
 //! What is told in numbers.
 
 ghost use Rattle.std.specs.Prelude.{◌≡◌};
-ghost use Rattle.spin_c.specs.Tellings.{answer_of, code_of, step_of, verdict_code, verdict_kind};
+ghost use Rattle.spin_c.specs.Tellings.{answer_of, code_of, row_of, step_of};
 ghost use Rattle.spin_c.specs.Verdicts.{fault_of, number_of};
 
 use crate::ask::Outcome;
+use crate::row::{SpinRow, row_to};
 use crate::step::SpinStep;
 use crate::trail::blank;
 use crate::verdict::Verdict;
-use spin_report::refusal_number;
-use spin_table::Verdicted;
 
 /// Where a text is no script, or a capture is refused, and why; zeros where nothing is told.
 #[repr(C)]
@@ -60,30 +59,10 @@ pub struct SpinAnswer {
     pub place: u32,
     /// The number of the answer's kind, of the refusal, or of the cause.
     pub kind: u32,
-    /// The value, where there is one.
+    /// The value, where there is one; of a refusal the number of the rule by which it is, where there is one.
     pub value: u64,
-    /// The number of steps.
+    /// The number of steps; of a refusal that of the bindings in the cycle that the command would make.
     pub steps: u64,
-}
-
-// The number of a verdict's refusal, and 0 where there is none.
-fn verdict_kind(verdict: &Verdicted) -> u32
-    ensures { result ≡ verdict_kind verdict.now }
-{
-    match verdict {
-        Verdicted::Accepted => 0,
-        Verdicted::Refused(refusal) => u32::from(refusal_number(refusal)),
-    }
-}
-
-// The number that a verdict answers a call by.
-fn verdict_code(verdict: &Verdicted) -> u32
-    ensures { result ≡ verdict_code verdict.now }
-{
-    match verdict {
-        Verdicted::Accepted => 0,
-        Verdicted::Refused(_) => 8,
-    }
 }
 
 // The number that a call answers.
@@ -91,15 +70,16 @@ pub(crate) fn code_of(outcome: &Outcome) -> u32
     ensures { result ≡ code_of outcome.now }
 {
     match outcome {
-        Outcome::Done | Outcome::Raised { .. } => 0,
-        Outcome::Step(_) | Outcome::Bytes(_) | Outcome::Before(_) => 0,
+        Outcome::Done | Outcome::Raised { .. } | Outcome::Accepted(_) => 0,
+        Outcome::Step(_) | Outcome::Bytes(_) | Outcome::Row(_) => 0,
+        Outcome::Before(_) | Outcome::InCycle(_) | Outcome::Out(_) | Outcome::Rows(_) => 0,
         Outcome::NoMemory => 1,
         Outcome::Bad { .. } => 2,
         Outcome::Closed => 4,
         Outcome::Open => 5,
         Outcome::NoCommand => 6,
         Outcome::Full => 7,
-        Outcome::Judged(judged) => verdict_code(&judged.verdict),
+        Outcome::Refused { .. } => 8,
         Outcome::NoReply => 9,
         Outcome::NoStep => 10,
         Outcome::NoArgument => 12,
@@ -107,6 +87,9 @@ pub(crate) fn code_of(outcome: &Outcome) -> u32
         Outcome::Taken => 14,
         Outcome::NoBinding => 15,
         Outcome::Shared => 17,
+        Outcome::NoJob => 18,
+        Outcome::Ended => 19,
+        Outcome::NoRow => 20,
     }
 }
 
@@ -116,11 +99,14 @@ pub(crate) fn answer_of(outcome: &Outcome) -> SpinAnswer
 {
     let (place, kind, value, steps) = match outcome {
         Outcome::Bad { line, cause } => (*line, u32::from(*cause), 0, 0),
-        Outcome::Judged(judged) => (u32::from(judged.place), verdict_kind(&judged.verdict), 0, 0),
+        Outcome::Accepted(place) => (u32::from(*place), 0, 0, 0),
+        Outcome::Refused { place, why } => (u32::from(*place), why.kind, why.rule, why.bindings),
         Outcome::Raised { place, told } => {
             (u32::from(*place), told.kind, told.value, told.steps)
         }
-        Outcome::Before(number) => (0, 0, u64::from(*number), 0),
+        Outcome::Before(number) | Outcome::InCycle(number) => (0, 0, u64::from(*number), 0),
+        Outcome::Out(count) => (0, 0, *count, 0),
+        Outcome::Rows(count) => (u32::from(*count), 0, u64::from(*count), 0),
         _ => (0, 0, 0, 0),
     };
     SpinAnswer {
@@ -138,5 +124,20 @@ pub(crate) fn step_of(outcome: &Outcome) -> SpinStep
     match outcome {
         Outcome::Step(step) => *step,
         _ => blank(0),
+    }
+}
+
+// The row that a call tells; zeros where there is none.
+pub(crate) fn row_of(outcome: &Outcome) -> SpinRow
+    ensures { result ≡ row_of outcome.now }
+{
+    match outcome {
+        Outcome::Row(row) => row_to(row),
+        _ => SpinRow {
+            a: 0,
+            b: 0,
+            c: 0,
+            d: 0,
+        },
     }
 }

@@ -2,10 +2,10 @@
 
 ghost use Rattle.std.specs.Prelude.{◌≡◌, IfOk, MatchResult, Ok, Err};
 ghost use Rattle.spin_c.specs.Trails.{answer_told, no_answer, told_of, fault_number, blank, back_told, step_told};
-ghost use Rattle.spin_c.specs.Trails.{bytes_of, step_at, IsTold, IsHanded};
+ghost use Rattle.std.specs.Option.{option_copied};
+ghost use Rattle.spin_c.specs.Trails.{bytes_of, step_of, IsTold, IsHanded};
 
 use crate::ask::{Outcome, Told};
-use crate::kept::Kept;
 use crate::step::SpinStep;
 use spin_headers::HeaderFault;
 use spin_proto::{Reply, Step};
@@ -138,32 +138,32 @@ fn bytes_of(alloc: Global, step: &Step) -> Result<Octets, NoMemory>
     }
 }
 
-// The step at an index of the reply that is kept, or why there is none.
-fn step_at(kept: &Kept, index: u64) -> Result<&Step, Outcome>
-    ensures { MatchResult result (λ step. step_at kept.now index ≡ Ok step.now)
-        (λ why. step_at kept.now index ≡ Err why) }
+// The step at an index of those of a reply, if there is one, or why there is none.
+fn step_of(steps: Option<&[Step]>, index: u64) -> Result<&Step, Outcome>
+    ensures { MatchResult result (λ step. step_of (option_copied steps.entry) index ≡ Ok step.now)
+        (λ why. step_of (option_copied steps.entry) index ≡ Err why) }
 {
-    match kept.steps() {
+    match steps {
         None => Err(Outcome::NoReply),
         Some(steps) => steps.get(index as usize).ok_or(Outcome::NoStep),
     }
 }
 
-// Tells the step at an index of the reply that is kept.
-pub(crate) fn tell_step(kept: &Kept, index: u64) -> Outcome
-    ensures { IsTold (step_at kept.now index) result }
+// Tells the step at an index of those of a reply, if there is one.
+pub(crate) fn tell_step(steps: Option<&[Step]>, index: u64) -> Outcome
+    ensures { IsTold (step_of (option_copied steps.entry) index) result }
 {
-    match step_at(kept, index) {
+    match step_of(steps, index) {
         Ok(step) => Outcome::Step(step_told(step)),
         Err(why) => why,
     }
 }
 
-// Hands out the bytes of the step at an index of the reply that is kept.
-pub(crate) fn hand_bytes(alloc: Global, kept: &Kept, index: u64) -> Outcome
-    ensures { IsHanded (step_at kept.now index) result }
+// Hands out the bytes of such a step.
+pub(crate) fn hand_bytes(alloc: Global, steps: Option<&[Step]>, index: u64) -> Outcome
+    ensures { IsHanded (step_of (option_copied steps.entry) index) result }
 {
-    let step = match step_at(kept, index) {
+    let step = match step_of(steps, index) {
         Ok(step) => step,
         Err(why) => return why,
     };

@@ -14,8 +14,9 @@ use Rattle.spin_endpoint.specs.Named.{NamedEnd, stands_as, stands, changed_as, r
 use Rattle.spin_endpoint.specs.Sends.{SentSeen, name_of, received, all_received, all_retired, stands_in_turn, is_lost, lost_to}
 use Rattle.spin_endpoint.proofs.RetiredEndpoints.{all_retired_none, all_retired_more}
 use Rattle.spin_text.specs.Words.{ended, text_of}
-use Rattle.spin_report.specs.Histories.{Retired, retire_line, lost_line, lost_lines}
+use Rattle.spin_report.specs.Histories.{Retirement, retire_line, lost_line, lost_lines}
 use Rattle.spin_report.specs.Runs.{retirements, lost_counts}
+use Rattle.spin_report.proofs.Retirements.{turns, retirements_are}
 use Rattle.spin_check.specs.Inner.Standings.{AreFlags, numbers_of}
 use Rattle.spin_check.proofs.ReplayLemmas.{text_of-append}
 
@@ -96,13 +97,13 @@ flag_struck names ends flags n lt are = record {
 
 -- ---- retirements
 
-abbrev turn_of : List (List ℕ) → List ℕ → List NamedEnd → ℕ × ℕ → Retired
+abbrev turn_of : List (List ℕ) → List ℕ → List NamedEnd → ℕ × ℕ → Retirement
 turn_of names numbers ends turn = record { endpoint = turn.1; stood = stands_in_turn names numbers ends turn.0 }
 
 -- the first numbers are retired
 pub record IsRetiring (names : List (List ℕ)) (ends : List NamedEnd) (numbers : List ℕ) (i : ℕ) (before : List ℕ) (flags : List Bool) (out : List ℕ) : Type 0 where
   pub flags_are : AreFlags names (all_retired names (take i numbers) ends) flags
-  pub text : out ≡ before ++ text_of (map retire_line (take i (retirements names numbers ends)))
+  pub text : out ≡ before ++ text_of (map retire_line (take i (turns names numbers ends)))
 
 pub retiring_none : (names : List (List ℕ)) (ends : List NamedEnd) (numbers before : List ℕ) (flags : List Bool) → AreFlags names ends flags → IsRetiring names ends numbers 0 before flags before
 retiring_none names ends numbers before flags are = record {
@@ -120,32 +121,32 @@ retiring_more names ends numbers before i n flags out next lt is there text sofa
     let long : i < length (enumerate_from 0 numbers) = omega (arith, lt, length-enumerate_from 0 numbers) in
     let stood : get_or flags n false ≡ stands_in_turn names numbers ends i = sofar.flags_are.each n within ∙ ap (λ k. stands (name_of names k) now) is in
     let pair : get_or (enumerate_from 0 numbers) i (i, 0) ≡ (i, n) = get_or-enumerate_from 0 numbers i (i, 0) lt ∙ (let at : 0 + i ≡ i = omega arith in λ j. (at j, sym is j)) in
-    let one : get_or (retirements names numbers ends) i (turn_of names numbers ends (i, 0)) ≡ record { endpoint = n; stood = get_or flags n false } =
+    let one : get_or (turns names numbers ends) i (turn_of names numbers ends (i, 0)) ≡ record { endpoint = n; stood = get_or flags n false } =
     get_or-map (turn_of names numbers ends) (enumerate_from 0 numbers) i (i, 0) (turn_of names numbers ends (i, 0)) long
     ∙ ap (turn_of names numbers ends) pair ∙ ap (λ b. record { endpoint = n; stood = b }) (sym stood) in
-    let all : i < length (retirements names numbers ends) = omega (arith, long, length-map (enumerate_from 0 numbers) (turn_of names numbers ends)) in
-    let more : take (i + 1) (retirements names numbers ends) ≡ take i (retirements names numbers ends) ++ record { endpoint = n; stood = get_or flags n false } ∷ [] =
-    take_more (retirements names numbers ends) i (turn_of names numbers ends (i, 0)) all ∙ ap (λ r. take i (retirements names numbers ends) ++ r ∷ []) one in
+    let all : i < length (turns names numbers ends) = omega (arith, long, length-map (enumerate_from 0 numbers) (turn_of names numbers ends)) in
+    let more : take (i + 1) (turns names numbers ends) ≡ take i (turns names numbers ends) ++ record { endpoint = n; stood = get_or flags n false } ∷ [] =
+    take_more (turns names numbers ends) i (turn_of names numbers ends (i, 0)) all ∙ ap (λ r. take i (turns names numbers ends) ++ r ∷ []) one in
     record {
       flags_are =
           subst (λ es. AreFlags names es (set flags n false)) (sym (all_retired_more names numbers i 0 ends lt ∙ ap (λ k. changed_as (name_of names k) retired now) (sym is)))
           (flag_struck names now flags n within sofar.flags_are);
       text =
           text ∙ ap (λ o. o ++ ended (retire_line (record { endpoint = n; stood = get_or flags n false }))) sofar.text
-          ∙ append_assoc before (text_of (map retire_line (take i (retirements names numbers ends)))) (ended (retire_line (record { endpoint = n; stood = get_or flags n false })))
+          ∙ append_assoc before (text_of (map retire_line (take i (turns names numbers ends)))) (ended (retire_line (record { endpoint = n; stood = get_or flags n false })))
           ∙ ap (λ t. before ++ t) (sym (
           ap (λ rs. text_of (map retire_line rs)) more
-          ∙ ap text_of (map-append retire_line (take i (retirements names numbers ends)) (record { endpoint = n; stood = get_or flags n false } ∷ []))
-          ∙ text_of-append (map retire_line (take i (retirements names numbers ends))) (retire_line (record { endpoint = n; stood = get_or flags n false }) ∷ [])
-          ∙ ap (λ t. text_of (map retire_line (take i (retirements names numbers ends))) ++ t) (append-nil (ended (retire_line (record { endpoint = n; stood = get_or flags n false }))))));
+          ∙ ap text_of (map-append retire_line (take i (turns names numbers ends)) (record { endpoint = n; stood = get_or flags n false } ∷ []))
+          ∙ text_of-append (map retire_line (take i (turns names numbers ends))) (retire_line (record { endpoint = n; stood = get_or flags n false }) ∷ [])
+          ∙ ap (λ t. text_of (map retire_line (take i (turns names numbers ends))) ++ t) (append-nil (ended (retire_line (record { endpoint = n; stood = get_or flags n false }))))));
     }
 
 pub retiring_all : (names : List (List ℕ)) (ends : List NamedEnd) (numbers before : List ℕ) (i : ℕ) (flags : List Bool) (out : List ℕ)
     → length numbers ≤ i → IsRetiring names ends numbers i before flags out
     → (out ≡ before ++ text_of (map retire_line (retirements names numbers ends))) × AreFlags names (all_retired names numbers ends) flags
 retiring_all names ends numbers before i flags out past so =
-    let long : length (retirements names numbers ends) ≤ i = omega (arith, past, length-enumerate_from 0 numbers, length-map (enumerate_from 0 numbers) (turn_of names numbers ends)) in (
-      so.text ∙ ap (λ rs. before ++ text_of (map retire_line rs)) (take_all i (retirements names numbers ends) long),
+    let long : length (turns names numbers ends) ≤ i = omega (arith, past, length-enumerate_from 0 numbers, length-map (enumerate_from 0 numbers) (turn_of names numbers ends)) in (
+      so.text ∙ ap (λ rs. before ++ text_of (map retire_line rs)) (take_all i (turns names numbers ends) long ∙ sym (retirements_are names numbers ends)),
       subst (λ ns. AreFlags names (all_retired names ns ends) flags) (take_all i numbers past) so.flags_are,
     )
 

@@ -16,7 +16,7 @@ use Rattle.spin_script.specs.States.{ScriptData}
 use Rattle.spin_script.specs.Soundness.{is_command_work, lines_in, commands_in}
 use Rattle.spin_script.specs.Segments.{IsOrderly}
 use Rattle.spin_report.specs.Histories.{first_line}
-use Rattle.spin_report.specs.Runs.{Captured, frames_of, start_with}
+use Rattle.spin_report.specs.Runs.{CaptureSeen, frames_of, start_with}
 use Rattle.spin_check.specs.RunTexts.{StandAs, IsRunText}
 use Rattle.spin_check.specs.Inner.Standings.{AreFlags}
 use Rattle.spin_check.specs.Inner.Segments.{Mark, standing, Goes, IsGoodMark}
@@ -28,20 +28,20 @@ abbrev commands_of : List Segment → ℕ
 commands_of segments = count_by (λ line. is_command_work line.work) (lines_in segments)
 
 -- what is left is of all segments just where the rest is of those that are left
-pub record IsHere (script : ScriptData) (capture : Option Captured) (start : List NamedEnd) (begun : Mark) (number : ℕ) (mark : Mark) : Type 0 where
+pub record IsHere (script : ScriptData) (capture : Option CaptureSeen) (start : List NamedEnd) (begun : Mark) (number : ℕ) (mark : Mark) : Type 0 where
   pub ends : List NamedEnd
   pub flags : AreFlags script.endpoints ends mark.flags
   pub on : AreLeft script capture start begun → Remains script capture (drop number script.segments) number (standing mark ends) mark.rest
   pub back : Remains script capture (drop number script.segments) number (standing mark ends) mark.rest → AreLeft script capture start begun
 
-pub record IsOnWhole (script : ScriptData) (capture : Option Captured) (begun : Mark) (number : ℕ) (mark : Mark) : Type 0 where
+pub record IsOnWhole (script : ScriptData) (capture : Option CaptureSeen) (begun : Mark) (number : ℕ) (mark : Mark) : Type 0 where
   pub here : (start : List NamedEnd) → AreFlags script.endpoints start begun.flags → IsHere script capture start begun number mark
   pub sound : IsSound script.setup mark.state
   pub room : mark.state.place + commands_of (drop number script.segments) ≤ begun.state.place + commands_of script.segments
   pub long : length mark.flags ≡ length script.endpoints
   pub left : length mark.left ≤ length (frames_of capture)
 
-pub on_whole_none : (script : ScriptData) (capture : Option Captured) (mark : Mark) → IsSound script.setup mark.state
+pub on_whole_none : (script : ScriptData) (capture : Option CaptureSeen) (mark : Mark) → IsSound script.setup mark.state
     → length mark.flags ≡ length script.endpoints → length mark.left ≤ length (frames_of capture)
     → IsOnWhole script capture mark 0 mark
 on_whole_none script capture mark sound long left = record {
@@ -59,7 +59,7 @@ pub flags_first : (script : ScriptData) (names : List (List ℕ)) (flags : List 
 flags_first script names flags start orderly long each named = record { all = long; differ = orderly.endpoints.differ; each = λ n lt. each n lt ∙ sym (named n [] lt) }
 
 -- behind the first line, the report is one of the script just where what is left is of its segments
-pub whole_text : (script : ScriptData) (capture : Option Captured) (start : List NamedEnd) (report : List ℕ) (mark : Mark) (b : Bool) → report ≡ ended first_line ++ mark.rest
+pub whole_text : (script : ScriptData) (capture : Option CaptureSeen) (start : List NamedEnd) (report : List ℕ) (mark : Mark) (b : Bool) → report ≡ ended first_line ++ mark.rest
     → mark.state ≡ start_of script.setup → mark.left ≡ frames_of capture → Decides b (AreLeft script capture start mark) → Decides b (IsRunText script capture start report)
 whole_text script capture start report mark b begins state left decides =
     let at : standing mark start ≡ start_with script (frames_of capture) start = λ i. record { state = state i; left = left i; ends = start } in (
@@ -78,12 +78,12 @@ commands_next script number segment lt is =
     ap commands_of (next_segment script number segment lt is)
     ∙ sum_by-append (λ (line : Line). cond (is_command_work line.work) 1 0) segment.lines (lines_in (drop (number + 1) script.segments))
 
-pub room_here : (script : ScriptData) (capture : Option Captured) (begun : Mark) (number : ℕ) (mark : Mark) (segment : Segment)
+pub room_here : (script : ScriptData) (capture : Option CaptureSeen) (begun : Mark) (number : ℕ) (mark : Mark) (segment : Segment)
     → number < length script.segments → segment ≡ get_or script.segments number segment
     → IsOnWhole script capture begun number mark → mark.state.place + commands_in segment.lines ≤ begun.state.place + commands_of script.segments
 room_here script capture begun number mark segment lt is whole = omega (arith, whole.room, commands_next script number segment lt is)
 
-pub on_whole_more : (script : ScriptData) (capture : Option Captured) (begun : Mark) (number : ℕ) (mark next : Mark) (segment : Segment) → number < length script.segments
+pub on_whole_more : (script : ScriptData) (capture : Option CaptureSeen) (begun : Mark) (number : ℕ) (mark next : Mark) (segment : Segment) → number < length script.segments
     → segment ≡ get_or script.segments number segment
     → ((names : List (List ℕ)) (ends : List NamedEnd) → AreFlags names ends mark.flags → Goes script.setup script.lanes names number segment mark ends (Some next))
     → IsGoodMark script.setup segment mark (Some next) → IsOnWhole script capture begun number mark → IsOnWhole script capture begun (number + 1) next
@@ -106,7 +106,7 @@ on_whole_more script capture begun number mark next segment lt is goes good whol
       left = omega (arith, good.3, whole.left);
     }
 
-pub no_more : (script : ScriptData) (capture : Option Captured) (begun : Mark) (number : ℕ) (mark : Mark) (segment : Segment)
+pub no_more : (script : ScriptData) (capture : Option CaptureSeen) (begun : Mark) (number : ℕ) (mark : Mark) (segment : Segment)
     → number < length script.segments → segment ≡ get_or script.segments number segment
     → ((names : List (List ℕ)) (ends : List NamedEnd) → AreFlags names ends mark.flags → Goes script.setup script.lanes names number segment mark ends None)
     → IsOnWhole script capture begun number mark → (start : List NamedEnd) → AreFlags script.endpoints start begun.flags → Decides false (AreLeft script capture start begun)
@@ -118,7 +118,7 @@ no_more script capture begun number mark segment lt is goes whole start flags =
           (subst (λ l. Remains script capture l number (standing mark h.ends) mark.rest) split (h.on r))),
     )
 
-pub whole_end : (script : ScriptData) (capture : Option Captured) (begun : Mark) (number : ℕ) (mark : Mark) (b : Bool) → length script.segments ≤ number
+pub whole_end : (script : ScriptData) (capture : Option CaptureSeen) (begun : Mark) (number : ℕ) (mark : Mark) (b : Bool) → length script.segments ≤ number
     → ((ends : List NamedEnd) → Decides b (mark.rest ≡ end_text capture (standing mark ends)))
     → IsOnWhole script capture begun number mark → (start : List NamedEnd) → AreFlags script.endpoints start begun.flags → Decides b (AreLeft script capture start begun)
 whole_end script capture begun number mark b past decides whole start flags =
@@ -129,7 +129,7 @@ whole_end script capture begun number mark b past decides whole start flags =
       λ r. both.1 (end_remains script capture number (standing mark h.ends) mark.rest (subst (λ l. Remains script capture l number (standing mark h.ends) mark.rest) none (h.on r))),
     )
 
-pub no_begin : (script : ScriptData) (capture : Option Captured) (start : List NamedEnd) (report : List ℕ)
+pub no_begin : (script : ScriptData) (capture : Option CaptureSeen) (start : List NamedEnd) (report : List ℕ)
     → ((rest : List ℕ) → report ≢ ended first_line ++ rest) → Decides false (IsRunText script capture start report)
 no_begin script capture start report none = (λ f. absurd (cc (f)), λ r. absurd (no_front script capture start report none r))
 

@@ -9,14 +9,14 @@ use Rattle.spin_text.specs.Words.{ended, text_of}
 use Rattle.spin_script.specs.declared.script.Segment.{Segment}
 use Rattle.spin_script.specs.States.{ScriptData}
 use Rattle.spin_report.specs.Histories.{first_line, segment_lines, end_line, front_lines}
-use Rattle.spin_report.specs.Runs.{Standing, Captured, AreRun, frames_of, start_with, counts_of}
+use Rattle.spin_report.specs.Runs.{RunPoint, CaptureSeen, AreRun, frames_of, start_with, counts_of}
 use Rattle.spin_check.specs.RunTexts.{IsRunText}
 use Rattle.spin_check.specs.Inner.Segments.{Mark, standing, IsPart, Passes, Goes}
 use Rattle.spin_check.specs.Inner.Remains.{lines_at, end_text, Remains}
 use Rattle.spin_check.proofs.ReplayLemmas.{text_of-append}
 
 -- the whole report is that of all segments behind its first line
-pub remains_whole : (script : ScriptData) (capture : Option Captured) (ends : List NamedEnd) (report rest : List ℕ) → report ≡ ended first_line ++ rest
+pub remains_whole : (script : ScriptData) (capture : Option CaptureSeen) (ends : List NamedEnd) (report rest : List ℕ) → report ≡ ended first_line ++ rest
     → Remains script capture script.segments 0 (start_with script (frames_of capture) ends) rest → IsRunText script capture ends report
 remains_whole script capture ends report rest begins r = (
   record { segments = r.seen; end = r.last.state.place; capture = option_map (counts_of r.last.left) capture },
@@ -29,7 +29,7 @@ remains_whole script capture ends report rest begins r = (
       ∙ append_assoc (ended first_line) (text_of (flat_map lines_at (enumerate_from 0 r.seen))) (end_text capture r.last)),
 )
 
-pub whole_remains : (script : ScriptData) (capture : Option Captured) (ends : List NamedEnd) (report rest : List ℕ) → report ≡ ended first_line ++ rest
+pub whole_remains : (script : ScriptData) (capture : Option CaptureSeen) (ends : List NamedEnd) (report rest : List ℕ) → report ≡ ended first_line ++ rest
     → IsRunText script capture ends report → Remains script capture script.segments 0 (start_with script (frames_of capture) ends) rest
 whole_remains script capture ends report rest begins h =
     let history = h.0 in
@@ -47,7 +47,7 @@ whole_remains script capture ends report rest begins h =
       is = append_cancel_left (ended first_line) rest (text_of (flat_map lines_at (enumerate_from 0 history.segments)) ++ end_text capture last) (sym begins ∙ text);
     }
 
-pub no_front : (script : ScriptData) (capture : Option Captured) (ends : List NamedEnd) (report : List ℕ)
+pub no_front : (script : ScriptData) (capture : Option CaptureSeen) (ends : List NamedEnd) (report : List ℕ)
     → ((rest : List ℕ) → report ≢ ended first_line ++ rest) → IsRunText script capture ends report → ⊥
 no_front script capture ends report none h =
     let history = h.0 in
@@ -58,7 +58,7 @@ no_front script capture ends report none h =
 
 -- ---- one segment more
 
-module _ (script : ScriptData) (capture : Option Captured) (segment : Segment) (others : List Segment) (number : ℕ) (mark next : Mark) (ends : List NamedEnd) where
+module _ (script : ScriptData) (capture : Option CaptureSeen) (segment : Segment) (others : List Segment) (number : ℕ) (mark next : Mark) (ends : List NamedEnd) where
   part_of_next : (r : Remains script capture (segment ∷ others) number (standing mark ends) mark.rest)
       → IsPart script.setup script.lanes script.endpoints number segment (standing mark ends) mark.rest r.run.0 r.run.2
       (text_of (flat_map lines_at (enumerate_from (number + 1) r.run.1)) ++ end_text capture r.last)
@@ -99,9 +99,9 @@ module _ (script : ScriptData) (capture : Option Captured) (segment : Segment) (
 
 -- ---- no segment more
 
-pub remains_end : (script : ScriptData) (capture : Option Captured) (number : ℕ) (at : Standing) (text : List ℕ) → text ≡ end_text capture at → Remains script capture [] number at text
+pub remains_end : (script : ScriptData) (capture : Option CaptureSeen) (number : ℕ) (at : RunPoint) (text : List ℕ) → text ≡ end_text capture at → Remains script capture [] number at text
 remains_end script capture number at text is = record { seen = []; last = at; run = (refl, refl); is = is }
 
-pub end_remains : (script : ScriptData) (capture : Option Captured) (number : ℕ) (at : Standing) (text : List ℕ) → Remains script capture [] number at text → text ≡ end_text capture at
+pub end_remains : (script : ScriptData) (capture : Option CaptureSeen) (number : ℕ) (at : RunPoint) (text : List ℕ) → Remains script capture [] number at text → text ≡ end_text capture at
 end_remains script capture number at text r =
     r.is ∙ (λ i. text_of (flat_map lines_at (enumerate_from number (r.run.0 i))) ++ end_text capture (r.run.1 i))

@@ -17,9 +17,10 @@ use Rattle.spin_report.specs.Asked.{Numbered}
 use Rattle.spin_report.specs.Legal.{IsLegal}
 use Rattle.spin_report.specs.Jobs.{AreJobs}
 use Rattle.spin_report.specs.Lines.{JobSeen, entry_line, job_line}
-use Rattle.spin_report.specs.Histories.{Retired, SegmentSeen, retire_line, segment_line, segment_lines, lost_lines}
+use Rattle.spin_report.specs.Histories.{Retirement, SegmentSeen, retire_line, segment_line, segment_lines, lost_lines}
 use Rattle.spin_report.specs.Segments.{asked_in, wanted_by}
-use Rattle.spin_report.specs.Runs.{Standing, retirements, lost_counts, sends_in, sends_of, sends_of_reply}
+use Rattle.spin_report.specs.Runs.{RunPoint, retirements, lost_counts, segment_sends, sends_of, sends_of_reply}
+use Rattle.spin_report.proofs.LaneAnswers.{filter_asked}
 use Rattle.spin_report.proofs.HistoryUniqueness.{one_list_of_jobs}
 use Rattle.spin_report.proofs.AnswerUniqueness.{same_last}
 use Rattle.spin_check.specs.declared.deeds.Ask.{Ask}
@@ -66,7 +67,7 @@ head_is names ends number place numbers empty first second head none one two is 
     is ∙ two ∙ ap (λ t. t ++ ended (segment_line number place)) (one ∙ ap (λ t. t ++ text_of (map retire_line (retirements names numbers ends))) none)
 
 module _ (d : SetupData) (lanes : ℕ) (names : List (List ℕ)) (number : ℕ) (segment : Segment) (mark : Mark) (ends : List NamedEnd) where
-  abbrev retired_now : List Retired
+  abbrev retired_now : List Retirement
   retired_now = retirements names segment.retires ends
 
   abbrev ends_now : List NamedEnd
@@ -99,14 +100,14 @@ module _ (d : SetupData) (lanes : ℕ) (names : List (List ℕ)) (number : ℕ) 
   head_here place numbers found at same is = subst (λ h. IsBehind h mark.rest found) (λ i. head_text number (at i) (retirements names (same i) ends)) is
 
   -- what a part of the report tells of the replay that begins there
-  part_read : (at : At) (rest : List ℕ) → IsBegun rest at → (s : SegmentSeen) (after : Standing) (more : List ℕ) → IsPart d lanes names number segment (standing mark ends) mark.rest s after more
+  part_read : (at : At) (rest : List ℕ) → IsBegun rest at → (s : SegmentSeen) (after : RunPoint) (more : List ℕ) → IsPart d lanes names number segment (standing mark ends) mark.rest s after more
       → rest ≡ text_of (map entry_line s.entries) ++ (tail_text s.jobs s.lost ++ more)
       → AreEntries d at s.entries after.state (tail_text s.jobs s.lost ++ more)
   part_read at rest begun s after more part text = (
     record {
       legal = subst (λ t. IsLegal d t s.entries after.state) (sym begun.state) part.run.woven.legal;
       once = λ k lt.
-          part.run.woven.once k (subst (λ n. k < n) begun.asked.lanes lt) ∙ sym (begun.asked.each k (subst (λ n. k < n) begun.asked.lanes lt));
+          sym (filter_asked k s.entries) ∙ part.run.woven.once k (subst (λ n. k < n) begun.asked.lanes lt) ∙ sym (begun.asked.each k (subst (λ n. k < n) begun.asked.lanes lt));
       lanes_are = subst (λ n. All (λ (x : Entry). x.lane < n) s.entries) (sym begun.asked.lanes) part.run.woven.lanes_are;
       text = begun.rest_is ∙ text;
     },
@@ -114,7 +115,7 @@ module _ (d : SetupData) (lanes : ℕ) (names : List (List ℕ)) (number : ℕ) 
   )
 
   -- its text, where its retirements and its start are known
-  part_head : (s : SegmentSeen) (after : Standing) (more : List ℕ) → IsPart d lanes names number segment (standing mark ends) mark.rest s after more
+  part_head : (s : SegmentSeen) (after : RunPoint) (more : List ℕ) → IsPart d lanes names number segment (standing mark ends) mark.rest s after more
       → mark.rest ≡ head_now ++ (text_of (map entry_line s.entries) ++ (tail_text s.jobs s.lost ++ more))
   part_head s after more part =
       part.text ∙ part_text number s more
@@ -124,7 +125,7 @@ module _ (d : SetupData) (lanes : ℕ) (names : List (List ℕ)) (number : ℕ) 
   pub no_head : IsBehind head_now mark.rest None → Goes d lanes names number segment mark ends None
   no_head none s after more part = none _ (part_head s after more part)
 
-  part_rest : (rest : List ℕ) → mark.rest ≡ head_now ++ rest → (s : SegmentSeen) (after : Standing) (more : List ℕ)
+  part_rest : (rest : List ℕ) → mark.rest ≡ head_now ++ rest → (s : SegmentSeen) (after : RunPoint) (more : List ℕ)
       → IsPart d lanes names number segment (standing mark ends) mark.rest s after more → rest ≡ text_of (map entry_line s.entries) ++ (tail_text s.jobs s.lost ++ more)
   part_rest rest cut s after more part =
       append_cancel_left head_now rest (text_of (map entry_line s.entries) ++ (tail_text s.jobs s.lost ++ more)) (sym cut ∙ part_head s after more part)
@@ -167,24 +168,24 @@ module _ (d : SetupData) (lanes : ℕ) (names : List (List ℕ)) (number : ℕ) 
     seen_now = record { retired = retired_now; start = mark.state.place; entries = entries; jobs = jobs; lost = lost_now }
 
     -- each part has these entries, and so all the rest
-    same_entries : (s : SegmentSeen) (after : Standing) (more : List ℕ) → IsPart d lanes names number segment (standing mark ends) mark.rest s after more → s.entries ≡ entries
+    same_entries : (s : SegmentSeen) (after : RunPoint) (more : List ℕ) → IsPart d lanes names number segment (standing mark ends) mark.rest s after more → s.entries ≡ entries
     same_entries s after more part = done.only s.entries after.state (tail_text s.jobs s.lost ++ more) (part_read start rest begun s after more part (part_rest rest cut s after more part))
 
-    jobs_of_part : (s : SegmentSeen) (after : Standing) (more : List ℕ) → IsPart d lanes names number segment (standing mark ends) mark.rest s after more → s.jobs ≡ jobs
+    jobs_of_part : (s : SegmentSeen) (after : RunPoint) (more : List ℕ) → IsPart d lanes names number segment (standing mark ends) mark.rest s after more → s.jobs ≡ jobs
     jobs_of_part s after more part =
         one_list_of_jobs d mark.state entries s.jobs jobs (subst (λ es. AreJobs d mark.state es s.jobs) (same_entries s after more part) part.run.woven.jobs_are)
         (subst (λ t. AreJobs d t entries jobs) begun.state done.jobs_are)
 
-    seen_is : (s : SegmentSeen) (after : Standing) (more : List ℕ) → IsPart d lanes names number segment (standing mark ends) mark.rest s after more → s ≡ seen_now
+    seen_is : (s : SegmentSeen) (after : RunPoint) (more : List ℕ) → IsPart d lanes names number segment (standing mark ends) mark.rest s after more → s ≡ seen_now
     seen_is s after more part =
         let es = same_entries s after more part in
         let js = jobs_of_part s after more part in
-        let sent : sends_in s ≡ sent_now = λ i. flat_map (λ (entry : Entry). sends_of entry.what) (es i) ++ flat_map (λ (job : JobSeen). sends_of_reply job.reply) (js i) in
+        let sent : segment_sends s ≡ sent_now = λ i. flat_map (λ (entry : Entry). sends_of entry.what) (es i) ++ flat_map (λ (job : JobSeen). sends_of_reply job.reply) (js i) in
         let lost : s.lost ≡ lost_now = part.run.lost ∙ ap (lost_counts names ends_now) sent in
         λ i. record { retired = part.run.retired i; start = part.run.start i; entries = es i; jobs = js i; lost = lost i }
 
     -- what is left of the report behind the entries
-    rest_behind : (s : SegmentSeen) (after : Standing) (more : List ℕ) → IsPart d lanes names number segment (standing mark ends) mark.rest s after more → at.rest ≡ tail_text jobs lost_now ++ more
+    rest_behind : (s : SegmentSeen) (after : RunPoint) (more : List ℕ) → IsPart d lanes names number segment (standing mark ends) mark.rest s after more → at.rest ≡ tail_text jobs lost_now ++ more
     rest_behind s after more part =
         let same = seen_is s after more part in
         let own : rest ≡ text_of (map entry_line entries) ++ at.rest = sym begun.rest_is ∙ done.read.0.text in
@@ -217,7 +218,7 @@ module _ (d : SetupData) (lanes : ℕ) (names : List (List ℕ)) (number : ℕ) 
               woven = record {
                 legal = subst (λ t. IsLegal d t entries next.state) begun.state (subst (λ t. IsLegal d start.state entries t) (sym state) done.read.0.legal);
                 once = λ k lt.
-                    done.read.0.once k (subst (λ n. k < n) (sym begun.asked.lanes) lt) ∙ begun.asked.each k lt;
+                    filter_asked k entries ∙ done.read.0.once k (subst (λ n. k < n) (sym begun.asked.lanes) lt) ∙ begun.asked.each k lt;
                 lanes_are = subst (λ n. All (λ (x : Entry). x.lane < n) entries) begun.asked.lanes done.read.0.lanes_are;
                 order = done.read.1;
                 jobs_are = subst (λ t. AreJobs d t entries jobs) begun.state done.jobs_are;
@@ -231,7 +232,7 @@ module _ (d : SetupData) (lanes : ℕ) (names : List (List ℕ)) (number : ℕ) 
           flags = flags_received names sent_now ends_now next.flags flags;
           only = λ s after more part.
               let same = seen_is s after more part in
-              let sent : sends_in s ≡ sent_now = ap sends_in same in
+              let sent : segment_sends s ≡ sent_now = ap segment_sends same in
               let legal_own : IsLegal d mark.state entries next.state =
               subst (λ t. IsLegal d t entries next.state) begun.state (subst (λ t. IsLegal d start.state entries t) (sym state) done.read.0.legal) in
               let state_is : after.state ≡ next.state = same_last d mark.state entries after.state next.state

@@ -1,7 +1,7 @@
 //! A judge of reports: is a text the report of one legal history of a script?
 //!
 //! - [`check_report`] answers it, for a script, the names of the endpoints that stand, and a capture that was read
-//!   whole;
+//!   whole, [`Captured`];
 //! - `deeds` is what each lane is to do, and `answer` what its next deed comes to;
 //! - `told` reads of an entry's line what isn't owed: the lane, and the cycle of a conflict;
 //! - `replay` goes along a segment's entries, with `jobs` and `sends`, and `segment` along one segment, with `flags` of
@@ -21,3 +21,4 @@ mod sends;
 mod told;
 
 pub use check::check_report;
+pub use spin_pcap::Captured;

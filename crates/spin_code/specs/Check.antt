@@ -66,5 +66,4 @@ act_check act sig =
     ∷ (not (list_all (is_step_right sig.params) act.steps), BadKind)
     ∷ (not (list_all (sets_var sig.params) act.steps), NotVar)
     ∷ (not sig.gives && list_any is_result act.steps, NoResult)
-    ∷ [])
-    tt
+    ∷ []) tt

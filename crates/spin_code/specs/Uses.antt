@@ -82,11 +82,8 @@ is_right params (AsField a width) = is_of_kind (slice_get params a) kind.Bytes &
 abbrev pub is_layer_right : List Param → Layer → Bool
 is_layer_right params layer.Ipv4 = is_of_kind (slice_get params 0) kind.Bytes
 is_layer_right params layer.Udp =
-    (length params == 4)
-    && is_of_kind (slice_get params 0) kind.Bytes
-    && is_of_kind (slice_get params 1) kind.Word
-    && is_of_kind (slice_get params 2) kind.Word
-    && is_of_kind (slice_get params 3) kind.Word
+    (length params == 4) && is_of_kind (slice_get params 0) kind.Bytes && is_of_kind (slice_get params 1) kind.Word
+    && is_of_kind (slice_get params 2) kind.Word && is_of_kind (slice_get params 3) kind.Word
 
 -- each argument that a step uses is there
 abbrev pub is_step_known : List Param → ActStep → Bool

@@ -37,9 +37,7 @@ is_width w = (w == 1) || (w == 2) || (w == 4) || (w == 8)
 -- a field of bytes: 0 where it reaches past the end, or has another width
 abbrev pub field_of : List ℕ → ℕ → ℕ → ℕ
 field_of bs offset width =
-    if nat_le (offset + width) (length bs) && is_width width
-    then big_endian (take width (drop offset bs))
-    else 0
+    if nat_le (offset + width) (length bs) && is_width width then big_endian (take width (drop offset bs)) else 0
 
 -- the value of an expression over these arguments
 abbrev pub value_of : Expr → List Value → ℕ

@@ -19,7 +19,8 @@ use Rattle.spin_report.specs.declared.entry.Entry.{Entry}
 use Rattle.spin_report.specs.Asked.{Numbered}
 use Rattle.spin_report.specs.Segments.{records_wanted, raise_with, parts_of, asked_at, asked_in, wanted_by}
 use Rattle.spin_report.specs.Histories.{SegmentSeen}
-use Rattle.spin_report.specs.Runs.{Standing, AreRun, frames_of}
+use Rattle.spin_report.specs.Runs.{RunPoint, AreRun, frames_of}
+use Rattle.spin_report.proofs.LaneAnswers.{filter_asked}
 use Rattle.spin_gen.specs.Texts.{script_of}
 use Rattle.spin_run.specs.Summaries.{counts_in}
 use Rattle.spin_counts.specs.Laws.{CountsAreOne}
@@ -101,7 +102,7 @@ AreAnswered d lanes (segment ∷ segments) s left seen =
     × AreAnswered d lanes segments next (drop (wanted_by segment.lines) left) others
 
 -- a run of segments has such answers, without where the setup's boxes lie
-run_answered : (script : ScriptData) (segments : List Segment) (before after : Standing) (seen : List SegmentSeen) → AreRun script segments before seen after
+run_answered : (script : ScriptData) (segments : List Segment) (before after : RunPoint) (seen : List SegmentSeen) → AreRun script segments before seen after
     → AreAnswered (bare_setup script.setup) script.lanes segments (bare_state before.state) before.left seen
 run_answered script [] before after seen run = run.0
 run_answered script (segment ∷ segments) before after seen (first, others, next, is, run, rest) = (
@@ -111,7 +112,7 @@ run_answered script (segment ∷ segments) before after seen (first, others, nex
   is,
   record {
     legal = bare_legal script.setup first.entries before.state next.state run.woven.legal;
-    once = run.woven.once;
+    once = λ k lt. sym (filter_asked k first.entries) ∙ run.woven.once k lt;
     lanes_are = run.woven.lanes_are;
   },
   subst (λ (left : List (List ℕ)). AreAnswered (bare_setup script.setup) script.lanes segments (bare_state next.state) left others) run.left (run_answered script segments next after others rest),

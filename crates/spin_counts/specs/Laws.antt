@@ -8,7 +8,7 @@ use Rattle.spin_script.specs.States.{NativeData, ScriptData}
 use Rattle.spin_script.specs.Language.{IsScript}
 use Rattle.spin_gen.specs.Texts.{script_of, packets_of}
 use Rattle.spin_report.specs.Histories.{HistorySeen, entries_of}
-use Rattle.spin_report.specs.Runs.{Captured, Standing, IsRun}
+use Rattle.spin_report.specs.Runs.{CaptureSeen, RunPoint, IsRun}
 use Rattle.spin_run.specs.declared.end.RunEnd.TheVariants as end
 use Rattle.spin_run.specs.Ends.{RunSeen, Writes}
 use Rattle.spin_run.specs.Summaries.{counts_in, SumsUpBy}
@@ -17,8 +17,8 @@ use Rattle.spin_run.specs.Summaries.{counts_in, SumsUpBy}
 -- one of the other, with the same capture, whichever it is, and with whatever endpoints, have the same counts.
 abbrev pub CountsAreOne : Type 0
 CountsAreOne =
-    (n : NativeData) (number : ℕ) (script other : ScriptData) (capture : Option Captured)
-    (ends ends' : List NamedEnd) (h k : HistorySeen) (last last' : Standing)
+    (n : NativeData) (number : ℕ) (script other : ScriptData) (capture : Option CaptureSeen)
+    (ends ends' : List NamedEnd) (h k : HistorySeen) (last last' : RunPoint)
     → IsScript n (script_of number) (Ok script) → IsScript n (script_of number) (Ok other)
     → IsRun script capture ends h last → IsRun other capture ends' k last'
     → counts_in (entries_of h) ≡ counts_in (entries_of k)

@@ -151,3 +151,9 @@ pub apart-pushed : {X : Type 0} (view : X → NamedEnd) (xs : List X) (new : X) 
     → stands (view new).name (map view xs) ≡ false → Apart view (cond pushed (xs ++ new ∷ []) xs)
 apart-pushed view xs new true apart none = apart-push view xs new apart none
 apart-pushed view xs new false apart none = apart
+
+-- what holds of the endpoint that was read at a place holds at that place
+pub holds_at : {X : Type 0} (view : X → NamedEnd) (xs : List X) (P : NamedEnd → Type 0) (at : ℕ) (x : X) → at < length (map view xs) → x ≡ get_or xs at x → P (view x) → HoldsAt P (map view xs) at
+holds_at view xs P at x there read p d =
+    let lt : at < length xs = omega (arith, there, length-map xs view) in
+    subst P (ap view read ∙ sym (get_or-map view xs at x d lt)) p

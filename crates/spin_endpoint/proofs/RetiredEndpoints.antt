@@ -1,52 +1,21 @@
 -- A list of endpoints that are retired, and one more.
-use Rattle.std.proofs.Common.{◌≡◌, ◌<◌, ◌+◌, ℕ, Bool, true, false, cond, List, [], ◌∷◌, length, take, get_or, set, refl, sym, ap, ◌∙◌, arith, ⊎_elim}
+use Rattle.std.proofs.Common.{◌≡◌, ◌<◌, ◌+◌, ℕ, Bool, false, List, [], ◌∷◌, length, take, get_or, set, refl, sym, ap, ◌∙◌, arith, ⊎_elim}
 use Rattle.std.proofs.lemmas.Bool.{cases_eq}
-use Rattle.std.proofs.lemmas.List.{get_or-set_other}
+use Rattle.std.proofs.lemmas.List.{get_or-set_other, take_more}
+use Rattle.std.proofs.lemmas.List.Sums.{fold-append}
 use Rattle.std.proofs.lemmas.Grind.{get_or-set_at}
-use Rattle.std.specs.Prelude.{bytes_eq, ◌||◌}
-use Rattle.std.specs.List.{list_any}
-use Rattle.std.proofs.lemmas.List.Folds.{list_any_more}
-use Rattle.spin_endpoint.specs.Endpoints.{EndpointSeen}
-use Rattle.spin_endpoint.specs.Named.{NamedEnd, stands_as, stands, changed_as, retired}
-use Rattle.spin_endpoint.specs.Sends.{name_of, retired_of, all_retired, stands_in_turn}
-
-abbrev end_of : List ℕ → Bool → EndpointSeen → NamedEnd
-end_of name b object = record { name = name; stands = b; object = object }
-
--- none was retired
-none_retired : (names : List (List ℕ)) (name : List ℕ) (b : Bool) (object : EndpointSeen) → retired_of names [] (end_of name b object) ≡ end_of name b object
-none_retired names name true object = refl
-none_retired names name false object = refl
+use Rattle.spin_endpoint.specs.Named.{NamedEnd, stands, changed_as, retired}
+use Rattle.spin_endpoint.specs.Sends.{name_of, all_retired, stands_in_turn}
 
 pub all_retired_none : (names : List (List ℕ)) (ends : List NamedEnd) → all_retired names [] ends ≡ ends
-all_retired_none names [] = refl
-all_retired_none names (end ∷ ends) = ap (λ e. e ∷ all_retired names [] ends) (none_retired names end.name end.stands end.object) ∙ ap (λ es. end ∷ es) (all_retired_none names ends)
-
--- an endpoint that stands, retired at once or not
-retired_or_not : (name q : List ℕ) (object : EndpointSeen) (before : Bool)
-    → cond (before || bytes_eq name q) (retired (end_of name true object)) (end_of name true object) ≡ cond (stands_as q (cond before (retired (end_of name true object)) (end_of name true object)))
-    (retired (cond before (retired (end_of name true object)) (end_of name true object))) (cond before (retired (end_of name true object)) (end_of name true object))
-retired_or_not name q object true = refl
-retired_or_not name q object false = refl
-
-retired_more : (names : List (List ℕ)) (numbers : List ℕ) (i d : ℕ) (name : List ℕ) (b : Bool) (object : EndpointSeen) → i < length numbers
-    → retired_of names (take (i + 1) numbers) (end_of name b object)
-    ≡ cond (stands_as (name_of names (get_or numbers i d)) (retired_of names (take i numbers) (end_of name b object)))
-    (retired (retired_of names (take i numbers) (end_of name b object)))
-    (retired_of names (take i numbers) (end_of name b object))
-retired_more names numbers i d name true object lt =
-    ap (λ a. cond a (retired (end_of name true object)) (end_of name true object)) (list_any_more (λ number. bytes_eq name (name_of names number)) numbers i d lt)
-    ∙ retired_or_not name (name_of names (get_or numbers i d)) object (list_any (λ number. bytes_eq name (name_of names number)) (take i numbers))
-retired_more names numbers i d name false object lt = refl
+all_retired_none names ends = refl
 
 -- one more number is one more endpoint retired
 pub all_retired_more : (names : List (List ℕ)) (numbers : List ℕ) (i d : ℕ) (ends : List NamedEnd) → i < length numbers
     → all_retired names (take (i + 1) numbers) ends ≡ changed_as (name_of names (get_or numbers i d)) retired (all_retired names (take i numbers) ends)
-all_retired_more names numbers i d [] lt = refl
-all_retired_more names numbers i d (end ∷ ends) lt =
-    ap (λ e. e ∷ all_retired names (take (i + 1) numbers) ends) (retired_more names numbers i d end.name end.stands end.object lt)
-    ∙ ap (λ es. cond (stands_as (name_of names (get_or numbers i d)) (retired_of names (take i numbers) end))
-    (retired (retired_of names (take i numbers) end)) (retired_of names (take i numbers) end) ∷ es) (all_retired_more names numbers i d ends lt)
+all_retired_more names numbers i d ends lt =
+    ap (λ (ns : List ℕ). all_retired names ns ends) (take_more numbers i d lt)
+    ∙ fold-append (λ (now : List NamedEnd) (number : ℕ). changed_as (name_of names number) retired now) ends (take i numbers) (get_or numbers i d ∷ [])
 
 -- what the numbers so far left, after one more
 pub step_retired : (names : List (List ℕ)) (numbers : List ℕ) (i number : ℕ) (before cur after : List NamedEnd) (name : List ℕ) → i < length numbers → number ≡ get_or numbers i 0

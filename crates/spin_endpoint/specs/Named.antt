@@ -31,8 +31,7 @@ stands name ends = list_any (stands_as name) ends
 
 -- The endpoint that stands under the name is changed so, and no other.
 abbrev pub changed_as : List ℕ → (NamedEnd → NamedEnd) → List NamedEnd → List NamedEnd
-changed_as name change ends =
-    map (λ end. if stands_as name end then change end else end) ends
+changed_as name change ends = map (λ end. if stands_as name end then change end else end) ends
 
 abbrev pub with_piece : List ℕ → NamedEnd → NamedEnd
 with_piece piece end = record end { object = gained (piece ∷ []) end.object }
@@ -53,22 +52,16 @@ pub record FailsAt (name : List ℕ) (before after : List NamedEnd) : Type 0 whe
   pub others : after ≡ changed_as name (with_faults faults) before
 
 -- what a delivery of a piece to a name does
-abbrev pub Delivers : List ℕ → List ℕ → Result (Unit {0}) DeliverFault
-    → List NamedEnd → List NamedEnd → Type 0
+abbrev pub Delivers : List ℕ → List ℕ → Result (Unit {0}) DeliverFault → List NamedEnd → List NamedEnd → Type 0
 Delivers name piece (Ok done) before after =
     (stands name before ≡ true) × (after ≡ changed_as name (with_piece piece) before)
-Delivers name piece (Err Failed) before after =
-    (stands name before ≡ true) × FailsAt name before after
-Delivers name piece (Err Unknown) before after =
-    (stands name before ≡ false) × (after ≡ before)
+Delivers name piece (Err Failed) before after = (stands name before ≡ true) × FailsAt name before after
+Delivers name piece (Err Unknown) before after = (stands name before ≡ false) × (after ≡ before)
 
 -- what retiring a name does
-abbrev pub Retires : List ℕ → Result (Unit {0}) unknown.Unknown
-    → List NamedEnd → List NamedEnd → Type 0
-Retires name (Ok done) before after =
-    (stands name before ≡ true) × (after ≡ changed_as name retired before)
-Retires name (Err refused) before after =
-    (stands name before ≡ false) × (after ≡ before)
+abbrev pub Retires : List ℕ → Result (Unit {0}) unknown.Unknown → List NamedEnd → List NamedEnd → Type 0
+Retires name (Ok done) before after = (stands name before ≡ true) × (after ≡ changed_as name retired before)
+Retires name (Err refused) before after = (stands name before ≡ false) × (after ≡ before)
 
 -- No endpoint stands under the name, and there is room for one more.
 pub record CanAdd (name : List ℕ) (ends : List NamedEnd) : Type 0 where

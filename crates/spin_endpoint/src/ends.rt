@@ -2,13 +2,13 @@
 
 ghost use Rattle.std.specs.Prelude.{◌≡◌, ◌≢◌, ◌<◌, ◌≤◌, ℕ, Bool, true, false, List, Option};
 ghost use Rattle.std.specs.Prelude.{MatchResult, OnOk, OnErr, map, [], ◌∷◌, ◌++◌, length, All};
-ghost use Rattle.std.specs.Prelude.{IfErr, IfNone, IfSome};
+ghost use Rattle.std.specs.Prelude.{IfErr, IfNone, IfSome, Some};
 ghost use Rattle.std.specs.List.{HoldsAt, AllPairs};
 
 use crate::endpoint::Endpoint;
 use crate::faults::{DeliverFault, EndsFault, Unknown};
 use spin_outside::Failed;
-use spin_values::Text;
+use spin_values::{Octets, Text};
 use std::alloc::Global;
 
 /// The most endpoints: of a script, and of those that are added, retired ones counted.
@@ -70,6 +70,12 @@ impl End {
         self.object.finish();
         self.stands = false;
     }
+
+    fn pieces(&self) -> Option<&[Octets]>
+        ensures { IfSome result (λ pieces. (⟦<End as EndSeen>⟧.one self.now).object.pieces ≡ Some pieces.now) }
+    {
+        self.object.pieces()
+    }
 }
 
 /// Endpoints in the order of adding, of which no two stand under the same name. A retired one stays, receives
@@ -127,6 +133,16 @@ impl Ends {
             return true;
         }
         false
+    }
+
+    /// The pieces that an endpoint has received, in order, where it hands them out; its place is that in the order of
+    /// adding, from 0. It takes no memory, and changes nothing.
+    pub fn pieces(&self, at: usize) -> Option<&[Octets]>
+        requires { at < length (⟦<Ends as EndsSeen>⟧.all self.now) }
+        ensures { IfSome result (λ pieces.
+            HoldsAt (λ end. end.object.pieces ≡ Some pieces.now) (⟦<Ends as EndsSeen>⟧.all self.now) at) }
+    {
+        self.ends[at].pieces()
     }
 
     /// Adds an endpoint, which stands. A refused object comes back. `SameName` comes exactly where an endpoint

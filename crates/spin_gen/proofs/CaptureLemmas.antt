@@ -6,7 +6,7 @@ use Rattle.std.proofs.lemmas.List.{length-append, length-map}
 use Rattle.std.proofs.lemmas.List.FromFn.{length-range_with_len}
 use Rattle.spin_pcap.specs.declared.next.Next.TheVariants as next
 use Rattle.spin_pcap.specs.declared.order.Order.TheVariants as order
-use Rattle.spin_pcap.specs.Captures.{IsBody, IsCapture, header_of, captured}
+use Rattle.spin_pcap.specs.Captures.{IsBody, IsCapture, header_of, captured_length}
 use Rattle.spin_gen.specs.Numbers.{drawn}
 use Rattle.spin_gen.specs.Records.{ether_header, packet_header, datagram, frame, record_header, record_bytes, records, file_header, capture_of}
 
@@ -29,7 +29,7 @@ unfolding record_bytes
 record_size i port =
     length-append (record_header i) (frame i port) ∙ omega (arith, header_size i, frame_size i port)
 
-says : (i : ℕ) → captured order.Little (record_header i) ≡ 50
+says : (i : ℕ) → captured_length order.Little (record_header i) ≡ 50
 unfolding record_header
 says i = refl
 

@@ -26,8 +26,7 @@ params_word (p ∷ ps) = letters (p ∷ ps)
 
 -- the parameters, with `:w` behind them where the event gives a result
 abbrev pub signature_word : EventType → List ℕ
-signature_word sig =
-    if sig.gives then params_word sig.params ++ codes ":w" else params_word sig.params
+signature_word sig = if sig.gives then params_word sig.params ++ codes ":w" else params_word sig.params
 
 -- how a thing that a word says is spelled: numbers in decimal, bytes as x and two hexadecimal digits each
 abbrev pub spell : Atom → List ℕ

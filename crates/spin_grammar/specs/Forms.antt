@@ -95,8 +95,7 @@ mode_word mode.Async = codes "async"
 abbrev pub expr_form : Expr → List Atom
 expr_form (expr.Const n) = Numeral n ∷ []
 expr_form (expr.Arg k) = Argument k ∷ []
-expr_form (expr.Field a offset width) =
-    Fixed (codes "f") ∷ Numeral a ∷ Numeral offset ∷ Numeral width ∷ []
+expr_form (expr.Field a offset width) = Fixed (codes "f") ∷ Numeral a ∷ Numeral offset ∷ Numeral width ∷ []
 expr_form (expr.Plus' p x q y) = Fixed (codes "+") ∷ (expr_form x ++ expr_form y)
 expr_form (expr.And' p x q y) = Fixed (codes "&") ∷ (expr_form x ++ expr_form y)
 expr_form (expr.Or' p x q y) = Fixed (codes "|") ∷ (expr_form x ++ expr_form y)
@@ -118,11 +117,9 @@ part_form (part.Bytes a from) = Fixed (codes "b") ∷ Numeral a ∷ Numeral from
 -- the words of a step: what it does, and then with what; of `up` the parts stand behind their count
 abbrev pub step_form : ActStep → List Atom
 step_form (step.Set a e) = Fixed (codes "set") ∷ Numeral a ∷ expr_form e
-step_form (step.Send endpoint a from) =
-    Fixed (codes "send") ∷ Numeral endpoint ∷ Numeral a ∷ Numeral from ∷ []
+step_form (step.Send endpoint a from) = Fixed (codes "send") ∷ Numeral endpoint ∷ Numeral a ∷ Numeral from ∷ []
 step_form (step.Result e) = Fixed (codes "result") ∷ expr_form e
-step_form (step.Up event parts) =
-    Fixed (codes "up") ∷ Numeral event ∷ Numeral (length parts) ∷ flat_map part_form parts
+step_form (step.Up event parts) = Fixed (codes "up") ∷ Numeral event ∷ Numeral (length parts) ∷ flat_map part_form parts
 step_form (step.Layer k event) = Fixed (codes "layer") ∷ Fixed (layer_word k) ∷ Numeral event ∷ []
 
 -- the words of steps, one step after another
@@ -152,8 +149,7 @@ effect_form effect.Deny = Fixed (codes "deny") ∷ []
 effect_form (effect.Quota most) = Fixed (codes "quota") ∷ Numeral most ∷ []
 effect_form (effect.Impose guards) = Fixed (codes "impose") ∷ counted_form guards
 effect_form (effect.Force guards place apart) =
-    Fixed (codes "force") ∷ (counted_form guards ++ Fixed (forced_word place)
-    ∷ Fixed (apart_word apart) ∷ [])
+    Fixed (codes "force") ∷ (counted_form guards ++ Fixed (forced_word place) ∷ Fixed (apart_word apart) ∷ [])
 
 -- the words of a rule: the requesters from low to high, the op, the handler, whose bindings, and what it decides
 abbrev pub rule_form : Rule → List Atom
@@ -177,8 +173,7 @@ spot_form (At p) = Fixed (place_word p) ∷ []
 spot_form (Before n) = Fixed (codes "before") ∷ Numeral n ∷ []
 spot_form (After n) = Fixed (codes "after") ∷ Numeral n ∷ []
 spot_form (Among p before after) =
-    Fixed (place_word p) ∷ Fixed (codes "before") ∷
-    (counted_form before ++ Fixed (codes "after") ∷ counted_form after)
+    Fixed (place_word p) ∷ Fixed (codes "before") ∷ (counted_form before ++ Fixed (codes "after") ∷ counted_form after)
 
 -- the word of a value: a number, or bytes
 abbrev pub value_atom : Value → Atom
@@ -225,8 +220,7 @@ task_form (Install e m h g spot mode) =
     Fixed (codes "install") ∷ Numeral e ∷ Numeral m ∷ Numeral h ∷ Numeral g
     ∷ (spot_form spot ++ Fixed (mode_word mode) ∷ [])
 task_form (Remove e m n) = Fixed (codes "remove") ∷ Numeral e ∷ Numeral m ∷ Numeral n ∷ []
-task_form (Replace e m n h g) =
-    Fixed (codes "replace") ∷ Numeral e ∷ Numeral m ∷ Numeral n ∷ Numeral h ∷ Numeral g ∷ []
+task_form (Replace e m n h g) = Fixed (codes "replace") ∷ Numeral e ∷ Numeral m ∷ Numeral n ∷ Numeral h ∷ Numeral g ∷ []
 task_form (Default e m h) = Fixed (codes "default") ∷ Numeral e ∷ Numeral m ∷ Numeral h ∷ []
 task_form (NoDefault e m) = Fixed (codes "nodefault") ∷ Numeral e ∷ Numeral m ∷ []
 task_form (Raise e vs) = Fixed (codes "raise") ∷ Numeral e ∷ map value_atom vs

@@ -102,19 +102,13 @@ tests =
 
 -- a part of a raise upwards: a word, or the bytes of an argument from some byte on
 abbrev pub parts : Choices
-parts =
-    (codes "w", Expression ∷ []) ∷ (codes "b", Number 0 LAST_ARGUMENT ∷ Number 0 MAX_OFFSET ∷ [])
-    ∷ []
+parts = (codes "w", Expression ∷ []) ∷ (codes "b", Number 0 LAST_ARGUMENT ∷ Number 0 MAX_OFFSET ∷ []) ∷ []
 
 -- behind a step more steps may follow
 abbrev pub steps : Choices
 steps =
     (codes "set", Number 0 LAST_ARGUMENT ∷ Expression ∷ Steps ∷ [])
-    ∷ (
-      codes "send",
-      Number 0 LAST_ENDPOINT ∷ Number 0 LAST_ARGUMENT ∷ Number 0 MAX_OFFSET ∷ Steps
-          ∷ [],
-    )
+    ∷ (codes "send", Number 0 LAST_ENDPOINT ∷ Number 0 LAST_ARGUMENT ∷ Number 0 MAX_OFFSET ∷ Steps ∷ [])
     ∷ (codes "result", Expression ∷ Steps ∷ [])
     ∷ (codes "up", Number 0 LAST_EVENT ∷ Counted 0 MAX_PARTS Part ∷ Steps ∷ [])
     ∷ (codes "layer", LayerKind ∷ Number 0 LAST_EVENT ∷ Steps ∷ [])
@@ -147,8 +141,7 @@ effects version =
     ∷ (codes "impose", Counted 1 MAX_IMPOSED (Number 1 LAST_GUARD) ∷ [])
     ∷ (if nat_le 2 version then (
       codes "force",
-      Counted 0 MAX_IMPOSED (Number 1 LAST_GUARD)
-          ∷ ForcedPlace ∷ ForcedMode ∷ [],
+      Counted 0 MAX_IMPOSED (Number 1 LAST_GUARD) ∷ ForcedPlace ∷ ForcedMode ∷ [],
     ) ∷ [] else [])
 
 -- the place that a rule may force; `keep` forces none
@@ -194,11 +187,7 @@ deeds version =
       Number 0 LAST_EVENT ∷ Number 0 LAST_MODULE ∷ Number 0 LAST_HANDLER
           ∷ Number 0 LAST_GUARD ∷ (spot_wants version ++ Mode ∷ []),
     )
-    ∷ (
-      codes "remove",
-      Number 0 LAST_EVENT ∷ Number 0 LAST_MODULE ∷ Number 0 (last_target version)
-          ∷ [],
-    )
+    ∷ (codes "remove", Number 0 LAST_EVENT ∷ Number 0 LAST_MODULE ∷ Number 0 (last_target version) ∷ [])
     ∷ (
       codes "replace",
       Number 0 LAST_EVENT ∷ Number 0 LAST_MODULE ∷ Number 0 (last_target version)
@@ -228,9 +217,7 @@ chosen w (c ∷ cs) = if bytes_eq w c.0 then Ok (Fixed w, c.1) else chosen w cs
 
 -- an a and a digit from 0 to 7
 abbrev pub is_argument : List ℕ → Bool
-is_argument w =
-    length w == 2 && (slice_index w 0 == 97 && (nat_le 48 (slice_index w 1) && nat_le
-    (slice_index w 1) 55))
+is_argument w = length w == 2 && (slice_index w 0 == 97 && (nat_le 48 (slice_index w 1) && nat_le (slice_index w 1) 55))
 
 -- the signature that the word is, with this wanted behind it; else a signature is missing
 abbrev pub as_signature : Option EventType → List Want → WordStep
@@ -268,11 +255,9 @@ accepts (Number low high) w = as_number (within low high (number w)) []
 accepts Name w = if is_name w then Ok (Called w, []) else Err cause.Name
 accepts Signature w = as_signature (signature w) []
 accepts HandlerBody w =
-    if bytes_eq w (codes "native") then Ok (Fixed w, Name ∷ []) else as_signature (signature w)
-    (Steps ∷ [])
+    if bytes_eq w (codes "native") then Ok (Fixed w, Name ∷ []) else as_signature (signature w) (Steps ∷ [])
 accepts GuardBody w =
-    if bytes_eq w (codes "native") then Ok (Fixed w, Name ∷ []) else as_signature
-    (guard_signature w) (Test ∷ [])
+    if bytes_eq w (codes "native") then Ok (Fixed w, Name ∷ []) else as_signature (guard_signature w) (Test ∷ [])
 accepts Expression w =
     if begins_with_digit w then as_number (within 0 greatest (number w)) []
     else (if is_argument w then Ok (Argument (slice_index w 1 - 48), []) else chosen w expressions)
@@ -283,8 +268,7 @@ accepts LayerKind w = chosen w layers
 accepts Merge w = chosen w merges
 accepts Op w = chosen w ops
 accepts HandlerOrAny w =
-    if begins_with_digit w then as_number (within 1 LAST_HANDLER (number w)) [] else chosen w
-    ((codes "any", []) ∷ [])
+    if begins_with_digit w then as_number (within 1 LAST_HANDLER (number w)) [] else chosen w ((codes "any", []) ∷ [])
 accepts Own w = chosen w owns
 accepts (Effect version) w = chosen w (effects version)
 accepts ForcedPlace w = chosen w forced_places

@@ -1,6 +1,6 @@
 -- What each line says, the words behind its first, and what is wanted there.
 use Rattle.std.specs.Prelude.{◌≡◌, ◌<◌, ◌≤◌, ℕ, Bool, true, false, nat_lt, List, [], ◌∷◌, codes}
-use Rattle.std.specs.Prelude.{Option, None, Some, Result, Ok, Err}
+use Rattle.std.specs.Prelude.{Option, None, Some, Result, Ok, Err, drop}
 use Rattle.std.specs.List.{list_any}
 use Rattle.spin_values.specs.declared.types.EventType.{EventType}
 use Rattle.spin_code.specs.declared.test.Test.{Test}
@@ -43,21 +43,25 @@ pub data LineMeaning : Type 0 where
   Barrier : LineMeaning
   Retire : ℕ → LineMeaning
 
+-- the words of a line
+abbrev pub line_form : LineMeaning → List Atom
+line_form (Modules n) = Fixed (codes "modules") ∷ Numeral n ∷ []
+line_form (Event e owner sig m) = Fixed (codes "event") ∷ Numeral e ∷ Numeral owner ∷ Typed sig ∷ merge_form m
+line_form (Endpoint p name) = Fixed (codes "endpoint") ∷ Numeral p ∷ Called name ∷ []
+line_form (Handler h sig steps) = Fixed (codes "handler") ∷ Numeral h ∷ Typed sig ∷ steps_form steps
+line_form (NativeHandler h name) = Fixed (codes "handler") ∷ Numeral h ∷ Fixed (codes "native") ∷ Called name ∷ []
+line_form (Guard g sig t) = Fixed (codes "guard") ∷ Numeral g ∷ Typed sig ∷ test_form t
+line_form (NativeGuard g name) = Fixed (codes "guard") ∷ Numeral g ∷ Fixed (codes "native") ∷ Called name ∷ []
+line_form (Rules e r) = Fixed (codes "rule") ∷ Numeral e ∷ rule_form r
+line_form (Authoriser e name) = Fixed (codes "authoriser") ∷ Numeral e ∷ Called name ∷ []
+line_form (Default e h) = Fixed (codes "default") ∷ Numeral e ∷ Numeral h ∷ []
+line_form (Lane l t) = Fixed (codes "lane") ∷ Numeral l ∷ task_form t
+line_form Barrier = Fixed (codes "barrier") ∷ []
+line_form (Retire p) = Fixed (codes "retire") ∷ Numeral p ∷ []
+
 -- the words behind a line's first
 abbrev pub form : LineMeaning → List Atom
-form (Modules n) = Numeral n ∷ []
-form (Event e owner sig m) = Numeral e ∷ Numeral owner ∷ Typed sig ∷ merge_form m
-form (Endpoint p name) = Numeral p ∷ Called name ∷ []
-form (Handler h sig steps) = Numeral h ∷ Typed sig ∷ steps_form steps
-form (NativeHandler h name) = Numeral h ∷ Fixed (codes "native") ∷ Called name ∷ []
-form (Guard g sig t) = Numeral g ∷ Typed sig ∷ test_form t
-form (NativeGuard g name) = Numeral g ∷ Fixed (codes "native") ∷ Called name ∷ []
-form (Rules e r) = Numeral e ∷ rule_form r
-form (Authoriser e name) = Numeral e ∷ Called name ∷ []
-form (Default e h) = Numeral e ∷ Numeral h ∷ []
-form (Lane l t) = Numeral l ∷ task_form t
-form Barrier = []
-form (Retire p) = Numeral p ∷ []
+form l = drop 1 (line_form l)
 
 -- the kind of a line, which its first word names: native handlers and guards are of the kind of the others
 abbrev pub line_kind : LineMeaning → Kind
@@ -78,8 +82,7 @@ line_kind (Retire p) = kind.Retire
 -- what is wanted behind the first word of a line, in a script of this version
 abbrev pub wanted : ℕ → Kind → List Want
 wanted version kind.Modules = Number 1 MAX_MODULES ∷ []
-wanted version kind.Event =
-    Number 0 LAST_EVENT ∷ Number 0 LAST_MODULE ∷ grammar.Signature ∷ grammar.Merge ∷ []
+wanted version kind.Event = Number 0 LAST_EVENT ∷ Number 0 LAST_MODULE ∷ grammar.Signature ∷ grammar.Merge ∷ []
 wanted version kind.Endpoint = Number 0 LAST_ENDPOINT ∷ grammar.Name ∷ []
 wanted version kind.Handler = Number 1 LAST_HANDLER ∷ grammar.HandlerBody ∷ []
 wanted version kind.Guard = Number 1 LAST_GUARD ∷ grammar.GuardBody ∷ []
@@ -118,8 +121,7 @@ is_merge_deep (merge.Fold e) = nat_lt MAX_DEPTH (expr_depth e)
 -- which wasn't kept.
 abbrev pub Stands : Said → LineMeaning → Type 0
 Stands (said.Modules n) l = l ≡ Modules n
-Stands (said.Event e owner sig o) l =
-    (m : Merge) × (l ≡ Event e owner sig m) × IsKept is_merge_deep o m
+Stands (said.Event e owner sig o) l = (m : Merge) × (l ≡ Event e owner sig m) × IsKept is_merge_deep o m
 Stands (said.Endpoint p name) l = l ≡ Endpoint p name
 Stands (said.Handler h sig o) l =
     (steps : List ActStep) × (l ≡ Handler h sig steps) × IsKept (list_any is_step_deep) o steps

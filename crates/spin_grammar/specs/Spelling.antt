@@ -21,9 +21,7 @@ is_digit radix c = nat_lt (digit_value c) radix
 
 -- the number that digits stand for, of which there is at least one
 abbrev pub numeral : ℕ → List ℕ → Option ℕ
-numeral radix ds =
-    if nat_lt 0 (length ds) && list_all (is_digit radix) ds then Some (digits_value radix ds) else
-    None
+numeral radix ds = if nat_lt 0 (length ds) && list_all (is_digit radix) ds then Some (digits_value radix ds) else None
 
 -- decimal digits, or 0x and 1 to 16 hexadecimal digits of either case
 unfoldable pub number : List ℕ → Option ℕ
@@ -59,11 +57,7 @@ is_letter c = (c == 119) || (c == 98) || (c == 87) || (c == 66)
 -- b and B are bytes, and W and B are var parameters where the case is a mark of that
 abbrev pub param_of : Bool → ℕ → Param
 param_of marks c =
-    record {
-      kind = if (c == 98) || (c == 66) then kind.Bytes else kind.Word;
-      var = marks &&
-          ((c == 87) || (c == 66));
-    }
+    record { kind = if (c == 98) || (c == 66) then kind.Bytes else kind.Word; var = marks && ((c == 87) || (c == 66)) }
 
 -- a dash is no parameters, and else there are 1 to 8 letters
 abbrev pub params_of : Bool → List ℕ → Option (List Param)
@@ -84,8 +78,7 @@ as_type gives (Some params) = Some (record { params = params; gives = gives })
 -- the signature that a word says, if it says one: capital letters are var, and `:w` at its end is a result
 unfoldable pub signature : List ℕ → Option EventType
 signature w =
-    if says_result w then as_type true (params_of true (take (length w - 2) w)) else as_type false
-    (params_of true w)
+    if says_result w then as_type true (params_of true (take (length w - 2) w)) else as_type false (params_of true w)
 
 -- the signature that a word says of a guard, which gives no result, and for which the case doesn't matter
 unfoldable pub guard_signature : List ℕ → Option EventType

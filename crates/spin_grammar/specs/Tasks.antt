@@ -23,8 +23,7 @@ work_of lane (Install e m h g s md) =
 work_of lane (Remove e m n) = work.Command (record (bare_command op.Remove lane e m) { target = n })
 work_of lane (Replace e m n h g) =
     work.Command (record (bare_command op.Replace lane e m) { target = n; handler = h; guard = g })
-work_of lane (Default e m h) =
-    work.Command (record (bare_command op.Default lane e m) { handler = h })
+work_of lane (Default e m h) = work.Command (record (bare_command op.Default lane e m) { handler = h })
 work_of lane (NoDefault e m) = work.Command (bare_command op.NoDefault lane e m)
 work_of lane (Raise e args) = work.Deed (deed.Raise e args)
 work_of lane (Later e args) = work.Deed (deed.Later e args)

@@ -31,11 +31,7 @@ number_at place width bytes = big_number width (drop place bytes)
 unfoldable pub ether_of : List ℕ → Result Ether HeaderFault
 ether_of bytes =
     unless ((nat_lt (length bytes) 14, fault.Short) ∷ [])
-    (record {
-      destination = number_at 0 6 bytes;
-      source = number_at 6 6 bytes;
-      kind = number_at 12 2 bytes;
-    })
+    (record { destination = number_at 0 6 bytes; source = number_at 6 6 bytes; kind = number_at 12 2 bytes })
 
 -- IPv4, RFC 791
 
@@ -70,11 +66,8 @@ is_part fragment = fragment.more || not (fragment.offset == 0)
 
 -- the fields of an IPv4 header (RFC 791), where its packet stands in the datagram, and whether more fragments follow
 abbrev pub fragment_fields : List ℕ → Fragment
-fragment_fields bytes = record {
-  header = ipv4_fields bytes;
-  offset = fragment_offset bytes;
-  more = more_fragments bytes;
-}
+fragment_fields bytes =
+    record { header = ipv4_fields bytes; offset = fragment_offset bytes; more = more_fragments bytes }
 
 -- the faults of a packet, each beside its condition, in their order
 abbrev pub packet_faults : List ℕ → List (Bool × HeaderFault)
@@ -83,10 +76,7 @@ packet_faults bytes =
     (nat_lt (length bytes) 20, fault.Short)
     ∷ (not (version bytes == 4), fault.Version)
     ∷ (nat_lt header.header_len 20 || nat_lt (length bytes) header.header_len, fault.HeaderLength)
-    ∷ (
-      nat_lt header.total_len header.header_len || nat_lt (length bytes) header.total_len,
-      fault.TotalLength,
-    )
+    ∷ (nat_lt header.total_len header.header_len || nat_lt (length bytes) header.total_len, fault.TotalLength)
     ∷ (not (word_sum (take header.header_len bytes) == 65535), fault.Checksum)
     ∷ []
 
@@ -106,8 +96,7 @@ abbrev pub ipv4_payload : Ipv4 → List ℕ → List ℕ
 ipv4_payload header bytes = slice_range bytes header.header_len header.total_len
 
 -- a header without options and with that checksum, not to be broken up
-abbrev pub ipv4_bytes :
-    (ident ttl protocol source destination payload_len checksum : ℕ) → List ℕ
+abbrev pub ipv4_bytes : (ident ttl protocol source destination payload_len checksum : ℕ) → List ℕ
 ipv4_bytes ident ttl protocol source destination payload_len checksum =
     0x45 ∷ 0 ∷ []
     ++ big_bytes 2 (20 + payload_len)
@@ -119,8 +108,7 @@ ipv4_bytes ident ttl protocol source destination payload_len checksum =
     ++ big_bytes 4 destination
 
 -- the checksum is that of the header with 0 in its place
-abbrev pub ipv4_header :
-    (ident ttl protocol source destination payload_len : ℕ) → List ℕ
+abbrev pub ipv4_header : (ident ttl protocol source destination payload_len : ℕ) → List ℕ
 ipv4_header ident ttl protocol source destination payload_len =
     let with_checksum = ipv4_bytes ident ttl protocol source destination payload_len in
     with_checksum (checksum_of (with_checksum 0))
@@ -129,16 +117,12 @@ ipv4_header ident ttl protocol source destination payload_len =
 
 -- what the checksum covers before the datagram
 abbrev pub pseudo_header : (source destination len : ℕ) → List ℕ
-pseudo_header source destination len =
-    big_bytes 4 source ++ big_bytes 4 destination ++ (0 ∷ 17 ∷ []) ++ big_bytes 2 len
+pseudo_header source destination len = big_bytes 4 source ++ big_bytes 4 destination ++ (0 ∷ 17 ∷ []) ++ big_bytes 2 len
 
 -- the ports and the length that the bytes of a UDP header spell (RFC 768); valid or not
 abbrev pub udp_fields : List ℕ → Udp
-udp_fields bytes = record {
-  source_port = number_at 0 2 bytes;
-  destination_port = number_at 2 2 bytes;
-  length = number_at 4 2 bytes;
-}
+udp_fields bytes =
+    record { source_port = number_at 0 2 bytes; destination_port = number_at 2 2 bytes; length = number_at 4 2 bytes }
 
 -- the checksum that the bytes of a UDP header spell (RFC 768), 0 saying that none was made
 abbrev pub udp_checksum : List ℕ → ℕ
@@ -153,8 +137,7 @@ udp_of bytes source destination =
     (nat_lt (length bytes) 8, fault.Short)
     ∷ (nat_lt header.length 8 || nat_lt (length bytes) header.length, fault.UdpLength)
     ∷ (not (udp_checksum bytes == 0) && not (word_sum covered == 65535), fault.Checksum)
-    ∷ [])
-    header
+    ∷ []) header
 
 -- what the datagram carries: bytes past its length are left out
 abbrev pub udp_payload : Udp → List ℕ → List ℕ
@@ -175,8 +158,7 @@ abbrev pub written_checksum : ℕ → ℕ
 written_checksum n = if n == 0 then 65535 else n
 
 -- the checksum is that of pseudo-header and datagram with 0 in its place
-abbrev pub udp_datagram :
-    (source destination source_port destination_port : ℕ) → List ℕ → List ℕ
+abbrev pub udp_datagram : (source destination source_port destination_port : ℕ) → List ℕ → List ℕ
 udp_datagram source destination source_port destination_port payload =
     let unsummed = udp_bytes source_port destination_port 0 payload in
     let covered = pseudo_header source destination (8 + length payload) ++ unsummed in

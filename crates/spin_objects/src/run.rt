@@ -1,6 +1,7 @@
 //! The doing of acts.
 
 ghost use Rattle.std.specs.Prelude.{◌≡◌, ◌++◌, [], ◌∷◌, OnOk, IfOk, map};
+ghost use Rattle.std.specs.List.{cons_option};
 ghost use Rattle.spin_code.specs.Value.{value_of, bytes_from};
 ghost use Rattle.spin_objects.specs.Doing.{part_of, up_or_dropped, step_args, step_items, args_after, items_of, IsDone};
 ghost use Rattle.spin_objects.specs.Layers.{layer_args};
@@ -51,23 +52,19 @@ fn layer_item(alloc: Global, layer: Layer, event: u8, args: &Args) -> Result<Ite
     }
 }
 
-// Does one step.
+/// Does one step of an act on the arguments as they stand: changes them, and answers what the step gives, if anything.
+/// Each step does as [`run_act`] says. After want of memory nothing is known of the arguments.
 #[inline]
-fn run_step(
-    alloc: Global,
-    step: &ActStep,
-    args: &mut Args,
-    out: &mut Outcome,
-) -> Result<(), NoMemory>
+pub fn run_step(alloc: Global, step: &ActStep, args: &mut Args) -> Result<Option<Item>, NoMemory>
     ensures args { OnOk result (args.new ≡ step_args step.now args.old) }
-    ensures out { OnOk result (out.new ≡ out.old ++ step_items step.now args.old) }
+    ensures item { IfOk result (λ item. cons_option item [] ≡ step_items step.now args.old) }
 {
     match step {
         ActStep::Set { arg, to } => {
             let word = value(to, args);
             // where there is no such word, nothing is changed
             let _ = set(args, *arg, word);
-            Ok(())
+            Ok(None)
         }
         ActStep::Send {
             endpoint,
@@ -75,20 +72,20 @@ fn run_step(
             from,
         } => {
             let bytes = bytes_after(alloc, args, *arg, *from)?;
-            out.push(Item::Send {
+            Ok(Some(Item::Send {
                 endpoint: *endpoint,
                 bytes,
-            })
+            }))
         }
-        ActStep::Result(e) => out.push(Item::Result(value(e, args))),
+        ActStep::Result(e) => Ok(Some(Item::Result(value(e, args)))),
         ActStep::Up { event, parts } => {
             let args = part_values(alloc, parts.as_slice(), args)?;
-            out.push(Item::Up {
+            Ok(Some(Item::Up {
                 event: *event,
                 args,
-            })
+            }))
         }
-        ActStep::Layer { kind, event } => out.push(layer_item(alloc, *kind, *event, args)?),
+        ActStep::Layer { kind, event } => Ok(Some(layer_item(alloc, *kind, *event, args)?)),
     }
 }
 
@@ -109,7 +106,9 @@ pub fn run_act(alloc: Global, act: &Act, args: &mut Args, out: &mut Outcome) -> 
     ensures done { OnOk result (IsDone act.now args.old out.old args.new out.new) }
 {
     for step in act.steps.as_slice() {
-        run_step(alloc, step, args, out)?;
+        if let Some(item) = run_step(alloc, step, args)? {
+            out.push(item)?;
+        }
     }
     Ok(())
 }

@@ -7,7 +7,7 @@ use Rattle.spin_outside.specs.Counts.{Rose}
 use Rattle.spin_outside.specs.Files.{IsLacking}
 use Rattle.spin_outside.specs.Seen.{ShelfSeen, SinkSeen}
 use Rattle.spin_script.specs.States.{NativeData, ScriptData}
-use Rattle.spin_report.specs.Runs.{Captured}
+use Rattle.spin_report.specs.Runs.{CaptureSeen}
 use Rattle.spin_check.specs.RunTexts.{IsRunText}
 use Rattle.spin_stages.specs.declared.end.End.{End}
 use Rattle.spin_stages.specs.declared.end.End.TheVariants.{Unread, WriteFault, Absent, NoMemory, LongReport}
@@ -33,7 +33,7 @@ not_captured natives before after mid name report packets script end stood loade
     inl (inl (inr ((script, loaded), whole_behind before.shelf mid after.shelf packets end stood by)), only)
 
 -- what was read before the report
-abbrev both_read : (natives : NativeData) (first mid : ShelfSeen) (name : List ℕ) (packets : Option (List ℕ)) (script : ScriptData) (capture : Option Captured)
+abbrev both_read : (natives : NativeData) (first mid : ShelfSeen) (name : List ℕ) (packets : Option (List ℕ)) (script : ScriptData) (capture : Option CaptureSeen)
     → ShelfStood first mid → IsLoaded natives first.files name script → IsCaptured mid.files packets capture → ReadBoth natives first.files name packets
 both_read natives first mid name packets script capture stood loaded captured =
     record { script = script; loaded = loaded; capture = capture; captured = subst (λ files. IsCaptured files packets capture) stood.files captured }
@@ -47,17 +47,11 @@ reported_behind a b c report NoMemory stood by = stood_stood a b c stood by
 reported_behind a b c report other stood by = absurd by
 
 pub not_reported : (natives : NativeData) (before after : Outside) (mid end_shelf : ShelfSeen) (name report : List ℕ) (packets : Option (List ℕ)) (script : ScriptData)
-    (capture : Option Captured) (end : End) → ShelfStood before.shelf mid → IsLoaded natives before.shelf.files name script → ShelfStood mid end_shelf
+    (capture : Option CaptureSeen) (end : End) → ShelfStood before.shelf mid → IsLoaded natives before.shelf.files name script → ShelfStood mid end_shelf
     → IsCaptured mid.files packets capture → NoReportBy end_shelf after.shelf report end → OnlyStops before after end → CheckHasCause natives before after name report packets end
 not_reported natives before after mid end_shelf name report packets script capture end stood loaded stood' captured by only =
     let all = stood_stood before.shelf mid end_shelf stood stood' in
     inl (inr (both_read natives before.shelf mid name packets script capture stood loaded captured, reported_behind before.shelf end_shelf after.shelf report end all by), only)
-
--- want of memory to judge it
-pub not_judged : (natives : NativeData) (before after : Outside) (mid end_shelf : ShelfSeen) (name report : List ℕ) (packets : Option (List ℕ)) → ShelfStood before.shelf mid
-    → ShelfStood mid end_shelf → ShelfStood end_shelf after.shelf → OnlyStops before after NoMemory → CheckHasCause natives before after name report packets NoMemory
-not_judged natives before after mid end_shelf name report packets stood stood' stood'' only =
-    inl (inl (inl (stood_stood before.shelf end_shelf after.shelf (stood_stood before.shelf mid end_shelf stood stood') stood'')), only)
 
 -- ---- the answer
 
@@ -96,7 +90,7 @@ still_ends before sink after whether end same (inl w) = inl (w.0, same ∙ w.1)
 still_ends before sink after whether end same (inr w) = inr (w.0, subst (λ n. Rose before.faults n) (sym same) w.1)
 
 pub was_answered : (natives : NativeData) (before after : Outside) (mid end_shelf : ShelfSeen) (sink : SinkSeen) (name report : List ℕ)
-    (packets : Option (List ℕ)) (script : ScriptData) (capture : Option Captured) (text : List ℕ) (whether : Bool) (end : End) → ShelfStood before.shelf mid
+    (packets : Option (List ℕ)) (script : ScriptData) (capture : Option CaptureSeen) (text : List ℕ) (whether : Bool) (end : End) → ShelfStood before.shelf mid
     → IsLoaded natives before.shelf.files name script → ShelfStood mid end_shelf → IsCaptured mid.files packets capture → ShelfStood end_shelf after.shelf
     → IsContent end_shelf.files report text → length text ≤ max_report → Decides whether (IsRunText script capture before.ends text)
     → TellsAnswer before.sink sink whether end → Tells sink after.sink (stop_line end) → after.ends ≡ before.ends → CheckHasCause natives before after name report packets end

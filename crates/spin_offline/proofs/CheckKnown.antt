@@ -12,7 +12,7 @@ use Rattle.spin_pcap.specs.declared.next.Next.{Next}
 use Rattle.spin_script.specs.Language.{IsScript}
 use Rattle.spin_endpoint.specs.Named.{NamedEnd}
 use Rattle.spin_script.specs.States.{NativeData, ScriptData}
-use Rattle.spin_report.specs.Runs.{Captured}
+use Rattle.spin_report.specs.Runs.{CaptureSeen}
 use Rattle.spin_check.specs.RunTexts.{IsRunText}
 use Rattle.spin_stages.specs.declared.end.End.{End}
 use Rattle.spin_stages.specs.declared.end.End.TheVariants.{Unread, WriteFault, Absent, NoMemory, LongReport}
@@ -33,7 +33,7 @@ use Rattle.spin_stages.proofs.Stages.{ScriptFirst, both_bad, both_first, both_lo
 ok_is : (a b : Next) (r : Result Next PcapFault) → r ≡ Ok a → r ≡ Ok b → a ≡ b
 ok_is a b r is_a is_b = cc
 
-one_whole : (held : List File) (name : List ℕ) (a b : Captured) → IsWholeCapture held name a → IsWholeCapture held name b → a ≡ b
+one_whole : (held : List File) (name : List ℕ) (a b : CaptureSeen) → IsWholeCapture held name a → IsWholeCapture held name b → a ≡ b
 one_whole held name a b is_a is_b =
     let file = is_a.1 in
     let same : file.bytes ≡ is_b.1.bytes = some_is _ _ (sym file.found ∙ is_b.1.found) in
@@ -42,7 +42,7 @@ one_whole held name a b is_a is_b =
     let cut : a.cut ≡ b.cut = is_a.2 ∙ ap cut_of (ok_is is_a.0 is_b.0 (Ok is_a.0) refl one.2) ∙ sym is_b.2 in
     λ i. record { frames = one.1 i; cut = cut i }
 
-one_captured : (held : List File) (packets : Option (List ℕ)) (a b : Option Captured) → IsCaptured (Some held) packets a → IsCaptured (Some held) packets b → a ≡ b
+one_captured : (held : List File) (packets : Option (List ℕ)) (a b : Option CaptureSeen) → IsCaptured (Some held) packets a → IsCaptured (Some held) packets b → a ≡ b
 one_captured held None None None is_a is_b = refl
 one_captured held None None (Some b) is_a is_b = absurd is_b
 one_captured held None (Some a) b is_a is_b = absurd is_a
@@ -51,32 +51,32 @@ one_captured held (Some name) (Some a) None is_a is_b = absurd is_b
 one_captured held (Some name) (Some a) (Some b) is_a is_b = ap Some (one_whole held name a b is_a is_b)
 
 -- what is known of it where the shelf tells its files
-captured_at : (files : Option (List File)) (held : List File) (packets : Option (List ℕ)) (capture : Option Captured)
+captured_at : (files : Option (List File)) (held : List File) (packets : Option (List ℕ)) (capture : Option CaptureSeen)
     → files ≡ Some held → IsCaptured files packets capture → IsCaptured (Some held) packets capture
 captured_at files held packets capture told is = subst (λ f. IsCaptured f packets capture) told is
 
 -- the capture that is named was read whole
-file_of : (held : List File) (name : List ℕ) (capture : Option Captured) → IsCaptured (Some held) (Some name) capture → (whole : Captured) × IsWholeCapture held name whole
+file_of : (held : List File) (name : List ℕ) (capture : Option CaptureSeen) → IsCaptured (Some held) (Some name) capture → (whole : CaptureSeen) × IsWholeCapture held name whole
 file_of held name None is = absurd is
 file_of held name (Some whole) is = (whole, is)
 
-named_file : (held : List File) (packets : Option (List ℕ)) (name : List ℕ) (capture : Option Captured)
-    → packets ≡ Some name → IsCaptured (Some held) packets capture → (whole : Captured) × IsWholeCapture held name whole
+named_file : (held : List File) (packets : Option (List ℕ)) (name : List ℕ) (capture : Option CaptureSeen)
+    → packets ≡ Some name → IsCaptured (Some held) packets capture → (whole : CaptureSeen) × IsWholeCapture held name whole
 named_file held packets name capture named is = file_of held name capture (subst (λ p. IsCaptured (Some held) p capture) named is)
 
-captured_there : (held : List File) (packets : Option (List ℕ)) (name : List ℕ) (capture : Option Captured)
+captured_there : (held : List File) (packets : Option (List ℕ)) (name : List ℕ) (capture : Option CaptureSeen)
     → packets ≡ Some name → content held name ≡ None → IsCaptured (Some held) packets capture → ⊥
 captured_there held packets name capture named lacking is =
     let file = named_file held packets name capture named is in
     some_not_none _ (sym file.1.1.found ∙ lacking)
 
-captured_good : (held : List File) (packets : Option (List ℕ)) (name : List ℕ) (capture : Option Captured) → packets ≡ Some name → IsBadCapture held name → IsCaptured (Some held) packets capture → ⊥
+captured_good : (held : List File) (packets : Option (List ℕ)) (name : List ℕ) (capture : Option CaptureSeen) → packets ≡ Some name → IsBadCapture held name → IsCaptured (Some held) packets capture → ⊥
 captured_good held packets name capture named bad is =
     let file = named_file held packets name capture named is in
     good_bad held name file.0.frames file.1.0 file.1.1 bad
 
 -- what was read whole is a good capture
-is_good : (held : List File) (packets : Option (List ℕ)) (capture : Option Captured) → IsCaptured (Some held) packets capture → IsGoodCapture held packets
+is_good : (held : List File) (packets : Option (List ℕ)) (capture : Option CaptureSeen) → IsCaptured (Some held) packets capture → IsGoodCapture held packets
 is_good held None capture is = tt
 is_good held (Some name) None is = absurd is
 is_good held (Some name) (Some whole) is = (whole.frames, is.0, is.1)
@@ -177,7 +177,7 @@ capture_at natives before after name report packets status end is (inr answered)
 
 -- ---- beside a script and a good capture, or none
 
-memory_at : (natives : NativeData) (before after : Outside) (held : List File) (name text : List ℕ) (packets : Option (List ℕ)) (capture : Option Captured) (status : ℕ) (end : End)
+memory_at : (natives : NativeData) (before after : Outside) (held : List File) (name text : List ℕ) (packets : Option (List ℕ)) (capture : Option CaptureSeen) (status : ℕ) (end : End)
     → status ≡ exit_status end → HoldsBoth natives before.shelf held name text packets capture
     → (Rose before.shelf.faults after.shelf.faults → ⊥) → NotBothBy natives before.shelf after.shelf name packets end → status ≡ 7
 memory_at natives before after held name text packets capture status end is both calm by =
@@ -217,13 +217,13 @@ says_so P true status is to from = inl (is, from refl)
 says_so P false status is to from = inr (is, λ p. false≢true (to p))
 
 -- the same capture and the same text are judged alike
-judged_as : (script : ScriptData) (capture capture' : Option Captured) (ends : List NamedEnd) (text text' : List ℕ) (whether : Bool) → capture ≡ capture' → text ≡ text'
+judged_as : (script : ScriptData) (capture capture' : Option CaptureSeen) (ends : List NamedEnd) (text text' : List ℕ) (whether : Bool) → capture ≡ capture' → text ≡ text'
     → Decides whether (IsRunText script capture ends text) → Decides whether (IsRunText script capture' ends text')
 judged_as script capture capture' ends text text' whether same_capture same_text judged =
     subst (λ c. Decides whether (IsRunText script c ends text')) same_capture (subst (λ t. Decides whether (IsRunText script capture ends t)) same_text judged)
 
 -- what was judged is what lies under these names
-says : (natives : NativeData) (before after : Outside) (held : List File) (name report text told : List ℕ) (packets : Option (List ℕ)) (capture : Option Captured) (status : ℕ) (end : End)
+says : (natives : NativeData) (before after : Outside) (held : List File) (name report text told : List ℕ) (packets : Option (List ℕ)) (capture : Option CaptureSeen) (status : ℕ) (end : End)
     → HoldsBoth natives before.shelf held name text packets capture → content held report ≡ Some told → (answered : Answered natives before after name report packets end)
     → status ≡ exit_status (answer_end answered.whether) → SaysWhether natives text capture before.ends told status
 says natives before after held name report text told packets capture status end both found answered is =

@@ -8,7 +8,7 @@ use Rattle.spin_text.specs.Words.{ended}
 use Rattle.spin_endpoint.specs.Named.{NamedEnd}
 use Rattle.spin_script.specs.Language.{IsScript}
 use Rattle.spin_script.specs.States.{NativeData, ScriptData}
-use Rattle.spin_report.specs.Runs.{Captured}
+use Rattle.spin_report.specs.Runs.{CaptureSeen}
 use Rattle.spin_check.specs.RunTexts.{IsRunText}
 use Rattle.spin_offline.specs.declared.check.TheConstants.{REPORT_LIMIT}
 use Rattle.spin_stages.specs.declared.end.End.{End}
@@ -61,7 +61,7 @@ pub record ReadBoth (natives : NativeData) (files : Option (List File)) (name : 
     (packets : Option (List ℕ)) : Type 0 where
   pub script : ScriptData
   pub loaded : IsLoaded natives files name script
-  pub capture : Option Captured
+  pub capture : Option CaptureSeen
   pub captured : IsCaptured files packets capture
 
 -- Script, capture and report were read; the answer is whether the report is that of a history of the script with the
@@ -106,7 +106,7 @@ IsCheckStatus natives before after name report packets status =
 
 -- The shelf tells its files: under the name stands a script, and the capture that is named is a good one.
 pub record HoldsBoth (natives : NativeData) (shelf : ShelfSeen) (held : List File) (name : List ℕ)
-    (text : List ℕ) (packets : Option (List ℕ)) (capture : Option Captured) : Type 0 where
+    (text : List ℕ) (packets : Option (List ℕ)) (capture : Option CaptureSeen) : Type 0 where
   pub holds : HoldsText shelf held name text
   pub script : IsScriptText natives text
   pub captured : IsCaptured (Some held) packets capture
@@ -121,7 +121,7 @@ KnowsBadRecord natives before after name packets status =
 abbrev pub KnowsNoReport : NativeData → Outside → Outside → List ℕ → List ℕ → Option (List ℕ) → ℕ
     → Type 0
 KnowsNoReport natives before after name report packets status =
-    (held : List File) (text : List ℕ) (capture : Option Captured)
+    (held : List File) (text : List ℕ) (capture : Option CaptureSeen)
     → HoldsBoth natives before.shelf held name text packets capture
     → content held report ≡ None
     → NoReadFailed before after → (status ≡ 6) ⊎ (status ≡ 7)
@@ -130,14 +130,14 @@ KnowsNoReport natives before after name report packets status =
 abbrev pub KnowsLongReport : NativeData → Outside → Outside → List ℕ → List ℕ → Option (List ℕ) → ℕ
     → Type 0
 KnowsLongReport natives before after name report packets status =
-    (held : List File) (text told : List ℕ) (capture : Option Captured)
+    (held : List File) (text told : List ℕ) (capture : Option CaptureSeen)
     → HoldsBoth natives before.shelf held name text packets capture
     → content held report ≡ Some told → max_report < length told
     → NoReadFailed before after → (status ≡ 10) ⊎ (status ≡ 7)
 
 -- The status says whether the report is that of a history of the script, as this was read. (Two readings of a text are
 -- the same script, but for where its boxes lie.)
-abbrev pub SaysWhether : NativeData → List ℕ → Option Captured → List NamedEnd → List ℕ → ℕ → Type 0
+abbrev pub SaysWhether : NativeData → List ℕ → Option CaptureSeen → List NamedEnd → List ℕ → ℕ → Type 0
 SaysWhether natives text capture ends told status =
     (script : ScriptData) × IsScript natives text (Ok script)
     × (((status ≡ 0) × IsRunText script capture ends told)
@@ -147,7 +147,7 @@ SaysWhether natives text capture ends told status =
 abbrev pub KnowsReport : NativeData → Outside → Outside → List ℕ → List ℕ → Option (List ℕ) → ℕ
     → Type 0
 KnowsReport natives before after name report packets status =
-    (held : List File) (text told : List ℕ) (capture : Option Captured)
+    (held : List File) (text told : List ℕ) (capture : Option CaptureSeen)
     → HoldsBoth natives before.shelf held name text packets capture
     → content held report ≡ Some told → length told ≤ max_report
     → NoReadFailed before after → (Rose before.sink.faults after.sink.faults → ⊥)

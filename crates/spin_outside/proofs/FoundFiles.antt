@@ -1,5 +1,6 @@
 -- Files that are found, and one of which is read.
-use Rattle.std.proofs.Common.{◌≡◌, ◌≢◌, ◌<◌, ◌≤◌, ℕ, zero, suc, Option, Some, List, [], ◌∷◌, ◌++◌, length, set, get_or, refl, sym, ap, subst, ◌∙◌, arith}
+use Rattle.std.proofs.Common.{◌≡◌, ◌≢◌, ◌<◌, ◌≤◌, ℕ, zero, suc, Option, Some, List, [], ◌∷◌, ◌++◌, length, set, get_or, refl, sym, ap, subst, ◌∙◌, arith, Result, Ok, Err, MatchResult, IfOk, IfErr, is_err, true}
+use Rattle.spin_outside.specs.Files.{AllKeep, OthersKeep}
 use Rattle.spin_outside.specs.Folders.{left_in}
 
 pub left_in-set_same : {F : Type 0} (view : F → Option (List ℕ)) (files : List F) (at : ℕ) (file : F) → at < length files → left_in view (set files at file) at ≡ view file
@@ -29,6 +30,23 @@ left_in-push view [] file zero apart = absurd (apart refl)
 left_in-push view [] file (suc other) apart = refl
 left_in-push view (f ∷ fs) file zero apart = refl
 left_in-push view (f ∷ fs) file (suc other) apart = left_in-push view fs file other (λ e. apart (ap suc e))
+
+-- a file that is kept changes what no other number has left
+kept_others : {F E : Type 0} (view : F → Option (List ℕ)) (before now : List F) (file : F) (W : E → Type 0) (result : Result ℕ E)
+    → MatchResult result (λ number. (number ≡ length before) × (now ≡ before ++ file ∷ [])) (λ fault. W fault × (now ≡ before))
+    → MatchResult result (λ number. OthersKeep (left_in view before) (left_in view now) number) (λ _. AllKeep (left_in view before) (left_in view now))
+kept_others view before now file W (Ok number) kept = λ other apart.
+    subst (λ items. left_in view items other ≡ left_in view before other) (sym kept.1) (left_in-push view before file other (λ e. apart (e ∙ sym kept.0)))
+kept_others view before now file W (Err fault) kept = λ other. ap (λ items. left_in view items other) kept.1
+
+-- nor does what comes of a file that wasn't opened
+pub settled_others : {F E D : Type 0} (view : F → Option (List ℕ)) (before now : List F) (W : E → Type 0) (opened : Result F D) (result : Result ℕ E)
+    → IfOk opened (λ file. MatchResult result (λ number. (number ≡ length before) × (now ≡ before ++ file ∷ [])) (λ fault. W fault × (now ≡ before)))
+    → IfErr opened (λ _. (is_err result ≡ true) × (now ≡ before))
+    → MatchResult result (λ number. OthersKeep (left_in view before) (left_in view now) number) (λ _. AllKeep (left_in view before) (left_in view now))
+settled_others view before now W (Ok file) result found refused = kept_others view before now file W result found
+settled_others view before now W (Err error) (Ok number) found refused = absurd (cc refused.0)
+settled_others view before now W (Err error) (Err fault) found refused = λ other. ap (λ items. left_in view items other) refused.1
 
 -- what holds of a file's view before and after a call holds of what its number has left
 pub moved : {F : Type 0} (P : Option (List ℕ) → Option (List ℕ) → Type 0) (view : F → Option (List ℕ)) (files : List F) (at : ℕ) (old new : F)

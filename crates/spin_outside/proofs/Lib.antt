@@ -3,3 +3,4 @@ pub mod FileNames
 pub mod FileLists
 pub mod ReadLoops
 pub mod WriteLoops
+mod ToldAnswers

@@ -20,12 +20,9 @@ FailsByCount before now result = MatchResult result (λ _. now ≡ before) (λ _
 -- Which count a refusal of `find` raises: `Failed` that of faults, `Absent` that of absences, each
 -- its own alone.
 abbrev pub RefusesByCount : ℕ → ℕ → ℕ → ℕ → FindFault → Type 0
-RefusesByCount faults faults' absences absences' find.Absent =
-    (faults' ≡ faults) × Rose absences absences'
-RefusesByCount faults faults' absences absences' find.Failed =
-    Rose faults faults' × (absences' ≡ absences)
-RefusesByCount faults faults' absences absences' find.NoMemory =
-    (faults' ≡ faults) × (absences' ≡ absences)
+RefusesByCount faults faults' absences absences' find.Absent = (faults' ≡ faults) × Rose absences absences'
+RefusesByCount faults faults' absences absences' find.Failed = Rose faults faults' × (absences' ≡ absences)
+RefusesByCount faults faults' absences absences' find.NoMemory = (faults' ≡ faults) × (absences' ≡ absences)
 
 abbrev pub FindsByCount : {T : Type 0} → ℕ → ℕ → ℕ → ℕ → Result T FindFault → Type 0
 FindsByCount faults faults' absences absences' result =

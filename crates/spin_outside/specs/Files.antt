@@ -11,14 +11,12 @@ pub record File : Type 0 where
 -- the content of the file of that name
 abbrev pub content : List File → List ℕ → Option (List ℕ)
 content [] name = None
-content (file ∷ files) name =
-    if bytes_eq file.name name then Some file.bytes else content files name
+content (file ∷ files) name = if bytes_eq file.name name then Some file.bytes else content files name
 
 -- What is left is the whole file of that name.
 abbrev pub IsWholeFile : Option (List File) → List ℕ → Option (List ℕ) → Type 0
 IsWholeFile None name left = ⊤
-IsWholeFile (Some files) name left =
-    (bytes : List ℕ) × (content files name ≡ Some bytes) × (left ≡ Some bytes)
+IsWholeFile (Some files) name left = (bytes : List ℕ) × (content files name ≡ Some bytes) × (left ≡ Some bytes)
 
 -- No file has that name.
 abbrev pub IsLacking : Option (List File) → List ℕ → Type 0
@@ -36,14 +34,11 @@ AllKeep {K} before now = (other : K) → now other ≡ before other
 -- Of the bytes read by name, those of this name are so many more; of no name, none are.
 abbrev pub ReadsMore : (List ℕ → ℕ) → (List ℕ → ℕ) → Option (List ℕ) → ℕ → Type 0
 ReadsMore before now None count = AllKeep before now
-ReadsMore before now (Some name) count =
-    (now name ≡ raised_by (before name) count) × OthersKeep before now name
+ReadsMore before now (Some name) count = (now name ≡ raised_by (before name) count) × OthersKeep before now name
 
 -- A read adds what it took to the bytes read under that name, and a failed one nothing.
-abbrev pub ReadsUnder : {E : Type 0} → (List ℕ → ℕ) → (List ℕ → ℕ) → Option (List ℕ)
-    → Result ℕ E → Type 0
-ReadsUnder before now name result =
-    MatchResult result (ReadsMore before now name) (λ _. AllKeep before now)
+abbrev pub ReadsUnder : {E : Type 0} → (List ℕ → ℕ) → (List ℕ → ℕ) → Option (List ℕ) → Result ℕ E → Type 0
+ReadsUnder before now name result = MatchResult result (ReadsMore before now name) (λ _. AllKeep before now)
 
 -- These bytes were all that was left, and nothing is left.
 abbrev pub TakesAll : Option (List ℕ) → Option (List ℕ) → List ℕ → Type 0

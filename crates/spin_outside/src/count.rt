@@ -1,10 +1,11 @@
 //! Counts of faults and absences, which clauses alone read.
 
-ghost use Rattle.std.specs.Prelude.{◌≡◌, ◌+◌, ℕ};
+ghost use Rattle.std.specs.Prelude.{◌≡◌, ◌+◌, ℕ, MatchResult, Ok, is_err, true};
 ghost use Rattle.std.specs.Borrow.{ftrue};
 
-use std::fmt;
+use crate::faults::Failed;
 use std::marker::{Model, PhantomData};
+use std::{fmt, io};
 
 /// How often something happened to an object. It takes no memory and has no greatest number: clauses read it as
 /// `number`, and no code does.
@@ -35,6 +36,21 @@ impl Count {
     pub fn raise(&mut self)
         ensures { self.new.number ≡ self.old.number + 1 }
     {}
+
+    /// Hands on what a call of std gave. It is counted once where it is an error, and else not.
+    pub fn tell<T>(&mut self, given: io::Result<T>) -> Result<T, Failed>
+        ensures { MatchResult given
+            (λ value. (result ≡ Ok value) × (self.new.number ≡ self.old.number))
+            (λ _. (is_err result ≡ true) × (self.new.number ≡ self.old.number + 1)) }
+    {
+        match given {
+            Ok(value) => Ok(value),
+            Err(_) => {
+                self.raise();
+                Err(Failed)
+            }
+        }
+    }
 }
 
 impl fmt::Debug for Count {

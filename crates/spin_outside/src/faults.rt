@@ -1,9 +1,10 @@
 //! The answers of the outside that aren't success.
 
-ghost use Rattle.std.specs.Prelude.{◌≡◌};
+ghost use Rattle.std.specs.Prelude.{◌≡◌, ◌↔◌};
 ghost use Rattle.spin_outside.specs.declared.faults.TakeFault.TheVariants as taking;
 
 use spin_values::NoMemory;
+use std::io::ErrorKind;
 use thiserror::Error;
 
 /// The object failed, and its count of faults rose.
@@ -23,6 +24,19 @@ pub enum FindFault {
     /// There was no memory.
     #[error("out of memory")]
     NoMemory,
+}
+
+/// Which refusal of a find an error of that kind is, when a file is opened: an absence exactly at `NotFound`, want of
+/// memory exactly at `OutOfMemory`, and a failure of the shelf at every other.
+pub fn fault_of(kind: ErrorKind) -> FindFault
+    ensures absent { (result ≡ FindFault.Absent) ↔ (kind ≡ ErrorKind.NotFound) }
+    ensures memory { (result ≡ FindFault.NoMemory) ↔ (kind ≡ ErrorKind.OutOfMemory) }
+{
+    match kind {
+        ErrorKind::NotFound => FindFault::Absent,
+        ErrorKind::OutOfMemory => FindFault::NoMemory,
+        _ => FindFault::Failed,
+    }
 }
 
 /// Why a file isn't taken whole.

@@ -1,16 +1,20 @@
 //! The files of the working folder as a shelf, which tells what a file has left where std does.
 
-ghost use Rattle.std.specs.Prelude.{◌≡◌, ℕ, List, Option, None, []};
+ghost use Rattle.std.specs.Prelude.{◌≡◌, ◌+◌, ◌++◌, ◌∷◌, [], ℕ, List, Option, None};
+ghost use Rattle.std.specs.Prelude.{length, MatchResult};
+ghost use Rattle.std.specs.Prelude.{◌↔◌, true, is_err, IfOk, IfErr, IsErrOf};
+ghost use Rattle.std.specs.IoError.{error_kind};
+ghost use Rattle.spin_outside.specs.Counts.{FindsByCount, RefusesByCount};
 ghost use Rattle.spin_outside.specs.Folders.{left_in};
 
 use crate::count::Count;
-use crate::faults::{Failed, FindFault};
+use crate::faults::{Failed, FindFault, fault_of};
 use crate::shelf::Shelf;
 use spin_values::Text;
 use std::alloc::Global;
-use std::fs;
 use std::io::{ErrorKind, Read};
 use std::rt::Files;
+use std::{fs, io};
 
 /// The files below the working folder. Each file that was found stays open as long as the shelf. It doesn't tell the
 /// files by name, but what a file has left, where std tells what is to be read of it.
@@ -36,6 +40,64 @@ impl<'a, R: Files> FolderShelf<'a, R> {
             absences: Count::new(),
         }
     }
+
+    // Keeps a file that was opened, under the next number. Only for want of memory it is let go.
+    fn keep(&mut self, file: R::File) -> Result<u32, FindFault>
+        ensures found { MatchResult result
+            (λ number. (number ≡ length self.old.opened.items)
+            × (self.new.opened.items ≡ self.old.opened.items ++ file ∷ []))
+            (λ fault. (fault ≡ FindFault.NoMemory)
+            × (self.new.opened.items ≡ self.old.opened.items)) }
+        ensures faults { self.new.faults.number ≡ self.old.faults.number }
+        ensures absences { self.new.absences.number ≡ self.old.absences.number }
+    {
+        let Ok(number) = u32::try_from(self.opened.len()) else {
+            return Err(FindFault::NoMemory);
+        };
+        if self.opened.push(file).is_err() {
+            return Err(FindFault::NoMemory);
+        }
+        Ok(number)
+    }
+
+    // What is kept, told and counted where a call of std opened a file or didn't.
+    fn settle(&mut self, opened: io::Result<R::File>) -> Result<u32, FindFault>
+        ensures found { IfOk opened (λ file. MatchResult result
+            (λ number. (number ≡ length self.old.opened.items)
+            × (self.new.opened.items ≡ self.old.opened.items ++ file ∷ []))
+            (λ fault. (fault ≡ FindFault.NoMemory)
+            × (self.new.opened.items ≡ self.old.opened.items))) }
+        ensures absent { IfErr opened (λ error.
+            IsErrOf result FindFault.Absent ↔ (error_kind error ≡ ErrorKind.NotFound)) }
+        ensures memory { IfErr opened (λ error.
+            IsErrOf result FindFault.NoMemory ↔ (error_kind error ≡ ErrorKind.OutOfMemory)) }
+        ensures refused { IfErr opened (λ _. (is_err result ≡ true)
+            × (self.new.opened.items ≡ self.old.opened.items)) }
+        ensures cause { FindsByCount self.old.faults.number self.new.faults.number
+            self.old.absences.number self.new.absences.number result }
+    {
+        match opened {
+            Ok(file) => self.keep(file),
+            Err(error) => {
+                let fault = fault_of(error.kind());
+                self.count(fault);
+                Err(fault)
+            }
+        }
+    }
+
+    // Counts a refusal, in the count that it is told by.
+    fn count(&mut self, fault: FindFault)
+        ensures opened { self.new.opened.items ≡ self.old.opened.items }
+        ensures cause { RefusesByCount self.old.faults.number self.new.faults.number
+            self.old.absences.number self.new.absences.number fault }
+    {
+        match fault {
+            FindFault::Absent => self.absences.raise(),
+            FindFault::Failed => self.faults.raise(),
+            FindFault::NoMemory => {}
+        }
+    }
 }
 
 impl<R: Files> Shelf for FolderShelf<'_, R> {
@@ -52,31 +114,12 @@ impl<R: Files> Shelf for FolderShelf<'_, R> {
 
     /// Opens the file. No file has a name that isn't UTF-8.
     fn find(&mut self, name: &Text) -> Result<u32, FindFault> {
-        let Ok(path) = std::str::from_utf8(name.as_slice()) else {
-            self.absences.raise();
-            return Err(FindFault::Absent);
-        };
-        match fs::open(self.folder, path) {
-            Ok(file) => {
-                let Ok(number) = u32::try_from(self.opened.len()) else {
-                    return Err(FindFault::NoMemory);
-                };
-                if self.opened.push(file).is_err() {
-                    return Err(FindFault::NoMemory);
-                }
-                Ok(number)
+        match std::str::from_utf8(name.as_slice()) {
+            Ok(path) => self.settle(fs::open(self.folder, path)),
+            Err(_) => {
+                self.absences.raise();
+                Err(FindFault::Absent)
             }
-            Err(error) => match error.kind() {
-                ErrorKind::NotFound => {
-                    self.absences.raise();
-                    Err(FindFault::Absent)
-                }
-                ErrorKind::OutOfMemory => Err(FindFault::NoMemory),
-                _ => {
-                    self.faults.raise();
-                    Err(FindFault::Failed)
-                }
-            },
         }
     }
 
@@ -84,13 +127,7 @@ impl<R: Files> Shelf for FolderShelf<'_, R> {
         if file as usize >= self.opened.len() {
             return Ok(0);
         }
-        let opened = &mut self.opened[file as usize];
-        match opened.read(buf) {
-            Ok(count) => Ok(count),
-            Err(_) => {
-                self.faults.raise();
-                Err(Failed)
-            }
-        }
+        let given = self.opened[file as usize].read(buf);
+        self.faults.tell(given)
     }
 }

@@ -8,7 +8,8 @@
 //! - [`StdSink`] is a writer of std, as standard output, and [`FolderShelf`] the working folder, which tells of a file
 //!   what std tells of it;
 //! - [`Gate`] is what lanes pass before each deed, and [`OpenGate`] the one that holds up nothing;
-//! - [`Failed`], [`FindFault`] and [`TakeFault`] are the answers that aren't success.
+//! - [`Failed`], [`FindFault`] and [`TakeFault`] are the answers that aren't success, and [`fault_of`] says which an
+//!   error of the system is.
 //!
 //! Contracts see of each object a plain record, its ghost member `seen`; its faults and absences are a [`Count`].
 #![tactic(auto)]
@@ -33,7 +34,7 @@ mod std_sink;
 
 pub use calls::FailingCalls;
 pub use count::Count;
-pub use faults::{Failed, FindFault, TakeFault};
+pub use faults::{Failed, FindFault, TakeFault, fault_of};
 pub use folder_shelf::FolderShelf;
 pub use gate::{Gate, OpenGate};
 pub use limits::limits_are_stated;

@@ -1,11 +1,12 @@
 //! A writer of std as a sink, which tells what the writer does.
 
-ghost use Rattle.std.specs.Prelude.{◌≡◌};
+ghost use Rattle.std.specs.Prelude.{◌≡◌, ◌<◌, Ok, IfOk, IfErr};
 
 use crate::count::Count;
 use crate::faults::Failed;
 use crate::sink::Sink;
-use std::io::Write;
+use std::io;
+use std::io::{ErrorKind, Write};
 
 /// A writer, as standard output. A write that takes nothing is a failure. It tells what the writer holds, where the
 /// writer says that: a list of bytes does, a stream doesn't.
@@ -28,16 +29,22 @@ impl<W: Write> StdSink<W> {
     }
 }
 
+// What a write gave, where taking nothing is an error, as std's own `write_all` has it.
+fn not_none(given: io::Result<usize>) -> io::Result<usize>
+    ensures some { IfOk result (λ count. (0 < count) × (given ≡ Ok count)) }
+    ensures none { IfErr result (λ _. IfOk given (λ count. count ≡ 0)) }
+{
+    match given {
+        Ok(0) => Err(io::Error::from(ErrorKind::WriteZero)),
+        given => given,
+    }
+}
+
 impl<W: Write> Sink for StdSink<W> {
     ghost seen = { λ s. record { told = W.contents s.inner; faults = s.faults.number } };
 
     fn write(&mut self, bytes: &[u8]) -> Result<usize, Failed> {
-        match self.inner.write(bytes) {
-            Ok(count) if count > 0 => Ok(count),
-            _ => {
-                self.faults.raise();
-                Err(Failed)
-            }
-        }
+        let given = not_none(self.inner.write(bytes));
+        self.faults.tell(given)
     }
 }

@@ -8,7 +8,7 @@ use Rattle.spin_pcap.specs.declared.next.Next.{Next}
 use Rattle.spin_pcap.specs.declared.next.Next.TheVariants as next
 use Rattle.spin_pcap.specs.declared.order.Order.{Order}
 use Rattle.spin_pcap.specs.declared.limits.TheConstants.{MAX_RECORDS, MAX_CAPTURED}
-use Rattle.spin_pcap.specs.Captures.{captured, IsRecord, IsRest, IsBody}
+use Rattle.spin_pcap.specs.Captures.{captured_length, IsRecord, IsRest, IsBody}
 use Rattle.spin_pcap.specs.Laws.{EachHasBody, EachIsCapture}
 use Rattle.spin_pcap.proofs.WholeRecords.{number_at-front}
 
@@ -19,9 +19,9 @@ Begins way given bytes =
     ⊎ ((frame : List ℕ) × (rest : List ℕ) × IsRecord way given bytes frame rest)
 
 -- enough bytes are there for what the header says
-whole : (way : Order) (given : ℕ) (bytes : List ℕ) → given < MAX_RECORDS → captured way bytes ≤ MAX_CAPTURED → 16 + captured way bytes ≤ length bytes → Begins way given bytes
+whole : (way : Order) (given : ℕ) (bytes : List ℕ) → given < MAX_RECORDS → captured_length way bytes ≤ MAX_CAPTURED → 16 + captured_length way bytes ≤ length bytes → Begins way given bytes
 whole way given bytes few small there =
-    let count = captured way bytes in
+    let count = captured_length way bytes in
     let behind = drop 16 bytes in
     let size : length (take count behind) ≡ count = omega (arith, length-take count behind, length-drop 16 bytes, there) in
     let header : length (take 16 bytes) ≡ 16 = omega (arith, length-take 16 bytes, there) in
@@ -32,7 +32,7 @@ whole way given bytes few small there =
         few = few;
         header = take 16 bytes;
         size = header;
-        says = sym (number_at-front way 8 4 (take 16 bytes) behind (omega (arith, header))) ∙ ap (λ ys. captured way ys) (take-append-drop 16 bytes) ∙ sym size;
+        says = sym (number_at-front way 8 4 (take 16 bytes) behind (omega (arith, header))) ∙ ap (λ ys. captured_length way ys) (take-append-drop 16 bytes) ∙ sym size;
         small = omega (arith, size, small);
         whole = sym (append_assoc (take 16 bytes) (take count behind) (drop count behind) ∙ ap (λ ys. take 16 bytes ++ ys) (take-append-drop count behind) ∙ take-append-drop 16 bytes);
       },
@@ -40,9 +40,9 @@ whole way given bytes few small there =
 
 -- a header is there
 headed : (way : Order) (given : ℕ) (bytes : List ℕ) → given < MAX_RECORDS → 16 ≤ length bytes → Begins way given bytes
-headed way given bytes few long = elim (cases_lt MAX_CAPTURED (captured way bytes)) [
+headed way given bytes few long = elim (cases_lt MAX_CAPTURED (captured_length way bytes)) [
   | inl large ↦ inl (Err fault.TooLong, (few, long, large))
-  | inr small ↦ elim (cases_lt (length bytes) (16 + captured way bytes)) [
+  | inr small ↦ elim (cases_lt (length bytes) (16 + captured_length way bytes)) [
     | inl cut ↦ inl (Ok (next.Cut (length bytes)), record { some = omega (arith, long); size = refl; few = few; begun = λ _. (small, cut) })
     | inr there ↦ whole way given bytes few small there
   ]

@@ -8,25 +8,25 @@ use Rattle.spin_pcap.specs.declared.next.Next.{Next}
 use Rattle.spin_pcap.specs.declared.next.Next.TheVariants as next
 use Rattle.spin_pcap.specs.declared.order.Order.{Order}
 use Rattle.spin_pcap.specs.declared.limits.TheConstants.{MAX_RECORDS, MAX_CAPTURED}
-use Rattle.spin_pcap.specs.Captures.{captured, header_of, IsRecord, IsRest, IsBody}
+use Rattle.spin_pcap.specs.Captures.{captured_length, header_of, IsRecord, IsRest, IsBody}
 use Rattle.spin_pcap.specs.Laws.{OneReading, OneAnswer}
 use Rattle.spin_pcap.specs.Passing.{IsWithinRecord}
 use Rattle.spin_pcap.proofs.WholeRecords.{number_at-front}
 
 -- the captured length of a record that stands at the front
-record-says : (way : Order) (given : ℕ) (bytes frame rest : List ℕ) → IsRecord way given bytes frame rest → captured way bytes ≡ length frame
+record-says : (way : Order) (given : ℕ) (bytes frame rest : List ℕ) → IsRecord way given bytes frame rest → captured_length way bytes ≡ length frame
 record-says way given bytes frame rest r =
-    ap (λ ys. captured way ys) (r.whole ∙ append_assoc r.header frame rest) ∙ number_at-front way 8 4 r.header (frame ++ rest) (omega (arith, r.size)) ∙ r.says
+    ap (λ ys. captured_length way ys) (r.whole ∙ append_assoc r.header frame rest) ∙ number_at-front way 8 4 r.header (frame ++ rest) (omega (arith, r.size)) ∙ r.says
 
-record-frame : (way : Order) (given : ℕ) (bytes frame rest : List ℕ) → IsRecord way given bytes frame rest → frame ≡ take (captured way bytes) (drop 16 bytes)
+record-frame : (way : Order) (given : ℕ) (bytes frame rest : List ℕ) → IsRecord way given bytes frame rest → frame ≡ take (captured_length way bytes) (drop 16 bytes)
 record-frame way given bytes frame rest r =
-    sym (take_at frame rest (captured way bytes) (sym (record-says way given bytes frame rest r)))
-    ∙ ap (λ ys. take (captured way bytes) ys) (sym (drop_at r.header (frame ++ rest) 16 r.size) ∙ ap (λ ys. drop 16 ys) (sym (append_assoc r.header frame rest) ∙ sym r.whole))
+    sym (take_at frame rest (captured_length way bytes) (sym (record-says way given bytes frame rest r)))
+    ∙ ap (λ ys. take (captured_length way bytes) ys) (sym (drop_at r.header (frame ++ rest) 16 r.size) ∙ ap (λ ys. drop 16 ys) (sym (append_assoc r.header frame rest) ∙ sym r.whole))
 
-record-rest : (way : Order) (given : ℕ) (bytes frame rest : List ℕ) → IsRecord way given bytes frame rest → rest ≡ drop (16 + captured way bytes) bytes
+record-rest : (way : Order) (given : ℕ) (bytes frame rest : List ℕ) → IsRecord way given bytes frame rest → rest ≡ drop (16 + captured_length way bytes) bytes
 record-rest way given bytes frame rest r =
-    sym (drop_at (r.header ++ frame) rest (16 + captured way bytes) (omega (arith, length-append r.header frame, r.size, record-says way given bytes frame rest r)))
-    ∙ ap (λ ys. drop (16 + captured way bytes) ys) (sym r.whole)
+    sym (drop_at (r.header ++ frame) rest (16 + captured_length way bytes) (omega (arith, length-append r.header frame, r.size, record-says way given bytes frame rest r)))
+    ∙ ap (λ ys. drop (16 + captured_length way bytes) ys) (sym r.whole)
 
 one-record : (way : Order) (given : ℕ) (bytes frame frame' rest rest' : List ℕ) → IsRecord way given bytes frame rest → IsRecord way given bytes frame' rest' → (frame ≡ frame') × (rest ≡ rest')
 one-record way given bytes frame frame' rest rest' r r' = (
@@ -34,7 +34,7 @@ one-record way given bytes frame frame' rest rest' r r' = (
   record-rest way given bytes frame rest r ∙ sym (record-rest way given bytes frame' rest' r'),
 )
 
-record-size : (way : Order) (given : ℕ) (bytes frame rest : List ℕ) → IsRecord way given bytes frame rest → 16 + captured way bytes ≤ length bytes
+record-size : (way : Order) (given : ℕ) (bytes frame rest : List ℕ) → IsRecord way given bytes frame rest → 16 + captured_length way bytes ≤ length bytes
 record-size way given bytes frame rest r =
     omega (arith, ap length r.whole, length-append (r.header ++ frame) rest, length-append r.header frame, r.size, record-says way given bytes frame rest r)
 
@@ -43,7 +43,7 @@ pub part_fits : (way : Order) (given : ℕ) (gone more frame rest : List ℕ) �
 part_fits way given gone more frame rest part r = elim (cases_lt (length gone) 16) [
   | inl lt ↦ omega (arith, lt)
   | inr le ↦
-      let says : captured way gone ≡ length frame = sym (number_at-front way 8 4 gone more (omega (arith, le))) ∙ record-says way given (gone ++ more) frame rest r in
+      let says : captured_length way gone ≡ length frame = sym (number_at-front way 8 4 gone more (omega (arith, le))) ∙ record-says way given (gone ++ more) frame rest r in
       omega (arith, part.says le, says)
 ]
 
@@ -104,18 +104,18 @@ answer-cut given size says some few small =
       | inr le ↦ ap (λ b. cond b (cond (nat_lt MAX_CAPTURED says) (Err fault.TooLong) (Ok (next.Cut size))) (Ok (next.Cut size))) (le-ltb 15 size le)
     ])
 
-answered : (way : Order) (given : ℕ) (bytes : List ℕ) (ending : Result Next PcapFault) → IsRest way given bytes ending → answer given (length bytes) (captured way bytes) ≡ ending
+answered : (way : Order) (given : ℕ) (bytes : List ℕ) (ending : Result Next PcapFault) → IsRest way given bytes ending → answer given (length bytes) (captured_length way bytes) ≡ ending
 answered way given bytes (Ok next.Packet) e = absurd e
-answered way given bytes (Ok next.End) e = ap (λ n. answer given n (captured way bytes)) (ap length e) ∙ answer-none given (captured way bytes)
+answered way given bytes (Ok next.End) e = ap (λ n. answer given n (captured_length way bytes)) (ap length e) ∙ answer-none given (captured_length way bytes)
 answered way given bytes (Ok (next.Cut count)) e =
-    ap (λ n. answer given n (captured way bytes)) e.size ∙ answer-cut given count (captured way bytes) e.some e.few (λ le. (e.begun le).0)
+    ap (λ n. answer given n (captured_length way bytes)) e.size ∙ answer-cut given count (captured_length way bytes) e.some e.few (λ le. (e.begun le).0)
 answered way given bytes (Err fault.ReadFault) e = absurd e
 answered way given bytes (Err fault.BadMagic) e = absurd e
 answered way given bytes (Err fault.BadVersion) e = absurd e
 answered way given bytes (Err fault.BadLink) e = absurd e
 answered way given bytes (Err fault.Short) e = absurd e
-answered way given bytes (Err fault.TooLong) e = answer-long given (length bytes) (captured way bytes) e.1 e.0 e.2
-answered way given bytes (Err fault.TooManyRecords) e = answer-many given (length bytes) (captured way bytes) e.1 e.0
+answered way given bytes (Err fault.TooLong) e = answer-long given (length bytes) (captured_length way bytes) e.1 e.0 e.2
+answered way given bytes (Err fault.TooManyRecords) e = answer-many given (length bytes) (captured_length way bytes) e.1 e.0
 answered way given bytes (Err (fault.Spoilt first)) e = absurd e
 answered way given bytes (Err fault.NoMemory) e = absurd e
 

@@ -9,7 +9,7 @@ use Rattle.spin_pcap.specs.declared.next.Next.TheVariants as next
 use Rattle.spin_pcap.specs.declared.order.Order.{Order}
 use Rattle.spin_pcap.specs.declared.order.Order.TheVariants as order
 use Rattle.spin_pcap.specs.declared.limits.TheConstants.{MAX_RECORDS, MAX_CAPTURED}
-use Rattle.spin_pcap.specs.Captures.{captured, header_of, fields_of, order_of, IsRecord, IsRest}
+use Rattle.spin_pcap.specs.Captures.{captured_length, header_of, fields_of, order_of, IsRecord, IsRest}
 use Rattle.spin_pcap.specs.Passing.{IsCutShort}
 
 -- the header of a record with that captured length, and zeros
@@ -21,11 +21,11 @@ header_size : (way : Order) (n : ℕ) → length (header_with way n) ≡ 16
 header_size order.Big n = refl
 header_size order.Little n = refl
 
-says : (way : Order) (n : ℕ) (rest : List ℕ) → n < 256 ^ 4 → captured way (header_with way n ++ rest) ≡ n
+says : (way : Order) (n : ℕ) (rest : List ℕ) → n < 256 ^ 4 → captured_length way (header_with way n ++ rest) ≡ n
 says order.Big n rest small = big_number-reads_back 4 n (replicate 4 0 ++ rest) small
 says order.Little n rest small = little_number-reads_back 4 n (replicate 4 0 ++ rest) small
 
-header_says : (way : Order) (n : ℕ) → n < 256 ^ 4 → captured way (header_with way n) ≡ n
+header_says : (way : Order) (n : ℕ) → n < 256 ^ 4 → captured_length way (header_with way n) ≡ n
 header_says order.Big n small = big_number-reads_back 4 n (replicate 4 0) small
 header_says order.Little n small = little_number-reads_back 4 n (replicate 4 0) small
 

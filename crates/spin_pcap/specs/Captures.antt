@@ -48,14 +48,13 @@ fields_of (Some way) bytes =
 
 -- the first fault of the header at the front of the file, or the order of all fields
 abbrev pub header_of : List ℕ → Result Order PcapFault
-header_of bytes =
-    if nat_lt (length bytes) 24 then Err fault.Short else fields_of (order_of bytes) bytes
+header_of bytes = if nat_lt (length bytes) 24 then Err fault.Short else fields_of (order_of bytes) bytes
 
 -- Records
 
 -- the captured length in the header of a record
-abbrev pub captured : Order → List ℕ → ℕ
-captured way bytes = ordered_number_at way 8 4 bytes
+abbrev pub captured_length : Order → List ℕ → ℕ
+captured_length way bytes = ordered_number_at way 8 4 bytes
 
 -- At the front stands a whole record with these captured bytes, and the others follow. So many
 -- records came before.
@@ -63,23 +62,23 @@ pub record IsRecord (way : Order) (given : ℕ) (bytes frame rest : List ℕ) : 
   pub few : given < MAX_RECORDS
   pub header : List ℕ
   pub size : length header ≡ 16
-  pub says : captured way header ≡ length frame
+  pub says : captured_length way header ≡ length frame
   pub small : length frame ≤ MAX_CAPTURED
   pub whole : bytes ≡ header ++ frame ++ rest
 
 -- At the front stands the whole header of a record that may be given, whether its bytes follow or not. So many records
 -- came before.
-pub record HasHeader (way : Order) (given : ℕ) (bytes : List ℕ) : Type 0 where
+pub record HasRecordHeader (way : Order) (given : ℕ) (bytes : List ℕ) : Type 0 where
   pub few : given < MAX_RECORDS
   pub there : 16 ≤ length bytes
-  pub small : captured way bytes ≤ MAX_CAPTURED
+  pub small : captured_length way bytes ≤ MAX_CAPTURED
 
 -- So many bytes are there, no whole record among them, and they could still become one.
 pub record IsCut (way : Order) (given : ℕ) (bytes : List ℕ) (count : ℕ) : Type 0 where
   pub some : 0 < count
   pub size : length bytes ≡ count
   pub few : given < MAX_RECORDS
-  pub begun : 16 ≤ count → (captured way bytes ≤ MAX_CAPTURED) × (count < 16 + captured way bytes)
+  pub begun : 16 ≤ count → (captured_length way bytes ≤ MAX_CAPTURED) × (count < 16 + captured_length way bytes)
 
 -- a rest that no bytes could mend: a byte behind the last record that is allowed, or else a
 -- captured length over the limit
@@ -89,8 +88,7 @@ IsBad way given bytes fault.BadMagic = ⊥
 IsBad way given bytes fault.BadVersion = ⊥
 IsBad way given bytes fault.BadLink = ⊥
 IsBad way given bytes fault.Short = ⊥
-IsBad way given bytes fault.TooLong =
-    (given < MAX_RECORDS) × (16 ≤ length bytes) × (MAX_CAPTURED < captured way bytes)
+IsBad way given bytes fault.TooLong = (given < MAX_RECORDS) × (16 ≤ length bytes) × (MAX_CAPTURED < captured_length way bytes)
 IsBad way given bytes fault.TooManyRecords = (MAX_RECORDS ≤ given) × (0 < length bytes)
 IsBad way given bytes (fault.Spoilt first) = ⊥
 IsBad way given bytes fault.NoMemory = ⊥
@@ -106,9 +104,7 @@ IsRest way given bytes (Err wrong) = IsBad way given bytes wrong
 abbrev pub IsBody : Order → ℕ → List ℕ → List (List ℕ) → Result Next PcapFault → Type 0
 IsBody way given bytes [] ending = IsRest way given bytes ending
 IsBody way given bytes (frame ∷ frames) ending =
-    (rest : List ℕ)
-    × IsRecord way given bytes frame rest
-    × IsBody way (given + 1) rest frames ending
+    (rest : List ℕ) × IsRecord way given bytes frame rest × IsBody way (given + 1) rest frames ending
 
 -- The file has a header of that order, whole records with these captured bytes, and then such a
 -- rest.

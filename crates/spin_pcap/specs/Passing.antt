@@ -11,7 +11,7 @@ use Rattle.spin_pcap.specs.declared.next.Next.TheVariants as next
 use Rattle.spin_pcap.specs.declared.order.Order.{Order}
 use Rattle.spin_pcap.specs.declared.state.State.{State}
 use Rattle.spin_pcap.specs.declared.state.State.TheVariants as state
-use Rattle.spin_pcap.specs.Captures.{header_of, captured, IsRecord, IsRest}
+use Rattle.spin_pcap.specs.Captures.{header_of, captured_length, IsRecord, IsRest}
 use Rattle.spin_pcap.specs.declared.limits.TheConstants.{MAX_CAPTURED, MAX_HELD, MAX_RECORDS}
 
 -- a reader: the order of the fields, the bytes that it took and hasn't given yet, how many records
@@ -118,7 +118,7 @@ IsAnswer way given bytes (Err wrong) frame left =
 -- record can have.
 pub record IsWithinRecord (way : Order) (bytes : List ℕ) : Type 0 where
   pub few : length bytes ≤ 16 + MAX_CAPTURED
-  pub says : 16 ≤ length bytes → length bytes ≤ 16 + captured way bytes
+  pub says : 16 ≤ length bytes → length bytes ≤ 16 + captured_length way bytes
 
 -- A record that was given is gone, its header and its bytes; in any other case at most a part of
 -- one record is gone.

@@ -2,7 +2,7 @@
 
 ghost use Rattle.std.specs.Prelude.{◌≡◌, ◌<◌, ◌≤◌, ◌+◌, ℕ, List, [], ◌++◌, length, IfOk, IfErr};
 ghost use Rattle.std.specs.Prelude.{IfSome, ⊤, true, false, Err};
-ghost use Rattle.spin_pcap.specs.Captures.{HasHeader};
+ghost use Rattle.spin_pcap.specs.Captures.{HasRecordHeader};
 ghost use Rattle.spin_pcap.specs.Inner.Filling.{Copies};
 ghost use Rattle.spin_pcap.specs.Inner.Held.{HasPassed};
 ghost use Rattle.spin_pcap.specs.Passing.{Passes, UnlessFailed, ReadsByCount, IsStart};
@@ -107,7 +107,7 @@ fn read_record<S: Source>(
     ensures cut { IsCutShort given result }
     ensures refused { IsRefusal given result }
     ensures memory { result ≡ Err PcapFault.NoMemory →
-        IfSome (left_for window.old (S.seen source.old).left) (HasHeader order given) }
+        IfSome (left_for window.old (S.seen source.old).left) (HasRecordHeader order given) }
     ensures passed { (gone : List ℕ)
         × Passes gone window.old (S.seen source.old) window.new (S.seen source.new)
         × IsGone order result gone frame.new }
@@ -212,7 +212,7 @@ impl Reader {
         ensures cut { IfReading self.old.state (IsCutShort self.old.given result) ⊤ }
         ensures refused { IfReading self.old.state (IsRefusal self.old.given result) ⊤ }
         ensures memory { result ≡ Err PcapFault.NoMemory →
-            IfSome (left_for self.old.held (S.seen source.old).left) (HasHeader self.old.order self.old.given) }
+            IfSome (left_for self.old.held (S.seen source.old).left) (HasRecordHeader self.old.order self.old.given) }
         ensures cause { ReadsByCount (S.seen source.old).faults (S.seen source.new).faults result }
     {
         empty(frame);
@@ -286,7 +286,7 @@ impl Reader {
         ensures cut { IfReading self.old.state (IsCutShort self.old.given result) ⊤ }
         ensures refused { IfReading self.old.state (IsRefusal self.old.given result) ⊤ }
         ensures memory { result ≡ Err PcapFault.NoMemory →
-            IfSome (left_for self.old.held (S.seen source.old).left) (HasHeader self.old.order self.old.given) }
+            IfSome (left_for self.old.held (S.seen source.old).left) (HasRecordHeader self.old.order self.old.given) }
         ensures cause { ReadsByCount (S.seen source.old).faults (S.seen source.new).faults result }
     {
         if self.pass_held() {

@@ -7,8 +7,7 @@ AreDistinct ns = AllPairs (λ m n. m ≡ n → ⊥) ns
 
 -- all the numbers in an order in which nothing stands after what it must precede
 abbrev pub IsLawfulOrder : (ℕ → ℕ → Type 0) → List ℕ → List ℕ → Type 0
-IsLawfulOrder MustPrecede numbers ns =
-    IsPermutation numbers ns × AllPairs (λ m n. MustPrecede n m → ⊥) ns
+IsLawfulOrder MustPrecede numbers ns = IsPermutation numbers ns × AllPairs (λ m n. MustPrecede n m → ⊥) ns
 
 -- at the first difference the first list has the smaller number
 abbrev pub IsLess : List ℕ → List ℕ → Type 0

@@ -38,8 +38,7 @@ numbers_of bs = map (λ b. b.number) bs
 
 -- of the bindings, the one with the first number must precede the one with the second
 abbrev pub MustPrecede : List Binding → ℕ → ℕ → Type 0
-MustPrecede bs m n =
-    Any (λ b. (b.number ≡ m) × Any (λ c. (c.number ≡ n) × IsTrue (must_precede b c)) bs) bs
+MustPrecede bs m n = Any (λ b. (b.number ≡ m) × Any (λ c. (c.number ≡ n) × IsTrue (must_precede b c)) bs) bs
 
 -- these numbers are a lawful order of the bindings
 abbrev pub IsLawful : List Binding → List ℕ → Type 0

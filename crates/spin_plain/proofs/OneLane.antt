@@ -30,7 +30,8 @@ use Rattle.spin_report.specs.Legal.{IsLegal}
 use Rattle.spin_report.specs.Jobs.{answer_calls, AreJobsFrom, AreJobs}
 use Rattle.spin_report.specs.Asked.{Numbered, asked_of}
 use Rattle.spin_report.specs.Segments.{asked_in, of_lane, asked_of_lane}
-use Rattle.spin_report.specs.Runs.{Standing, sends_of, sends_of_reply, sends_in, lost_counts, IsSegmentRun, AreRun, counts_of, frames_of, start_with}
+use Rattle.spin_report.specs.Runs.{RunPoint, sends_of, sends_of_reply, segment_sends, lost_counts, IsSegmentRun, AreRun, counts_of, frames_of, start_with}
+use Rattle.spin_report.proofs.LaneAnswers.{filter_asked}
 use Rattle.spin_report.proofs.Asking.{asked_all}
 use Rattle.spin_plain.specs.Plain.{next_state, entry_for, jobs_for, entries_from, jobs_from, state_from, plain_answers, plain_segment, plain_after, plain_segments, plain_end}
 use Rattle.spin_plain.specs.Laws.{is_conflict, met_conflict, what_without, entry_without, segment_without, without_cycles, OneLaneIsPlain, OneLaneOneText}
@@ -103,12 +104,12 @@ IsOfOne line = line.lane < 1
 
 module _ (script : ScriptData) (lanes : script.lanes ≡ 1) where
   -- a segment that is run is the plain dispatcher's, but for its cycles
-  record IsPlainSegment (segment : Segment) (before : Standing) (seen : SegmentSeen) (after : Standing) : Type 0 where
+  record IsPlainSegment (segment : Segment) (before : RunPoint) (seen : SegmentSeen) (after : RunPoint) : Type 0 where
     seen_is : segment_without seen ≡ plain_segment script segment before
     after_is : after ≡ plain_after script segment before
     rising : IsRising after.state
 
-  module _ (segment : Segment) (before : Standing) (seen : SegmentSeen) (after : Standing) (lines : All IsOfOne segment.lines) (from : IsRising before.state)
+  module _ (segment : Segment) (before : RunPoint) (seen : SegmentSeen) (after : RunPoint) (lines : All IsOfOne segment.lines) (from : IsRising before.state)
       (run : IsSegmentRun script.setup script.lanes script.endpoints segment before seen after) where
     answers : ArePlain script.setup before.state seen.entries seen.jobs after.state
     answers = all_entries script.setup before.state seen.entries seen.jobs after.state from run.woven.legal run.woven.jobs_are
@@ -119,7 +120,7 @@ module _ (script : ScriptData) (lanes : script.lanes ≡ 1) where
         let of_one = subst (λ k. All (λ (entry : Entry). entry.lane < k) seen.entries) lanes run.woven.lanes_are in
         let asked = asked_all (λ n. n.lane < 1) segment.lines before.left
         (All-weaker IsOfOne (λ line. (part : ℕ × Work) → line.lane < 1) (λ line below part. below) segment.lines lines) in
-        sym (ap (map asked_of) (all_of_lane seen.entries of_one)) ∙ run.woven.once 0 (omega (arith, lanes)) ∙ all_asked_of_lane (asked_in segment.lines before.left) asked
+        sym (ap (map asked_of) (all_of_lane seen.entries of_one)) ∙ sym (filter_asked 0 seen.entries) ∙ run.woven.once 0 (omega (arith, lanes)) ∙ all_asked_of_lane (asked_in segment.lines before.left) asked
 
     entries : map entry_without seen.entries ≡ entries_from script.setup before.state (asked_in segment.lines before.left)
     entries = answers.entries_are ∙ ap (entries_from script.setup before.state) in_text_order
@@ -127,7 +128,7 @@ module _ (script : ScriptData) (lanes : script.lanes ≡ 1) where
     jobs : seen.jobs ≡ jobs_from script.setup before.state (asked_in segment.lines before.left)
     jobs = answers.jobs_are ∙ ap (jobs_from script.setup before.state) in_text_order
 
-    sends : sends_in seen ≡ sends_in (plain_answers script segment before)
+    sends : segment_sends seen ≡ segment_sends (plain_answers script segment before)
     sends =
         let of_entries = entry_sends seen.entries ∙ ap (flat_map (λ (entry : Entry). sends_of entry.what)) entries in
         λ i. of_entries i ++ flat_map (λ (job : JobSeen). sends_of_reply job.reply) (jobs i)
@@ -144,7 +145,7 @@ module _ (script : ScriptData) (lanes : script.lanes ≡ 1) where
           rising = answers.rising;
         }
 
-  all_segments : (segments : List Segment) (before : Standing) (seen : List SegmentSeen) (after : Standing) → All IsOfOne (lines_in segments) → IsRising before.state
+  all_segments : (segments : List Segment) (before : RunPoint) (seen : List SegmentSeen) (after : RunPoint) → All IsOfOne (lines_in segments) → IsRising before.state
       → AreRun script segments before seen after → (map segment_without seen ≡ plain_segments script segments before) × (after ≡ plain_end script segments before)
   all_segments [] before seen after lines from run = (ap (map segment_without) run.0, run.1)
   all_segments (segment ∷ segments) before seen after lines from (first, others, next, is, run, rest) =
@@ -154,8 +155,8 @@ module _ (script : ScriptData) (lanes : script.lanes ≡ 1) where
       let other_lines : All IsOfOne later =
       subst (All IsOfOne) (drop-append_seam segment.lines later) (All-drop IsOfOne (length segment.lines) (segment.lines ++ later) lines) in
       let one = one_segment segment before first next first_lines from run in
-      let more = all_segments segments (plain_after script segment before) others after other_lines (subst (λ (x : Standing). IsRising x.state) one.after_is one.rising)
-      (subst (λ (x : Standing). AreRun script segments x others after) one.after_is rest) in
+      let more = all_segments segments (plain_after script segment before) others after other_lines (subst (λ (x : RunPoint). IsRising x.state) one.after_is one.rising)
+      (subst (λ (x : RunPoint). AreRun script segments x others after) one.after_is rest) in
       (ap (map segment_without) is ∙ (λ i. one.seen_is i ∷ more.0 i), more.1)
 
 -- ---- the whole
@@ -166,8 +167,8 @@ one_lane n text script capture ends history last is lanes run =
     let lines = All-weaker (IsOnLane script.lanes) IsOfOne (λ line on. omega (arith, lanes, on.below)) (lines_in script.segments) orderly.lanes.each in
     let start = start_with script (frames_of capture) ends in
     let all = all_segments script lanes script.segments start history.segments last lines (start_rises script.setup) run.segments in
-    let end = run.end ∙ ap (λ (x : Standing). x.state.place) all.1 in
-    let counts = run.capture_is ∙ ap (λ (x : Standing). option_map (counts_of x.left) capture) all.1 in
+    let end = run.end ∙ ap (λ (x : RunPoint). x.state.place) all.1 in
+    let counts = run.capture_is ∙ ap (λ (x : RunPoint). option_map (counts_of x.left) capture) all.1 in
     (λ i. record { segments = all.0 i; end = end i; capture = counts i }, all.1)
 
 -- ---- the text

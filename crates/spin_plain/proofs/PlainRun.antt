@@ -44,7 +44,8 @@ use Rattle.spin_report.specs.Legal.{Answers, IsLegal}
 use Rattle.spin_report.specs.Jobs.{answer_calls, entry_job, AreJobsFrom, AreJobs}
 use Rattle.spin_report.specs.Asked.{Numbered, asked_by, asked_of}
 use Rattle.spin_report.specs.Segments.{records_wanted, raise_with, parts_of, asked_at, asked_in, is_accepted, moment, moment_cmp, of_lane, asked_of_lane, IsInOrder, IsWoven}
-use Rattle.spin_report.specs.Runs.{Standing, frames_of, start_with, IsSegmentRun, AreRun}
+use Rattle.spin_report.specs.Runs.{RunPoint, frames_of, start_with, IsSegmentRun, AreRun}
+use Rattle.spin_report.proofs.LaneAnswers.{filter_asked}
 use Rattle.spin_report.proofs.Asking.{IsLater, asked_all, asked_rises}
 use Rattle.spin_plain.specs.Order.{in_order}
 use Rattle.spin_plain.specs.Plain.{can_stand, verdict_by, verdict_on, found_at, answered, left_by, next_state, entry_for, jobs_for, entries_from, jobs_from, state_from, plain_segment, plain_after, plain_segments, plain_end}
@@ -325,7 +326,7 @@ rise_behind (line ∷ lines) later rise =
     rise_behind lines later (AllPairs-tail (λ (x : Line) (next : Line). x.number < next.number) line (lines ++ later) rise)
 
 module _ (script : ScriptData) (lanes : script.lanes ≡ 1) where
-  module _ (segment : Segment) (before : Standing) (lines : All IsOfOne segment.lines) (rise : LinesRise segment.lines) (from : IsFound script.setup before.state)
+  module _ (segment : Segment) (before : RunPoint) (lines : All IsOfOne segment.lines) (rise : LinesRise segment.lines) (from : IsFound script.setup before.state)
       (free : All MetNone (entries_from script.setup before.state (asked_in segment.lines before.left))) where
     abbrev asked : List Numbered
     asked = asked_in segment.lines before.left
@@ -353,7 +354,7 @@ module _ (script : ScriptData) (lanes : script.lanes ≡ 1) where
     woven : IsWoven script.setup script.lanes asked before.state (state_from script.setup before.state asked) entries (jobs_from script.setup before.state asked)
     woven = record {
       legal = there.legal;
-      once = answer_once;
+      once = λ k lt. filter_asked k entries ∙ answer_once k lt;
       lanes_are = subst (λ most. All (λ (entry : Entry). entry.lane < most) entries) (sym lanes) of_one;
       order = in_text_order script.setup before.state asked below (asked_rises segment.lines before.left rise);
       jobs_are = there.jobs;
@@ -362,7 +363,7 @@ module _ (script : ScriptData) (lanes : script.lanes ≡ 1) where
     segment_runs : IsSegmentRun script.setup script.lanes script.endpoints segment before (plain_segment script segment before) (plain_after script segment before)
     segment_runs = record { retired = refl; start = refl; woven = woven; left = refl; lost = refl; ends = refl }
 
-  segments_run : (segments : List Segment) (before : Standing) → All IsOfOne (lines_in segments) → LinesRise (lines_in segments) → IsFound script.setup before.state
+  segments_run : (segments : List Segment) (before : RunPoint) → All IsOfOne (lines_in segments) → LinesRise (lines_in segments) → IsFound script.setup before.state
       → All MetNone (flat_map (λ s. s.entries) (plain_segments script segments before))
       → AreRun script segments before (plain_segments script segments before) (plain_end script segments before)
   segments_run [] before lines rise from free = (refl, refl)

@@ -19,7 +19,7 @@ use Rattle.spin_grammar.specs.Lines.{LineMeaning, Event, Endpoint, Handler, Guar
 use Rattle.spin_endpoint.specs.Named.{NamedEnd, added}
 use Rattle.spin_script.specs.States.{NativeData, ScriptData, start, after, script_in}
 use Rattle.spin_report.specs.Histories.{report_lines}
-use Rattle.spin_report.specs.Runs.{Captured}
+use Rattle.spin_report.specs.Runs.{CaptureSeen}
 use Rattle.spin_plain.specs.Plain.{plain_history, plain_last}
 
 -- no natives are handed in
@@ -159,7 +159,7 @@ reply =
     ∷ 192 ∷ 12 ∷ 0 ∷ 1 ∷ 0 ∷ 1 ∷ 0 ∷ 0 ∷ 0 ∷ 60 ∷ 0 ∷ 4 ∷ 10 ∷ 0 ∷ 0 ∷ 3 ∷ []
 
 -- examples/packets.pcap, which has them twice
-abbrev pub capture : Captured
+abbrev pub capture : CaptureSeen
 capture = record { frames = arp ∷ tcp ∷ query ∷ reply ∷ arp ∷ tcp ∷ query ∷ reply ∷ []; cut = 0 }
 
 -- Each has the report that stands beside it in examples/, but for the numbers 2 and 7 of the cycle in that of

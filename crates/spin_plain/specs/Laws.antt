@@ -11,7 +11,7 @@ use Rattle.spin_report.specs.declared.entry.What.{What}
 use Rattle.spin_report.specs.declared.entry.What.TheVariants as what
 use Rattle.spin_report.specs.declared.entry.Entry.{Entry}
 use Rattle.spin_report.specs.Histories.{SegmentSeen, HistorySeen, report_text, entries_of}
-use Rattle.spin_report.specs.Runs.{Captured, Standing, IsRun}
+use Rattle.spin_report.specs.Runs.{CaptureSeen, RunPoint, IsRun}
 use Rattle.spin_plain.specs.Plain.{plain_history, plain_last}
 
 -- it is a refusal for a conflict
@@ -47,8 +47,8 @@ without_cycles history = record history { segments = map segment_without history
 -- conflicts tell, and it left the state, the records and the endpoints that the plain dispatcher leaves.
 abbrev pub OneLaneIsPlain : Type 0
 OneLaneIsPlain =
-    (n : NativeData) (text : List ℕ) (script : ScriptData) (capture : Option Captured)
-    (ends : List NamedEnd) (history : HistorySeen) (last : Standing) → IsScript n text (Ok script)
+    (n : NativeData) (text : List ℕ) (script : ScriptData) (capture : Option CaptureSeen)
+    (ends : List NamedEnd) (history : HistorySeen) (last : RunPoint) → IsScript n text (Ok script)
     → script.lanes ≡ 1 → IsRun script capture ends history last
     → (without_cycles history ≡ plain_history script capture ends)
     × (last ≡ plain_last script capture ends)
@@ -56,15 +56,15 @@ OneLaneIsPlain =
 -- Where no command of it met a conflict, the text of its report is that of the plain dispatcher's history.
 abbrev pub OneLaneOneText : Type 0
 OneLaneOneText =
-    (n : NativeData) (text : List ℕ) (script : ScriptData) (capture : Option Captured)
-    (ends : List NamedEnd) (history : HistorySeen) (last : Standing) → IsScript n text (Ok script)
+    (n : NativeData) (text : List ℕ) (script : ScriptData) (capture : Option CaptureSeen)
+    (ends : List NamedEnd) (history : HistorySeen) (last : RunPoint) → IsScript n text (Ok script)
     → script.lanes ≡ 1 → HasNoConflict history → IsRun script capture ends history last
     → report_text history ≡ report_text (plain_history script capture ends)
 
 -- And where no command of the plain dispatcher's history meets one, that history is one of the script's.
 abbrev pub PlainIsRun : Type 0
 PlainIsRun =
-    (n : NativeData) (text : List ℕ) (script : ScriptData) (capture : Option Captured)
+    (n : NativeData) (text : List ℕ) (script : ScriptData) (capture : Option CaptureSeen)
     (ends : List NamedEnd) → IsScript n text (Ok script) → script.lanes ≡ 1
     → HasNoConflict (plain_history script capture ends)
     → IsRun script capture ends (plain_history script capture ends) (plain_last script capture ends)

@@ -32,7 +32,7 @@ use Rattle.spin_report.specs.Asked.{Numbered}
 use Rattle.spin_report.specs.Jobs.{answer_calls, entry_job}
 use Rattle.spin_report.specs.Histories.{SegmentSeen, HistorySeen}
 use Rattle.spin_report.specs.Segments.{asked_in, wanted_by}
-use Rattle.spin_report.specs.Runs.{Standing, Captured, retirements, lost_counts, sends_in, frames_of, start_with, counts_of}
+use Rattle.spin_report.specs.Runs.{RunPoint, CaptureSeen, retirements, lost_counts, segment_sends, frames_of, start_with, counts_of}
 use Rattle.spin_plain.specs.Order.{in_order}
 
 -- ---- one answer
@@ -107,7 +107,7 @@ state_from d s asked = fold (next_state d) s asked
 -- ---- one segment after another
 
 -- the segment as it is done from there, before its sends are delivered
-abbrev pub plain_answers : ScriptData → Segment → Standing → SegmentSeen
+abbrev pub plain_answers : ScriptData → Segment → RunPoint → SegmentSeen
 plain_answers script segment before = record {
   retired = retirements script.endpoints segment.retires before.ends;
   start = before.state.place;
@@ -117,41 +117,41 @@ plain_answers script segment before = record {
 }
 
 -- the segment with what is lost of its sends
-abbrev pub plain_segment : ScriptData → Segment → Standing → SegmentSeen
+abbrev pub plain_segment : ScriptData → Segment → RunPoint → SegmentSeen
 plain_segment script segment before =
     record (plain_answers script segment before) {
       lost =
           lost_counts script.endpoints (all_retired script.endpoints segment.retires before.ends)
-          (sends_in (plain_answers script segment before));
+          (segment_sends (plain_answers script segment before));
     }
 
 -- how it leaves the run
-abbrev pub plain_after : ScriptData → Segment → Standing → Standing
+abbrev pub plain_after : ScriptData → Segment → RunPoint → RunPoint
 plain_after script segment before = record {
   state = state_from script.setup before.state (asked_in segment.lines before.left);
   left = drop (wanted_by segment.lines) before.left;
   ends =
-      all_received script.endpoints (sends_in (plain_answers script segment before))
+      all_received script.endpoints (segment_sends (plain_answers script segment before))
       (all_retired script.endpoints segment.retires before.ends);
 }
 
 -- the segments
-abbrev pub plain_segments : ScriptData → List Segment → Standing → List SegmentSeen
+abbrev pub plain_segments : ScriptData → List Segment → RunPoint → List SegmentSeen
 plain_segments script [] before = []
 plain_segments script (segment ∷ segments) before =
     plain_segment script segment before ∷ plain_segments script segments (plain_after script segment before)
 
 -- how they leave the run
-abbrev pub plain_end : ScriptData → List Segment → Standing → Standing
+abbrev pub plain_end : ScriptData → List Segment → RunPoint → RunPoint
 plain_end script [] before = before
 plain_end script (segment ∷ segments) before = plain_end script segments (plain_after script segment before)
 
 -- how the whole script leaves the run, with that capture and those endpoints
-abbrev pub plain_last : ScriptData → Option Captured → List NamedEnd → Standing
+abbrev pub plain_last : ScriptData → Option CaptureSeen → List NamedEnd → RunPoint
 plain_last script capture ends = plain_end script script.segments (start_with script (frames_of capture) ends)
 
 -- its history
-abbrev pub plain_history : ScriptData → Option Captured → List NamedEnd → HistorySeen
+abbrev pub plain_history : ScriptData → Option CaptureSeen → List NamedEnd → HistorySeen
 plain_history script capture ends = record {
   segments = plain_segments script script.segments (start_with script (frames_of capture) ends);
   end = (plain_last script capture ends).state.place;

@@ -128,6 +128,11 @@ asked_more tests key args bs from at c b le (le', fires, none) there =
     ∙ sum_by-append guards_in (filter p (drop from (take at bs))) (b ∷ [])
     ∙ ap (λ n. sum_by guards_in (filter p (drop from (take at bs))) + n) (sum_by-cons guards_in b [] ∙ omega arith)
 
+-- where there is no key, each binding is the next candidate in its turn
+pub in_turn : (tests : List Test) (args : List Value) (bs : List Binding) (at : ℕ) (b : Binding) → slice_get bs at ≡ Some b → IsNext (may_fire tests None args) bs at (Some at)
+in_turn tests args bs at b there =
+    (omega arith, subst (λ o. IsSomeAnd o (λ (x : Binding). true ≡ true)) (sym there) refl, λ k low high. absurd (omega (arith, low, high)))
+
 -- to the end, where no candidate is left
 pub asked_rest : (tests : List Test) (key : Option Expr) (args : List Value) (bs : List Binding) (from at : ℕ) → from ≤ at
     → IsNext (may_fire tests key args) bs at None → asked tests key args bs from (length bs) ≡ asked tests key args bs from at

@@ -17,8 +17,7 @@ guards_hold tests args b = list_all (guard_holds tests args) (b.own_guard ∷ b.
 
 -- no position from one up to another passes
 abbrev pub NonePass : {X : Type 0} → (X → Bool) → List X → ℕ → ℕ → Type 0
-NonePass passes xs from to =
-    (k : ℕ) → from ≤ k → k < to → IfSome (slice_get xs k) (λ x. passes x ≡ false)
+NonePass passes xs from to = (k : ℕ) → from ≤ k → k < to → IfSome (slice_get xs k) (λ x. passes x ≡ false)
 
 -- the least position at or after one that passes, if there is one
 abbrev pub IsNext : {X : Type 0} → (X → Bool) → List X → ℕ → Option ℕ → Type 0

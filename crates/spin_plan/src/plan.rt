@@ -1,6 +1,6 @@
 //! The bindings of an event in the order in which they run.
 
-ghost use Rattle.std.specs.Prelude.{◌≡◌, ◌==◌, ◌+◌, ◌≤◌, ◌<◌, ◌^◌, length, slice_get, Some, OnOk};
+ghost use Rattle.std.specs.Prelude.{◌≡◌, ◌==◌, ◌+◌, ◌≤◌, ◌<◌, ◌^◌, length, slice_get, Some, None, OnOk};
 ghost use Rattle.std.specs.Prelude.{IfOk, IfSome, IsSomeAnd, sum_by, nat_le, if◌then◌else◌};
 ghost use Rattle.std.specs.List.{All, find};
 ghost use Rattle.std.specs.Option.{option_map};
@@ -210,12 +210,75 @@ impl Plan {
         first_of_both(self.free.as_slice(), keyed, from)
     }
 
+    // The next position where the plan has no key, so that each binding is a candidate in its turn.
+    #[inline(always)]
+    fn next_in_turn<C: Guards, L: Ledger>(
+        &self,
+        from: u32,
+        args: &Args,
+        guards: &C,
+        steps: &mut Steps<L>,
+    ) -> Option<u32>
+        requires own { All (λ b. IsGuard (length (C.tests guards.now)) b.own_guard) self.now.bindings }
+        requires imposed { All (λ b. All (IsGuard (length (C.tests guards.now))) b.imposed)
+            self.now.bindings }
+        requires sincere { C.sincere guards.now }
+        requires counter { C.counts guards.now L.name }
+        ensures next { IsNext (guards_hold (C.tests guards.now) args.now) self.now.bindings from result }
+        ensures within { IfSome result (λ at. at < length self.now.bindings) }
+        ensures small { IfSome result (λ at. at + 1 < 2 ^ 32) }
+        ensures steps { steps.new
+            ≤ steps.old + sum_by guards_in
+            (candidates (C.tests guards.now) None args.now self.now.bindings from result) }
+    {
+        let mut at = from;
+        'turns: while at < self.len() {
+            if admits_all(guards, self.binding(at), args, steps) {
+                return Some(at);
+            }
+            at += 1;
+        }
+        None
+    }
+
+    // The next position by the index.
+    fn next_by_index<C: Guards, L: Ledger>(
+        &self,
+        from: u32,
+        args: &Args,
+        guards: &C,
+        steps: &mut Steps<L>,
+    ) -> Option<u32>
+        requires own { All (λ b. IsGuard (length (C.tests guards.now)) b.own_guard) self.now.bindings }
+        requires imposed { All (λ b. All (IsGuard (length (C.tests guards.now))) b.imposed)
+            self.now.bindings }
+        requires over { IsOver (C.tests guards.now) self.now }
+        requires sincere { C.sincere guards.now }
+        requires counter { C.counts guards.now L.name }
+        ensures next { IsNext (guards_hold (C.tests guards.now) args.now) self.now.bindings from result }
+        ensures within { IfSome result (λ at. at < length self.now.bindings) }
+        ensures small { IfSome result (λ at. at + 1 < 2 ^ 32) }
+        ensures steps { steps.new
+            ≤ steps.old + sum_by guards_in
+            (candidates (C.tests guards.now) self.now.key args.now self.now.bindings from result) }
+    {
+        let keyed = self.keyed_at(args);
+        let mut at = from;
+        'candidates: while let Some(candidate) = self.next_candidate(keyed, at) {
+            if admits_all(guards, self.binding(candidate), args, steps) {
+                return Some(candidate);
+            }
+            at = candidate + 1;
+        }
+        None
+    }
+
     /// The least position at or after `from` whose own guard and imposed guards all hold of these arguments; `None`
     /// exactly where there is none. The guards are those over which the plan was compiled.
     ///
-    /// It takes no memory, and looks into the index only where a binding is left. It asks the guards of candidates
-    /// alone, each candidate's in their order, its own guard first, until one doesn't hold. A candidate requires no
-    /// constant for the key, or requires the key's value.
+    /// It takes no memory, and looks into the index only where there is a key and a binding is left. It asks the guards
+    /// of candidates alone, each candidate's in their order, its own guard first, until one doesn't hold. A candidate
+    /// requires no constant for the key, or requires the key's value; where there is no key each binding is one.
     #[inline]
     pub fn next<C: Guards, L: Ledger>(
         &self,
@@ -237,17 +300,14 @@ impl Plan {
             ≤ steps.old + sum_by guards_in
             (candidates (C.tests guards.now) self.now.key args.now self.now.bindings from result) }
     {
-        if from >= self.len() {
-            return None;
-        }
-        let keyed = self.keyed_at(args);
-        let mut at = from;
-        'candidates: while let Some(candidate) = self.next_candidate(keyed, at) {
-            if admits_all(guards, self.binding(candidate), args, steps) {
-                return Some(candidate);
+        match &self.key {
+            None => self.next_in_turn(from, args, guards, steps),
+            Some(_) => {
+                if from >= self.len() {
+                    return None;
+                }
+                self.next_by_index(from, args, guards, steps)
             }
-            at = candidate + 1;
         }
-        None
     }
 }

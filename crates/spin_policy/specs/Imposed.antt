@@ -28,8 +28,7 @@ effect_apart e = false
 
 -- the effect of the rule of that number, or else `Allow`
 abbrev pub numbered_effect : List Rule → ℕ → Effect
-numbered_effect rules number =
-    option_map_or (λ rule. rule.effect) (numbered rules number) effect.Allow
+numbered_effect rules number = option_map_or (λ rule. rule.effect) (numbered rules number) effect.Allow
 
 -- the effect of the rule that allows with something, or else `Allow`
 abbrev pub allowing_effect : List Rule → Verdict → Effect

@@ -70,8 +70,7 @@ rule_answer (effect.Force guards place apart) number request =
 abbrev pub answer_at : List Rule → Request → Option ℕ → Verdict
 answer_at rules request None = verdict.Deny 0
 answer_at rules request (Some at) =
-    option_map_or (λ rule. rule_answer rule.effect (at + 1) request) (slice_get rules at)
-    (verdict.Deny 0)
+    option_map_or (λ rule. rule_answer rule.effect (at + 1) request) (slice_get rules at) (verdict.Deny 0)
 
 -- the first rule that matches decides, its number being its place counted from 1
 abbrev pub verdict_of : List Rule → Request → Verdict
@@ -79,8 +78,7 @@ verdict_of rules request = answer_at rules request (position (λ rule. matches r
 
 -- an `Impose` of no guard or too many, or a `Force` of too many
 abbrev pub has_wrong_guards : Effect → Bool
-has_wrong_guards (effect.Impose guards) =
-    (length guards == 0) || nat_lt MAX_GUARDS (length guards)
+has_wrong_guards (effect.Impose guards) = (length guards == 0) || nat_lt MAX_GUARDS (length guards)
 has_wrong_guards (effect.Force guards place apart) = nat_lt MAX_GUARDS (length guards)
 has_wrong_guards e = false
 

@@ -1,6 +1,8 @@
 pub mod WalkLemmas
 mod NotedItems
 mod TurnedLists
+mod NotedActs
+mod NotedTurns
 pub mod LeastOrders
 pub mod BoundEvents
 pub mod RisingRaises

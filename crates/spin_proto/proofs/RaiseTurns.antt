@@ -1,6 +1,6 @@
 -- Turns of the loops of a raise, by what is done and what is to come.
 use Rattle.std.proofs.Common.{◌≡◌, ℕ, zero, suc, ◌+◌, ◌<◌, ◌≤◌, ◌==◌, Bool, true, false, cond, List, [], ◌∷◌, ◌++◌, drop, length}
-use Rattle.std.proofs.Common.{fold, sym, ap, subst, ◌∙◌, append_assoc, arith, Option, Some, None, unwrap_or, nat_lt}
+use Rattle.std.proofs.Common.{fold, sym, ap, subst, ◌∙◌, append_assoc, arith, Option, Some, None, unwrap_or}
 use Rattle.std.specs.Prelude.{slice_get}
 use Rattle.std.specs.List.{flat_map}
 use Rattle.std.proofs.lemmas.Bool.Decides.{nat_tests}
@@ -11,11 +11,10 @@ use Rattle.spin_code.specs.declared.merge.Merge.{Merge}
 use Rattle.spin_objects.specs.declared.item.Item.{Item}
 use Rattle.spin_raise.specs.declared.answer.Answer.{Answer}
 use Rattle.spin_raise.specs.declared.answer.Answer.TheVariants as answer
-use Rattle.spin_raise.specs.declared.stepping.Stepped.{Stepped}
 use Rattle.spin_raise.specs.declared.stepping.Stepped.TheVariants as stepped
 use Rattle.spin_raise.specs.declared.stepping.Progress.{Progress}
 use Rattle.spin_raise.specs.declared.bound.Runner.{Runner}
-use Rattle.spin_raise.specs.Firing.{Units, Bound, Firing, Did, Apart, ByDefault, fired, items_by, answer_of}
+use Rattle.spin_raise.specs.Firing.{Units, Bound, Firing, fired, items_by, answer_of}
 use Rattle.spin_raise.specs.Progress.{answer_after, IsStep, to_come}
 use Rattle.spin_raise.proofs.HandlerWalk.{fold_fired}
 use Rattle.spin_raise.proofs.RaiseProgress.{starts as begins_all}
@@ -24,6 +23,7 @@ use Rattle.spin_proto.specs.declared.walk.Upward.{Upward}
 use Rattle.spin_proto.specs.declared.reply.Step.TheVariants as step
 use Rattle.spin_proto.specs.Whole.{Mark, Raised, Plain, marks_at, marks_up, marks_of, raised, raised_with, raised_after, starts, ups_of}
 use Rattle.spin_proto.specs.Inner.Walks.{Gained, Comes, Notes, UpsRise}
+use Rattle.spin_proto.specs.Inner.Turns.{IsShort}
 use Rattle.spin_proto.proofs.WalkLemmas.{Owes, owes_all, owes_on, owes_spent, owes_none, starts-append}
 use Rattle.spin_proto.proofs.RisingRaises.{Serves, FiringsRise, fired_rises}
 
@@ -201,13 +201,6 @@ turn_waits count event m room rest rest' p p' out items ups s h e e' =
     let P : List Upward → Type 0 = λ us. UpsRise count event us in
     subst P (sym (e ∙ e')) (turn_ups count event m room rest rest' p p' out s h)
 
--- one firing, whose items have more starts than were left
-pub turn_unnoted : (event : ℕ) (raise : ℕ → List Value → Raised) (m : Merge) (room : Bool) (all : List Mark) (rest rest' : List Firing) (p p' : Progress) (out : List Item) (w_0 w : Walk)
-    → IsStep m room stepped.Ran rest rest' p p' [] out → Owes all (flat_map (λ f. marks_of event raise (items_by f)) rest) w_0 w
-    → w.left < starts (flat_map (marks_at event) out) → w_0.left < starts all
-turn_unnoted event raise m room all rest rest' p p' out w_0 w s o h =
-    turn_spent (marks_of event raise) m room all rest rest' p p' out w_0 w s o (notes_short event raise out w.left h)
-
 -- one firing, whose raises upwards have
 pub turn_short : (event : ℕ) (raise : ℕ → List Value → Raised) (m : Merge) (room : Bool) (all : List Mark) (rest rest' : List Firing) (p p' : Progress) (out : List Item)
     (items ups : List Upward) (w_0 w w_1 : Walk) → IsStep m room stepped.Ran rest rest' p p' [] out → Owes all (flat_map (λ f. marks_of event raise (items_by f)) rest) w_0 w
@@ -223,30 +216,20 @@ turn_over event raise m room all rest rest' p p' out items ups left w_0 w w_1 w_
     let P : List Upward → Type 0 = λ us. Owes (flat_map (marks_up raise) items) (flat_map (marks_up raise) us) w_1 w_2 in
     turn_on (marks_of event raise) m room all rest rest' p p' out w_0 w w_2 s o (follow_done event raise out items w w_1 w_2 (e ∙ n.0, n.1) (subst P none done))
 
-none_left : (left n : ℕ) → nat_lt 0 left ≡ false → 0 < n → left < n
-none_left left n e h = grind (arith, nat_tests)
+-- one firing, which starts more than was left
+pub turn_too_many : (event : ℕ) (raise : ℕ → List Value → Raised) (all : List Mark) (rest : List Firing) (w_0 w : Walk)
+    → IsShort event rest w → Owes all (flat_map (λ f. marks_of event raise (items_by f)) rest) w_0 w → w_0.left < starts all
+turn_too_many event raise all [] w_0 w s o = absurd s
+turn_too_many event raise all (f ∷ fs) w_0 w s o =
+    owes_spent all (marks_of event raise (items_by f)) (flat_map (λ f. marks_of event raise (items_by f)) fs) w_0 w o (notes_short event raise (items_by f) w.left s)
 
-first_start : (event : ℕ) (raise : ℕ → List Value → Raised) (f : Firing) → 0 < starts (marks_of event raise (items_by f))
-first_start event raise (Did n merged given left) = omega (arith, starts-append (Plain (step.Run event n) ∷ []) (flat_map (marks_at event) given ++ flat_map (marks_up raise) (ups_of given)))
-first_start event raise (Apart n args) = omega arith
-first_start event raise (ByDefault given left) = omega (arith, starts-append (Plain (step.Run event 0) ∷ []) (flat_map (marks_at event) given ++ flat_map (marks_up raise) (ups_of given)))
-
-pub turn_full : (event : ℕ) (raise : ℕ → List Value → Raised) (m : Merge) (all : List Mark) (rest rest' : List Firing) (p p' : Progress) (out out' : List Item) (w_0 w : Walk)
-    → IsStep m (nat_lt 0 w.left) stepped.Full rest rest' p p' out out' → Owes all (flat_map (λ f. marks_of event raise (items_by f)) rest) w_0 w → w_0.left < starts all
-turn_full event raise m all [] rest' p p' out out' w_0 w s o = absurd s
-turn_full event raise m all (f ∷ fs) rest' p p' out out' w_0 w s o =
-    owes_spent all (marks_of event raise (items_by f)) (flat_map (λ f. marks_of event raise (items_by f)) fs) w_0 w o
-    (none_left w.left (starts (marks_of event raise (items_by f))) s.0 (first_start event raise f))
-
-pub turn_end : (m : Merge) (room : Bool) (all : List Mark) (x : Answer) (N : List Item → List Mark) (rest rest' : List Firing) (p p' : Progress) (out out' : List Item) (w_0 w : Walk)
-    → IsStep m room stepped.End rest rest' p p' out out' → Owes all (flat_map (λ f. N (items_by f)) rest) w_0 w → fold (answer_after m) p.answer rest ≡ x → (p'.answer ≡ x) × Gained all w_0 w
-turn_end m room all x N rest rest' p p' out out' w_0 w s o h =
+-- nothing is to come
+pub turn_end : (m : Merge) (all : List Mark) (x : Answer) (N : List Item → List Mark) (rest : List Firing) (p p' : Progress) (w_0 w w' : Walk) → rest ≡ [] → p' ≡ p → w' ≡ w
+    → Owes all (flat_map (λ f. N (items_by f)) rest) w_0 w → fold (answer_after m) p.answer rest ≡ x → (p'.answer ≡ x) × Gained all w_0 w'
+turn_end m all x N rest p p' w_0 w w' none same idle o h =
     let P : List Firing → Type 0 = λ fs. Owes all (flat_map (λ f. N (items_by f)) fs) w_0 w in
-    (ap (λ (x : Progress). x.answer) s.1.0 ∙ ap (λ fs. fold (answer_after m) p.answer fs) (sym s.0) ∙ h, owes_none all w_0 w (subst P s.0 o))
-
-pub from_empty : (m : Merge) (room : Bool) (s : Stepped) (rest rest' : List Firing) (p p' : Progress) (out_0 out : List Item)
-    → out_0 ≡ [] → IsStep m room s rest rest' p p' out_0 out → IsStep m room s rest rest' p p' [] out
-from_empty m room s rest rest' p p' out_0 out e h = let P : List Item → Type 0 = λ o. IsStep m room s rest rest' p p' o out in subst P e h
+    let Q : Walk → Type 0 = λ v. Gained all w_0 v in
+    (ap (λ (x : Progress). x.answer) same ∙ ap (λ fs. fold (answer_after m) p.answer fs) (sym none) ∙ h, subst Q (sym idle) (owes_none all w_0 w (subst P none o)))
 
 -- nothing has fired yet
 pub begins_owing : (N : List Item → List Mark) (by : Runner) (u : Units) (b : Bound) (p : Progress) (args : List Value) (w : Walk) → p.from ≡ 0

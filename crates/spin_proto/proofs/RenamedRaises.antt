@@ -1,9 +1,8 @@
 -- A raise where bindings have other numbers tells of the other numbers, and is the same for the rest.
-use Rattle.std.proofs.Common.{◌≡◌, ℕ, suc, ◌+◌, ◌==◌, Bool, true, false, not, ◌&&◌, cond, List, [], ◌∷◌, ◌++◌, map, refl, sym, ap, ◌∙◌}
-use Rattle.std.specs.Prelude.{if◌then◌else◌, count_by, Result, Ok, Err}
+use Rattle.std.proofs.Common.{◌≡◌, ℕ, suc, ◌==◌, Bool, true, false, not, ◌&&◌, List, [], ◌∷◌, ◌++◌, map, refl, sym, ap, ◌∙◌}
+use Rattle.std.specs.Prelude.{if◌then◌else◌, Result, Ok, Err}
 use Rattle.std.specs.List.{flat_map}
 use Rattle.std.proofs.lemmas.List.{map-append}
-use Rattle.std.proofs.lemmas.List.Sums.{sum_by-cons}
 use Rattle.spin_values.specs.declared.values.Value.{Value}
 use Rattle.spin_headers.specs.declared.fault.HeaderFault.{HeaderFault}
 use Rattle.spin_code.specs.declared.act.ActStep.{ActStep}
@@ -20,9 +19,8 @@ use Rattle.spin_raise.specs.declared.bound.Runner.{Runner}
 use Rattle.spin_raise.specs.Firing.{Units, Bound, Firing, Did, Apart, ByDefault, steps_at, is_async, leaves_jobs, firing_of}
 use Rattle.spin_raise.specs.Firing.{left_by, firings, or_default, fired, items_by, merged_by, answer_of_results, answer_of}
 use Rattle.spin_proto.specs.declared.walk.Upward.{Upward}
-use Rattle.spin_proto.specs.declared.reply.Step.{Step}
 use Rattle.spin_proto.specs.declared.reply.Step.TheVariants as step
-use Rattle.spin_proto.specs.Whole.{Mark, Plain, Queued, is_start, starts, Raised, marks_at, up_of, ups_of, marks_up, marks_of, raised_with, raised}
+use Rattle.spin_proto.specs.Whole.{Mark, Plain, Queued, Raised, marks_at, up_of, ups_of, marks_up, marks_of, raised_with, raised}
 use Rattle.spin_proto.specs.Renamings.{renamed_step}
 use Rattle.spin_table.specs.Renamings.{IsRenamedBinding, AreRenamed}
 use Rattle.spin_table.proofs.RenamedBindings.{same_rest}

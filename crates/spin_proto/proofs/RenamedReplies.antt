@@ -1,6 +1,6 @@
 -- Deeds are replied to alike where bindings have other numbers.
 use Rattle.std.proofs.Common.{◌≡◌, ℕ, suc, ◌+◌, Bool, true, false, cond, List, [], ◌∷◌, length, map, refl, sym, ap, subst, ◌∙◌, arith}
-use Rattle.std.specs.Prelude.{Option, None, Some, if◌then◌else◌, nat_lt, count_by, slice_get}
+use Rattle.std.specs.Prelude.{Option, None, Some, if◌then◌else◌, nat_lt, slice_get}
 use Rattle.std.specs.List.{flat_map, cons_option}
 use Rattle.std.specs.Option.{option_map_or}
 use Rattle.std.proofs.lemmas.List.Sums.{sum_by-cons}
@@ -8,28 +8,24 @@ use Rattle.spin_values.specs.declared.types.EventType.{EventType}
 use Rattle.spin_values.specs.declared.values.Value.{Value}
 use Rattle.spin_place.specs.declared.binding.Binding.{Binding}
 use Rattle.spin_raise.specs.declared.bound.Runner.TheVariants as runner
-use Rattle.spin_raise.specs.declared.answer.Answer.{Answer}
 use Rattle.spin_raise.specs.Firing.{Units, Bound, bound_of}
 use Rattle.spin_word.specs.declared.work.Deed.{Deed}
 use Rattle.spin_word.specs.declared.work.Deed.TheVariants as deed
 use Rattle.spin_table.specs.declared.event.EventDef.{EventDef}
-use Rattle.spin_table.specs.Setups.{SetupData}
-use Rattle.spin_table.specs.States.{State, EventState, binding_of}
+use Rattle.spin_table.specs.States.{EventState, binding_of}
 use Rattle.spin_table.specs.Orders.{arranged}
-use Rattle.spin_table.specs.Renamings.{Rises, AreRenamed, IsRenamedEvent, IsRenamed}
+use Rattle.spin_table.specs.Renamings.{Rises, AreRenamed, IsRenamedEvent}
 use Rattle.spin_table.proofs.RenamedBindings.{AreBoth, found_both}
 use Rattle.spin_table.proofs.RenamedOrders.{the_order_to}
-use Rattle.spin_proto.specs.declared.deed.JobCall.{JobCall}
 use Rattle.spin_proto.specs.declared.deed.JobCall.TheVariants as call
 use Rattle.spin_proto.specs.declared.reply.TheConstants.{MAX_RUNS}
-use Rattle.spin_proto.specs.declared.reply.Step.{Step}
 use Rattle.spin_proto.specs.declared.reply.Step.TheVariants as step
 use Rattle.spin_proto.specs.declared.reply.Reply.{Reply}
 use Rattle.spin_proto.specs.declared.reply.Reply.TheVariants as reply
 use Rattle.spin_proto.specs.Whole.{Mark, Plain, Queued, step_of, calls_of, is_start, starts, Raised, raised, reply_of}
-use Rattle.spin_proto.specs.Replies.{are_fit, reply_if_fit, deed_reply, units_in, types_in, IsBound, AreBounds, IsDeedReply}
+use Rattle.spin_proto.specs.Replies.{are_fit, reply_if_fit, deed_reply, units_in, types_in, IsBound, AreBounds}
 use Rattle.spin_proto.specs.Renamings.{renamed_step, renamed_call, renamed_reply, RepliesAreRenamed}
-use Rattle.spin_proto.proofs.RenamedRaises.{renamed_mark, renamed_raised, IsSameBound, AreSameBounds, flat_map-both, raised_both}
+use Rattle.spin_proto.proofs.RenamedRaises.{renamed_mark, renamed_raised, IsSameBound, AreSameBounds, raised_both}
 
 start_both : (to : ℕ → ℕ) (m : Mark) → is_start (renamed_mark to m) ≡ is_start m
 start_both to (Plain (step.Run event number)) = refl

@@ -1,3 +1,4 @@
 pub mod Fits
 pub mod Endings
 pub mod Walks
+pub mod Turns

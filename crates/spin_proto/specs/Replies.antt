@@ -38,26 +38,21 @@ reply_if_fit types event args answer =
 -- the reply to a deed on these events
 abbrev pub deed_reply : Units → List Bound → List EventType → Deed → Reply
 deed_reply u bounds types (deed.Raise event args) =
-    reply_if_fit types event args
-    (reply_of MAX_RUNS (raised runner.Raiser u bounds 0 event args))
-deed_reply u bounds types (deed.Later event args) =
-    reply_if_fit types event args (reply.Queued (call.Whole event args))
+    reply_if_fit types event args (reply_of MAX_RUNS (raised runner.Raiser u bounds 0 event args))
+deed_reply u bounds types (deed.Later event args) = reply_if_fit types event args (reply.Queued (call.Whole event args))
 
 -- the handler of the binding of that number, 0 where there is none
 abbrev pub handler_at : List Bound → ℕ → ℕ → ℕ
 handler_at bounds event number =
-    option_map_or (λ (b : Bound).
-    option_map_or (λ (x : Binding). x.handler) (binding_of b.bindings number) 0)
+    option_map_or (λ (b : Bound). option_map_or (λ (x : Binding). x.handler) (binding_of b.bindings number) 0)
     (slice_get bounds event) 0
 
 -- the reply to the call of a job on these events: nothing is left to another job
 abbrev pub job_reply : Units → List Bound → JobCall → Reply
-job_reply u bounds (call.Whole event args) =
-    reply_of MAX_RUNS (raised runner.Job u bounds 0 event args)
+job_reply u bounds (call.Whole event args) = reply_of MAX_RUNS (raised runner.Job u bounds 0 event args)
 job_reply u bounds (call.Binding event number args) =
     reply_of MAX_RUNS
-    (job_of u event number (handler_at bounds event number)
-    (raised_after runner.Job u bounds event) args)
+    (job_of u event number (handler_at bounds event number) (raised_after runner.Job u bounds event) args)
 
 -- the acts and tests of a setup
 abbrev pub units_in : SetupData → Units
@@ -78,9 +73,7 @@ IsFitDeed d (deed.Later event args) = IsTrue (is_fit (types_in d) event args)
 
 -- an event in this state as a raise finds it: its bindings in the order in which they run, its merge and its default
 abbrev pub IsBound : EventDef → EventState → Bound → Type 0
-IsBound e t b =
-    (ns : List ℕ) × IsTheOrder t.bindings ns
-    × (b ≡ bound_of (arranged t.bindings ns) e.merge t.default)
+IsBound e t b = (ns : List ℕ) × IsTheOrder t.bindings ns × (b ≡ bound_of (arranged t.bindings ns) e.merge t.default)
 
 -- the events in these states as raises find them
 abbrev pub AreBounds : List EventDef → List EventState → List Bound → Type 0
@@ -97,8 +90,7 @@ IsDeedReply d s asked answer =
 -- the reply to the call of a job in this state
 abbrev pub IsJobReply : SetupData → State → JobCall → Reply → Type 0
 IsJobReply d s asked answer =
-    (bounds : List Bound) × AreBounds d.events s.events bounds
-    × (answer ≡ job_reply (units_in d) bounds asked)
+    (bounds : List Bound) × AreBounds d.events s.events bounds × (answer ≡ job_reply (units_in d) bounds asked)
 
 -- a call of a job that this state may have left: its event is there, and so is its binding
 abbrev pub BelongsTo : State → JobCall → Type 0

@@ -69,17 +69,14 @@ ups_of given = flat_map up_of given
 -- a raise upwards: its own steps between its beginning and its end, which tells its answer
 abbrev pub marks_up : (ℕ → List Value → Raised) → Upward → List Mark
 marks_up raise up =
-    Plain (step.Up up.event) ∷ (raise up.event up.args).marks
-    ++ Plain (step.Back (raise up.event up.args).answer) ∷ []
+    Plain (step.Up up.event) ∷ (raise up.event up.args).marks ++ Plain (step.Back (raise up.event up.args).answer) ∷ []
 
 -- of a firing: what it gave, and then each of its raises upwards in order
 abbrev pub marks_of : ℕ → (ℕ → List Value → Raised) → List Item → List Mark
-marks_of event raise given =
-    flat_map (marks_at event) given ++ flat_map (marks_up raise) (ups_of given)
+marks_of event raise given = flat_map (marks_at event) given ++ flat_map (marks_up raise) (ups_of given)
 
 -- a raise of one event, where raises upwards come to this
-abbrev pub raised_with : Runner → Units → ℕ → Bound → (ℕ → List Value → Raised) → List Value
-    → Raised
+abbrev pub raised_with : Runner → Units → ℕ → Bound → (ℕ → List Value → Raised) → List Value → Raised
 raised_with by u event b raise args = record {
   answer = answer_of b.merge (fired by u b args);
   marks = flat_map (λ f. marks_of event raise (items_by f)) (fired by u b args);

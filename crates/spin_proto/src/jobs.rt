@@ -11,8 +11,9 @@ ghost use Rattle.spin_proto.specs.Whole.{marks_of, raised_after, ups_of};
 ghost use Rattle.spin_proto.specs.Inner.Walks.{OnBounds, Spends, UpsRise};
 
 use crate::deed::JobCall;
+use crate::noting::note_items;
 use crate::reply::{Reply, Step};
-use crate::rising::{note_items, raise_event};
+use crate::rising::raise_event;
 use crate::walk::{Upward, Walk};
 use crate::whole::raise_whole;
 use spin_code::Sincere;

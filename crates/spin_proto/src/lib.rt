@@ -2,8 +2,8 @@
 //!
 //! - a [`Deed`] is what is asked, a raise or a raise that is left to a job, and a [`JobCall`] what a job is to do;
 //! - a [`Reply`] is what it comes to: the answer, the steps and the calls of jobs; a [`ReplyView`] is one that is lent;
-//! - [`path`] does deeds and [`job_path`] the calls of jobs, over `rising`, which goes from handler to handler and up,
-//!   and `walk`, which notes the steps and counts the handlers.
+//! - [`path`] does deeds and [`job_path`] the calls of jobs, over `rising`, which goes from handler to handler and up;
+//! - `turning` does the next handler of a raise, whose steps `noting` puts into a `walk`, which counts the handlers.
 #![tactic(auto)]
 
 mod deed;
@@ -11,8 +11,10 @@ mod jobs;
 mod law;
 mod lent;
 mod limits;
+mod noting;
 mod reply;
 mod rising;
+mod turning;
 mod view;
 mod walk;
 mod whole;

@@ -1,76 +1,22 @@
 //! A raise with its raises upwards, depth first.
 
-ghost use Rattle.std.specs.Prelude.{◌≡◌, ◌+◌, ◌<◌, ◌++◌, [], ◌∷◌, length, OnOk, IfOk, Some};
+ghost use Rattle.std.specs.Prelude.{◌≡◌, ◌<◌, [], length, IfOk};
 ghost use Rattle.std.specs.List.{flat_map};
 ghost use Rattle.spin_table.specs.SetupOf.{data_of};
 ghost use Rattle.spin_table.specs.Soundness.{IsSound};
 ghost use Rattle.spin_proto.specs.Replies.{units_in};
-ghost use Rattle.spin_proto.specs.Whole.{marks_at, marks_of, up_of, ups_of, raised, raised_after};
-ghost use Rattle.spin_proto.specs.Inner.Walks.{OnBounds, Spends, Comes, Notes, UpsRise};
+ghost use Rattle.spin_proto.specs.Whole.{marks_of, raised, raised_after};
+ghost use Rattle.spin_proto.specs.Inner.Walks.{OnBounds, Comes, UpsRise};
 
 use crate::reply::Step;
+use crate::turning::turn;
 use crate::walk::{Upward, Walk};
 use spin_code::Sincere;
-use spin_objects::{Catalogue, Item, Outcome};
-use spin_raise::{Answer, Bound, Progress, Runner, Stepped, step};
+use spin_objects::{Catalogue, Outcome};
+use spin_raise::{Answer, Bound, Progress, Runner, Stepped};
 use spin_table::{Setup, Version};
-use spin_values::{Args, NoMemory, Sequence};
+use spin_values::{NoMemory, Sequence};
 use std::alloc::Global;
-
-// Notes one item, and keeps a raise upwards for later. False where too many handlers start.
-#[inline]
-fn note_item(
-    walk: &mut Walk,
-    event: u8,
-    item: Item,
-    ups: &mut Sequence<Upward>,
-) -> Result<bool, NoMemory>
-    ensures walk { IfOk result (λ on. Spends on (marks_at event item) walk.old walk.new) }
-    ensures ups { OnOk result (ups.new ≡ ups.old ++ up_of item) }
-{
-    match item {
-        Item::Ran(number) => walk.start(event, number),
-        Item::Result(word) => {
-            walk.note(Step::Result(word))?;
-            Ok(true)
-        }
-        Item::Send { endpoint, bytes } => {
-            walk.note(Step::Send { endpoint, bytes })?;
-            Ok(true)
-        }
-        Item::Up { event, args } => {
-            ups.push(Upward { event, args })?;
-            Ok(true)
-        }
-        Item::Dropped(fault) => {
-            walk.note(Step::Dropped(fault))?;
-            Ok(true)
-        }
-        Item::Job { number, args } => walk.queue(event, number, args),
-    }
-}
-
-// Notes what a firing gave, which it takes out of the list, and puts its raises upwards into another, in place of what
-// that held. False where too many handlers start.
-#[inline]
-pub(crate) fn note_items(
-    walk: &mut Walk,
-    event: u8,
-    given: &mut Outcome,
-    ups: &mut Sequence<Upward>,
-) -> Result<bool, NoMemory>
-    ensures { IfOk result (λ on. Notes on ups.new event given.old walk.old walk.new) }
-{
-    ups.clear();
-    // turned round, so that each item is taken by `pop` in its turn
-    given.reverse();
-    while let Some(item) = given.pop() {
-        if !note_item(walk, event, item, ups)? {
-            return Ok(false);
-        }
-    }
-    Ok(true)
-}
 
 // Does a raise of an event that is there, with its raises upwards. `None` where too many handlers start. What the
 // raise under way and the list hold afterwards counts for nothing: they are lent for their room.
@@ -107,14 +53,14 @@ pub(crate) fn raise_event(
     };
     let mut ups = Sequence::new(alloc);
     'turns: loop {
-        let room = walk.left > 0;
-        given.clear();
-        match step(alloc, cat, &bound, runner, room, progress, given)? {
+        match turn(
+            alloc, cat, &bound, runner, event, progress, given, walk, &mut ups,
+        )? {
             Stepped::End => return Ok(Some(progress.answer)),
             Stepped::Full => return Ok(None),
             Stepped::Ran => {
-                if !note_items(walk, event, given, &mut ups)? {
-                    return Ok(None);
+                if ups.is_empty() {
+                    continue 'turns;
                 }
                 ups.reverse();
                 while let Some(up) = ups.pop() {

@@ -69,7 +69,8 @@ AreBindings (Did n m given left ∷ fs) = AreBindings fs
 AreBindings (Apart n args ∷ fs) = AreBindings fs
 AreBindings (ByDefault given left ∷ fs) = ⊥
 
-firing_is : (by : Runner) (u : Units) (b : Binding) (args : List Value) (fs : List Firing) → AreBindings fs → AreBindings (firing_of by u b args ∷ fs)
+-- a binding's firing is no default
+pub firing_is : (by : Runner) (u : Units) (b : Binding) (args : List Value) (fs : List Firing) → AreBindings fs → AreBindings (firing_of by u b args ∷ fs)
 firing_is by u b args fs h =
     elim (is_async b.mode && leaves_jobs by) as (λ t. AreBindings
     (cond t (Apart b.number args) (Did b.number (not (is_async b.mode)) (items_of (steps_at u b.handler) args) (args_after (steps_at u b.handler) args)) ∷ fs)) [ true ↦ h | false ↦ h ]
@@ -104,7 +105,8 @@ fold_done m (Did k false given left ∷ fs) h = fold_done m fs h
 fold_done m (Apart k args ∷ fs) h = fold_done m fs h
 fold_done m (ByDefault given left ∷ fs) h = absurd h
 
-fold_answer : (m : Merge) (fs : List Firing) → AreBindings fs → fold (answer_after m) answer.NoHandler fs ≡ answer_of m fs
+-- the answer that is built up along bindings is that of their firings
+pub fold_answer : (m : Merge) (fs : List Firing) → AreBindings fs → fold (answer_after m) answer.NoHandler fs ≡ answer_of m fs
 fold_answer m [] h = refl
 fold_answer m (Did k true given left ∷ fs) h =
     elim (last_result given) as (λ o. fold (answer_after m) (with_result m answer.NoHandler o) fs ≡ answer_of_results m (one_if o ++ flat_map merged_by fs)) [

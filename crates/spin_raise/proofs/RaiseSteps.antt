@@ -41,7 +41,8 @@ after_result m answer.Done (Some next) d = refl
 after_result m (answer.Default o) (Some next) d = refl
 after_result m answer.NoHandler (Some next) d = refl
 
-after_firing : (m : Merge) (a : Answer) (f : Firing) (d : ℕ) → default_now (answer_after m a f) d ≡ 0
+-- once something fired, no default is next
+pub after_firing : (m : Merge) (a : Answer) (f : Firing) (d : ℕ) → default_now (answer_after m a f) d ≡ 0
 after_firing m a (Did n true given left) d = after_result m a (last_result given) d
 after_firing m a (Did n false given left) d = after_ran a d
 after_firing m a (Apart n args) d = after_ran a d

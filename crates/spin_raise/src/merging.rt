@@ -54,9 +54,11 @@ pub(crate) fn after_run(answer: Answer) -> Answer
     }
 }
 
-// The answer so far after a handler whose result, if it gave one, is merged.
+/// The answer so far after one more handler of a binding: its result, if it gave one that is merged, is merged with
+/// those before it, and else the answer only says that something ran. It takes constant time beside the merge, and
+/// memory only where the merge is a fold.
 #[inline]
-pub(crate) fn after_result(
+pub fn after_result(
     alloc: Global,
     merge: &Merge,
     answer: Answer,
@@ -75,9 +77,9 @@ pub(crate) fn after_result(
     }
 }
 
-// The number of the default that runs next: none where a handler ran.
+/// The number of the default that runs where no binding fires any more: 0, which is none, where a handler ran.
 #[inline]
-pub(crate) fn default_next(answer: Answer, default: u16) -> u16
+pub fn default_next(answer: Answer, default: u16) -> u16
     ensures { result ≡ default_now answer default }
 {
     match answer {

@@ -113,9 +113,10 @@ fn next_counted<L: Ledger>(
     plan.next(from, args, cat, &mut steps)
 }
 
-// The next position, from this one on, whose binding fires on these arguments.
+/// The next position, from this one on, whose binding's guards all hold of these arguments, and `None` where no
+/// further one is there. Its cost is that of [`Plan::next`].
 #[inline]
-fn next_firing(cat: &Catalogue, plan: &Plan, from: u32, args: &Args) -> Option<u32>
+pub fn next_firing(cat: &Catalogue, plan: &Plan, from: u32, args: &Args) -> Option<u32>
     requires own { All (λ b. IsGuard (length (tests_of cat.now)) b.own_guard) plan.now.bindings }
     requires imposed { All (λ b. All (IsGuard (length (tests_of cat.now))) b.imposed) plan.now.bindings }
     requires over { IsOver (tests_of cat.now) plan.now }
@@ -134,10 +135,12 @@ fn is_async(mode: Mode) -> bool
     matches!(mode, Mode::Async)
 }
 
-// Does the act of a binding that fires, and answers the result that is merged, if there is one. An asynchronous one
-// is left to a job with a copy of the arguments, or is done in place where the raise is itself a job.
+/// Does the act of a binding that fires, and answers the result that is merged, if there is one. An asynchronous one
+/// is left to a job with a copy of the arguments, or is done in place where the raise is itself a job. It appends what
+/// the act gives behind the binding's number, or the job. It is linear in the act and what it gives, and where it
+/// leaves a job in the arguments.
 #[inline]
-fn fire(
+pub fn fire(
     alloc: Global,
     cat: &Catalogue,
     binding: &Binding,

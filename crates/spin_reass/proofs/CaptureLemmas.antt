@@ -13,7 +13,7 @@ use Rattle.spin_pcap.specs.declared.next.Next.{Next}
 use Rattle.spin_pcap.specs.declared.next.Next.TheVariants as next
 use Rattle.spin_pcap.specs.declared.order.Order.{Order}
 use Rattle.spin_pcap.specs.declared.order.Order.TheVariants as order
-use Rattle.spin_pcap.specs.Captures.{captured, header_of, fields_of, order_of, IsRecord, IsRest, IsBody}
+use Rattle.spin_pcap.specs.Captures.{captured_length, header_of, fields_of, order_of, IsRecord, IsRest, IsBody}
 use Rattle.spin_pcap.specs.Passing.{IsCutShort}
 use Rattle.spin_reass.specs.declared.piece.Key.{Key}
 use Rattle.spin_reass.specs.declared.piece.Part.{Part}
@@ -109,7 +109,7 @@ kept datagrams frame h = kept_by (piece_of frame) datagrams frame h
 
 -- ---- records, and the rest
 
-says : (n other : ℕ) → n < 256 ^ 4 → captured order.Little (record_header n other) ≡ n
+says : (n other : ℕ) → n < 256 ^ 4 → captured_length order.Little (record_header n other) ≡ n
 says n other l = little_number-reads_back 4 n (little_bytes 4 other) l
 
 record_size : (n other : ℕ) → length (record_header n other) ≡ 16
@@ -142,9 +142,9 @@ rest_length count =
           ∙ both_sizes count e
     ]
 
-rest_says : (count : ℕ) → 16 ≤ count → captured order.Little (cut_rest count) ≡ MAX_CAPTURED
+rest_says : (count : ℕ) → 16 ≤ count → captured_length order.Little (cut_rest count) ≡ MAX_CAPTURED
 rest_says count le =
-    ap (λ xs. captured order.Little xs) (cond-false (nat_lt count 16) (replicate count 0) (record_header MAX_CAPTURED 0 ++ replicate (count - 16) 0) (le-ltb count 16 le))
+    ap (λ xs. captured_length order.Little xs) (cond-false (nat_lt count 16) (replicate count 0) (record_header MAX_CAPTURED 0 ++ replicate (count - 16) 0) (le-ltb count 16 le))
     ∙ little_number-reads_back 4 MAX_CAPTURED (little_bytes 4 0 ++ replicate (count - 16) 0) (omega arith)
 
 is_rest : (way : Order) (given : ℕ) (bytes : List ℕ) (ending : Next) → IsRest way given bytes (Ok ending) → IsRest order.Little given (rest_of ending) (Ok ending)

@@ -7,13 +7,13 @@ use Rattle.spin_script.specs.declared.script.Segment.{Segment}
 use Rattle.spin_script.specs.States.{ScriptData}
 use Rattle.spin_script.specs.Laws.{bare_script}
 use Rattle.spin_report.specs.Histories.{SegmentSeen, HistorySeen}
-use Rattle.spin_report.specs.Runs.{Standing, Captured, frames_of, start_with, AreRun, IsRun}
+use Rattle.spin_report.specs.Runs.{RunPoint, CaptureSeen, frames_of, start_with, AreRun, IsRun}
 use Rattle.spin_report.proofs.BareEntries.{bare_state, bare_start, bare_legal, bare_jobs}
 
-abbrev pub bare_standing : Standing → Standing
+abbrev pub bare_standing : RunPoint → RunPoint
 bare_standing standing = record standing { state = bare_state standing.state }
 
-bare_segments : (script : ScriptData) (segments : List Segment) (before after : Standing) (seen : List SegmentSeen) → AreRun script segments before seen after
+bare_segments : (script : ScriptData) (segments : List Segment) (before after : RunPoint) (seen : List SegmentSeen) → AreRun script segments before seen after
     → AreRun (bare_script script) segments (bare_standing before) seen (bare_standing after)
 bare_segments script [] before after seen run = (run.0, ap bare_standing run.1)
 bare_segments script (segment ∷ segments) before after seen (first, others, next, is, run, rest) = (
@@ -38,7 +38,7 @@ bare_segments script (segment ∷ segments) before after seen (first, others, ne
   bare_segments script segments next after others rest,
 )
 
-pub bare_run : (script : ScriptData) (capture : Option Captured) (ends : List NamedEnd) (h : HistorySeen) (last : Standing)
+pub bare_run : (script : ScriptData) (capture : Option CaptureSeen) (ends : List NamedEnd) (h : HistorySeen) (last : RunPoint)
     → IsRun script capture ends h last → IsRun (bare_script script) capture ends h (bare_standing last)
 bare_run script capture ends h last run = record {
   segments = subst (λ (start : State). AreRun (bare_script script) script.segments (record { state = start; left = frames_of capture; ends = ends }) h.segments (bare_standing last))

@@ -14,7 +14,7 @@ use Rattle.spin_report.specs.Lines.{JobSeen}
 use Rattle.spin_report.specs.Histories.{SegmentSeen, HistorySeen}
 use Rattle.spin_report.specs.Legal.{IsLegal}
 use Rattle.spin_report.specs.Jobs.{AreJobs}
-use Rattle.spin_report.specs.Runs.{Standing, Captured, sends_of, sends_of_reply, sends_in, lost_counts, IsSegmentRun, AreRun, counts_of, frames_of, start_with, IsRun}
+use Rattle.spin_report.specs.Runs.{RunPoint, CaptureSeen, sends_of, sends_of_reply, segment_sends, lost_counts, IsSegmentRun, AreRun, counts_of, frames_of, start_with, IsRun}
 use Rattle.spin_report.proofs.AnswerUniqueness.{same_last}
 use Rattle.spin_report.proofs.HistoryUniqueness.{one_list_of_jobs}
 
@@ -26,7 +26,7 @@ abbrev pub jobs_of : List SegmentSeen → List (List JobSeen)
 jobs_of seen = map (λ s. s.jobs) seen
 
 -- two runs of a segment from one state, with the same entries, have the same jobs and leave one state
-module _ (d : SetupData) (lanes : ℕ) (names : List (List ℕ)) (segment : Segment) (before before' : Standing) (one two : SegmentSeen) (after after' : Standing)
+module _ (d : SetupData) (lanes : ℕ) (names : List (List ℕ)) (segment : Segment) (before before' : RunPoint) (one two : SegmentSeen) (after after' : RunPoint)
     (run : IsSegmentRun d lanes names segment before one after) (run' : IsSegmentRun d lanes names segment before' two after')
     (state : before.state ≡ before'.state) (entries : one.entries ≡ two.entries) where
   next_state : after.state ≡ after'.state
@@ -46,7 +46,7 @@ first_rows one two others others' seen seen' is is' rows =
     (cc (cut), cc (cut))
 
 -- two runs of segments from one state, with the same entries, have the same jobs
-pub same_jobs : (script : ScriptData) (segments : List Segment) (before before' after after' : Standing) (seen seen' : List SegmentSeen) → before.state ≡ before'.state → rows_of seen ≡ rows_of seen'
+pub same_jobs : (script : ScriptData) (segments : List Segment) (before before' after after' : RunPoint) (seen seen' : List SegmentSeen) → before.state ≡ before'.state → rows_of seen ≡ rows_of seen'
     → AreRun script segments before seen after → AreRun script segments before' seen' after' → jobs_of seen ≡ jobs_of seen'
 same_jobs script [] before before' after after' seen seen' state rows run run' = ap jobs_of (run.0 ∙ sym run'.0)
 same_jobs script (segment ∷ segments) before before' after after' seen seen' state rows (one, others, next, is, run, rest) (two, others', next', is', run', rest') =
@@ -57,12 +57,12 @@ same_jobs script (segment ∷ segments) before before' after after' seen seen' s
     ap jobs_of is ∙ (λ i. here i ∷ more i) ∙ sym (ap jobs_of is')
 
 -- two runs of a segment from where one run stands, with the same entries, are one and leave one standing
-module _ (d : SetupData) (lanes : ℕ) (names : List (List ℕ)) (segment : Segment) (before : Standing) (one two : SegmentSeen) (after after' : Standing)
+module _ (d : SetupData) (lanes : ℕ) (names : List (List ℕ)) (segment : Segment) (before : RunPoint) (one two : SegmentSeen) (after after' : RunPoint)
     (run : IsSegmentRun d lanes names segment before one after) (run' : IsSegmentRun d lanes names segment before two after') (entries : one.entries ≡ two.entries) where
   jobs : one.jobs ≡ two.jobs
   jobs = own_jobs d lanes names segment before before one two after after' run run' refl entries
 
-  sends : sends_in one ≡ sends_in two
+  sends : segment_sends one ≡ segment_sends two
   sends = λ i. flat_map (λ (entry : Entry). sends_of entry.what) (entries i) ++ flat_map (λ (job : JobSeen). sends_of_reply job.reply) (jobs i)
 
   own_segment : one ≡ two
@@ -80,22 +80,22 @@ module _ (d : SetupData) (lanes : ℕ) (names : List (List ℕ)) (segment : Segm
       λ i. record { state = state i; left = left i; ends = ends i }
 
 -- two runs of segments from where one run stands, with the same entries, are one and leave one standing
-same_segments : (script : ScriptData) (segments : List Segment) (before after after' : Standing) (seen seen' : List SegmentSeen) → rows_of seen ≡ rows_of seen'
+same_segments : (script : ScriptData) (segments : List Segment) (before after after' : RunPoint) (seen seen' : List SegmentSeen) → rows_of seen ≡ rows_of seen'
     → AreRun script segments before seen after → AreRun script segments before seen' after' → (seen ≡ seen') × (after ≡ after')
 same_segments script [] before after after' seen seen' rows run run' = (run.0 ∙ sym run'.0, run.1 ∙ sym run'.1)
 same_segments script (segment ∷ segments) before after after' seen seen' rows (one, others, next, is, run, rest) (two, others', next', is', run', rest') =
     let r = first_rows one two others others' seen seen' is is' rows in
     let here = own_segment script.setup script.lanes script.endpoints segment before one two next next' run run' r.0 in
     let on = own_standing script.setup script.lanes script.endpoints segment before one two next next' run run' r.0 in
-    let more = same_segments script segments next' after after' others others' r.1 (subst (λ (x : Standing). AreRun script segments x others after) on rest) rest' in
+    let more = same_segments script segments next' after after' others others' r.1 (subst (λ (x : RunPoint). AreRun script segments x others after) on rest) rest' in
     (is ∙ (λ i. here i ∷ more.0 i) ∙ sym is', more.1)
 
 -- two runs of a script over one capture and the same endpoints, with the same entries, are one
-pub same_run : (script : ScriptData) (capture : Option Captured) (ends : List NamedEnd) (h k : HistorySeen) (last last' : Standing)
+pub same_run : (script : ScriptData) (capture : Option CaptureSeen) (ends : List NamedEnd) (h k : HistorySeen) (last last' : RunPoint)
     → IsRun script capture ends h last → IsRun script capture ends k last'
     → rows_of h.segments ≡ rows_of k.segments → (h ≡ k) × (last ≡ last')
 same_run script capture ends h k last last' run run' rows =
     let s = same_segments script script.segments (start_with script (frames_of capture) ends) last last' h.segments k.segments rows run.segments run'.segments in
-    let end = run.end ∙ ap (λ (x : Standing). x.state.place) s.1 ∙ sym run'.end in
-    let counts = run.capture_is ∙ ap (λ (x : Standing). option_map (counts_of x.left) capture) s.1 ∙ sym run'.capture_is in
+    let end = run.end ∙ ap (λ (x : RunPoint). x.state.place) s.1 ∙ sym run'.end in
+    let counts = run.capture_is ∙ ap (λ (x : RunPoint). option_map (counts_of x.left) capture) s.1 ∙ sym run'.capture_is in
     (λ i. record { segments = s.0 i; end = end i; capture = counts i }, s.1)

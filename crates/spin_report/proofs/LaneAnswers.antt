@@ -50,7 +50,8 @@ same_by_lanes (suc lane) ms ns h g each =
     (each lane (omega arith)) (IsPermutation-append_right (filter (is_of lane) ms) (left_of ms) (left_of ns) rest) in
     IsPermutation-trans ms (filter (is_of lane) ms ++ left_of ms) ns first (IsPermutation-trans (filter (is_of lane) ms ++ left_of ms) (filter (is_of lane) ns ++ left_of ns) ns middle last)
 
-filter_asked : (k : ℕ) (entries : List Entry) → filter (is_of k) (map asked_of entries) ≡ map asked_of (filter (λ (e : Entry). e.lane == k) entries)
+-- what the entries of a lane answer is what of all that entries answer is that lane's
+pub filter_asked : (k : ℕ) (entries : List Entry) → filter (is_of k) (map asked_of entries) ≡ map asked_of (filter (λ (e : Entry). e.lane == k) entries)
 filter_asked k [] = refl
 filter_asked k (e ∷ entries) = go (e.lane == k) (filter_asked k entries) where
   go : (b : Bool) → filter (is_of k) (map asked_of entries) ≡ map asked_of (filter (λ (x : Entry). x.lane == k) entries) → cond b (asked_of e ∷ filter (is_of k) (map asked_of entries))

@@ -12,3 +12,4 @@ pub mod BareRaises
 pub mod BareEntries
 pub mod BareRuns
 pub mod Whole
+pub mod Retirements

@@ -29,7 +29,7 @@ use Rattle.spin_grammar.specs.Forms.{op_word}
 use Rattle.spin_report.specs.Verdicts.{refusal_told, refusal_numbers, verdict_words}
 use Rattle.spin_report.specs.Replies.{answer_words, fault_word, step_words, reply_words}
 use Rattle.spin_report.specs.Lines.{what_words, line_word, entry_line, JobSeen, job_line}
-use Rattle.spin_report.specs.Histories.{Retired, SegmentSeen, HistorySeen, retire_line, segment_line}
+use Rattle.spin_report.specs.Histories.{Retirement, SegmentSeen, HistorySeen, retire_line, segment_line}
 use Rattle.spin_report.specs.Histories.{lost_line, losses, lost_lines, segment_lines, capture_words, end_line, report_lines, entries_of}
 use Rattle.spin_text.specs.Digits.{begins_with_digit}
 use Rattle.spin_report.proofs.PlainWords.{IsWord, AreWords, IsDigit, IsLine, each_append, each_map, each_flat_map, decimal_digits, decimal_some, decimal_word, dotted_word, words_line}
@@ -133,7 +133,7 @@ entry_is_line e = words_line (entry_words e) (entry_are_words e)
 job_is_line : (j : JobSeen) → IsLine (job_line j)
 job_is_line j = words_line (job_words j) (job_are_words j)
 
-retire_is_line : (r : Retired) → IsLine (retire_line r)
+retire_is_line : (r : Retirement) → IsLine (retire_line r)
 retire_is_line r = words_line (codes "retire" ∷ decimal r.endpoint ∷ cond r.stood (codes "ok") (codes "unknown") ∷ []) (refl, (decimal_word r.endpoint, (stood_is_word r.stood, tt)))
 
 segment_is_line : (number start : ℕ) → IsLine (segment_line number start)

@@ -1,5 +1,5 @@
 -- The report of a run of a script tells its history.
-use Rattle.std.proofs.Common.{◌≡◌, ◌<◌, ◌≤◌, ◌^◌, ℕ, List, [], ◌∷◌, ◌++◌, map, length, drop, get_or, refl, sym, ap, subst, arith}
+use Rattle.std.proofs.Common.{◌≡◌, ◌<◌, ◌≤◌, ◌^◌, ℕ, List, [], ◌∷◌, ◌++◌, map, length, drop, get_or, refl, sym, ap, subst, arith, ◌∙◌}
 use Rattle.std.specs.Prelude.{Option, Ok, All, Contains, IsPermutation}
 use Rattle.std.specs.List.{flat_map}
 use Rattle.std.proofs.Math.Seq.{take-append_seam, drop-append_seam}
@@ -25,10 +25,10 @@ use Rattle.spin_report.specs.Histories.{SegmentSeen, HistorySeen, report_text, e
 use Rattle.spin_report.specs.Legal.{IsLegal}
 use Rattle.spin_report.specs.Asked.{Numbered, asked_of, AreApart, IsHistory}
 use Rattle.spin_report.specs.Segments.{asked_in, wanted_by}
-use Rattle.spin_report.specs.Runs.{Standing, Captured, frames_of, start_with, AreRun, IsRun}
+use Rattle.spin_report.specs.Runs.{RunPoint, CaptureSeen, frames_of, start_with, AreRun, IsRun}
 use Rattle.spin_report.specs.Laws.{cycle_told, HasNumbers, segment_entries, OneHistoryAs, OneRunAs, IsAccepted, OneHistory, OneRun}
 use Rattle.spin_report.proofs.Asking.{asked_all, asked_rises, rising_apart, asked_few, asked_parts, asked_behind}
-use Rattle.spin_report.proofs.LaneAnswers.{answered_by_lanes}
+use Rattle.spin_report.proofs.LaneAnswers.{answered_by_lanes, filter_asked}
 use Rattle.spin_report.proofs.Cycles.{IsUnder, started_under}
 use Rattle.spin_report.proofs.HistoryUniqueness.{all_asked, law}
 use Rattle.spin_report.proofs.Following.{same_jobs, same_run}
@@ -48,14 +48,14 @@ abbrev IsBelow : ℕ → Line → Type 0
 IsBelow lanes line = line.lane < lanes
 
 -- a run of segments is legal, and answers once each what all their lines ask
-abbrev AnswersAll : ScriptData → List Segment → Standing → List SegmentSeen → Standing → Type 0
+abbrev AnswersAll : ScriptData → List Segment → RunPoint → List SegmentSeen → RunPoint → Type 0
 AnswersAll script segments before seen after =
     IsLegal script.setup before.state (entries_in seen) after.state × IsPermutation (map asked_of (entries_in seen)) (asked_in (lines_in segments) before.left)
 
-run_answers : (script : ScriptData) (segments : List Segment) (before after : Standing) (seen : List SegmentSeen) → All (IsBelow script.lanes) (lines_in segments)
+run_answers : (script : ScriptData) (segments : List Segment) (before after : RunPoint) (seen : List SegmentSeen) → All (IsBelow script.lanes) (lines_in segments)
     → AreRun script segments before seen after → AnswersAll script segments before seen after
 run_answers script [] before after seen lanes run =
-    subst (λ (x : List SegmentSeen × Standing). AnswersAll script [] before x.0 x.1) (λ i. (sym run.0 i, sym run.1 i)) (refl, IsPermutation-refl [])
+    subst (λ (x : List SegmentSeen × RunPoint). AnswersAll script [] before x.0 x.1) (λ i. (sym run.0 i, sym run.1 i)) (refl, IsPermutation-refl [])
 run_answers script (segment ∷ segments) before after seen lanes (first, others, next, is, run, rest) =
     let lines = lines_in segments in
     let first_lanes : All (IsBelow script.lanes) segment.lines =
@@ -66,7 +66,8 @@ run_answers script (segment ∷ segments) before after seen lanes (first, others
     let of_lanes : All (λ n. n.lane < script.lanes) asked =
     asked_all (λ n. n.lane < script.lanes) segment.lines before.left
     (All-weaker (IsBelow script.lanes) (λ line. (part : ℕ × Work) → line.lane < script.lanes) (λ line below part. below) segment.lines first_lanes) in
-    let here : IsPermutation (map asked_of first.entries) asked = answered_by_lanes script.lanes asked first.entries of_lanes run.woven.lanes_are run.woven.once in
+    let here : IsPermutation (map asked_of first.entries) asked = answered_by_lanes script.lanes asked first.entries of_lanes run.woven.lanes_are
+    (λ k lt. sym (filter_asked k first.entries) ∙ run.woven.once k lt) in
     let more = run_answers script segments next after others other_lanes rest in
     let behind : IsPermutation (map asked_of (entries_in others)) (asked_in lines (drop (wanted_by segment.lines) before.left)) =
     subst (λ (left : List (List ℕ)). IsPermutation (map asked_of (entries_in others)) (asked_in lines left)) run.left more.1 in
@@ -111,7 +112,7 @@ has_lane_lines n text script is =
     let so : IsOrderly script = script_orderly n text script is in
     record { orderly = so.numbers; on_lanes = so.lanes; deeds = so.deeds; low = script_numbers n text script is }
 
-module _ (script : ScriptData) (capture : Option Captured) (has : HasLaneLines script.lanes script.segments) where
+module _ (script : ScriptData) (capture : Option CaptureSeen) (has : HasLaneLines script.lanes script.segments) where
   abbrev lines : List Line
   lines = lines_in script.segments
 
@@ -134,7 +135,7 @@ module _ (script : ScriptData) (capture : Option Captured) (has : HasLaneLines s
       let most = has.on_lanes.few in
       (omega arith, line, part)
 
-  module _ (ends : List NamedEnd) (h : HistorySeen) (last : Standing) (run : IsRun script capture ends h last) where
+  module _ (ends : List NamedEnd) (h : HistorySeen) (last : RunPoint) (run : IsRun script capture ends h last) where
     history : IsHistory script.setup (start_of script.setup) asked (entries_of h)
     history =
         let answers = run_answers script script.segments (start_with script (frames_of capture) ends) last h.segments lanes run.segments in
@@ -150,7 +151,7 @@ module _ (script : ScriptData) (capture : Option Captured) (has : HasLaneLines s
     numbers : All HasNumbers (entries_of h)
     numbers = has_numbers asked (entries_of h) count small (all_asked asked (entries_of h) history.once) (started_under script.setup (entries_of h) history.last history.legal)
 
-  same_rows : (ends ends' : List NamedEnd) (h k : HistorySeen) (last last' : Standing) → IsRun script capture ends h last
+  same_rows : (ends ends' : List NamedEnd) (h k : HistorySeen) (last last' : RunPoint) → IsRun script capture ends h last
       → IsRun script capture ends' k last' → report_text h ≡ report_text k → segment_entries h ≡ segment_entries k
   same_rows ends ends' h k last last' run run' same =
       law script.setup (start_of script.setup) asked h k apart (history ends h last run) (history ends' k last' run') (numbers ends h last run) (numbers ends' k last' run') same
@@ -158,15 +159,15 @@ module _ (script : ScriptData) (capture : Option Captured) (has : HasLaneLines s
 -- ---- two readings of one text
 
 -- two scripts that are one but for where their boxes lie
-module _ (script other : ScriptData) (has : HasLaneLines script.lanes script.segments) (alike : bare_script script ≡ bare_script other) (capture : Option Captured) where
+module _ (script other : ScriptData) (has : HasLaneLines script.lanes script.segments) (alike : bare_script script ≡ bare_script other) (capture : Option CaptureSeen) where
   abbrev bare : ScriptData
   bare = bare_script script
 
   -- runs of both are runs of one script
-  other_run : (ends : List NamedEnd) (k : HistorySeen) (last : Standing) → IsRun other capture ends k last → IsRun bare capture ends k (bare_standing last)
+  other_run : (ends : List NamedEnd) (k : HistorySeen) (last : RunPoint) → IsRun other capture ends k last → IsRun bare capture ends k (bare_standing last)
   other_run ends k last run = subst (λ (x : ScriptData). IsRun x capture ends k (bare_standing last)) (sym alike) (bare_run other capture ends k last run)
 
-  bare_rows : (ends ends' : List NamedEnd) (h k : HistorySeen) (last last' : Standing) → IsRun script capture ends h last
+  bare_rows : (ends ends' : List NamedEnd) (h k : HistorySeen) (last last' : RunPoint) → IsRun script capture ends h last
       → IsRun other capture ends' k last' → report_text h ≡ report_text k → segment_entries h ≡ segment_entries k
   bare_rows ends ends' h k last last' run run' same =
       same_rows bare capture has ends ends' h k (bare_standing last) (bare_standing last') (bare_run script capture ends h last run) (other_run ends' k last' run') same
@@ -196,8 +197,8 @@ run_as IsReadAs read n text script other capture ends h k last last' is is' run 
     let one = same_run (bare_script script) capture ends h k (bare_standing last) (bare_standing last')
     (bare_run script capture ends h last run) (other_run script other so.0 so.1 capture ends k last' run') rows in (
       one.0,
-      ap (λ (x : Standing). x.left) one.1,
-      ap (λ (x : Standing). x.ends) one.1,
+      ap (λ (x : RunPoint). x.left) one.1,
+      ap (λ (x : RunPoint). x.ends) one.1,
       λ readings. (same_run script capture ends h k last last' run (subst (λ (x : ScriptData). IsRun x capture ends k last') (sym readings) run') rows).1,
     )
 

@@ -23,13 +23,11 @@ asked_by (what.Deed deed reply) = work.Deed deed
 
 -- what an entry answers
 abbrev pub asked_of : Entry → Numbered
-asked_of entry =
-    record { lane = entry.lane; line = entry.line; part = entry.part; asked = asked_by entry.what }
+asked_of entry = record { lane = entry.lane; line = entry.line; part = entry.part; asked = asked_by entry.what }
 
 -- no two of these have one line and part
 abbrev pub AreApart : List Numbered → Type 0
-AreApart asked =
-    (m n : Numbered) → Contains asked m → Contains asked n → m.line ≡ n.line → m.part ≡ n.part → m ≡ n
+AreApart asked = (m n : Numbered) → Contains asked m → Contains asked n → m.line ≡ n.line → m.part ≡ n.part → m ≡ n
 
 -- a list that is legal from that state on, and answers each of these once
 pub record IsHistory

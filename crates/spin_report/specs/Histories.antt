@@ -8,14 +8,14 @@ use Rattle.spin_text.specs.Words.{Word, line_of, text_of}
 use Rattle.spin_report.specs.Lines.{JobSeen, entry_line, job_line}
 
 -- an endpoint that is retired, and whether one stood under its name
-pub record Retired : Type 0 where
+pub record Retirement : Type 0 where
   pub endpoint : ℕ
   pub stood : Bool
 
 -- a segment: what is retired before it, the log's length at its start, its entries in the order of the history, its
 -- jobs in the order of their entries, and how many of its sends were lost, by the number of the endpoint from 0 on
 pub record SegmentSeen : Type 0 where
-  pub retired : List Retired
+  pub retired : List Retirement
   pub start : ℕ
   pub entries : List Entry
   pub jobs : List JobSeen
@@ -32,7 +32,7 @@ abbrev pub first_line : List ℕ
 first_line = codes "report 1"
 
 -- the line of an endpoint that is retired: its number, with `ok` where one stood under its name, else `unknown`
-abbrev pub retire_line : Retired → List ℕ
+abbrev pub retire_line : Retirement → List ℕ
 retire_line r = line_of (codes "retire" ∷ decimal r.endpoint ∷ (if r.stood then codes "ok" else codes "unknown") ∷ [])
 
 -- the line of a segment: its number, and the log's length at its start

@@ -26,8 +26,7 @@ abbrev pub AreJobsFrom : SetupData → State → Entry → ℕ → List JobCall 
 AreJobsFrom d state entry index [] jobs = jobs ≡ []
 AreJobsFrom d state entry index (call ∷ calls) jobs =
     (reply : Reply) × (others : List JobSeen) × IsJobReply d state call reply
-    × (jobs ≡ entry_job entry index reply ∷ others)
-    × AreJobsFrom d state entry (index + 1) calls others
+    × (jobs ≡ entry_job entry index reply ∷ others) × AreJobsFrom d state entry (index + 1) calls others
 
 -- These are the jobs of the entries, which are legal from the state on: in the order of their entries, each with its
 -- reply at the state of its own entry.
@@ -36,5 +35,4 @@ AreJobs d state [] jobs = jobs ≡ []
 AreJobs d state (entry ∷ entries) jobs =
     (next : State) × (own : List JobSeen) × (others : List JobSeen)
     × IsNextEntry d state entry next × AreJobsFrom d next entry 0 (answer_calls entry.what) own
-    × AreJobs d next entries others
-    × (jobs ≡ own ++ others)
+    × AreJobs d next entries others × (jobs ≡ own ++ others)

@@ -17,7 +17,7 @@ use Rattle.spin_report.specs.Lines.{JobSeen, entry_line}
 use Rattle.spin_report.specs.Histories.{HistorySeen, report_lines, report_text, entries_of}
 use Rattle.spin_report.specs.Jobs.{AreJobs}
 use Rattle.spin_report.specs.Asked.{Numbered, asked_of, AreApart, IsHistory}
-use Rattle.spin_report.specs.Runs.{Captured, Standing, IsRun}
+use Rattle.spin_report.specs.Runs.{CaptureSeen, RunPoint, IsRun}
 
 -- The lines that begin with a digit are just those of the entries, in order.
 abbrev pub DigitsTellEntries : Type 0
@@ -84,8 +84,8 @@ LanesAnswer =
 -- the other's.
 abbrev pub OneHistoryAs : (IsReadAs : NativeData → List ℕ → ScriptData → Type 0) → Type 0
 OneHistoryAs IsReadAs =
-    (n : NativeData) (text : List ℕ) (script other : ScriptData) (capture : Option Captured)
-    (ends ends' : List NamedEnd) (h k : HistorySeen) (last last' : Standing)
+    (n : NativeData) (text : List ℕ) (script other : ScriptData) (capture : Option CaptureSeen)
+    (ends ends' : List NamedEnd) (h k : HistorySeen) (last last' : RunPoint)
     → IsReadAs n text script → IsReadAs n text other
     → IsRun script capture ends h last → IsRun other capture ends' k last'
     → report_text h ≡ report_text k
@@ -95,8 +95,8 @@ OneHistoryAs IsReadAs =
 -- scripts are one, they leave one state, too.
 abbrev pub OneRunAs : (IsReadAs : NativeData → List ℕ → ScriptData → Type 0) → Type 0
 OneRunAs IsReadAs =
-    (n : NativeData) (text : List ℕ) (script other : ScriptData) (capture : Option Captured)
-    (ends : List NamedEnd) (h k : HistorySeen) (last last' : Standing)
+    (n : NativeData) (text : List ℕ) (script other : ScriptData) (capture : Option CaptureSeen)
+    (ends : List NamedEnd) (h k : HistorySeen) (last last' : RunPoint)
     → IsReadAs n text script → IsReadAs n text other
     → IsRun script capture ends h last → IsRun other capture ends k last'
     → report_text h ≡ report_text k

@@ -21,5 +21,4 @@ IsNextEntry d state entry next = Answers d state entry.what next × (entry.place
 -- Each entry follows on the state that those before it made.
 abbrev pub IsLegal : SetupData → State → List Entry → State → Type 0
 IsLegal d state [] last = last ≡ state
-IsLegal d state (entry ∷ entries) last =
-    (next : State) × IsNextEntry d state entry next × IsLegal d next entries last
+IsLegal d state (entry ∷ entries) last = (next : State) × IsNextEntry d state entry next × IsLegal d next entries last

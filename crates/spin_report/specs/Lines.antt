@@ -41,14 +41,8 @@ pub record JobSeen : Type 0 where
   pub reply : Reply
 
 abbrev pub job_seen : Job → Reply → JobSeen
-job_seen job reply = record {
-  place = job.place;
-  lane = job.lane;
-  line = job.line;
-  part = job.part;
-  index = job.index;
-  reply = reply;
-}
+job_seen job reply =
+    record { place = job.place; lane = job.lane; line = job.line; part = job.part; index = job.index; reply = reply }
 
 -- the line of a job, without its line feed: the place, the lane and the line of its entry, its index there, and what it
 -- came to

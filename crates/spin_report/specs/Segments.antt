@@ -35,8 +35,7 @@ raise_with event frame = work.Deed (deed.Raise event (value.Bytes frame ∷ []))
 -- A packet line asks for a raise with each record that it takes, its parts from 1 on; every other line asks for its
 -- one deed, as part 0.
 abbrev pub parts_of : Work → List (List ℕ) → List (ℕ × Work)
-parts_of (work.Packet event count) records =
-    map (λ part. (part.0, raise_with event part.1)) (enumerate_from 1 records)
+parts_of (work.Packet event count) records = map (λ part. (part.0, raise_with event part.1)) (enumerate_from 1 records)
 parts_of asked records = (0, asked) ∷ []
 
 -- what a line asks, where these are the records that it takes: each part by the line's lane and number
@@ -50,8 +49,7 @@ asked_at line records =
 abbrev pub asked_in : List Line → List (List ℕ) → List Numbered
 asked_in [] records = []
 asked_in (line ∷ lines) records =
-    asked_at line (take (records_wanted line.work) records)
-    ++ asked_in lines (drop (records_wanted line.work) records)
+    asked_at line (take (records_wanted line.work) records) ++ asked_in lines (drop (records_wanted line.work) records)
 
 -- how many records these lines take at most
 abbrev pub wanted_by : List Line → ℕ
@@ -96,7 +94,7 @@ of_lane lane entries = filter (λ entry. entry.lane == lane) entries
 pub record IsWoven (d : SetupData) (lanes : ℕ) (asked : List Numbered) (before after : State)
     (entries : List Entry) (jobs : List JobSeen) : Type 0 where
   pub legal : IsLegal d before entries after
-  pub once : (k : ℕ) → k < lanes → map asked_of (of_lane k entries) ≡ asked_of_lane k asked
+  pub once : (k : ℕ) → k < lanes → asked_of_lane k (map asked_of entries) ≡ asked_of_lane k asked
   pub lanes_are : All (λ entry. entry.lane < lanes) entries
   pub order : IsInOrder entries
   pub jobs_are : AreJobs d before entries jobs

@@ -4,6 +4,7 @@ use Rattle.std.specs.Arc.{arc_value}
 use Rattle.std.proofs.lemmas.Grind.{flat_map-append}
 use Rattle.std.proofs.lemmas.List.{append-nil, map-append, take-append-le}
 use Rattle.std.proofs.lemmas.List.Elements.{All-nil, All-cons, All-head, All-tail, All-push, All-append, All-weaker}
+use Rattle.spin_word.specs.declared.row.Row.{Row}
 use Rattle.spin_log.specs.Rows.{IsPrefix}
 use Rattle.spin_log.specs.Pens.{PenValue}
 use Rattle.spin_table.specs.Setups.{SetupData}
@@ -12,9 +13,11 @@ use Rattle.spin_table.specs.Soundness.{IsSound}
 use Rattle.spin_proto.specs.declared.deed.JobCall.{JobCall}
 use Rattle.spin_proto.specs.declared.deed.Job.{Job}
 use Rattle.spin_proto.specs.Replies.{BelongsTo}
-use Rattle.spin_seat.specs.Replay.{IsReplay}
+use Rattle.spin_seat.specs.Replay.{IsReplayFrom}
+use Rattle.spin_seat.specs.Places.{place_past, rows_past}
 use Rattle.spin_seat.specs.Answers.{Answer}
-use Rattle.spin_seat.specs.Runs.{Ran}
+use Rattle.spin_seat.specs.Runs.{RanFrom}
+use Rattle.spin_seat.proofs.PastPlaces.{place_past_is, rows_past_is}
 use Rattle.spin_seat.proofs.SeatInvariants.{all_unmap}
 use Rattle.spin_report.specs.declared.entry.Entry.{Entry}
 use Rattle.spin_report.specs.Jobs.{answer_calls}
@@ -68,44 +71,55 @@ all_jobs n (entry ∷ entries) le =
     (all_jobs n entries (All-tail (λ (e : Entry). e.place ≤ n) entry entries le))
 
 -- the places of entries lie in the front, and so do those of their jobs
-pub places_reached : (d : SetupData) (before after : PenValue) (entries : List Entry) → Ran d before (map seat_answer entries) after → All (λ (e : Entry). e.place ≤ length after.front) entries
-places_reached d before after entries r =
-    all_unmap (λ (a : Answer). a.place ≤ length after.front) seat_answer entries (λ k a lt. (r.steps k a lt).reached)
+pub places_reached : (d : SetupData) (first : State) (before after : PenValue) (entries : List Entry) → RanFrom d first before (map seat_answer entries) after
+    → All (λ (e : Entry). e.place ≤ place_past first.place (length after.front)) entries
+places_reached d first before after entries r =
+    all_unmap (λ (a : Answer). a.place ≤ place_past first.place (length after.front)) seat_answer entries (λ k a lt. (r.steps k a lt).reached)
 
-pub jobs_reached : (d : SetupData) (before after : PenValue) (entries : List Entry) (jobs : List Job) → Ran d before (map seat_answer entries) after
-    → map job_asked jobs ≡ flat_map jobs_of entries → All (λ (j : Job). j.place ≤ length after.front) jobs
-jobs_reached d before after entries jobs r asked =
-    all_unmap (λ (a : JobAsked). a.place ≤ length after.front) job_asked jobs
-    (subst (All (λ (a : JobAsked). a.place ≤ length after.front)) (sym asked) (all_jobs (length after.front) entries (places_reached d before after entries r)))
+pub jobs_reached : (d : SetupData) (first : State) (before after : PenValue) (entries : List Entry) (jobs : List Job) → RanFrom d first before (map seat_answer entries) after
+    → map job_asked jobs ≡ flat_map jobs_of entries → All (λ (j : Job). j.place ≤ place_past first.place (length after.front)) jobs
+jobs_reached d first before after entries jobs r asked =
+    let last = place_past first.place (length after.front) in
+    all_unmap (λ (a : JobAsked). a.place ≤ last) job_asked jobs
+    (subst (All (λ (a : JobAsked). a.place ≤ last)) (sym asked) (all_jobs last entries (places_reached d first before after entries r)))
+
+-- so many rows lie before such a place, which are those of each log that the front begins
+pub rows_stand : (first place : ℕ) (front more : List Row) → place ≤ place_past first (length front)
+    → take (rows_past first place) (front ++ more) ≡ take (rows_past first place) front
+rows_stand first place front more le =
+    take-append-le (rows_past first place) front more (omega (arith, le, place_past_is first (length front), rows_past_is first place))
 
 -- the version of a job is that of its place in each log that the front begins
-pub version_stands : (d : SetupData) (pen after : PenValue) (jobs : List Job) → IsPrefix pen.front after.front → All (λ (j : Job). j.place ≤ length pen.front) jobs
-    → All (λ (j : Job). IsReplay d (take j.place pen.front) (arc_value j.version)) jobs → All (λ (j : Job). IsReplay d (take j.place after.front) (arc_value j.version)) jobs
-version_stands d pen after jobs p reached versions k j lt =
-    let same : take (get_or jobs k j).place pen.front ≡ take (get_or jobs k j).place after.front =
-    sym (ap (take (get_or jobs k j).place) p.1 ∙ take-append-le (get_or jobs k j).place pen.front p.0 (reached k j lt)) in
-    subst (λ rows. IsReplay d rows (arc_value (get_or jobs k j).version)) same (versions k j lt)
+pub version_stands : (d : SetupData) (first : State) (pen after : PenValue) (jobs : List Job) → IsPrefix pen.front after.front
+    → All (λ (j : Job). j.place ≤ place_past first.place (length pen.front)) jobs
+    → All (λ (j : Job). IsReplayFrom d first (take (rows_past first.place j.place) pen.front) (arc_value j.version)) jobs
+    → All (λ (j : Job). IsReplayFrom d first (take (rows_past first.place j.place) after.front) (arc_value j.version)) jobs
+version_stands d first pen after jobs p reached versions k j lt =
+    let place = (get_or jobs k j).place in
+    let rows = rows_past first.place place in
+    let same : take rows pen.front ≡ take rows after.front = sym (ap (take rows) p.1 ∙ rows_stand first.place place pen.front p.0 (reached k j lt)) in
+    subst (λ rows. IsReplayFrom d first rows (arc_value (get_or jobs k j).version)) same (versions k j lt)
 
 -- the jobs where the front grows
-pub jobs_stay : (d : SetupData) (before pen after : PenValue) (entries : List Entry) (jobs : List Job) → Ran d before (map seat_answer entries) pen
-    → IsPrefix pen.front after.front → AreJobsOf d entries pen.front jobs → AreJobsOf d entries after.front jobs
-jobs_stay d before pen after entries jobs r p j = record {
+pub jobs_stay : (d : SetupData) (first : State) (before pen after : PenValue) (entries : List Entry) (jobs : List Job) → RanFrom d first before (map seat_answer entries) pen
+    → IsPrefix pen.front after.front → AreJobsOf d first entries pen.front jobs → AreJobsOf d first entries after.front jobs
+jobs_stay d first before pen after entries jobs r p j = record {
   asked = j.asked;
-  versions = version_stands d pen after jobs p (jobs_reached d before pen entries jobs r j.asked) j.versions;
+  versions = version_stands d first pen after jobs p (jobs_reached d first before pen entries jobs r j.asked) j.versions;
   sound = j.sound;
   calls = j.calls;
 }
 
 -- one more entry, with its jobs
-pub jobs_more : (d : SetupData) (pen : PenValue) (entries : List Entry) (entry : Entry) (version : State) (old new : List Job)
-    → AreJobsOf d entries pen.front old → AddsJobs entry version (answer_calls entry.what) old new
-    → IsReplay d (take entry.place pen.front) version → IsSound d version → AreJobsOf d (entries ++ entry ∷ []) pen.front new
-jobs_more d pen entries entry version old new j a replay sound = record {
+pub jobs_more : (d : SetupData) (first : State) (pen : PenValue) (entries : List Entry) (entry : Entry) (version : State) (old new : List Job)
+    → AreJobsOf d first entries pen.front old → AddsJobs entry version (answer_calls entry.what) old new
+    → IsReplayFrom d first (take (rows_past first.place entry.place) pen.front) version → IsSound d version → AreJobsOf d first (entries ++ entry ∷ []) pen.front new
+jobs_more d first pen entries entry version old new j a replay sound = record {
   asked =
       ap (map job_asked) a.jobs_are ∙ map-append job_asked old a.added ∙ (λ i. j.asked i ++ a.asked i)
       ∙ sym (flat_map-append jobs_of entries (entry ∷ []) ∙ ap (λ l. flat_map jobs_of entries ++ l) (append-nil (jobs_of entry)));
-  versions = both (λ (x : Job). IsReplay d (take x.place pen.front) (arc_value x.version)) j.versions
-      (λ x l. subst (λ (p : ℕ × State). IsReplay d (take p.0 pen.front) p.1) (λ i. (sym l.place i, sym l.version_is i)) replay);
+  versions = both (λ (x : Job). IsReplayFrom d first (take (rows_past first.place x.place) pen.front) (arc_value x.version)) j.versions
+      (λ x l. subst (λ (p : ℕ × State). IsReplayFrom d first (take (rows_past first.place p.0) pen.front) p.1) (λ i. (sym l.place i, sym l.version_is i)) replay);
   sound = both (λ (x : Job). IsSound d (arc_value x.version)) j.sound (λ x l. subst (IsSound d) (sym l.version_is) sound);
   calls = both (λ (x : Job). BelongsTo (arc_value x.version) x.call) j.calls (λ x l. subst (λ s. BelongsTo s x.call) (sym l.version_is) l.call);
 }

@@ -1,12 +1,12 @@
 -- Counts of faults of endpoints.
-use Rattle.std.proofs.Common.{◌≡◌, ℕ, Bool, true, false, suc, List, [], ◌∷◌, length, take, Ok, Err, Result, refl, sym, ap, ap₂, subst, ◌∙◌, arith, if◌then◌else◌, ◌&&◌, ◌⊎◌, inl, inr}
-use Rattle.std.specs.Prelude.{◌||◌, All, bytes_eq}
-use Rattle.std.specs.List.{list_any, slice_index_or}
+use Rattle.std.proofs.Common.{◌≡◌, ℕ, Bool, true, false, suc, List, [], ◌∷◌, length, take, Ok, Err, Result, refl, sym, ap, ap₂, subst, ◌∙◌, arith, if◌then◌else◌, ◌⊎◌, inl, inr}
+use Rattle.std.specs.Prelude.{◌||◌, All}
+use Rattle.std.specs.List.{slice_index_or}
 use Rattle.std.proofs.lemmas.List.{length-map}
 use Rattle.spin_outside.specs.Counts.{Rose}
 use Rattle.spin_endpoint.specs.Endpoints.{gained}
 use Rattle.spin_endpoint.specs.Named.{NamedEnd, changed_as, retired, stands, stands_as, with_faults}
-use Rattle.spin_endpoint.specs.Sends.{SentSeen, StopsAt, all_received, all_retired, name_of, pieces_for, received, retired_of}
+use Rattle.spin_endpoint.specs.Sends.{SentSeen, StopsAt, all_received, all_retired, name_of, pieces_for, received}
 use Rattle.spin_run.specs.declared.end.RunEnd.{RunEnd}
 use Rattle.spin_run.specs.declared.end.RunEnd.TheVariants as end
 use Rattle.spin_run.specs.Ends.{RunSeen, faults_of, faults_at, EndRose, CountsBy}
@@ -31,20 +31,22 @@ received_stands names sends name e = go e.stands
     go true = refl
     go false = refl
 
-retired_keeps : (names : List (List ℕ)) (numbers : List ℕ) (e : NamedEnd) → (retired_of names numbers e).object.faults ≡ e.object.faults
-retired_keeps names numbers e = go (e.stands && list_any (λ number. bytes_eq e.name (name_of names number)) numbers)
+all_received_keep : (names : List (List ℕ)) (sends : List SentSeen) (ends : List NamedEnd) → faults_of (all_received names sends ends) ≡ faults_of ends
+all_received_keep names sends [] = refl
+all_received_keep names sends (e ∷ ends) = ap₂ (λ x xs. x ∷ xs) (received_keeps names sends e) (all_received_keep names sends ends)
+
+retired_keep : (name : List ℕ) (ends : List NamedEnd) → faults_of (changed_as name retired ends) ≡ faults_of ends
+retired_keep name [] = refl
+retired_keep name (e ∷ ends) = ap₂ (λ x xs. x ∷ xs) (go (stands_as name e)) (retired_keep name ends)
   where
     go : (b : Bool) → (if b then retired e else e).object.faults ≡ e.object.faults
     go true = refl
     go false = refl
 
-all_received_keep : (names : List (List ℕ)) (sends : List SentSeen) (ends : List NamedEnd) → faults_of (all_received names sends ends) ≡ faults_of ends
-all_received_keep names sends [] = refl
-all_received_keep names sends (e ∷ ends) = ap₂ (λ x xs. x ∷ xs) (received_keeps names sends e) (all_received_keep names sends ends)
-
 all_retired_keep : (names : List (List ℕ)) (numbers : List ℕ) (ends : List NamedEnd) → faults_of (all_retired names numbers ends) ≡ faults_of ends
-all_retired_keep names numbers [] = refl
-all_retired_keep names numbers (e ∷ ends) = ap₂ (λ x xs. x ∷ xs) (retired_keeps names numbers e) (all_retired_keep names numbers ends)
+all_retired_keep names [] ends = refl
+all_retired_keep names (n ∷ numbers) ends =
+    all_retired_keep names numbers (changed_as (name_of names n) retired ends) ∙ retired_keep (name_of names n) ends
 
 all_received_stand : (names : List (List ℕ)) (sends : List SentSeen) (name : List ℕ) (ends : List NamedEnd) → stands name (all_received names sends ends) ≡ stands name ends
 all_received_stand names sends name [] = refl

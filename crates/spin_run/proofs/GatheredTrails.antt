@@ -20,6 +20,7 @@ pub record Gathered (before now : List Lane) (i : ℕ) (trails : List Trail) (ma
   pub emptied : All IsEmptied (take i now)
   pub seats : map (λ (lane : Lane). lane.seat) now ≡ map (λ (lane : Lane). lane.seat) before
   pub stops : map (λ (lane : Lane). lane.stop) now ≡ map (λ (lane : Lane). lane.stop) before
+  pub kept : map (λ (lane : Lane). lane.entries) now ≡ map (λ (lane : Lane). lane.entries) before
 
 kept_map : {Y : Type 0} (f : Lane → Y) (xs : List Lane) (i : ℕ) (d y : Lane) → i < length xs → f y ≡ f (get_or xs i d) → map f (set xs i y) ≡ map f xs
 kept_map f xs i d y lt same =
@@ -44,8 +45,8 @@ trail_more before i lane all here is =
 pub gathers : (before now : List Lane) (i : ℕ) (trails ts : List Trail) (marks ms : List Mark) (jobs js : List Job) (lane rest : Lane) → i < length before
     → Gathered before now i trails marks jobs → IsEmptied rest → ts ≡ trails ++ unmarked (get_or now i lane) ∷ []
     → ms ≡ marks ++ (get_or now i lane).trail.marks → js ≡ jobs ++ (get_or now i lane).jobs → rest.seat ≡ (get_or now i lane).seat
-    → rest.stop ≡ (get_or now i lane).stop → Gathered before (set now i rest) (i + 1) ts ms js
-gathers before now i trails ts marks ms jobs js lane rest here g none trail_added added jobs_added seat stop =
+    → rest.stop ≡ (get_or now i lane).stop → rest.entries ≡ (get_or now i lane).entries → Gathered before (set now i rest) (i + 1) ts ms js
+gathers before now i trails ts marks ms jobs js lane rest here g none trail_added added jobs_added seat stop kept =
     let lt : i < length now = omega (arith, g.count) in
     let same : get_or now i lane ≡ get_or before i lane =
     ap (λ n. get_or now n lane) (plus i) ∙ sym (get_or-drop i now 0 lane) ∙ ap (λ l. get_or l 0 lane) g.left ∙ get_or-drop i before 0 lane ∙ sym (ap (λ n. get_or before n lane) (plus i)) in
@@ -58,6 +59,7 @@ gathers before now i trails ts marks ms jobs js lane rest here g none trail_adde
       emptied = subst (All IsEmptied) (sym (take_more_set now i rest lt)) (All-push IsEmptied (take i now) rest g.emptied none);
       seats = kept_map (λ (l : Lane). l.seat) now i lane rest lt seat ∙ g.seats;
       stops = kept_map (λ (l : Lane). l.stop) now i lane rest lt stop ∙ g.stops;
+      kept = kept_map (λ (l : Lane). l.entries) now i lane rest lt kept ∙ g.kept;
     }
   where
     plus : (i : ℕ) → i ≡ i + 0

@@ -13,49 +13,54 @@ use Rattle.spin_log.proofs.RowLists.{rows_of-append}
 use Rattle.atomic_table.specs.Seated.{TableId}
 use Rattle.spin_table.specs.Setups.{SetupData}
 use Rattle.spin_table.specs.States.{State}
-use Rattle.spin_seat.specs.Replay.{IsReplay}
-use Rattle.spin_seat.specs.Seats.{SeatValue, IsSeatOf}
+use Rattle.spin_seat.specs.Replay.{IsReplayFrom}
+use Rattle.spin_seat.specs.Seats.{SeatValue, IsSeat, IsSeatFrom}
 use Rattle.spin_seat.specs.Calls.{ReadsOn}
-use Rattle.spin_seat.proofs.RowReplays.{IsReplay-one}
-use Rattle.spin_seat.proofs.SeatInvariants.{all_applied, reads_nothing}
+use Rattle.spin_seat.proofs.RowReplays.{IsReplayFrom-one}
+use Rattle.spin_seat.proofs.SeatInvariants.{whole_applied, reads_nothing}
 use Rattle.spin_seat.proofs.SeatCalls.{reads_further}
 use Rattle.spin_run.specs.declared.lane.Lane.{Lane}
 use Rattle.spin_run.specs.Segments.{front_of, state_of}
-use Rattle.spin_run.specs.Meetings.{IsOfHub, HasRead, IsSettled, HasMet, HaveMet}
+use Rattle.spin_run.specs.Meetings.{IsOfHub, AreOfHub, HasRead, IsSettled, HasMet, HaveMet}
 use Rattle.spin_run.specs.Inner.Meeting.{lane_at, front_at, FirstIsSettled, SettledFirst, Met, FirstKnowsAll, HadRound}
 
 -- ---- one lane
 
-pub has_read_nothing : (d : SetupData) (lane : Lane) → IsSeatOf d lane.seat → HasRead d lane lane
+pub has_read_nothing : (d : SetupData) (lane : Lane) → IsSeat d lane.seat → HasRead d lane lane
 has_read_nothing d lane seat = record {
-  seat = seat;
+  seat = (seat, refl);
   reads = reads_nothing lane.seat.pen lane.seat.pen refl;
   trail = refl;
   jobs_are = refl;
   stop = refl;
+  kept = refl;
 }
 
 pub has_read_then : (d : SetupData) (old middle new : Lane) → HasRead d old middle → HasRead d middle new → HasRead d old new
 has_read_then d old middle new a b = record {
-  seat = b.seat;
+  seat = (b.seat.0, b.seat.1 ∙ a.seat.1);
   reads = reads_further old.seat.pen middle.seat.pen new.seat.pen a.reads b.reads;
   trail = b.trail ∙ a.trail;
   jobs_are = b.jobs_are ∙ a.jobs_are;
   stop = b.stop ∙ a.stop;
+  kept = b.kept ∙ a.kept;
 }
 
 -- its front begins with what it was
 front_grows : (d : SetupData) (old new : Lane) → HasRead d old new → IsPrefix old.seat.pen.front new.seat.pen.front
 front_grows d old new h = (h.reads.0, ap (λ (p : PenValue). p.front) h.reads.1)
 
-still_of_hub : (d : SetupData) (log : TableId) (old new : Lane) → IsOfHub d log old → HasRead d old new → IsOfHub d log new
-still_of_hub d log old new own h = (ap (λ (p : PenValue). p.log) h.reads.1 ∙ own.0, h.seat)
+still_of_hub : (d : SetupData) (first : State) (log : TableId) (old new : Lane) → IsOfHub d first log old → HasRead d old new → IsOfHub d first log new
+still_of_hub d first log old new own h = (ap (λ (p : PenValue). p.log) h.reads.1 ∙ own.0, (h.seat.0, h.seat.1 ∙ own.1.1))
 
-pub still_of_hubs : (d : SetupData) (log : TableId) (before after : List Lane) → length after ≡ length before → All (IsOfHub d log) before
-    → ((i : ℕ) (l : Lane) → i < length before → HasRead d (lane_at before i l) (lane_at after i l)) → All (IsOfHub d log) after
-still_of_hubs d log before after len own read k l lt =
-    let inside : k < length before = omega (arith, lt, len) in
-    still_of_hub d log (lane_at before k l) (lane_at after k l) (own k l inside) (read k l inside)
+pub still_of_hubs : (d : SetupData) (log : TableId) (before after : List Lane) → length after ≡ length before → AreOfHub d log before
+    → ((i : ℕ) (l : Lane) → i < length before → HasRead d (lane_at before i l) (lane_at after i l)) → AreOfHub d log after
+still_of_hubs d log before after len own read = (
+  own.0,
+  λ k l lt.
+      let inside : k < length before = omega (arith, lt, len) in
+      still_of_hub d own.0 log (lane_at before k l) (lane_at after k l) (own.1 k l inside) (read k l inside),
+)
 
 -- a lane that has met stands with its front before in the front of all
 pub stood : (d : SetupData) (front : List Row) (state : State) (before after : Lane) → HasMet d front state before after → StandsIn front before.seat.pen
@@ -113,15 +118,15 @@ first_right lanes left right k l y parts size some =
     ap (λ ls. get_or ls k l) parts ∙ in_second left right k 0 l (omega (arith, size)) ∙ get_or_default right 0 l y some
 
 -- so their seats are of the hub
-pub both_of_hub : (d : SetupData) (log : TableId) (lanes left right : List Lane) (k : ℕ) (x y : Lane) → lanes ≡ left ++ right → length left ≡ k → 0 < k → 0 < length right
-    → All (IsOfHub d log) lanes → IsOfHub d log (get_or left 0 x) × IsOfHub d log (get_or right 0 y)
-both_of_hub d log lanes left right k x y parts size pos some own =
+pub both_of_hub : (d : SetupData) (first : State) (log : TableId) (lanes left right : List Lane) (k : ℕ) (x y : Lane) → lanes ≡ left ++ right → length left ≡ k → 0 < k → 0 < length right
+    → All (IsOfHub d first log) lanes → IsOfHub d first log (get_or left 0 x) × IsOfHub d first log (get_or right 0 y)
+both_of_hub d base log lanes left right k x y parts size pos some own =
     let first : 0 < length left = omega (arith, size, pos) in
     let all = ap length parts ∙ length-append left right in
     let low : 0 < length lanes = omega (arith, first, all) in
     let inside : k < length lanes = omega (arith, some, size, all) in (
-      subst (IsOfHub d log) (first_left lanes left right x x parts first) (own 0 x low),
-      subst (IsOfHub d log) (first_right lanes left right k y y parts size some) (own k y inside),
+      subst (IsOfHub d base log) (first_left lanes left right x x parts first) (own 0 x low),
+      subst (IsOfHub d base log) (first_right lanes left right k y y parts size some) (own k y inside),
     )
 
 -- the first of these lanes with another seat
@@ -131,11 +136,12 @@ seated lanes lane seat = record {
   trail = (get_or lanes 0 lane).trail;
   jobs = (get_or lanes 0 lane).jobs;
   stop = (get_or lanes 0 lane).stop;
+  entries = (get_or lanes 0 lane).entries;
 }
 
 -- the seats of lanes that stand first in two lists have met
 pub meets : (d : SetupData) (lanes left right : List Lane) (k : ℕ) (x y : Lane) (sa sb : SeatValue) (r : Result (Unit {0}) NoMemory)
-    → lanes ≡ left ++ right → length left ≡ k → 0 < k → 0 < length right → IsSeatOf d sa → IsSeatOf d sb
+    → lanes ≡ left ++ right → length left ≡ k → 0 < k → 0 < length right → IsSeatFrom d (get_or left 0 x).seat.first sa → IsSeatFrom d (get_or right 0 y).seat.first sb
     → MatchResult r (λ _. sa.pen ≡ with_front (get_or left 0 x).seat.pen (longer (get_or left 0 x).seat.pen.front (get_or right 0 y).seat.pen.front)) (λ _. sa.pen ≡ (get_or left 0 x).seat.pen)
     → MatchResult r (λ _. sb.pen ≡ with_front (get_or right 0 y).seat.pen (longer (get_or left 0 x).seat.pen.front (get_or right 0 y).seat.pen.front)) (λ _. sb.pen ≡ (get_or right 0 y).seat.pen)
     → OnOk r ((sa.kept ≡ None) × (sb.kept ≡ None)) → OnOk r (ReadsOn (get_or left 0 x).seat.pen sa.pen × ReadsOn (get_or right 0 y).seat.pen sb.pen) → OnOk r (IsPen sa.pen × IsPen sb.pen)
@@ -178,6 +184,7 @@ meets d lanes left right k x y sa sb (Ok done) parts size pos some seat_a seat_b
       trail = refl;
       jobs_are = refl;
       stop = refl;
+      kept = refl;
     }
 
     read_b : HasRead d b b'
@@ -187,6 +194,7 @@ meets d lanes left right k x y sa sb (Ok done) parts size pos some seat_a seat_b
       trail = refl;
       jobs_are = refl;
       stop = refl;
+      kept = refl;
     }
 
     old_first : (l : Lane) → lane_at lanes 0 l ≡ a
@@ -229,10 +237,10 @@ pub record Round (d : SetupData) (before : List Lane) (k : ℕ) (now : List Lane
   pub later : (i : ℕ) (l : Lane) → k ≤ i → lane_at now i l ≡ lane_at before i l
 
 -- before it has met any
-pub round_begins : (d : SetupData) (log : TableId) (lanes : List Lane) → All (IsOfHub d log) lanes → FirstIsSettled lanes → Round d lanes 1 lanes
+pub round_begins : (d : SetupData) (log : TableId) (lanes : List Lane) → AreOfHub d log lanes → FirstIsSettled lanes → Round d lanes 1 lanes
 round_begins d log lanes own first = record {
   len = refl;
-  read = λ i l lt. has_read_nothing d (lane_at lanes i l) (own i l lt).1;
+  read = λ i l lt. has_read_nothing d (lane_at lanes i l) (own.1 i l lt).1.0;
   settled = λ i l lt. let zero' : 0 ≡ i = omega arith in subst (λ j. IsSettled (lane_at lanes j l)) zero' (first l);
   gathered = λ i l lt. let zero' : 0 ≡ i = omega arith in subst (λ j. IsPrefix (front_at lanes j l) (front_at lanes 0 l)) zero' (begins_itself (front_at lanes 0 l));
   first = λ knows l. refl;
@@ -261,7 +269,7 @@ round_more d before now after k pos lt r m = record {
     read i l low =
         let step : HasRead d (lane_at now i l) (lane_at after i l) =
         which i k (λ e. subst (λ j. HasRead d (lane_at now j l) (lane_at after j l)) (sym e) (m.first l).0) (λ e. subst (λ j. HasRead d (lane_at now j l) (lane_at after j l)) (sym e) (m.second l).0)
-        (λ a b. subst (λ (x : Lane). HasRead d (lane_at now i l) x) (sym (m.others i l a b)) (has_read_nothing d (lane_at now i l) (r.read i l low).seat)) in
+        (λ a b. subst (λ (x : Lane). HasRead d (lane_at now i l) x) (sym (m.others i l a b)) (has_read_nothing d (lane_at now i l) (r.read i l low).seat.0)) in
         has_read_then d (lane_at before i l) (lane_at now i l) (lane_at after i l) (r.read i l low) step
 
     -- the first lane knew it all
@@ -283,13 +291,13 @@ round_ends d before after k le r = record {
 
 -- ---- both rounds
 
-settled_read : (d : SetupData) (log : TableId) (before after : List Lane) → All (IsOfHub d log) before
+settled_read : (d : SetupData) (log : TableId) (before after : List Lane) → AreOfHub d log before
     → SettledFirst d before after → (i : ℕ) (l : Lane) → i < length before → HasRead d (lane_at before i l) (lane_at after i l)
 settled_read d log before after own s i l lt =
     which i 0 (λ e. subst (λ j. HasRead d (lane_at before j l) (lane_at after j l)) (sym e) (s.first l).0) (λ e. subst (λ j. HasRead d (lane_at before j l) (lane_at after j l)) (sym e) (s.first l).0)
-    (λ a b. subst (λ (x : Lane). HasRead d (lane_at before i l) x) (sym (s.others i l a)) (has_read_nothing d (lane_at before i l) (own i l lt).1))
+    (λ a b. subst (λ (x : Lane). HasRead d (lane_at before i l) x) (sym (s.others i l a)) (has_read_nothing d (lane_at before i l) (own.1 i l lt).1.0))
 
-pub settled_hubs : (d : SetupData) (log : TableId) (before after : List Lane) → All (IsOfHub d log) before → SettledFirst d before after → All (IsOfHub d log) after
+pub settled_hubs : (d : SetupData) (log : TableId) (before after : List Lane) → AreOfHub d log before → SettledFirst d before after → AreOfHub d log after
 settled_hubs d log before after own s = still_of_hubs d log before after s.len own (settled_read d log before after own s)
 
 front_first : (lanes : List Lane) (l : Lane) → 0 < length lanes → front_of lanes ≡ front_at lanes 0 l
@@ -301,11 +309,13 @@ state_first d [] l lt = absurd (omega arith)
 state_first d (lane ∷ lanes) l lt = refl
 
 -- seats that have applied one front have one state
-one_state : (d : SetupData) (a b : Lane) → IsSeatOf d a.seat → IsSeatOf d b.seat → IsSettled a → IsSettled b → a.seat.pen.front ≡ b.seat.pen.front → a.seat.state ≡ b.seat.state
-one_state d a b sa sb ta tb same =
-    IsReplay-one d b.seat.pen.front a.seat.state b.seat.state (subst (λ rows. IsReplay d rows a.seat.state) same (all_applied d a.seat sa ta.whole)) (all_applied d b.seat sb tb.whole)
+one_state : (d : SetupData) (a b : Lane) → IsSeat d a.seat → IsSeat d b.seat → a.seat.first ≡ b.seat.first → IsSettled a → IsSettled b
+    → a.seat.pen.front ≡ b.seat.pen.front → a.seat.state ≡ b.seat.state
+one_state d a b sa sb first ta tb same =
+    IsReplayFrom-one d b.seat.first b.seat.pen.front a.seat.state b.seat.state
+    (subst (λ (x : State × List Row). IsReplayFrom d x.0 x.1 a.seat.state) (λ i. (first i, same i)) (whole_applied d a.seat sa ta.whole)) (whole_applied d b.seat sb tb.whole)
 
-pub have_met : (d : SetupData) (log : TableId) (before settled once twice : List Lane) → 0 < length before → All (IsOfHub d log) before
+pub have_met : (d : SetupData) (log : TableId) (before settled once twice : List Lane) → 0 < length before → AreOfHub d log before
     → SettledFirst d before settled → HadRound d settled once → HadRound d once twice → HaveMet d before twice
 have_met d log before settled once twice some own s a b = (
   b.len ∙ a.len ∙ s.len,
@@ -318,12 +328,15 @@ have_met d log before settled once twice some own s a b = (
       let read_1 = a.read k l in_settled in
       let read_2 = b.read k l in_once in
       let same : front_at twice k l ≡ front_at twice 0 l = b.spread a.gathered k l in_once in
+      let now = still_of_hubs d log once twice b.len (still_of_hubs d log settled once a.len (settled_hubs d log before settled own s) a.read) b.read in
+      let one = now.1 k l (omega (arith, lt, s.len, a.len, b.len)) in
+      let zero' = now.1 0 l first_twice in
       record {
         read = has_read_then d (lane_at before k l) (lane_at once k l) (lane_at twice k l) (has_read_then d (lane_at before k l) (lane_at settled k l) (lane_at once k l) read_0 read_1) read_2;
         settled = b.settled k l in_once;
         front_is = same ∙ sym (front_first twice l first_twice);
         state_is =
-            one_state d (lane_at twice k l) (lane_at twice 0 l) read_2.seat (b.read 0 l first_once).seat (b.settled k l in_once) (b.settled 0 l first_once) same
+            one_state d (lane_at twice k l) (lane_at twice 0 l) one.1.0 zero'.1.0 (one.1.1 ∙ sym zero'.1.1) (b.settled k l in_once) (b.settled 0 l first_once) same
             ∙ sym (state_first d twice l first_twice);
       },
 )

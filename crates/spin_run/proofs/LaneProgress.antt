@@ -4,9 +4,8 @@ use Rattle.std.specs.Prelude.{Result, Ok, Err}
 use Rattle.std.specs.Result.{result_err}
 use Rattle.std.proofs.lemmas.List.{append-nil}
 use Rattle.std.proofs.lemmas.Option.{none-some}
-use Rattle.spin_log.specs.Pens.{IsSamePen}
 use Rattle.spin_table.specs.Setups.{SetupData}
-use Rattle.spin_seat.specs.Seats.{IsSeatOf}
+use Rattle.spin_seat.specs.Seats.{IsSeat}
 use Rattle.spin_seat.specs.declared.answer.SeatFault.{SeatFault}
 use Rattle.spin_seat.specs.declared.answer.SeatFault.TheVariants as fault
 use Rattle.spin_script.specs.declared.script.Line.{Line}
@@ -17,13 +16,13 @@ use Rattle.spin_report.specs.declared.entry.Entry.{Entry}
 use Rattle.spin_run.specs.declared.lane.Lane.{Lane}
 use Rattle.spin_run.specs.declared.trail.Trail.{Trail}
 use Rattle.spin_run.specs.Trails.{IsNew, IsTrailOf}
-use Rattle.spin_run.specs.Lanes.{RanLane, HadMemory, HasRunLane}
+use Rattle.spin_run.specs.Lanes.{RanLane, HadMemory, HasRunLane, kept_with}
 use Rattle.spin_run.specs.Inner.Answering.{HasAnswered, Answers, EndsFull, Comes, Stays}
 use Rattle.spin_run.proofs.AskedOfLane.{own_line, other_line, asked_next, own_few}
 use Rattle.spin_run.proofs.LaneAnswers.{answers_nothing, answers_then, ends_then, answers_count, nothing_answered}
 
-pub stays_then : (d : SetupData) (old middle new : Lane) → IsSamePen old.seat.pen middle.seat.pen → Stays d middle new → Stays d old new
-stays_then d old middle new a b = (b.0, (b.1.0 ∙ a.0, b.1.1 ∙ a.1, b.1.2 ∙ a.2))
+pub stays_then : (d : SetupData) (old middle new : Lane) → Stays d old middle → Stays d middle new → Stays d old new
+stays_then d old middle new a b = ((b.0.0, b.0.1 ∙ a.0.1), (b.1.0 ∙ a.1.0, b.1.1 ∙ a.1.1, b.1.2 ∙ a.1.2))
 
 -- Of what it is asked the lane has answered the first part, and this is left.
 pub record Progress (d : SetupData) (own rest : List Numbered) (old now : Lane) : Type 0 where
@@ -38,12 +37,12 @@ rest_at k i lines left = asked_of_lane k (asked_in (drop i lines) left)
 
 -- before the first line
 pub begins : (d : SetupData) (k : ℕ) (lines : List Line) (frames left : List (List ℕ)) (old : Lane) → left ≡ frames
-    → IsSeatOf d old.seat → Progress d (asked_of_lane k (asked_in lines frames)) (rest_at k 0 lines left) old old
+    → IsSeat d old.seat → Progress d (asked_of_lane k (asked_in lines frames)) (rest_at k 0 lines left) old old
 begins d k lines frames left old is seat = record {
   first = [];
   parts = ap (λ l. asked_of_lane k (asked_in lines l)) (sym is);
   answers = answers_nothing d old;
-  stays = (seat, (refl, refl, refl));
+  stays = ((seat, refl), (refl, refl, refl));
 }
 
 -- a line of another lane
@@ -75,7 +74,7 @@ goes_on d k i lines line left own old now new lt is same p a s =
       first = p.first ++ here;
       parts = p.parts ∙ ap (λ l. p.first ++ l) (own_parts k i lines line left lt is same) ∙ sym (append_assoc p.first here rest);
       answers = answers_then d p.first here old now new p.answers a;
-      stays = stays_then d old now new p.stays.1 s;
+      stays = stays_then d old now new p.stays s;
     }
 
 -- it ends at a line of this lane
@@ -110,22 +109,27 @@ line_few d k i lines line frames left old now lt is same none p =
 -- what a lane's run says, by what its lines came to
 pub has_run : (d : SetupData) (asked : List Numbered) (old now new : Lane) (r : Result (Unit {0}) SeatFault) → IsNew old.trail → old.jobs ≡ []
     → Stays d old now → Comes d (asked_of_lane old.seat.pen.lane asked) old r now
-    → new.seat ≡ now.seat → new.trail ≡ now.trail → new.jobs ≡ now.jobs → new.stop ≡ result_err r → (given : List Entry) × HasRunLane d asked old new given
-has_run d asked old now new r trail jobs stays comes seat trail' jobs' stop =
-    let run = ran r comes in
-    (run.0, subst (λ (l : Lane). HasRunLane d asked old l run.0) same (record { seat = stays.0; same = stays.1; ran = λ memory. (run.1 memory).0; told = λ memory. (run.1 memory).1 }))
+    → new.seat ≡ now.seat → new.trail ≡ now.trail → new.jobs ≡ now.jobs → new.stop ≡ result_err r → new.entries ≡ now.entries → (given : List Entry) × HasRunLane d asked old new given
+has_run d asked old now new r trail jobs stays comes seat trail' jobs' stop entries =
+    let run = ran r comes in (
+      run.0,
+      subst (λ (l : Lane). HasRunLane d asked old l run.0) same
+          (record { seat = stays.0; same = stays.1; ran = λ memory. (run.1 memory).0; told = λ memory. (run.1 memory).1.0; kept = λ memory. (run.1 memory).1.1 }),
+    )
   where
     own : List Numbered
     own = asked_of_lane old.seat.pen.lane asked
 
-    same : ◌≡◌ {A = Lane} (record { seat = now.seat; trail = now.trail; jobs = now.jobs; stop = result_err r }) new
-    same = λ i. record { seat = sym seat i; trail = sym trail' i; jobs = sym jobs' i; stop = sym stop i }
+    same : ◌≡◌ {A = Lane} (record { seat = now.seat; trail = now.trail; jobs = now.jobs; stop = result_err r; entries = now.entries }) new
+    same = λ i. record { seat = sym seat i; trail = sym trail' i; jobs = sym jobs' i; stop = sym stop i; entries = sym entries i }
 
-    before : HasAnswered d old.seat.pen [] old
+    before : HasAnswered d old.seat.first old.seat.pen [] old
     before = nothing_answered d old trail jobs
 
     ran : (o : Result (Unit {0}) SeatFault) → Comes d own old o now
-        → (given : List Entry) × (HadMemory (result_err o) → RanLane d own old.seat.pen now.seat.pen given now.jobs (result_err o) × IsTrailOf given now.trail)
+        → (given : List Entry)
+        × (HadMemory (result_err o) → RanLane d old.seat.first own old.seat.pen now.seat.pen given now.jobs (result_err o)
+        × (IsTrailOf given now.trail × (now.entries ≡ kept_with old.entries given)))
     ran (Ok done) a =
         let h = a.goes_on old.seat.pen [] before in (
           a.added,
@@ -139,7 +143,7 @@ has_run d asked old now new r trail jobs stays comes seat trail' jobs' stop =
               full = λ e. absurd (none-some fault.Full e);
               jobs_are = h.jobs_are;
             },
-            h.told,
+            (h.told, a.kept),
           ),
         )
     ran (Err fault.Full) e =
@@ -155,7 +159,7 @@ has_run d asked old now new r trail jobs stays comes seat trail' jobs' stop =
               full = λ full. (e.full, e.next);
               jobs_are = h.jobs_are;
             },
-            h.told,
+            (h.told, e.answers.kept),
           ),
         )
     ran (Err fault.NoMemory) e = ([], λ memory. absurd (memory refl))

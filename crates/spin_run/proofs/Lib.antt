@@ -23,6 +23,7 @@ pub mod LaneMeetings
 pub mod NewLanes
 pub mod SummaryEnds
 pub mod ReadyLanes
+pub mod KeptEntries
 pub mod ThreadCrossing
 pub mod RunEnds
 pub mod OrderlySegments

@@ -15,14 +15,17 @@ use Rattle.spin_log.specs.Rows.{rows_of}
 use Rattle.spin_log.specs.Pens.{PenValue, StandsIn}
 use Rattle.spin_table.specs.declared.refusal.Verdicted.TheVariants as verdicted
 use Rattle.spin_table.specs.Setups.{SetupData}
+use Rattle.spin_table.specs.States.{State}
 use Rattle.spin_proto.specs.declared.deed.Job.{Job}
 use Rattle.spin_seat.specs.declared.answer.SeatFault.{SeatFault}
 use Rattle.spin_seat.specs.declared.answer.SeatFault.TheVariants as fault
 use Rattle.spin_seat.specs.Answers as seat
-use Rattle.spin_seat.specs.Runs.{gained, published}
+use Rattle.spin_seat.specs.Places.{place_past}
+use Rattle.spin_seat.specs.Runs.{gained_past, published}
 use Rattle.spin_seat.proofs.LaneCounts.{sum_below, count-cons, sum_below-same, partition}
 use Rattle.spin_seat.proofs.SeatInvariants.{none_added}
-use Rattle.spin_seat.proofs.SeatAnswers.{same_gain}
+use Rattle.spin_seat.proofs.PastPlaces.{place_past_is}
+use Rattle.spin_seat.proofs.SeatAnswers.{same_gain_past}
 use Rattle.spin_script.specs.Soundness.{is_command_work}
 use Rattle.spin_report.specs.declared.entry.What.{What}
 use Rattle.spin_report.specs.declared.entry.What.TheVariants as what
@@ -93,18 +96,21 @@ enumerated_lanes n p (row ∷ rows) all =
     All-cons (λ (x : ℕ × Row). lane_of x.1 < n) (p, row) (enumerate_from (p + 1) rows) (All-head (λ row. lane_of row < n) row rows all)
     (enumerated_lanes n (p + 1) rows (All-tail (λ row. lane_of row < n) row rows all))
 
-module _ (d : SetupData) (lanes : ℕ) (asked : List Numbered) (before after : ℕ → PenValue) (trail : ℕ → List Entry) (jobs : ℕ → List Job) (stop : ℕ → Option SeatFault) (start more : List Row) where
+module _ (d : SetupData) (first : State) (lanes : ℕ) (asked : List Numbered) (before after : ℕ → PenValue) (trail : ℕ → List Entry) (jobs : ℕ → List Job) (stop : ℕ → Option SeatFault) (start more : List Row) where
   -- what is known once all lanes ran and all seats met
   pub record AllRan : Type 0 where
-    pub ran : (k : ℕ) → k < lanes → RanLane d (asked_of_lane k asked) (before k) (after k) (trail k) (jobs k) (stop k)
+    pub ran : (k : ℕ) → k < lanes → RanLane d first (asked_of_lane k asked) (before k) (after k) (trail k) (jobs k) (stop k)
     pub at_start : (k : ℕ) → k < lanes → ((before k).front ≡ start) × ((before k).lane ≡ k)
     pub met : (k : ℕ) → k < lanes → StandsIn (start ++ more) (after k)
     pub rows : All (λ row. lane_of row < lanes) more
     pub under : All (λ n. n.lane < lanes) asked
 
   -- the rows of a lane past the start, each with its place
+  abbrev pub next_place : ℕ
+  next_place = place_past first.place (length start) + 1
+
   abbrev pub rows_at : ℕ → List (ℕ × Row)
-  rows_at k = filter (λ x. lane_of x.1 == k) (enumerate_from (length start + 1) more)
+  rows_at k = filter (λ x. lane_of x.1 == k) (enumerate_from next_place more)
 
   pub own_of : AllRan → (k : ℕ) → k < lanes → published (map seat_answer (trail k)) ≡ rows_at k
   own_of all k lt =
@@ -114,10 +120,10 @@ module _ (d : SetupData) (lanes : ℕ) (asked : List Numbered) (before after : �
       let none : rows_of (before k).lane m.front.0 ≡ [] =
       subst (λ (n : ℕ). rows_of n m.front.0 ≡ []) r.same.2 (none_added (after k).lane (after k).front m.front.0 (start ++ more) m.front.1 (sym m.reached ∙ m.own)) in
       let longer : length (before k).front ≤ length (after k).front = omega (arith, ap length r.front.1, length-append (before k).front r.front.0) in
-      r.rows ∙ same_gain (before k).lane (length (before k).front) (after k).front m.front.0 longer none
-      ∙ ap (gained (before k).lane (length (before k).front)) (sym m.front.1)
-      ∙ (λ i. gained (s.1 i) (length (s.0 i)) (start ++ more))
-      ∙ ap (λ ws. filter (λ x. lane_of x.1 == k) (enumerate_from (length start + 1) ws)) (drop_at start more (length start) refl)
+      r.rows ∙ same_gain_past first.place (before k).lane (length (before k).front) (after k).front m.front.0 longer none
+      ∙ ap (gained_past first.place (before k).lane (length (before k).front)) (sym m.front.1)
+      ∙ (λ i. gained_past first.place (s.1 i) (length (s.0 i)) (start ++ more))
+      ∙ ap (λ ws. filter (λ x. lane_of x.1 == k) (enumerate_from next_place ws)) (drop_at start more (length start) refl)
 
   -- no lane has gained more rows than it answered commands
   gained_few : (all : AllRan) (k : ℕ) (lt : k < lanes) → length (rows_at k) + commands_of (all.ran k lt).left ≤ commands_of (asked_of_lane k asked)
@@ -130,8 +136,8 @@ module _ (d : SetupData) (lanes : ℕ) (asked : List Numbered) (before after : �
 
   gained_sum : AllRan → sum_below lanes (λ k. length (rows_at k)) ≡ length more
   gained_sum all =
-      partition_length (λ (x : ℕ × Row). lane_of x.1) lanes (enumerate_from (length start + 1) more) (enumerated_lanes lanes (length start + 1) more all.rows)
-      ∙ length-enumerate_from (length start + 1) more
+      partition_length (λ (x : ℕ × Row). lane_of x.1) lanes (enumerate_from next_place more) (enumerated_lanes lanes next_place more all.rows)
+      ∙ length-enumerate_from next_place more
 
   asked_sum : AllRan → sum_below lanes (λ k. commands_of (asked_of_lane k asked)) ≡ commands_of asked
   asked_sum all = partition (λ (n : Numbered). is_command_work n.asked) (λ (n : Numbered). n.lane) lanes asked all.under
@@ -145,7 +151,7 @@ module _ (d : SetupData) (lanes : ℕ) (asked : List Numbered) (before after : �
       omega (arith, below, rows, commands)
 
   -- a lane that finds no room would have gained too few
-  pub never_full : AllRan → length start + commands_of asked ≤ MAX_PLACE → (k : ℕ) → k < lanes → stop k ≢ Some fault.Full
+  pub never_full : AllRan → place_past first.place (length start) + commands_of asked ≤ MAX_PLACE → (k : ℕ) → k < lanes → stop k ≢ Some fault.Full
   never_full all room k lt is =
       let r = all.ran k lt in
       let m = all.met k lt in
@@ -157,5 +163,5 @@ module _ (d : SetupData) (lanes : ℕ) (asked : List Numbered) (before after : �
       let total = length-append start more in
       let begins = ap length m.front.1 in
       let front = length-append (after k).front m.front.0 in
-      let at = (r.full is).0 in
-      omega (arith, less, rows, commands, total, begins, front, at, room)
+      let at = (r.full is).0.0 in
+      omega (arith, less, rows, commands, total, begins, front, at, room, place_past_is first.place (length start), place_past_is first.place (length (after k).front))

@@ -10,12 +10,12 @@ use Rattle.spin_log.specs.Rows.{IsCommandBelow}
 use Rattle.spin_log.specs.Rule.{new_hand, new_hands}
 use Rattle.spin_log.specs.Pens.{PenValue, IsPen, pen_value, new_pens}
 use Rattle.spin_table.specs.Setups.{SetupData}
-use Rattle.spin_table.specs.States.{State, start_of}
-use Rattle.spin_seat.specs.Replay.{IsReplayFrom, IsReplay}
-use Rattle.spin_seat.specs.Seats.{SeatValue, IsSeatOf, AreOfLanes, kept_rows}
+use Rattle.spin_table.specs.States.{State}
+use Rattle.spin_seat.specs.Replay.{IsReplayFrom}
+use Rattle.spin_seat.specs.Seats.{SeatValue, IsSeatFrom, AreOfLanes, kept_rows}
 use Rattle.spin_seat.proofs.SeatInvariants.{all_unmap, new_count, new_lanes}
 use Rattle.spin_run.specs.declared.lane.Lane.{Lane}
-use Rattle.spin_run.specs.Segments.{front_of, state_of, IsReady, AreReady}
+use Rattle.spin_run.specs.Segments.{front_of, first_of, state_of, IsReady, AreReady}
 use Rattle.spin_run.specs.Inner.Answering.{AreFresh}
 
 -- a pen that is new
@@ -47,26 +47,27 @@ each_new id lanes from (suc n) few fit =
     All-cons (IsNew id lanes) (pen_value id (new_hand lanes from)) (map (pen_value id) (new_hands lanes (from + 1) n))
     (new_pen id lanes from few (omega (arith, fit))) (each_new id lanes (from + 1) n few (omega (arith, fit)))
 
--- where a seat knows no row, it is at the start
-at_start : (d : SetupData) (applied : List Row) (kept : Option Row) (state : State) → [] ≡ applied ++ kept_rows kept → IsReplay d applied state → (kept ≡ None) × (state ≡ start_of d)
-at_start d [] None state e r = (refl, r)
-at_start d [] (Some row) state e r = absurd (cc (e))
-at_start d (x ∷ applied) kept state e r = absurd (cc (e))
+-- where a seat knows no row, it is at its first state
+at_first : (d : SetupData) (first : State) (applied : List Row) (kept : Option Row) (state : State) → [] ≡ applied ++ kept_rows kept → IsReplayFrom d first applied state
+    → (kept ≡ None) × (state ≡ first)
+at_first d first [] None state e r = (refl, r)
+at_first d first [] (Some row) state e r = absurd (cc (e))
+at_first d first (x ∷ applied) kept state e r = absurd (cc (e))
 
-new_seat : (d : SetupData) (seat : SeatValue) → IsSeatOf d seat → seat.pen.front ≡ [] → (seat.kept ≡ None) × (seat.state ≡ start_of d)
-new_seat d seat h none =
-    at_start d h.0.applied seat.kept seat.state (sym none ∙ h.0.front) (subst (λ (first : State). IsReplayFrom d first h.0.applied seat.state) h.1 h.0.replay)
+new_seat : (d : SetupData) (first : State) (seat : SeatValue) → IsSeatFrom d first seat → seat.pen.front ≡ [] → (seat.kept ≡ None) × (seat.state ≡ first)
+new_seat d first seat h none =
+    at_first d first h.0.applied seat.kept seat.state (sym none ∙ h.0.front) (subst (λ (s : State). IsReplayFrom d s h.0.applied seat.state) h.1 h.0.replay)
 
 -- what is so of new lanes
-pub record AreNew (d : SetupData) (id : TableId) (n : ℕ) (lanes : List Lane) : Type 0 where
+pub record AreNew (d : SetupData) (first : State) (id : TableId) (n : ℕ) (lanes : List Lane) : Type 0 where
   pub ready : AreReady d id n lanes
   pub front : front_of lanes ≡ []
-  pub start : state_of d lanes ≡ start_of d
+  pub start : (first_of d lanes ≡ first) × (state_of d lanes ≡ first)
 
-pub are_new : (d : SetupData) (id : TableId) (n : ℕ) (seats : List SeatValue) (lanes : List Lane) → 0 < n
-    → n ≤ MAX_LANES → map (λ (s : SeatValue). s.pen) seats ≡ new_pens id n → All (IsSeatOf d) seats
-    → map (λ (l : Lane). l.seat) lanes ≡ seats → AreFresh lanes → AreNew d id n lanes
-are_new d id n seats lanes some few pens seat_of is fresh = record {
+pub are_new : (d : SetupData) (base : State) (id : TableId) (n : ℕ) (seats : List SeatValue) (lanes : List Lane) → 0 < n
+    → n ≤ MAX_LANES → map (λ (s : SeatValue). s.pen) seats ≡ new_pens id n → All (IsSeatFrom d base) seats
+    → map (λ (l : Lane). l.seat) lanes ≡ seats → AreFresh lanes → AreNew d base id n lanes
+are_new d base id n seats lanes some few pens seat_of is fresh = record {
   ready = record {
     some = omega (arith, some, count);
     all = count;
@@ -74,7 +75,7 @@ are_new d id n seats lanes some few pens seat_of is fresh = record {
     each = λ k l lt. ready k l lt;
   };
   front = front lanes each;
-  start = start lanes each seats_are;
+  start = start lanes some_lane each seats_are;
 }
   where
     count : length lanes ≡ n
@@ -83,8 +84,11 @@ are_new d id n seats lanes some few pens seat_of is fresh = record {
         let b = length-map seats (λ (s : SeatValue). s.pen) in
         omega (arith, a, b, ap length is, ap length pens, new_count id n 0 n)
 
-    seats_are : All (λ (l : Lane). IsSeatOf d l.seat) lanes
-    seats_are = all_unmap (IsSeatOf d) (λ (l : Lane). l.seat) lanes (subst (All (IsSeatOf d)) (sym is) seat_of)
+    some_lane : 0 < length lanes
+    some_lane = omega (arith, some, count)
+
+    seats_are : All (λ (l : Lane). IsSeatFrom d base l.seat) lanes
+    seats_are = all_unmap (IsSeatFrom d base) (λ (l : Lane). l.seat) lanes (subst (All (IsSeatFrom d base)) (sym is) seat_of)
 
     each : All (λ (l : Lane). IsNew id n l.seat.pen) lanes
     each =
@@ -96,11 +100,14 @@ are_new d id n seats lanes some few pens seat_of is fresh = record {
     front [] new = refl
     front (l ∷ ls) new = (All-head (λ (x : Lane). IsNew id n x.seat.pen) l ls new).front
 
-    start : (ls : List Lane) → All (λ (l : Lane). IsNew id n l.seat.pen) ls → All (λ (l : Lane). IsSeatOf d l.seat) ls → state_of d ls ≡ start_of d
-    start [] new seats' = refl
-    start (l ∷ ls) new seats' = (new_seat d l.seat (All-head (λ (x : Lane). IsSeatOf d x.seat) l ls seats') (All-head (λ (x : Lane). IsNew id n x.seat.pen) l ls new).front).1
+    start : (ls : List Lane) → 0 < length ls → All (λ (l : Lane). IsNew id n l.seat.pen) ls → All (λ (l : Lane). IsSeatFrom d base l.seat) ls
+        → (first_of d ls ≡ base) × (state_of d ls ≡ base)
+    start [] lt new seats' = absurd (omega arith)
+    start (l ∷ ls) lt new seats' =
+        let seat' = All-head (λ (x : Lane). IsSeatFrom d base x.seat) l ls seats' in
+        (seat'.1, (new_seat d base l.seat seat' (All-head (λ (x : Lane). IsNew id n x.seat.pen) l ls new).front).1)
 
-    ready : (k : ℕ) (l : Lane) → k < length lanes → IsReady d id n (front_of lanes) (get_or lanes k l)
+    ready : (k : ℕ) (l : Lane) → k < length lanes → IsReady d id n (first_of d lanes) (front_of lanes) (get_or lanes k l)
     ready k l lt =
         let new = each k l lt in
         let seat' = seats_are k l lt in
@@ -109,8 +116,8 @@ are_new d id n seats lanes some few pens seat_of is fresh = record {
           own = new.own;
           among = new.among;
           pen = new.pen_is;
-          seat = seat';
-          whole = (new_seat d (get_or lanes k l).seat seat' new.front).0;
+          seat = (seat'.0, seat'.1 ∙ sym (start lanes some_lane each seats_are).0);
+          whole = (new_seat d base (get_or lanes k l).seat seat' new.front).0;
           front_is = new.front ∙ sym (front lanes each);
           trail = fresh'.0;
           jobs_are = fresh'.1;

@@ -26,7 +26,7 @@ use Rattle.spin_report.specs.declared.entry.Entry.{Entry}
 use Rattle.spin_report.specs.Lines.{JobSeen, entry_line, job_line}
 use Rattle.spin_report.specs.Histories.{SegmentSeen, retire_line, segment_line, segment_lines, lost_lines}
 use Rattle.spin_report.specs.Segments.{records_wanted, asked_at, asked_in, wanted_by, IsWoven}
-use Rattle.spin_report.specs.Runs.{Standing, sends_of_reply, sends_of, retirements, lost_counts}
+use Rattle.spin_report.specs.Runs.{RunPoint, sends_of_reply, sends_of, retirements, lost_counts}
 use Rattle.spin_run.specs.declared.end.RunEnd.{RunEnd}
 use Rattle.spin_run.specs.declared.end.RunEnd.TheVariants as end
 use Rattle.spin_run.specs.Segments.{jobs_seen}
@@ -102,7 +102,7 @@ part_of s segment before entries jobs = record {
 }
 
 -- how it leaves the standing
-abbrev pub next_of : Setting → Segment → Moment → List (List ℕ) → State → List Entry → List JobSeen → Standing
+abbrev pub next_of : Setting → Segment → Moment → List (List ℕ) → State → List Entry → List JobSeen → RunPoint
 next_of s segment before left state entries jobs = record {
   state = state;
   left = drop (wanted_by segment.lines) left;

@@ -16,6 +16,8 @@ use Rattle.spin_word.specs.declared.row.Row.{Row}
 use Rattle.spin_word.specs.Rows.{lane_of}
 use Rattle.spin_log.specs.Pens.{PenValue}
 use Rattle.spin_table.specs.Setups.{SetupData}
+use Rattle.spin_table.specs.States.{State}
+use Rattle.spin_seat.specs.Places.{place_past}
 use Rattle.spin_proto.specs.declared.deed.Job.{Job}
 use Rattle.spin_seat.specs.declared.answer.SeatFault.{SeatFault}
 use Rattle.spin_seat.specs.Answers as seat
@@ -194,11 +196,14 @@ rows_told (e ∷ es) = go (seat.row_published (said_of e.what)) (rows_told es)
 
 -- ---- all lanes
 
-module _ (d : SetupData) (lanes : ℕ) (asked : List Numbered) (before after : ℕ → PenValue) (trail : ℕ → List Entry) (jobs : ℕ → List Job) (stop : ℕ → Option SeatFault) (start more : List Row)
-    (all : AllRan d lanes asked before after trail jobs stop start more) (woven : List Entry)
+module _ (d : SetupData) (first : State) (lanes : ℕ) (asked : List Numbered) (before after : ℕ → PenValue) (trail : ℕ → List Entry) (jobs : ℕ → List Job) (stop : ℕ → Option SeatFault) (start more : List Row)
+    (all : AllRan d first lanes asked before after trail jobs stop start more) (woven : List Entry)
     (under : All (λ (e : Entry). e.lane < lanes) woven) (each : (k : ℕ) → k < lanes → of_lane k woven ≡ trail k) where
-  own_rows : (k : ℕ) → k < lanes → published (map seat_answer (trail k)) ≡ filter (λ (x : ℕ × Row). lane_of x.1 == k) (enumerate_from (length start + 1) more)
-  own_rows k lt = own_of d lanes asked before after trail jobs stop start more all k lt
+  abbrev next : ℕ
+  next = place_past first.place (length start) + 1
+
+  own_rows : (k : ℕ) → k < lanes → published (map seat_answer (trail k)) ≡ filter (λ (x : ℕ × Row). lane_of x.1 == k) (enumerate_from next more)
+  own_rows k lt = own_of d first lanes asked before after trail jobs stop start more all k lt
 
   lane_of_trail : (k : ℕ) → k < lanes → All (λ (e : Entry). e.lane ≡ k) (trail k)
   lane_of_trail k lt =
@@ -208,23 +213,23 @@ module _ (d : SetupData) (lanes : ℕ) (asked : List Numbered) (before after : �
   owns : All IsOwn woven
   owns = by_lane IsOwn (λ (e : Entry). e.lane) lanes woven under (λ k lt.
       subst (All IsOwn) (sym (each k lt))
-      (rows_own k (trail k) (lane_of_trail k lt) (subst (All (λ (x : ℕ × Row). lane_of x.1 ≡ k)) (sym (own_rows k lt)) (filtered k (enumerate_from (length start + 1) more)))))
+      (rows_own k (trail k) (lane_of_trail k lt) (subst (All (λ (x : ℕ × Row). lane_of x.1 ≡ k)) (sym (own_rows k lt)) (filtered k (enumerate_from next more)))))
 
   -- each row that was added, with its place, is that of an accepted entry
-  pub all_published : IsInOrder woven → published (map seat_answer woven) ≡ enumerate_from (length start + 1) more
+  pub all_published : IsInOrder woven → published (map seat_answer woven) ≡ enumerate_from next more
   all_published up =
-      same_by_lanes sooner sooner_weak (λ (x : ℕ × Row). lane_of x.1) row_ties (published (map seat_answer woven)) (enumerate_from (length start + 1) more)
-      (rows_in_order woven (rising_from_sorted earlier earlier_weak woven up) owns) (rows_rise (length start + 1) more) (λ k. go k (ltb k lanes) refl)
+      same_by_lanes sooner sooner_weak (λ (x : ℕ × Row). lane_of x.1) row_ties (published (map seat_answer woven)) (enumerate_from next more)
+      (rows_in_order woven (rising_from_sorted earlier earlier_weak woven up) owns) (rows_rise next more) (λ k. go k (ltb k lanes) refl)
     where
       go : (k : ℕ) (b : Bool) → ltb k lanes ≡ b
-          → filter (λ (x : ℕ × Row). lane_of x.1 == k) (published (map seat_answer woven)) ≡ filter (λ (x : ℕ × Row). lane_of x.1 == k) (enumerate_from (length start + 1) more)
+          → filter (λ (x : ℕ × Row). lane_of x.1 == k) (published (map seat_answer woven)) ≡ filter (λ (x : ℕ × Row). lane_of x.1 == k) (enumerate_from next more)
       go k true e =
           let lt = ltb-true k lanes e in
           rows_of_lane k woven owns ∙ ap (λ (es : List Entry). published (map seat_answer es)) (each k lt) ∙ own_rows k lt
       go k false e =
           let far : k < lanes → ⊥ = λ lt. let le = ltb-false k lanes e in absurd (omega arith) in
           rows_of_lane k woven owns ∙ ap (λ (es : List Entry). published (map seat_answer es)) (filter_beyond (λ (x : Entry). x.lane) lanes k woven far under)
-          ∙ sym (filter_beyond (λ (x : ℕ × Row). lane_of x.1) lanes k (enumerate_from (length start + 1) more) far (enumerated_lanes lanes (length start + 1) more all.rows))
+          ∙ sym (filter_beyond (λ (x : ℕ × Row). lane_of x.1) lanes k (enumerate_from next more) far (enumerated_lanes lanes next more all.rows))
 
   pub rows_are : IsInOrder woven → more ≡ rows_in woven
-  rows_are up = sym (rows_alone (length start + 1) more) ∙ ap (λ (l : List (ℕ × Row)). map (λ (x : ℕ × Row). x.1) l) (sym (all_published up)) ∙ rows_told woven
+  rows_are up = sym (rows_alone next more) ∙ ap (λ (l : List (ℕ × Row)). map (λ (x : ℕ × Row). x.1) l) (sym (all_published up)) ∙ rows_told woven

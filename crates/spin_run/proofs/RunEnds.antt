@@ -18,7 +18,7 @@ use Rattle.spin_script.specs.declared.script.Segment.{Segment}
 use Rattle.spin_script.specs.States.{ScriptData}
 use Rattle.spin_report.specs.declared.text.CaptureCounts.{CaptureCounts}
 use Rattle.spin_report.specs.Histories.{SegmentSeen, HistorySeen, end_line, front_lines, front_text, report_text}
-use Rattle.spin_report.specs.Runs.{Captured, AreRun, start_with, frames_of, counts_of}
+use Rattle.spin_report.specs.Runs.{CaptureSeen, AreRun, start_with, frames_of, counts_of}
 use Rattle.spin_run.specs.declared.end.RunEnd.{RunEnd}
 use Rattle.spin_run.specs.declared.end.RunEnd.TheVariants as end
 use Rattle.spin_run.specs.Records.{AreRecords, HasRecords, room_of}
@@ -71,7 +71,7 @@ counts_none capture s there =
 
 -- ---- the whole history
 
-abbrev captured_of : List (List ℕ) → Option (Result Next PcapFault) → Option Captured
+abbrev captured_of : List (List ℕ) → Option (Result Next PcapFault) → Option CaptureSeen
 captured_of frames (Some (Ok next.End)) = Some (record { frames = frames; cut = 0 })
 captured_of frames (Some (Ok (next.Cut n))) = Some (record { frames = frames; cut = n })
 captured_of frames other = None

@@ -4,7 +4,7 @@ use Rattle.std.specs.Prelude.{All, filter, Option, Some, None}
 use Rattle.std.specs.List.{flat_map, AllZip}
 use Rattle.std.specs.Arc.{arc_value}
 use Rattle.std.proofs.lemmas.Bool.{ltb-true, ltb-false}
-use Rattle.std.proofs.lemmas.List.{append-nil, get_or-map, get_or_past, length-map, drop_at, take_at, take-append-le}
+use Rattle.std.proofs.lemmas.List.{append-nil, get_or-map, get_or_past, length-map, drop_at, take_at}
 use Rattle.std.proofs.lemmas.List.Elements.{All-drop, All-weaker}
 use Rattle.atomic_table.specs.Seated.{TableId}
 use Rattle.spin_word.specs.declared.command.TheConstants.{MAX_PLACE}
@@ -15,7 +15,7 @@ use Rattle.spin_log.specs.Rows.{rows_of, IsCommandBelow}
 use Rattle.spin_log.specs.Pens.{PenValue, StandsIn, IsPen}
 use Rattle.spin_log.proofs.RowLists.{rows_of-append}
 use Rattle.spin_table.specs.Setups.{SetupData}
-use Rattle.spin_table.specs.States.{State, start_of}
+use Rattle.spin_table.specs.States.{State}
 use Rattle.spin_table.specs.Soundness.{IsSound}
 use Rattle.spin_proto.specs.declared.deed.Job.{Job}
 use Rattle.spin_proto.specs.Replies.{BelongsTo}
@@ -23,12 +23,14 @@ use Rattle.spin_proto.specs.declared.reply.Reply.{Reply}
 use Rattle.spin_jobs.specs.Jobs.{CanRun, IsReplyTo}
 use Rattle.spin_seat.specs.declared.answer.SeatFault.{SeatFault}
 use Rattle.spin_seat.specs.declared.answer.SeatFault.TheVariants as fault
-use Rattle.spin_seat.specs.Replay.{IsReplay, IsClean}
-use Rattle.spin_seat.specs.Seats.{SeatValue, IsSeatOf, AreOfLanes}
+use Rattle.spin_seat.specs.Replay.{IsReplayFrom, IsCleanFrom, IsLaneCleanFrom}
+use Rattle.spin_seat.specs.Places.{place_past, rows_past}
+use Rattle.spin_seat.specs.Seats.{SeatValue, IsSeatFrom, AreOfLanes}
 use Rattle.spin_seat.specs.Answers as seat
 use Rattle.spin_seat.proofs.LaneCounts.{by_lane}
-use Rattle.spin_seat.proofs.RowReplays.{IsReplay-one, IsReplay-take}
-use Rattle.spin_seat.proofs.SeatInvariants.{all_applied, start_clean, all_unmap, clean_by_lanes, of_lanes_at, are_of_lanes}
+use Rattle.spin_seat.proofs.RowReplays.{IsReplayFrom-one, IsReplay-take}
+use Rattle.spin_seat.proofs.PastPlaces.{place_past_is, rows_past_place}
+use Rattle.spin_seat.proofs.SeatInvariants.{whole_applied, all_unmap, clean_from_lanes, of_lanes_at, are_of_lanes}
 use Rattle.spin_script.specs.declared.script.Line.{Line}
 use Rattle.spin_script.specs.Segments.{IsOnLane}
 use Rattle.spin_script.specs.Soundness.{commands_in}
@@ -37,15 +39,17 @@ use Rattle.spin_report.specs.Asked.{Numbered, asked_of}
 use Rattle.spin_report.specs.Lines.{JobSeen}
 use Rattle.spin_report.specs.Legal.{IsLegal}
 use Rattle.spin_report.specs.Segments.{asked_in, asked_of_lane, of_lane, IsInOrder, IsWoven}
+use Rattle.spin_report.proofs.LaneAnswers.{filter_asked}
 use Rattle.spin_report.proofs.Asking.{asked_all}
 use Rattle.spin_run.specs.declared.lane.Lane.{Lane}
-use Rattle.spin_run.specs.Lanes.{seat_answer, rows_in, job_asked, jobs_of, AreJobsOf, RanLane, HadMemory}
-use Rattle.spin_run.specs.Segments.{front_of, state_of, IsAtRest, AreAtRest, IsReady, AreReady, IsFitSegment, HaveRun, jobs_seen}
-use Rattle.spin_run.specs.Meetings.{IsOfHub, HasMet, HaveMet}
+use Rattle.spin_run.specs.Lanes.{seat_answer, rows_in, job_asked, jobs_of, AreJobsOf, RanLane, HadMemory, kept_with}
+use Rattle.spin_run.specs.Segments.{front_of, first_of, state_of, place_of, IsAtRest, AreAtRest, IsReady, AreReady, IsFitSegment, HaveRun, jobs_seen, kept_at}
+use Rattle.spin_run.specs.Meetings.{AreOfHub, HasMet, HaveMet}
 use Rattle.spin_run.specs.declared.trail.Mark.{Mark}
 use Rattle.spin_run.specs.declared.trail.Trail.{Trail}
 use Rattle.spin_run.specs.Trails.{IsMarkOf, IsTrailOf, none_left, trail_of, unmarked_trail, AreMarksOf}
 use Rattle.spin_run.specs.Inner.Weaves.{AreOfTheirLanes, IsInterleaving, AreMarksInOrder, AreJobsInOrder, IsEmptied, unmarked, marks_by_lane, jobs_by_lane}
+use Rattle.spin_run.proofs.EntryJobs.{rows_stand}
 use Rattle.spin_run.proofs.EntryOrder.{trail_in_order}
 use Rattle.spin_run.proofs.JobOrder.{jobs_in_order, jobs_have, jobs_woven, filter_beyond}
 use Rattle.spin_run.proofs.KeptMarks.{AllZip-weaker, mark_in, moment_is}
@@ -65,6 +69,10 @@ some_lane (x ∷ xs) lt = x
 front_of_first : (xs : List Lane) (l : Lane) → 0 < length xs → front_of xs ≡ (get_or xs 0 l).seat.pen.front
 front_of_first [] l lt = absurd (omega arith)
 front_of_first (x ∷ xs) l lt = refl
+
+first_of_first : (d : SetupData) (xs : List Lane) (l : Lane) → 0 < length xs → first_of d xs ≡ (get_or xs 0 l).seat.first
+first_of_first d [] l lt = absurd (omega arith)
+first_of_first d (x ∷ xs) l lt = refl
 
 state_of_first : (d : SetupData) (xs : List Lane) (l : Lane) → 0 < length xs → state_of d xs ≡ (get_or xs 0 l).seat.state
 state_of_first d [] l lt = absurd (omega arith)
@@ -100,13 +108,17 @@ module _ (d : SetupData) (log : TableId) (count : ℕ) (lines : List Line) (reco
   pub record Facts : Type 0 where
     pub ready : AreAtRest d log count before
     pub fit : IsFitSegment (length before) lines
-    pub room : length (front_of before) + commands_in lines ≤ MAX_PLACE
+    pub room : place_of d before + commands_in lines ≤ MAX_PLACE
     pub have_run : HaveRun d (asked_in lines records) before ran given
     pub memory : All (λ (lane : Lane). HadMemory lane.stop) ran
     pub have_met : HaveMet d ran met
 
   abbrev asked : List Numbered
   asked = asked_in lines records
+
+  -- the state on which the log follows
+  abbrev base : State
+  base = first_of d before
 
   abbrev pen_before : ℕ → PenValue
   pen_before k = (get_or before k l).seat.pen
@@ -130,16 +142,25 @@ module _ (d : SetupData) (log : TableId) (count : ℕ) (lines : List Line) (reco
     lane_before : (k : ℕ) → k < length before → (pen_before k).lane ≡ k
     lane_before k lt = lane_at before k l f.ready.order lt
 
-    ready_at : (k : ℕ) → k < length before → IsAtRest d log count (front_of before) (get_or before k l)
+    ready_at : (k : ℕ) → k < length before → IsAtRest d log count base (front_of before) (get_or before k l)
     ready_at k lt = f.ready.each k l lt
 
-    lane_ran : (k : ℕ) → k < length before → RanLane d (asked_of_lane k asked) (pen_before k) (pen_ran k) (trail_at k) (jobs_at k) (stop_at k)
+    had_memory : (k : ℕ) → k < length before → HadMemory (stop_at k)
+    had_memory k lt = f.memory k l (omega (arith, f.have_run.count))
+
+    lane_ran : (k : ℕ) → k < length before → RanLane d base (asked_of_lane k asked) (pen_before k) (pen_ran k) (trail_at k) (jobs_at k) (stop_at k)
     lane_ran k lt =
         let h = f.have_run.each k l lt in
-        subst (λ (n : ℕ). RanLane d (asked_of_lane n asked) (pen_before k) (pen_ran k) (trail_at k) (jobs_at k) (stop_at k)) (lane_before k lt) (h.ran (f.memory k l (omega (arith, f.have_run.count))))
+        subst (λ (x : State × ℕ). RanLane d x.0 (asked_of_lane x.1 asked) (pen_before k) (pen_ran k) (trail_at k) (jobs_at k) (stop_at k))
+        (λ i. ((ready_at k lt).seat.1 i, lane_before k lt i)) (h.ran (had_memory k lt))
 
     lane_met : (k : ℕ) → k < length before → HasMet d (front_of met) (state_of d met) (get_or ran k l) (get_or met k l)
     lane_met k lt = f.have_met.1 k l (omega (arith, f.have_run.count))
+
+    seat_met : (k : ℕ) → k < length before → IsSeatFrom d base (get_or met k l).seat
+    seat_met k lt =
+        let read = (lane_met k lt).read.seat in
+        (read.0, read.1 ∙ (f.have_run.each k l lt).seat.1 ∙ (ready_at k lt).seat.1)
 
     -- the common front is what each lane knew and rows of other lanes
     begins : (k : ℕ) (lt : k < length before) → front_of met ≡ (pen_ran k).front ++ (lane_met k lt).read.reads.0
@@ -175,16 +196,19 @@ module _ (d : SetupData) (log : TableId) (count : ℕ) (lines : List Line) (reco
         All-weaker (IsCommandBelow (length before)) (λ row. lane_of row < length before) (λ row h. h.1) (front_of met)
         (subst (λ (x : ℕ × List Row). All (IsCommandBelow x.0) x.1) (λ i. (lanes i, m.front_is i)) m.settled.pen.commands)
 
-    clean : IsClean d (front_of met)
-    clean = clean_by_lanes d (length before) (front_of met) (λ k. (get_or met k l).seat.pen) lanes_below
+    clean : IsCleanFrom d base (front_of met)
+    clean = clean_from_lanes d base (length before) (front_of met) (λ k. (get_or met k l).seat.pen) lanes_below
         (λ k lt. ap (λ (p : PenValue). p.lane) (lane_met k lt).read.reads.1 ∙ (f.have_run.each k l lt).same.2 ∙ lane_before k lt)
         (λ k lt.
         let m = lane_met k lt in
         let own = m.settled.pen.own ∙ ap (rows_of (get_or met k l).seat.pen.lane) m.front_is in
         record { front = ([], sym (append-nil (get_or met k l).seat.pen.front ∙ m.front_is)); own = own; reached = m.settled.pen.own })
-        (λ k lt. start_clean d (get_or met k l).seat (lane_met k lt).read.seat)
+        (λ k lt.
+        let pen = (get_or met k l).seat.pen in
+        let seat = seat_met k lt in
+        subst (λ (s : State). IsLaneCleanFrom d s pen.lane pen.front) seat.1 seat.0.clean)
 
-    all_ran : AllRan d (length before) asked pen_before pen_ran trail_at jobs_at stop_at (front_of before) grown.0
+    all_ran : AllRan d base (length before) asked pen_before pen_ran trail_at jobs_at stop_at (front_of before) grown.0
     all_ran = record {
       ran = lane_ran;
       at_start = λ k lt. ((ready_at k lt).front_is, lane_before k lt);
@@ -195,34 +219,35 @@ module _ (d : SetupData) (log : TableId) (count : ℕ) (lines : List Line) (reco
           (All-weaker (IsOnLane (length before)) (λ line. (part : ℕ × Work) → line.lane < length before) (λ line on part. on.below) lines f.fit.on_lane);
     }
 
-    replay_met : IsReplay d (front_of met) (state_of d met)
+    replay_met : IsReplayFrom d base (front_of met) (state_of d met)
     replay_met =
         let m = lane_met 0 f.ready.some in
-        subst (λ (x : List Row × State). IsReplay d x.0 x.1) (λ i. (m.front_is i, m.state_is i)) (all_applied d (get_or met 0 l).seat m.read.seat m.settled.whole)
+        let seat = seat_met 0 f.ready.some in
+        subst (λ (x : State × List Row × State). IsReplayFrom d x.0 x.1 x.2) (λ i. (seat.1 i, m.front_is i, m.state_is i)) (whole_applied d (get_or met 0 l).seat seat.0 m.settled.whole)
 
     start_front : take (length (front_of before)) (front_of met) ≡ front_of before
     start_front = ap (take (length (front_of before))) grown.1 ∙ take_at (front_of before) grown.0 (length (front_of before)) refl
 
     -- the state of the front that all lanes knew
     pub first : State
-    first = (IsReplay-take d (front_of met) (length (front_of before)) (start_of d) (state_of d met) replay_met).0
+    first = (IsReplay-take d (front_of met) (length (front_of before)) base (state_of d met) replay_met).0
 
-    pub replay_first : IsReplay d (front_of before) first
+    pub replay_first : IsReplayFrom d base (front_of before) first
     unfolding first
-    replay_first = subst (λ (rows : List Row). IsReplay d rows first) start_front (IsReplay-take d (front_of met) (length (front_of before)) (start_of d) (state_of d met) replay_met).1
+    replay_first = subst (λ (rows : List Row). IsReplayFrom d base rows first) start_front (IsReplay-take d (front_of met) (length (front_of before)) base (state_of d met) replay_met).1
 
     -- no lane stopped
     no_stop : (k : ℕ) → k < length before → stop_at k ≡ None
     no_stop k lt =
         neither (stop_at k)
-        (never_full d (length before) asked pen_before pen_ran trail_at jobs_at stop_at (front_of before) grown.0 all_ran (omega (arith, f.room, commands_asked lines records)) k lt)
-        (f.memory k l (omega (arith, f.have_run.count)))
+        (never_full d base (length before) asked pen_before pen_ran trail_at jobs_at stop_at (front_of before) grown.0 all_ran (omega (arith, f.room, commands_asked lines records)) k lt)
+        (had_memory k lt)
 
-    pub room_taken : length (front_of met) ≤ length (front_of before) + commands_in lines
+    pub room_taken : place_past base.place (length (front_of met)) ≤ place_of d before + commands_in lines
     room_taken =
-        let few = grown_few d (length before) asked pen_before pen_ran trail_at jobs_at stop_at (front_of before) grown.0 all_ran in
+        let few = grown_few d base (length before) asked pen_before pen_ran trail_at jobs_at stop_at (front_of before) grown.0 all_ran in
         let total = ap length grown.1 ∙ length-append (front_of before) grown.0 in
-        omega (arith, few, total, commands_asked lines records)
+        omega (arith, few, total, commands_asked lines records, place_past_is base.place (length (front_of met)), place_past_is base.place (length (front_of before)))
 
     -- ---- the trails and the jobs that are woven
 
@@ -243,7 +268,7 @@ module _ (d : SetupData) (log : TableId) (count : ℕ) (lines : List Line) (reco
 
     -- the trail of each lane is that of what it has given
     told_at : (k : ℕ) → k < length before → IsTrailOf (trail_at k) (get_or ran k l).trail
-    told_at k lt = (f.have_run.each k l lt).told (f.memory k l (omega (arith, f.have_run.count)))
+    told_at k lt = (f.have_run.each k l lt).told (had_memory k lt)
 
     jobs_is : (k : ℕ) (e : List Job) → k < length before → get_or jobs k e ≡ jobs_at k
     jobs_is k e lt = get_or-map (λ (x : Lane). x.jobs) met k l e (omega (arith, met_count)) ∙ (lane_met k lt).read.jobs_are
@@ -282,20 +307,22 @@ module _ (d : SetupData) (log : TableId) (count : ℕ) (lines : List Line) (reco
         subst AreJobsInOrder (sym (jobs_is k e at)) (jobs_in_order (trail_at k) (jobs_at k) (trail_order k at) (lane_ran k at).jobs_are.asked)
 
     -- a job's place lies in the front of its lane
-    jobs_reach : (k : ℕ) → k < length before → All (λ (j : Job). j.place ≤ length (pen_ran k).front) (jobs_at k)
+    jobs_reach : (k : ℕ) → k < length before → All (λ (j : Job). j.place ≤ place_past base.place (length (pen_ran k).front)) (jobs_at k)
     jobs_reach k lt =
         let r = lane_ran k lt in
-        jobs_have (λ m. m.0 ≤ length (pen_ran k).front) (trail_at k) (jobs_at k)
-        (All-weaker (λ (e : Entry). seat.IsAnswerIn d (pen_ran k).front (seat_answer e)) (λ (e : Entry). e.place ≤ length (pen_ran k).front) (λ e a. a.reached) (trail_at k)
-        (all_unmap (seat.IsAnswerIn d (pen_ran k).front) seat_answer (trail_at k) r.ran.steps)) r.jobs_are.asked
+        let end = place_past base.place (length (pen_ran k).front) in
+        jobs_have (λ m. m.0 ≤ end) (trail_at k) (jobs_at k)
+        (All-weaker (λ (e : Entry). seat.IsAnswerFrom d base (pen_ran k).front (seat_answer e)) (λ (e : Entry). e.place ≤ end) (λ e a. a.reached) (trail_at k)
+        (all_unmap (seat.IsAnswerFrom d base (pen_ran k).front) seat_answer (trail_at k) r.ran.steps)) r.jobs_are.asked
 
     -- each job's version is that of its place in the whole log
-    jobs_of_log : (k : ℕ) → k < length before → All (IsOfLog d (front_of met)) (jobs_at k)
+    jobs_of_log : (k : ℕ) → k < length before → All (IsOfLog d base (front_of met)) (jobs_at k)
     jobs_of_log k lt i j in' =
         let job = get_or (jobs_at k) i j in
-        let same : take job.place (front_of met) ≡ take job.place (pen_ran k).front =
-        ap (take job.place) (begins k lt) ∙ take-append-le job.place (pen_ran k).front (lane_met k lt).read.reads.0 (jobs_reach k lt i j in') in
-        subst (λ (rows : List Row). IsReplay d rows (arc_value job.version)) (sym same) ((lane_ran k lt).jobs_are.versions i j in')
+        let rows = rows_past base.place job.place in
+        let same : take rows (front_of met) ≡ take rows (pen_ran k).front =
+        ap (take rows) (begins k lt) ∙ rows_stand base.place job.place (pen_ran k).front (lane_met k lt).read.reads.0 (jobs_reach k lt i j in') in
+        subst (λ (rows : List Row). IsReplayFrom d base rows (arc_value job.version)) (sym same) ((lane_ran k lt).jobs_are.versions i j in')
 
     -- ---- the entries whose marks are woven
 
@@ -383,8 +410,8 @@ module _ (d : SetupData) (log : TableId) (count : ℕ) (lines : List Line) (reco
 
         woven_is_legal : IsLegal d first entries (state_of d met)
         woven_is_legal =
-            woven_legal d (length before) asked pen_before pen_ran trail_at jobs_at stop_at (front_of before) grown.0 all_ran entries w.under w.each_trail first (state_of d met)
-            (subst (IsClean d) grown.1 clean) replay_first (subst (λ (rows : List Row). IsReplay d rows (state_of d met)) grown.1 replay_met) w.order
+            woven_legal d base (length before) asked pen_before pen_ran trail_at jobs_at stop_at (front_of before) grown.0 all_ran entries w.under w.each_trail first (state_of d met)
+            (subst (IsCleanFrom d base) grown.1 clean) replay_first (subst (λ (rows : List Row). IsReplayFrom d base rows (state_of d met)) grown.1 replay_met) w.order
 
         jobs_told : map job_asked woven_jobs ≡ flat_map jobs_of entries
         jobs_told = jobs_woven (length before) trail_at entries woven_jobs w.order w.under w.each_trail w.jobs_rise jobs_under
@@ -394,10 +421,10 @@ module _ (d : SetupData) (log : TableId) (count : ℕ) (lines : List Line) (reco
         few_jobs = jobs_few d first (state_of d met) (length before) lines records entries woven_jobs f.fit.few woven_is_legal all_ran.under w.under asked_once jobs_told
 
         -- the jobs are those that the entries leave, each with its version
-        pub jobs_left : AreJobsOf d entries (front_of met) woven_jobs
+        pub jobs_left : AreJobsOf d base entries (front_of met) woven_jobs
         jobs_left = record {
           asked = jobs_told;
-          versions = of_all_jobs (IsOfLog d (front_of met)) jobs_of_log;
+          versions = of_all_jobs (IsOfLog d base (front_of met)) jobs_of_log;
           sound = of_all_jobs (λ (j : Job). IsSound d (arc_value j.version)) (λ k lt. (lane_ran k lt).jobs_are.sound);
           calls = of_all_jobs (λ (j : Job). BelongsTo (arc_value j.version) j.call) (λ k lt. (lane_ran k lt).jobs_are.calls);
         }
@@ -406,7 +433,7 @@ module _ (d : SetupData) (log : TableId) (count : ℕ) (lines : List Line) (reco
         pub front_told : front_of met ≡ front_of before ++ rows_in entries
         front_told =
             grown.1 ∙ ap (λ (rows : List Row). front_of before ++ rows)
-            (rows_are d (length before) asked pen_before pen_ran trail_at jobs_at stop_at (front_of before) grown.0 all_ran entries w.under w.each_trail w.order)
+            (rows_are d base (length before) asked pen_before pen_ran trail_at jobs_at stop_at (front_of before) grown.0 all_ran entries w.under w.each_trail w.order)
 
         -- each job can be done
         pub jobs_can_run : All (CanRun d) woven_jobs
@@ -415,18 +442,20 @@ module _ (d : SetupData) (log : TableId) (count : ℕ) (lines : List Line) (reco
         pub woven_made : (replies : List Reply) → AllZip (IsReplyTo d) woven_jobs replies
             → IsWoven d (length before) asked first (state_of d met) entries (jobs_seen woven_jobs replies)
         woven_made replies replied =
-            let right = subst (λ (rows : List Row). All (λ e. seat.IsAnswerIn d rows (seat_answer e)) entries) (sym grown.1)
-            (all_right d (length before) asked pen_before pen_ran trail_at jobs_at stop_at (front_of before) grown.0 all_ran entries w.under w.each_trail) in
+            let start = length (front_of before) in
+            let right = subst (λ (rows : List Row). All (λ e. seat.IsAnswerFrom d base rows (seat_answer e)) entries) (sym grown.1)
+            (all_right d base (length before) asked pen_before pen_ran trail_at jobs_at stop_at (front_of before) grown.0 all_ran entries w.under w.each_trail) in
             record {
               legal = woven_is_legal;
-              once = asked_once;
+              once = λ k lt. filter_asked k entries ∙ asked_once k lt;
               lanes_are = w.under;
               order = w.order;
               jobs_are =
-                  are_jobs d (front_of met) clean entries woven_jobs replies (length (front_of before)) first (state_of d met)
-                  (omega (arith, ap length grown.1, length-append (front_of before) grown.0))
-                  (subst (λ (rows : List Row). IsReplay d rows first) (sym start_front) replay_first)
-                  woven_is_legal right jobs_told (replies_told d woven_jobs replies replied) (of_all_jobs (IsOfLog d (front_of met)) jobs_of_log);
+                  are_jobs d base (front_of met) clean entries woven_jobs replies (place_past base.place start) first (state_of d met)
+                  (omega (arith, place_past_is base.place start))
+                  (omega (arith, place_past_is base.place start, place_past_is base.place (length (front_of met)), ap length grown.1, length-append (front_of before) grown.0))
+                  (subst (λ (rows : List Row). IsReplayFrom d base rows first) (sym (ap (λ n. take n (front_of met)) (rows_past_place base.place start) ∙ start_front)) replay_first)
+                  woven_is_legal right jobs_told (replies_told d woven_jobs replies replied) (of_all_jobs (IsOfLog d base (front_of met)) jobs_of_log);
             }
 
     -- ---- the lanes once the trails and jobs were taken out
@@ -448,6 +477,24 @@ module _ (d : SetupData) (log : TableId) (count : ℕ) (lines : List Line) (reco
       front_after =
           front_of_first after l (omega (arith, after_count, f.ready.some)) ∙ ap (λ (s : SeatValue). s.pen.front) (seat_after 0 f.ready.some) ∙ (lane_met 0 f.ready.some).front_is
 
+      pub base_after : first_of d after ≡ base
+      base_after =
+          first_of_first d after l (omega (arith, after_count, f.ready.some)) ∙ ap (λ (s : SeatValue). s.first) (seat_after 0 f.ready.some) ∙ (seat_met 0 f.ready.some).1
+
+      pub place_after : place_of d after ≡ place_past base.place (length (front_of met))
+      place_after = λ i. place_past (base_after i).place (length (front_after i))
+
+      -- and what it keeps is what it kept, and what its lane has given
+      pub kept_after : map (λ (x : Lane). x.entries) after ≡ map (λ (x : Lane). x.entries) met
+          → (k : ℕ) → k < length before → kept_at after k ≡ kept_with (kept_at before k) (trail_at k)
+      kept_after same k lt =
+          ap (λ (xs : List (Option (List Entry))). get_or xs k None) same ∙ kept_here met k (omega (arith, met_count))
+          ∙ (lane_met k lt).read.kept ∙ (f.have_run.each k l lt).kept (had_memory k lt)
+          ∙ ap (λ (kept : Option (List Entry)). kept_with kept (trail_at k)) (sym (kept_here before k lt))
+        where
+          kept_here : (xs : List Lane) (k : ℕ) → k < length xs → kept_at xs k ≡ (get_or xs k l).entries
+          kept_here xs k lt = get_or-map (λ (x : Lane). x.entries) xs k l None lt
+
       pub state_after : state_of d after ≡ state_of d met
       state_after =
           state_of_first d after l (omega (arith, after_count, f.ready.some)) ∙ ap (λ (s : SeatValue). s.state) (seat_after 0 f.ready.some) ∙ (lane_met 0 f.ready.some).state_is
@@ -460,7 +507,7 @@ module _ (d : SetupData) (log : TableId) (count : ℕ) (lines : List Line) (reco
           ∙ ap (λ (p : PenValue). p.lane) (lane_met k at).read.reads.1 ∙ (f.have_run.each k l at).same.2 ∙ lane_before k at in
           omega (arith, same))
 
-      one_ready : All IsEmptied after → (k : ℕ) → k < length before → IsReady d log count (front_of after) (get_or after k l)
+      one_ready : All IsEmptied after → (k : ℕ) → k < length before → IsReady d log count (first_of d after) (front_of after) (get_or after k l)
       one_ready emptied k lt =
           let m = lane_met k lt in
           let seat = seat_after k lt in
@@ -471,7 +518,7 @@ module _ (d : SetupData) (log : TableId) (count : ℕ) (lines : List Line) (reco
             own = ap (λ (s : SeatValue). s.pen.log) seat ∙ ap (λ (p : PenValue). p.log) m.read.reads.1 ∙ same.0 ∙ r.own;
             among = ap (λ (s : SeatValue). s.pen.lanes) seat ∙ ap (λ (p : PenValue). p.lanes) m.read.reads.1 ∙ same.1 ∙ r.among;
             pen = subst (λ (s : SeatValue). IsPen s.pen) (sym seat) m.settled.pen;
-            seat = subst (IsSeatOf d) (sym seat) m.read.seat;
+            seat = subst (λ (x : State × SeatValue). IsSeatFrom d x.0 x.1) (λ i. (sym base_after i, sym seat i)) (seat_met k lt);
             whole = ap (λ (s : SeatValue). s.kept) seat ∙ m.settled.whole;
             front_is = ap (λ (s : SeatValue). s.pen.front) seat ∙ m.front_is ∙ sym front_after;
             trail = none.0;
@@ -484,22 +531,26 @@ module _ (d : SetupData) (log : TableId) (count : ℕ) (lines : List Line) (reco
         some = omega (arith, after_count, f.ready.some);
         all = after_count ∙ f.ready.all;
         order = subst (AreOfLanes 0) (sym seats) met_order;
-        each = λ k x lt. subst (IsReady d log count (front_of after)) (get_or_same after k l x lt) (one_ready emptied k (omega (arith, after_count)));
+        each = λ k x lt. subst (IsReady d log count (first_of d after) (front_of after)) (get_or_same after k l x lt) (one_ready emptied k (omega (arith, after_count)));
       }
 
 -- the seats of lanes that ran are still those of their hub
 pub still_of_hub : (d : SetupData) (log : TableId) (count : ℕ) (asked : List Numbered) (before ran : List Lane) (given : List (List Entry)) → AreAtRest d log count before
-    → HaveRun d asked before ran given → All (IsOfHub d log) ran
-still_of_hub d log count asked before ran given ready have k l lt =
-    let at : k < length before = omega (arith, have.count) in
-    let h = have.each k l at in
-    (h.same.0 ∙ (ready.each k l at).own, h.seat)
+    → HaveRun d asked before ran given → AreOfHub d log ran
+still_of_hub d log count asked before ran given ready have = (
+  first_of d before,
+  λ k l lt.
+      let at : k < length before = omega (arith, have.count) in
+      let h = have.each k l at in
+      let rest = ready.each k l at in
+      (h.same.0 ∙ rest.own, (h.seat.0, h.seat.1 ∙ rest.seat.1)),
+)
 
 -- and stand in the order of their lanes
 pub still_in_order : (d : SetupData) (asked : List Numbered) (before ran : List Lane) (given : List (List Entry))
     → AreOfLanes 0 (map (λ (x : Lane). x.seat) before) → HaveRun d asked before ran given → AreOfLanes 0 (map (λ (x : Lane). x.seat) ran)
 still_in_order d asked before ran given order have = are_of_lanes 0 (map (λ (x : Lane). x.seat) ran) (λ k s lt.
-    let l : Lane = record { seat = s; trail = none_left; jobs = []; stop = None } in
+    let l : Lane = record { seat = s; trail = none_left; jobs = []; stop = None; entries = None } in
     let size = length-map ran (λ (x : Lane). x.seat) in
     let at : k < length before = omega (arith, lt, have.count, size) in
     let same : (get_or (map (λ (x : Lane). x.seat) ran) k s).pen.lane ≡ k =
@@ -508,7 +559,7 @@ still_in_order d asked before ran given order have = are_of_lanes 0 (map (λ (x 
 
 -- what is known where all have met
 pub known : (d : SetupData) (log : TableId) (count : ℕ) (lines : List Line) (records : List (List ℕ)) (before ran met : List Lane) (given : List (List Entry)) (ready : AreAtRest d log count before)
-    → IsFitSegment (length before) lines → length (front_of before) + commands_in lines ≤ MAX_PLACE
+    → IsFitSegment (length before) lines → place_of d before + commands_in lines ≤ MAX_PLACE
     → HaveRun d (asked_in lines records) before ran given → All (λ (lane : Lane). HadMemory lane.stop) ran → HaveMet d ran met
     → Facts d log count lines records before ran met given (some_lane before ready.some)
 known d log count lines records before ran met given ready fit room have_run memory have_met =
@@ -536,13 +587,13 @@ rest_of_ready d log count lanes r = record {
 }
 
 -- and their state is that of their front
-pub ready_state : (d : SetupData) (log : TableId) (count : ℕ) (lanes : List Lane) (s : State) → AreReady d log count lanes → IsReplay d (front_of lanes) s → s ≡ state_of d lanes
+pub ready_state : (d : SetupData) (log : TableId) (count : ℕ) (lanes : List Lane) (s : State) → AreReady d log count lanes → IsReplayFrom d (first_of d lanes) (front_of lanes) s → s ≡ state_of d lanes
 ready_state d log count [] s r replay = let some = r.some in absurd (omega arith)
 ready_state d log count (lane ∷ lanes) s r replay =
-    let one : IsReady d log count lane.seat.pen.front lane = r.each 0 lane (omega arith) in
-    IsReplay-one d lane.seat.pen.front s lane.seat.state replay (all_applied d lane.seat one.seat one.whole)
+    let one : IsReady d log count lane.seat.first lane.seat.pen.front lane = r.each 0 lane (omega arith) in
+    IsReplayFrom-one d lane.seat.first lane.seat.pen.front s lane.seat.state replay (whole_applied d lane.seat one.seat.0 one.whole)
 
 pub woven_ready : (d : SetupData) (log : TableId) (count : ℕ) (lanes : List Lane) (asked : List Numbered) (after : State) (entries : List Entry) (jobs : List JobSeen) → AreReady d log count lanes
-    → ((before : State) × IsReplay d (front_of lanes) before × IsWoven d (length lanes) asked before after entries jobs) → IsWoven d (length lanes) asked (state_of d lanes) after entries jobs
+    → ((before : State) × IsReplayFrom d (first_of d lanes) (front_of lanes) before × IsWoven d (length lanes) asked before after entries jobs) → IsWoven d (length lanes) asked (state_of d lanes) after entries jobs
 woven_ready d log count lanes asked after entries jobs ready w =
     subst (λ (s : State). IsWoven d (length lanes) asked s after entries jobs) (ready_state d log count lanes w.0 ready w.1) w.2

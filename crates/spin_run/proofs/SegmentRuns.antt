@@ -21,7 +21,7 @@ use Rattle.spin_script.specs.States.{ScriptData}
 use Rattle.spin_report.specs.declared.entry.Entry.{Entry}
 use Rattle.spin_report.specs.Histories.{SegmentSeen, first_line, segment_lines, front_text}
 use Rattle.spin_report.specs.Segments.{wanted_by}
-use Rattle.spin_report.specs.Runs.{Standing, IsSegmentRun, AreRun, sends_in, start_with}
+use Rattle.spin_report.specs.Runs.{RunPoint, IsSegmentRun, AreRun, segment_sends, start_with}
 use Rattle.spin_run.specs.declared.end.RunEnd.{RunEnd}
 use Rattle.spin_run.specs.declared.end.RunEnd.TheVariants as end
 use Rattle.spin_run.specs.Records.{AreRecords, room_of, IsTakenPast}
@@ -36,14 +36,14 @@ use Rattle.spin_run.proofs.CaptureBytes.{took_none, took_segments, past_none, pa
 
 -- ---- one segment behind others
 
-are_run_more : (script : ScriptData) (segments : List Segment) (segment : Segment) (before : Standing) (parts : List SegmentSeen) (at : Standing) (part : SegmentSeen) (next : Standing)
+are_run_more : (script : ScriptData) (segments : List Segment) (segment : Segment) (before : RunPoint) (parts : List SegmentSeen) (at : RunPoint) (part : SegmentSeen) (next : RunPoint)
     → AreRun script segments before parts at → IsSegmentRun script.setup script.lanes script.endpoints segment at part next → AreRun script (segments ++ segment ∷ []) before (parts ++ part ∷ []) next
 are_run_more script [] segment before parts at part next h one =
-    (part, [], next, ap (λ (x : List SegmentSeen). x ++ part ∷ []) h.0, subst (λ (x : Standing). IsSegmentRun script.setup script.lanes script.endpoints segment x part next) h.1 one, (refl, refl))
+    (part, [], next, ap (λ (x : List SegmentSeen). x ++ part ∷ []) h.0, subst (λ (x : RunPoint). IsSegmentRun script.setup script.lanes script.endpoints segment x part next) h.1 one, (refl, refl))
 are_run_more script (s ∷ segments) segment before parts at part next h one =
     (h.0, h.1 ++ part ∷ [], h.2, ap (λ (x : List SegmentSeen). x ++ part ∷ []) h.3, h.4, are_run_more script segments segment h.2 h.1 at part next h.5 one)
 
-length_run : (script : ScriptData) (segments : List Segment) (before : Standing) (parts : List SegmentSeen) (at : Standing) → AreRun script segments before parts at → length parts ≡ length segments
+length_run : (script : ScriptData) (segments : List Segment) (before : RunPoint) (parts : List SegmentSeen) (at : RunPoint) → AreRun script segments before parts at → length parts ≡ length segments
 length_run script [] before parts at h = ap length h.0
 length_run script (s ∷ segments) before parts at h = omega (arith, ap length h.3, length_run script segments h.2 h.1 at h.5)
 
@@ -191,7 +191,7 @@ retired_is script count segment ends there = ap (λ (o : Option Segment). option
 
 within : (script : ScriptData) (count : ℕ) (segment : Segment) (now : Moment) (left : List (List ℕ)) (ends : List NamedEnd)
     → slice_get script.segments count ≡ Some segment → ((ends ≡ now.outside.ends)
-    ⊎ ((ends ≡ retired_for (setting_of script) segment now) ⊎ ((part : SegmentSeen) × (next : Standing) × RunsFrom (setting_of script) segment now left part next × (ends ≡ next.ends))))
+    ⊎ ((ends ≡ retired_for (setting_of script) segment now) ⊎ ((part : SegmentSeen) × (next : RunPoint) × RunsFrom (setting_of script) segment now left part next × (ends ≡ next.ends))))
     → EndsWithin script count (standing now left) ends
 within script count segment now left ends there (inl same) = inl same
 within script count segment now left ends there (inr (inl retired)) = inr (inl (retired ∙ retired_is script count segment now.outside.ends there))
@@ -288,7 +288,7 @@ one_ends script reader frames left rest before count segment now next (end.Endpo
   h.0,
   h.1,
   record { segment = segment; there = there; run = h.2 },
-  subst (λ (x : List NamedEnd). StopsAt script.endpoints (sends_in h.0) p x next.outside.ends) (retired_is script count segment now.outside.ends there) h.3,
+  subst (λ (x : List NamedEnd). StopsAt script.endpoints (segment_sends h.0) p x next.outside.ends) (retired_is script count segment now.outside.ends there) h.3,
   writes_nothing before now.outside next.outside (front_text s.parts) s.text h.4,
   takes_for script reader frames left before count segment now next (end.Endpoint p) there s took,
 )

@@ -14,7 +14,7 @@ use Rattle.spin_script.specs.declared.script.Segment.{Segment}
 use Rattle.spin_script.specs.States.{ScriptData}
 use Rattle.spin_report.specs.declared.entry.Entry.{Entry}
 use Rattle.spin_report.specs.Histories.{HistorySeen, entries_of}
-use Rattle.spin_report.specs.Runs.{Captured, AreRun, start_with, frames_of}
+use Rattle.spin_report.specs.Runs.{CaptureSeen, AreRun, start_with, frames_of}
 use Rattle.spin_run.specs.declared.end.RunEnd.{RunEnd}
 use Rattle.spin_run.specs.declared.end.RunEnd.TheVariants as end
 use Rattle.spin_run.specs.Records.{AreRecords, HasRecords}
@@ -67,7 +67,7 @@ pub whole_summed : (script : ScriptData) (past number : ℕ) (frames : List (Lis
 whole_summed script past number frames rest before after tally h told =
     (h.0, h.1, subst (λ (c : Counts). Writes before after (text_of (summary_lines number c))) (summed tally (entries_of h.0) h.3) told)
 
-captured_frames : (capture : Option ReaderState) (source : SourceSeen) (frames : List (List ℕ)) (rest : Option (Result Next PcapFault)) (captured : Option Captured)
+captured_frames : (capture : Option ReaderState) (source : SourceSeen) (frames : List (List ℕ)) (rest : Option (Result Next PcapFault)) (captured : Option CaptureSeen)
     → IsReadWhole frames rest captured → AreRecords capture source frames rest → frames_of captured ≡ frames
 captured_frames capture source frames None captured h r = ap frames_of h ∙ sym (no_frames capture source frames r)
 captured_frames capture source frames (Some (Ok next.End)) captured h r = ap frames_of h

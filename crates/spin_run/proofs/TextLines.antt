@@ -12,6 +12,7 @@ use Rattle.spin_endpoint.specs.Sends.{stands_in_turn}
 use Rattle.spin_text.specs.Words.{ended, text_of}
 use Rattle.spin_report.specs.Histories.{lost_line, losses, lost_lines}
 use Rattle.spin_report.specs.Runs.{retirements}
+use Rattle.spin_report.proofs.Retirements.{retirements_are}
 use Rattle.spin_run.specs.Inner.Lining.{retired_as, if_lost, counts_to}
 
 pub lines_more : {X : Type 0} (f : X → List ℕ) (old : List (List ℕ)) (xs : List X) (k : ℕ) (x : X) → k < length xs
@@ -129,6 +130,7 @@ pub retired_told : (names : List (List ℕ)) (numbers bytes : List ℕ) (ends : 
 retired_told names numbers bytes ends stood same long h =
     retired_same 0 numbers stood (stands_in_turn names numbers ends) long
     (λ k lt. h k (omega (arith, ap length same, lt)) ∙ ap (λ (x : List ℕ). stands_in_turn names x ends k) same ∙ ap (stands_in_turn names numbers ends) (let e : k ≡ 0 + k = omega arith in e))
+    ∙ sym (retirements_are names numbers ends)
 
 -- what a slice wrote is what its list has
 pub written_back : (n : ℕ) (xs ys : List Bool) → n ≡ length xs → take n (xs ++ ys) ≡ xs

@@ -20,6 +20,7 @@ use Rattle.spin_seat.specs.contracts.seat.Seat as Seat
 use Rattle.spin_script.specs.contracts.script.Segment as Segment
 use Rattle.spin_proto.specs.contracts.deed.Job as Job
 use Rattle.spin_jobs.proofs.ThreadCrossing.{Shared, setup_sync, version_send, version_sync}
+use Rattle.spin_report.specs.contracts.entry.Entry as Entry
 use Rattle.spin_run.specs.contracts.lane.Lane as Lane
 use Rattle.spin_run.specs.contracts.trail.Mark as Mark
 use Rattle.spin_run.specs.contracts.trail.Sending as Sending
@@ -73,8 +74,25 @@ trail_send =
     struct_send (shape Trail.the_type)
     (list.the_send u8 (search sendable), (list.the_send Sending.the_row sending.the_send, (list.the_send Mark.the_row mark_send, tt)))
 
+entry_send : IsSend Entry.the_row
+entry_send = search (crosses, sendable) depth 60 fits 20000
+
+entries_send : IsSend (Sequence.the_row Entry.the_row)
+entries_send = list.the_send Entry.the_row entry_send
+
 pub lane_send : IsSend Lane.the_row
 lane_send =
     recorded_send (Lane.the_field).row _ _ (Lane.the_type).to_one
-    (struct_send (shape Lane.the_type)
-    (search (seat_send, sendable), (trail_send, (list.the_send Job.the_row job_send, (search (crosses, sendable) depth 30 fits 20000, tt)))))
+    (struct_send (shape Lane.the_type) (
+      search (seat_send, sendable),
+      (
+        trail_send,
+        (
+          list.the_send Job.the_row job_send,
+          (
+            search (crosses, sendable) depth 30 fits 20000,
+            (search (entries_send, crosses, sendable) depth 30 fits 20000, tt),
+          ),
+        ),
+      ),
+    ))

@@ -19,7 +19,7 @@ use Rattle.spin_text.specs.Words.{ended, text_of}
 use Rattle.spin_report.specs.Histories.{SegmentSeen, HistorySeen, first_line}
 use Rattle.spin_report.specs.Histories.{segment_lines, end_line, front_text, report_text}
 use Rattle.spin_report.specs.Segments.{wanted_by}
-use Rattle.spin_report.specs.Runs.{Standing, Captured, AreRun, IsSegmentRun, IsRun, sends_in, start_with}
+use Rattle.spin_report.specs.Runs.{RunPoint, CaptureSeen, AreRun, IsSegmentRun, IsRun, segment_sends, start_with}
 use Rattle.spin_run.specs.declared.end.RunEnd.{RunEnd}
 use Rattle.spin_run.specs.declared.end.RunEnd.TheVariants as end
 use Rattle.spin_run.specs.Records.{IsTakenPast}
@@ -38,7 +38,7 @@ seen source sink ends = record { source = source; sink = sink; ends = ends }
 
 -- So many segments were run: these are their parts of the history, and so they left it.
 pub record HasRun (script : ScriptData) (frames : List (List ℕ)) (ends : List NamedEnd) (count : ℕ)
-    (parts : List SegmentSeen) (at : Standing) : Type 0 where
+    (parts : List SegmentSeen) (at : RunPoint) : Type 0 where
   pub there : count ≤ length script.segments
   pub run : AreRun script (take count script.segments) (start_with script frames ends) parts at
 
@@ -49,8 +49,8 @@ retired_before script count ends =
     (slice_get script.segments count) ends
 
 -- This segment is there, and is run from the one standing to the next.
-pub record RunsNext (script : ScriptData) (count : ℕ) (at : Standing) (seen : SegmentSeen)
-    (next : Standing) : Type 0 where
+pub record RunsNext (script : ScriptData) (count : ℕ) (at : RunPoint) (seen : SegmentSeen)
+    (next : RunPoint) : Type 0 where
   pub segment : Segment
   pub there : slice_get script.segments count ≡ Some segment
   pub run : IsSegmentRun script.setup script.lanes script.endpoints segment at seen next
@@ -103,7 +103,7 @@ TakesFor script past frames count before after =
     → IsTakenPast past before.source after.source (take (wanted_to script (count + 1)) frames)
 
 -- what is told of a capture that was read whole: none where there is none
-abbrev pub IsReadWhole : List (List ℕ) → Option (Result Next PcapFault) → Option Captured → Type 0
+abbrev pub IsReadWhole : List (List ℕ) → Option (Result Next PcapFault) → Option CaptureSeen → Type 0
 IsReadWhole frames None captured = captured ≡ None
 IsReadWhole frames (Some (Ok next.Packet)) captured = ⊥
 IsReadWhole frames (Some (Ok next.End)) captured =
@@ -116,9 +116,9 @@ IsReadWhole frames (Some (Err wrong)) captured = ⊥
 pub record IsWhole (script : ScriptData) (frames : List (List ℕ))
     (rest : Option (Result Next PcapFault)) (ends ends' : List NamedEnd) (history : HistorySeen)
     : Type 0 where
-  pub captured : Option Captured
+  pub captured : Option CaptureSeen
   pub capture_is : IsReadWhole frames rest captured
-  pub last : Standing
+  pub last : RunPoint
   pub run : IsRun script captured ends history last
   pub ends_are : ends' ≡ last.ends
 
@@ -126,11 +126,11 @@ pub record IsWhole (script : ScriptData) (frames : List (List ℕ))
 
 -- The endpoints are as the segments so far left them; or the next is begun, and its own are retired; or all of its
 -- sends are made, too.
-abbrev pub EndsWithin : ScriptData → ℕ → Standing → List NamedEnd → Type 0
+abbrev pub EndsWithin : ScriptData → ℕ → RunPoint → List NamedEnd → Type 0
 EndsWithin script count at ends =
     (ends ≡ at.ends)
     ⊎ ((ends ≡ retired_before script count at.ends)
-    ⊎ ((part : SegmentSeen) × (next : Standing) × RunsNext script count at part next × (ends ≡ next.ends)))
+    ⊎ ((part : SegmentSeen) × (next : RunPoint) × RunsNext script count at part next × (ends ≡ next.ends)))
 
 -- The sink failed in the first line, in the text of a segment that was run, or in the last line.
 abbrev pub StopsWriting : ScriptData → ℕ → List (List ℕ) → Option (Result Next PcapFault)
@@ -138,9 +138,9 @@ abbrev pub StopsWriting : ScriptData → ℕ → List (List ℕ) → Option (Res
 StopsWriting script past frames rest before after =
     (WritesInto before after [] (ended first_line) × (after.ends ≡ before.ends)
     × IsTakenPast past before.source after.source [])
-    ⊎ (((count : ℕ) × (parts : List SegmentSeen) × (at : Standing)
+    ⊎ (((count : ℕ) × (parts : List SegmentSeen) × (at : RunPoint)
     × HasRun script frames before.ends count parts at
-    × (part : SegmentSeen) × (next : Standing) × RunsNext script count at part next
+    × (part : SegmentSeen) × (next : RunPoint) × RunsNext script count at part next
     × WritesInto before after (front_text parts) (segment_text count part)
     × (after.ends ≡ next.ends)
     × TakesFor script past frames count before after)
@@ -158,13 +158,13 @@ EndsBy script past frames rest before after end.Whole =
 EndsBy script past frames rest before after (end.Capture at_record fault) =
     (wrong : PcapFault) × (rest ≡ Some (Err wrong)) × (fault ≡ fault_number wrong)
     × (at_record ≡ length frames + 1)
-    × (count : ℕ) × (parts : List SegmentSeen) × (at : Standing)
+    × (count : ℕ) × (parts : List SegmentSeen) × (at : RunPoint)
     × HasRun script frames before.ends count parts at
     × IsReadAt script at_record count
     × Writes before after (front_text parts)
     × (after.ends ≡ retired_before script count at.ends)
 EndsBy script past frames rest before after end.ReadFault =
-    (count : ℕ) × (parts : List SegmentSeen) × (at : Standing)
+    (count : ℕ) × (parts : List SegmentSeen) × (at : RunPoint)
     × HasRun script frames before.ends count parts at
     × IsReading script frames rest count
     × Writes before after (front_text parts)
@@ -172,16 +172,16 @@ EndsBy script past frames rest before after end.ReadFault =
     × TakesFor script past frames count before after
 EndsBy script past frames rest before after end.WriteFault = StopsWriting script past frames rest before after
 EndsBy script past frames rest before after end.NoMemory =
-    (count : ℕ) × (parts : List SegmentSeen) × (at : Standing)
+    (count : ℕ) × (parts : List SegmentSeen) × (at : RunPoint)
     × HasRun script frames before.ends count parts at
     × Writes before after (front_text parts)
     × EndsWithin script count at after.ends
     × TakesFor script past frames count before after
 EndsBy script past frames rest before after (end.Endpoint endpoint) =
-    (count : ℕ) × (parts : List SegmentSeen) × (at : Standing)
+    (count : ℕ) × (parts : List SegmentSeen) × (at : RunPoint)
     × HasRun script frames before.ends count parts at
-    × (part : SegmentSeen) × (next : Standing) × RunsNext script count at part next
-    × StopsAt script.endpoints (sends_in part) endpoint (retired_before script count at.ends) after.ends
+    × (part : SegmentSeen) × (next : RunPoint) × RunsNext script count at part next
+    × StopsAt script.endpoints (segment_sends part) endpoint (retired_before script count at.ends) after.ends
     × Writes before after (front_text parts)
     × TakesFor script past frames count before after
 

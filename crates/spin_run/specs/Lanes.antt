@@ -2,20 +2,22 @@
 use Rattle.std.specs.Prelude.{◌≡◌, ◌≢◌, ◌+◌, ℕ, true, List, [], ◌∷◌, ◌++◌, map, length, take, All, Option, Some, None}
 use Rattle.std.specs.List.{flat_map, filter_map}
 use Rattle.std.specs.Arc.{arc_value}
-use Rattle.spin_word.specs.declared.command.TheConstants.{MAX_PLACE}
 use Rattle.spin_word.specs.declared.row.Row.{Row}
 use Rattle.spin_log.specs.Pens.{PenValue, IsSamePen}
 use Rattle.spin_table.specs.Setups.{SetupData}
+use Rattle.spin_table.specs.States.{State}
 use Rattle.spin_table.specs.Soundness.{IsSound}
 use Rattle.spin_proto.specs.declared.deed.JobCall.{JobCall}
 use Rattle.spin_proto.specs.declared.deed.Job.{Job}
 use Rattle.spin_proto.specs.Replies.{BelongsTo}
 use Rattle.spin_seat.specs.declared.answer.SeatFault.{SeatFault}
 use Rattle.spin_seat.specs.declared.answer.SeatFault.TheVariants as fault
-use Rattle.spin_seat.specs.Replay.{IsReplay}
-use Rattle.spin_seat.specs.Seats.{IsSeatOf}
+use Rattle.spin_seat.specs.Replay.{IsReplayFrom}
+use Rattle.spin_seat.specs.Places.{rows_past}
+use Rattle.spin_seat.specs.Seats.{IsSeatFrom}
+use Rattle.spin_seat.specs.Calls.{IsFaultAt}
 use Rattle.spin_seat.specs.Answers as seat
-use Rattle.spin_seat.specs.Runs.{Ran, GainsPins}
+use Rattle.spin_seat.specs.Runs.{RanFrom, GainsPinsPast}
 use Rattle.spin_script.specs.Soundness.{is_command_work}
 use Rattle.spin_report.specs.declared.entry.What.{What}
 use Rattle.spin_report.specs.declared.entry.What.TheVariants as what
@@ -82,11 +84,13 @@ jobs_from entry index (call ∷ calls) =
 abbrev pub jobs_of : Entry → List JobAsked
 jobs_of entry = jobs_from entry 0 (answer_calls entry.what)
 
--- These are the jobs of the entries, in order; each has the version of its place in the log, which begins with this
--- front and is sound, and to which its call belongs.
-pub record AreJobsOf (d : SetupData) (entries : List Entry) (front : List Row) (jobs : List Job) : Type 0 where
+-- These are the jobs of the entries, in order; each has the version of its place in the log, which follows on the first
+-- state and begins with this front, and it is sound, and its call belongs to it.
+pub record AreJobsOf (d : SetupData) (first : State) (entries : List Entry) (front : List Row) (jobs : List Job)
+    : Type 0 where
   pub asked : map job_asked jobs ≡ flat_map jobs_of entries
-  pub versions : All (λ job. IsReplay d (take job.place front) (arc_value job.version)) jobs
+  pub versions : All (λ job. IsReplayFrom d first (take (rows_past first.place job.place) front)
+      (arc_value job.version)) jobs
   pub sound : All (λ job. IsSound d (arc_value job.version)) jobs
   pub calls : All (λ job. BelongsTo (arc_value job.version) job.call) jobs
 
@@ -96,31 +100,38 @@ abbrev pub BeginsWithCommand : List Numbered → Type 0
 BeginsWithCommand [] = ⊥
 BeginsWithCommand (next ∷ rest) = is_command_work next.asked ≡ true
 
--- A lane that is asked these deeds in a segment has given these entries and left these jobs, while the pen of its seat
--- came from the first value to the second: the entries are those of a front of the deeds, and of all of them where
--- there is no stop; a stop is `Full` only where the log is full and the next deed is a command.
-pub record RanLane (d : SetupData) (deeds : List Numbered) (before after : PenValue)
+-- A lane that is asked these deeds in a segment has given these entries and left these jobs, while the pen of its seat,
+-- whose log follows on that state, came from the first value to the second: the entries are those of a front of the
+-- deeds, and of all of them where there is no stop; a stop is `Full` only where no place is left in the log and the next
+-- deed is a command.
+pub record RanLane (d : SetupData) (first : State) (deeds : List Numbered) (before after : PenValue)
     (trail : List Entry) (jobs : List Job) (stop : Option SeatFault) : Type 0 where
-  pub ran : Ran d before (map seat_answer trail) after
-  pub pins : GainsPins before (map seat_answer trail) after
+  pub ran : RanFrom d first before (map seat_answer trail) after
+  pub pins : GainsPinsPast first.place before (map seat_answer trail) after
   pub left : List Numbered
   pub deeds_are : deeds ≡ map asked_of trail ++ left
   pub whole : stop ≡ None → left ≡ []
-  pub full : stop ≡ Some fault.Full → (length after.front ≡ MAX_PLACE) × BeginsWithCommand left
-  pub jobs_are : AreJobsOf d trail after.front jobs
+  pub full : stop ≡ Some fault.Full → IsFaultAt first.place (length after.front) fault.Full × BeginsWithCommand left
+  pub jobs_are : AreJobsOf d first trail after.front jobs
 
 -- the lane didn't end for want of memory
 abbrev pub HadMemory : Option SeatFault → Type 0
 HadMemory stop = stop ≢ Some fault.NoMemory
 
+-- The entries that a lane keeps once it has given these, too: none where it keeps none.
+abbrev pub kept_with : Option (List Entry) → List Entry → Option (List Entry)
+kept_with None given = None
+kept_with (Some kept) given = Some (kept ++ given)
+
 -- How a lane stands after a segment in which all lanes are asked these, beside how it stood before, where it has given
--- these entries: its seat is still that of its lane, and where it had memory it has done its own, and its trail is that
--- of the entries.
+-- these entries: its seat is still that of its lane, and where it had memory it has done its own, its trail is that of
+-- the entries, and it keeps them if it keeps entries.
 pub record HasRunLane (d : SetupData) (asked : List Numbered) (before after : Lane) (entries : List Entry)
     : Type 0 where
-  pub seat : IsSeatOf d after.seat
+  pub seat : IsSeatFrom d before.seat.first after.seat
   pub same : IsSamePen before.seat.pen after.seat.pen
   pub ran : HadMemory after.stop
-      → RanLane d (asked_of_lane before.seat.pen.lane asked)
+      → RanLane d before.seat.first (asked_of_lane before.seat.pen.lane asked)
       before.seat.pen after.seat.pen entries after.jobs after.stop
   pub told : HadMemory after.stop → IsTrailOf entries after.trail
+  pub kept : HadMemory after.stop → after.entries ≡ kept_with before.entries entries

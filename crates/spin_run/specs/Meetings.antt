@@ -1,26 +1,31 @@
 -- The seats of all lanes meet: what each knows then.
-use Rattle.std.specs.Prelude.{◌≡◌, ℕ, ◌<◌, List, length, None, slice_index_or}
+use Rattle.std.specs.Prelude.{◌≡◌, ℕ, ◌<◌, List, length, All, None, slice_index_or}
 use Rattle.atomic_table.specs.Seated.{TableId}
 use Rattle.spin_word.specs.declared.row.Row.{Row}
 use Rattle.spin_log.specs.Pens.{IsPen}
 use Rattle.spin_table.specs.Setups.{SetupData}
 use Rattle.spin_table.specs.States.{State}
-use Rattle.spin_seat.specs.Seats.{IsSeatOf}
+use Rattle.spin_seat.specs.Seats.{IsSeatFrom}
 use Rattle.spin_seat.specs.Calls.{ReadsOn}
 use Rattle.spin_run.specs.declared.lane.Lane.{Lane}
 use Rattle.spin_run.specs.Segments.{front_of, state_of}
 
--- the lane's seat is one of a hub with that setup and that log
-abbrev pub IsOfHub : SetupData → TableId → Lane → Type 0
-IsOfHub d log lane = (lane.seat.pen.log ≡ log) × IsSeatOf d lane.seat
+-- the lane's seat is one of a hub with that setup and that log, which follows on that state
+abbrev pub IsOfHub : SetupData → State → TableId → Lane → Type 0
+IsOfHub d first log lane = (lane.seat.pen.log ≡ log) × IsSeatFrom d first lane.seat
+
+-- the same of all lanes, with one first state
+abbrev pub AreOfHub : SetupData → TableId → List Lane → Type 0
+AreOfHub d log lanes = (first : State) × All (IsOfHub d first log) lanes
 
 -- The lane's seat has read rows of other lanes and no more, and what it answered is as before.
 pub record HasRead (d : SetupData) (before after : Lane) : Type 0 where
-  pub seat : IsSeatOf d after.seat
+  pub seat : IsSeatFrom d before.seat.first after.seat
   pub reads : ReadsOn before.seat.pen after.seat.pen
   pub trail : after.trail ≡ before.trail
   pub jobs_are : after.jobs ≡ before.jobs
   pub stop : after.stop ≡ before.stop
+  pub kept : after.entries ≡ before.entries
 
 -- the lane's seat has applied all that it knows
 pub record IsSettled (lane : Lane) : Type 0 where

@@ -6,7 +6,7 @@ ghost use Rattle.spin_values.specs.declared.values.Value.TheVariants as value;
 ghost use Rattle.spin_word.specs.declared.work.Work.TheVariants as work;
 ghost use Rattle.spin_word.specs.declared.work.Deed.TheVariants as deed;
 ghost use Rattle.spin_table.specs.SetupOf.{data_of};
-ghost use Rattle.spin_seat.specs.Seats.{IsSeatOf};
+ghost use Rattle.spin_seat.specs.Seats.{IsSeat};
 ghost use Rattle.spin_script.specs.Soundness.{IsValidWork};
 ghost use Rattle.spin_script.specs.Segments.{IsOfLane};
 ghost use Rattle.spin_script.specs.declared.lanes.TheConstants.{MAX_DEEDS};
@@ -17,6 +17,7 @@ ghost use Rattle.spin_run.specs.Lanes.{HasRunLane, IsFresh};
 ghost use Rattle.spin_run.specs.Segments.{IsAtRest, IsFitSegment};
 ghost use Rattle.spin_run.specs.Inner.Answering.{Answers, Comes, Stays, asked_alone, asked_packets};
 
+use crate::copying::keep;
 use crate::jobs_left::leave_jobs;
 use crate::trail::Trail;
 use spin_code::Sincere;
@@ -24,7 +25,7 @@ use spin_objects::Catalogue;
 use spin_outside::Gate;
 use spin_pcap::Frames;
 use spin_proto::{Jobs, ReplyBuffer};
-use spin_report::{EntryView, LentWhat, WhatView, split_records};
+use spin_report::{Entries, EntryView, LentWhat, WhatView, split_records};
 use spin_script::{Line, Segment};
 use spin_seat::{Hub, Judged, Seat, SeatFault};
 use spin_values::{Args, NoMemory, Octets, Value};
@@ -42,6 +43,8 @@ pub struct Lane {
     pub jobs: Jobs,
     /// Why it ended before its last deed, if it did.
     pub stop: Option<SeatFault>,
+    /// The entries themselves, in their order, where the lane keeps them.
+    pub entries: Option<Entries>,
 }
 
 // A deed, and what it came to, which the buffer has.
@@ -74,12 +77,14 @@ impl Lane {
     pub fn new(alloc: Global, seat: Seat) -> Lane
         ensures seat { result.seat ≡ seat }
         ensures fresh { IsFresh result }
+        ensures kept { result.entries ≡ None }
     {
         Lane {
             seat,
             trail: Trail::new(alloc),
             jobs: Jobs::new(alloc),
             stop: None,
+            entries: None,
         }
     }
 
@@ -88,9 +93,10 @@ impl Lane {
     ///
     /// The frames are the records that the segment's packet lines take, in the order of the text and whatever the
     /// lane: this lane skips those of the others' lines. Nothing is known of the other lanes; where this one had
-    /// memory, its trail and its jobs are those of the entries that answer its own deeds. It waits for nobody. Each line
-    /// is made as soon as its deed is answered. No deed is copied but for its arguments, which handlers may change; a
-    /// frame's bytes are copied before that into the argument of its raise.
+    /// memory, its trail and its jobs are those of the entries that answer its own deeds, which it keeps, too, if it keeps
+    /// entries. It waits for nobody. Each line is made as soon as its deed is answered. No deed is copied but for its
+    /// arguments, which handlers may change, and for an entry that is kept; a frame's bytes are copied before that into
+    /// the argument of its raise.
     pub fn run<G: Gate>(
         &mut self,
         alloc: Global,
@@ -101,8 +107,8 @@ impl Lane {
     )
         requires sincere { ⟦<Catalogue as Sincere>⟧.sincere hub.now.setup.catalogue }
         requires ready { let d = data_of hub.now.setup in
-            let front = self.old.seat.pen.front in
-            IsAtRest d hub.now.log.id hub.now.log.lanes front self.old }
+            let seat = self.old.seat in
+            IsAtRest d hub.now.log.id hub.now.log.lanes seat.first seat.pen.front self.old }
         requires lines { IsFitSegment hub.now.log.lanes segment.now.lines }
         ensures { let asked = asked_in segment.now.lines frames.now in
             (entries : List Entry) × HasRunLane (data_of hub.now.setup) asked self.old self.new entries }
@@ -121,8 +127,8 @@ impl Lane {
     ) -> Result<(), SeatFault>
         requires sincere { ⟦<Catalogue as Sincere>⟧.sincere hub.now.setup.catalogue }
         requires ready { let d = data_of hub.now.setup in
-            let front = self.old.seat.pen.front in
-            IsAtRest d hub.now.log.id hub.now.log.lanes front self.old }
+            let seat = self.old.seat in
+            IsAtRest d hub.now.log.id hub.now.log.lanes seat.first seat.pen.front self.old }
         requires lines { IsFitSegment hub.now.log.lanes segment.now.lines }
         ensures stays { Stays (data_of hub.now.setup) self.old self.new }
         ensures comes { let asked = asked_in segment.now.lines frames.now in
@@ -153,7 +159,7 @@ impl Lane {
     ) -> Result<(), SeatFault>
         requires sincere { ⟦<Catalogue as Sincere>⟧.sincere hub.now.setup.catalogue }
         requires log { self.old.seat.pen.log ≡ hub.now.log.id }
-        requires seat { IsSeatOf (data_of hub.now.setup) self.old.seat }
+        requires seat { IsSeat (data_of hub.now.setup) self.old.seat }
         requires lane { line.now.lane ≡ self.old.seat.pen.lane }
         requires own { IsOfLane line.now.lane line.now.work }
         requires valid { IsValidWork line.now.work }
@@ -190,7 +196,7 @@ impl Lane {
     ) -> Result<(), SeatFault>
         requires sincere { ⟦<Catalogue as Sincere>⟧.sincere hub.now.setup.catalogue }
         requires log { self.old.seat.pen.log ≡ hub.now.log.id }
-        requires seat { IsSeatOf (data_of hub.now.setup) self.old.seat }
+        requires seat { IsSeat (data_of hub.now.setup) self.old.seat }
         requires valid { IsTrue (is_command command.now) }
         requires lane { command.now.lane ≡ self.old.seat.pen.lane }
         requires few { length self.old.trail.marks < MAX_DEEDS }
@@ -204,13 +210,15 @@ impl Lane {
         let Judged { place, verdict } = self.seat.command(alloc, hub, command)?;
         let lent = LentWhat::Command(command, &verdict);
         let what = WhatView { lent };
-        self.trail.add(&EntryView {
+        let entry = EntryView {
             place,
             lane,
             line,
             part: 0,
             what,
-        })?;
+        };
+        keep(alloc, &mut self.entries, &entry)?;
+        self.trail.add(&entry)?;
         Ok(())
     }
 
@@ -227,7 +235,7 @@ impl Lane {
     ) -> Result<(), NoMemory>
         requires sincere { ⟦<Catalogue as Sincere>⟧.sincere hub.now.setup.catalogue }
         requires log { self.old.seat.pen.log ≡ hub.now.log.id }
-        requires seat { IsSeatOf (data_of hub.now.setup) self.old.seat }
+        requires seat { IsSeat (data_of hub.now.setup) self.old.seat }
         requires few { length self.old.trail.marks + length records.now ≤ MAX_DEEDS }
         ensures stays { Stays (data_of hub.now.setup) self.old self.new }
         ensures ok { let d = data_of hub.now.setup in
@@ -258,7 +266,7 @@ impl Lane {
     ) -> Result<Args, NoMemory>
         requires sincere { ⟦<Catalogue as Sincere>⟧.sincere hub.now.setup.catalogue }
         requires log { self.old.seat.pen.log ≡ hub.now.log.id }
-        requires seat { IsSeatOf (data_of hub.now.setup) self.old.seat }
+        requires seat { IsSeat (data_of hub.now.setup) self.old.seat }
         requires few { length self.old.trail.marks < MAX_DEEDS }
         ensures stays { Stays (data_of hub.now.setup) self.old self.new }
         ensures ok { let d = data_of hub.now.setup in
@@ -285,7 +293,7 @@ impl Lane {
     ) -> Result<(), NoMemory>
         requires sincere { ⟦<Catalogue as Sincere>⟧.sincere hub.now.setup.catalogue }
         requires log { self.old.seat.pen.log ≡ hub.now.log.id }
-        requires seat { IsSeatOf (data_of hub.now.setup) self.old.seat }
+        requires seat { IsSeat (data_of hub.now.setup) self.old.seat }
         requires few { length self.old.trail.marks < MAX_DEEDS }
         ensures stays { Stays (data_of hub.now.setup) self.old self.new }
         ensures ok { let d = data_of hub.now.setup in
@@ -304,6 +312,7 @@ impl Lane {
             what,
         };
         leave_jobs(&mut self.jobs, &entry, &self.seat)?;
+        keep(alloc, &mut self.entries, &entry)?;
         self.trail.add(&entry)
     }
 }

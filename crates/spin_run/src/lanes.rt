@@ -1,17 +1,20 @@
 //! All lanes of a segment, side by side.
 
-ghost use Rattle.std.specs.Prelude.{◌≡◌, ◌<◌, ◌≤◌, ◌++◌, [], ◌∷◌, map, length, slice_get};
+ghost use Rattle.std.specs.Prelude.{◌≡◌, ◌<◌, ◌≤◌, ◌++◌, ℕ, [], ◌∷◌, map, length, slice_get};
 ghost use Rattle.std.specs.Prelude.{List, Some, All, IfOk, OnOk, OnErr, MatchOption};
 ghost use Rattle.spin_word.specs.declared.command.TheConstants.{MAX_LANES};
+ghost use Rattle.atomic_table.specs.Seated.{TableId};
 ghost use Rattle.spin_log.specs.Pens.{new_pens};
 ghost use Rattle.spin_objects.specs.Units.{IsSincereBy};
+ghost use Rattle.spin_table.specs.Setups.{SetupData};
 ghost use Rattle.spin_table.specs.SetupOf.{data_of};
-ghost use Rattle.spin_table.specs.States.{start_of};
-ghost use Rattle.spin_seat.specs.Seats.{IsSeatOf};
+ghost use Rattle.spin_table.specs.States.{State};
+ghost use Rattle.spin_seat.specs.Seats.{IsSeatFrom};
 ghost use Rattle.spin_report.specs.declared.entry.Entry.{Entry};
 ghost use Rattle.spin_report.specs.Segments.{asked_in};
+ghost use Rattle.spin_run.specs.Kept.{keeping};
 ghost use Rattle.spin_run.specs.Lanes.{HasRunLane};
-ghost use Rattle.spin_run.specs.Segments.{IsAtRest, AreAtRest, AreReady, IsFitSegment, HaveRun, front_of, state_of};
+ghost use Rattle.spin_run.specs.Segments.{IsAtRest, AreAtRest, AreReady, IsFitSegment, HaveRun, front_of, first_of, state_of};
 ghost use Rattle.spin_run.specs.Inner.Answering.{AreFresh};
 
 use crate::lane::Lane;
@@ -19,6 +22,7 @@ use spin_code::Sincere;
 use spin_objects::Catalogue;
 use spin_outside::Gate;
 use spin_pcap::Frames;
+use spin_report::Entries;
 use spin_script::{Line, Segment};
 use spin_seat::{Hub, Seats};
 use spin_values::NoMemory;
@@ -101,23 +105,43 @@ impl Lanes {
         Some(self.items.remove(0))
     }
 
-    /// A lane for each seat of a new hub, as [`Hub::new`] made them.
+    /// A lane for each seat of a hub over a new log, as [`Hub::new`] and [`Hub::renew`] make them: so the log follows on
+    /// whatever state its seats have as their first.
     pub fn of_seats(alloc: Global, _hub: &Hub, seats: Seats) -> Result<Lanes, NoMemory>
         requires some { 0 < _hub.now.log.lanes }
         requires few { _hub.now.log.lanes ≤ MAX_LANES }
         requires pens { let pens = map (λ seat. seat.pen) seats in
             pens ≡ new_pens _hub.now.log.id _hub.now.log.lanes }
-        requires seats { All (IsSeatOf (data_of _hub.now.setup)) seats }
+        requires seats { (first : State) × All (IsSeatFrom (data_of _hub.now.setup) first) seats }
         ensures ready { let d = data_of _hub.now.setup in
             IfOk result (λ lanes. AreReady d _hub.now.log.id _hub.now.log.lanes lanes) }
         ensures given { IfOk result (λ lanes. map (λ lane. lane.seat) lanes ≡ seats) }
         ensures front { IfOk result (λ lanes. front_of lanes ≡ []) }
-        ensures start { let d = data_of _hub.now.setup in
-            IfOk result (λ lanes. state_of d lanes ≡ start_of d) }
+        ensures first { let d = data_of _hub.now.setup in
+            (first : State) → All (IsSeatFrom d first) seats
+            → IfOk result (λ lanes. (first_of d lanes ≡ first) × (state_of d lanes ≡ first)) }
     {
         Ok(Lanes {
             items: each_seat(alloc, seats)?,
         })
+    }
+
+    /// From now on each lane keeps the entries that it gives, until they are taken out. It takes no memory, and drops
+    /// what was kept.
+    pub fn keep_entries(&mut self, alloc: Global)
+        ensures lanes { self.new ≡ map keeping self.old }
+        ensures ready { (d : SetupData) (log : TableId) (count : ℕ)
+            → AreReady d log count self.old → AreReady d log count self.new }
+    {
+        self.keep_all(alloc);
+    }
+
+    fn keep_all(&mut self, alloc: Global)
+        ensures { self.new ≡ map keeping self.old }
+    {
+        for lane in self.items.iter_mut() {
+            lane.entries = Some(Entries::new(alloc));
+        }
     }
 }
 
@@ -187,8 +211,8 @@ pub fn run_lanes<R: Threads + Sync, G: Gate>(
         &|_, lane: &mut Lane|
             requires sincere { IsSincereBy does asks follows hub.now.setup.catalogue.natives }
             requires ready { let d = data_of hub.now.setup in
-                let front = lane.old.seat.pen.front in
-                IsAtRest d hub.now.log.id hub.now.log.lanes front lane.old }
+                let seat = lane.old.seat in
+                IsAtRest d hub.now.log.id hub.now.log.lanes seat.first seat.pen.front lane.old }
             requires lines { IsFitSegment hub.now.log.lanes segment.now.lines }
             ensures { let asked = asked_in segment.entry.now.lines frames.entry.now in
                 (entries : List Entry) × HasRunLane (data_of hub.entry.now.setup) asked lane.old lane.new entries }

@@ -2,8 +2,8 @@
 
 ghost use Rattle.spin_run.specs.Laws.{PlaceIsFront, RecordsAreOne};
 
-/// The place of the state that lanes are ready in is the number of rows that they know: each row of the log was
-/// accepted at its own place. It does nothing.
+/// The place of the state that lanes are ready in lies past that of their first state by the number of rows that they
+/// know: each row of the log was accepted at its own place. It does nothing.
 pub fn place_is_front()
     ensures { PlaceIsFront }
 {}

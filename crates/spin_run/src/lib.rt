@@ -3,8 +3,9 @@
 //! - `lane` is one lane of a segment, which does the deeds of the lines that name it and makes their lines, which
 //!   `trail` keeps, and `lanes` all of them side by side;
 //! - `meeting` lets the seats of all lanes know the same;
-//! - `weave` puts the entries and jobs of all lanes into one history, and `segment` runs a segment whole;
-//! - `jobs_left` notes the jobs that an answer leaves;
+//! - `weave` puts the entries and jobs of all lanes into one history, `segment` runs a segment whole, and `entries` takes
+//!   out the entries that lanes keep;
+//! - `jobs_left` notes the jobs that an answer leaves, and `copying` makes entries of their own of those that are lent;
 //! - `records` reads what a segment's packet lines take of a capture, `retiring` retires endpoints, `sends` delivers;
 //! - `lines` makes a segment's lines, `writing` writes them, `one` runs a segment with all this, `ending` ends a run;
 //! - `telling` has what becomes of a segment: it is written, or counted by `tally`;
@@ -14,8 +15,10 @@
 //! - `limits` states the limits.
 #![tactic(auto)]
 
+mod copying;
 mod end;
 mod ending;
+mod entries;
 mod jobs_left;
 mod lane;
 mod lanes;

@@ -1,8 +1,8 @@
 //! After a segment all seats meet.
 
-ghost use Rattle.std.specs.Prelude.{◌≡◌, ◌<◌, length, All, OnOk};
+ghost use Rattle.std.specs.Prelude.{◌≡◌, ◌<◌, length, OnOk};
 ghost use Rattle.spin_table.specs.SetupOf.{data_of};
-ghost use Rattle.spin_run.specs.Meetings.{IsOfHub, HaveMet};
+ghost use Rattle.spin_run.specs.Meetings.{AreOfHub, HaveMet};
 ghost use Rattle.spin_run.specs.Inner.Meeting.{FirstIsSettled, SettledFirst, Met, HadRound};
 
 use crate::lane::Lane;
@@ -19,7 +19,7 @@ impl Lanes {
     pub(crate) fn meet(&mut self, alloc: Global, hub: &Hub) -> Result<(), NoMemory>
         requires sincere { ⟦<Catalogue as Sincere>⟧.sincere hub.now.setup.catalogue }
         requires some { 0 < length self.old }
-        requires seats { All (IsOfHub (data_of hub.now.setup) hub.now.log.id) self.old }
+        requires seats { AreOfHub (data_of hub.now.setup) hub.now.log.id self.old }
         ensures { OnOk result (HaveMet (data_of hub.now.setup) self.old self.new) }
     {
         meet_all(alloc, hub, self.items.as_mut_slice())
@@ -31,7 +31,7 @@ impl Lanes {
 fn meet_all(alloc: Global, hub: &Hub, lanes: &mut [Lane]) -> Result<(), NoMemory>
     requires sincere { ⟦<Catalogue as Sincere>⟧.sincere hub.now.setup.catalogue }
     requires some { 0 < length lanes.old }
-    requires seats { All (IsOfHub (data_of hub.now.setup) hub.now.log.id) lanes.old }
+    requires seats { AreOfHub (data_of hub.now.setup) hub.now.log.id lanes.old }
     ensures { OnOk result (HaveMet (data_of hub.now.setup) lanes.old lanes.new) }
 {
     settle_first(alloc, hub, lanes)?;
@@ -43,7 +43,7 @@ fn meet_all(alloc: Global, hub: &Hub, lanes: &mut [Lane]) -> Result<(), NoMemory
 fn settle_first(alloc: Global, hub: &Hub, lanes: &mut [Lane]) -> Result<(), NoMemory>
     requires sincere { ⟦<Catalogue as Sincere>⟧.sincere hub.now.setup.catalogue }
     requires some { 0 < length lanes.old }
-    requires seats { All (IsOfHub (data_of hub.now.setup) hub.now.log.id) lanes.old }
+    requires seats { AreOfHub (data_of hub.now.setup) hub.now.log.id lanes.old }
     ensures { OnOk result (SettledFirst (data_of hub.now.setup) lanes.old lanes.new) }
 {
     lanes[0].seat.apply(alloc, hub)
@@ -53,7 +53,7 @@ fn settle_first(alloc: Global, hub: &Hub, lanes: &mut [Lane]) -> Result<(), NoMe
 fn meet_each(alloc: Global, hub: &Hub, lanes: &mut [Lane]) -> Result<(), NoMemory>
     requires sincere { ⟦<Catalogue as Sincere>⟧.sincere hub.now.setup.catalogue }
     requires some { 0 < length lanes.old }
-    requires seats { All (IsOfHub (data_of hub.now.setup) hub.now.log.id) lanes.old }
+    requires seats { AreOfHub (data_of hub.now.setup) hub.now.log.id lanes.old }
     requires first { FirstIsSettled lanes.old }
     ensures { OnOk result (HadRound (data_of hub.now.setup) lanes.old lanes.new) }
 {
@@ -68,7 +68,7 @@ fn meet_first(alloc: Global, hub: &Hub, lanes: &mut [Lane], k: usize) -> Result<
     requires sincere { ⟦<Catalogue as Sincere>⟧.sincere hub.now.setup.catalogue }
     requires after { 0 < k }
     requires inside { k < length lanes.old }
-    requires seats { All (IsOfHub (data_of hub.now.setup) hub.now.log.id) lanes.old }
+    requires seats { AreOfHub (data_of hub.now.setup) hub.now.log.id lanes.old }
     ensures { OnOk result (Met (data_of hub.now.setup) lanes.old k lanes.new) }
 {
     let (left, right) = lanes.split_at_mut(k);

@@ -6,7 +6,7 @@ ghost use Rattle.spin_endpoint.specs.declared.ends.TheConstants.{MAX_ENDPOINTS};
 ghost use Rattle.spin_table.specs.SetupOf.{data_of};
 ghost use Rattle.spin_script.specs.Segments.{SendsBelow};
 ghost use Rattle.spin_report.specs.Segments as specs;
-ghost use Rattle.spin_run.specs.Segments.{AreReady, IsFitSegment, front_of, state_of};
+ghost use Rattle.spin_run.specs.Segments.{AreReady, IsFitSegment, place_of, state_of};
 ghost use Rattle.spin_script.specs.States.{deed_count};
 ghost use Rattle.spin_script.specs.Checks.{most_deeds};
 ghost use Rattle.spin_script.specs.Soundness.{commands_in};
@@ -65,7 +65,8 @@ pub(crate) fn run_one<R: Threads + Sync, S: Source, T: Telling, G: Gate>(
     requires ready { let d = data_of hub.now.setup in
         AreReady d hub.now.log.id hub.now.log.lanes lanes.old }
     requires lines { IsFitSegment (length lanes.old) segment.now.lines }
-    requires room { length (front_of lanes.old) + commands_in segment.now.lines ≤ MAX_PLACE }
+    requires room { let d = data_of hub.now.setup in
+        place_of d lanes.old + commands_in segment.now.lines ≤ MAX_PLACE }
     requires few { length names.now ≤ MAX_ENDPOINTS }
     requires retired { All (λ endpoint. endpoint < length names.now) segment.now.retires }
     requires sent { let d = data_of hub.now.setup in
@@ -82,8 +83,9 @@ pub(crate) fn run_one<R: Threads + Sync, S: Source, T: Telling, G: Gate>(
         capture.old capture.new (S.seen source.old) (S.seen source.new) result left) }
     ensures ready { let d = data_of hub.now.setup in
         OnOk result (AreReady d hub.now.log.id hub.now.log.lanes lanes.new) }
-    ensures taken { let most = length (front_of lanes.old) + commands_in segment.now.lines in
-        OnOk result (length (front_of lanes.new) ≤ most) }
+    ensures taken { let d = data_of hub.now.setup in
+        let most = place_of d lanes.old + commands_in segment.now.lines in
+        OnOk result (place_of d lanes.new ≤ most) }
     ensures keep { (S.seen source.new).keep ≡ (S.seen source.old).keep }
     ensures same { T.reference out.new ≡ T.reference out.old }
     ensures counts { let before = seen (S.seen source.old) (T.seen out.old)

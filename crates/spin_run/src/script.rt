@@ -1,6 +1,6 @@
 //! Whole runs of scripts.
 
-ghost use Rattle.std.specs.Prelude.{◌≡◌, ◌≤◌, ℕ, [], length, IfSome};
+ghost use Rattle.std.specs.Prelude.{◌≡◌, ◌≤◌, ℕ, length, IfSome};
 ghost use Rattle.spin_word.specs.declared.command.TheConstants.{MAX_PLACE};
 ghost use Rattle.spin_pcap.specs.Passing.{IsFresh};
 ghost use Rattle.spin_table.specs.SetupOf.{data_of};
@@ -10,7 +10,7 @@ ghost use Rattle.spin_script.specs.Soundness.{AreValid, command_lines};
 ghost use Rattle.spin_run.specs.Ends.{seen, EndsBy, CountsBy};
 ghost use Rattle.spin_run.specs.Records.{room_of, HasRecords};
 ghost use Rattle.spin_run.specs.Inner.Reading.{Reads};
-ghost use Rattle.spin_run.specs.Segments.{AreReady, front_of, state_of};
+ghost use Rattle.spin_run.specs.Segments.{AreReady, place_of, state_of};
 ghost use Rattle.spin_run.specs.Inner.Steps.{moment, setting, script_in, AllBy, RunsAll, WalksBy, ResultCounts};
 
 use crate::end::RunEnd;
@@ -48,7 +48,7 @@ fn run_each<R: Threads + Sync, S: Source, T: Telling, G: Gate>(
     requires sincere { ⟦<Catalogue as Sincere>⟧.sincere hub.now.setup.catalogue }
     requires ready { let d = data_of hub.now.setup in
         AreReady d hub.now.log.id hub.now.log.lanes lanes.old }
-    requires front { front_of lanes.old ≡ [] }
+    requires start { place_of (data_of hub.now.setup) lanes.old ≡ 0 }
     requires valid { AreValid segments.now }
     requires commands { command_lines segments.now ≤ MAX_PLACE }
     requires orderly { let s = setting (data_of hub.now.setup) (length lanes.old) names.now in

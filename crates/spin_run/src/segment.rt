@@ -6,7 +6,7 @@ ghost use Rattle.spin_table.specs.SetupOf.{data_of};
 ghost use Rattle.spin_seat.specs.declared.answer.SeatFault.TheVariants as fault;
 ghost use Rattle.spin_report.specs.Segments.{asked_in};
 ghost use Rattle.spin_run.specs.Lanes.{HadMemory};
-ghost use Rattle.spin_run.specs.Segments.{AreAtRest, AreReady, IsFitSegment, HasWoven, front_of};
+ghost use Rattle.spin_run.specs.Segments.{AreAtRest, AreReady, IsFitSegment, HasWoven, place_of};
 ghost use Rattle.spin_script.specs.Soundness.{commands_in};
 
 use crate::lanes::{Lanes, run_lanes};
@@ -65,15 +65,17 @@ pub fn run_segment<R: Threads + Sync, G: Gate>(
     requires ready { let d = data_of hub.now.setup in
         AreAtRest d hub.now.log.id hub.now.log.lanes lanes.old }
     requires lines { IsFitSegment (length lanes.old) segment.now.lines }
-    requires room { length (front_of lanes.old) + commands_in segment.now.lines ≤ MAX_PLACE }
+    requires room { let d = data_of hub.now.setup in
+        place_of d lanes.old + commands_in segment.now.lines ≤ MAX_PLACE }
     ensures woven { let d = data_of hub.now.setup in
         let asked = asked_in segment.now.lines frames.now in
         IfOk result (HasWoven d asked lanes.old lanes.new) }
     ensures replies { IfOk result (λ w. length w.replies ≡ length w.jobs) }
     ensures ready { let d = data_of hub.now.setup in
         OnOk result (AreReady d hub.now.log.id hub.now.log.lanes lanes.new) }
-    ensures taken { let most = length (front_of lanes.old) + commands_in segment.now.lines in
-        OnOk result (length (front_of lanes.new) ≤ most) }
+    ensures taken { let d = data_of hub.now.setup in
+        let most = place_of d lanes.old + commands_in segment.now.lines in
+        OnOk result (place_of d lanes.new ≤ most) }
 {
     run_lanes(rt, alloc, hub, lanes, segment, frames, gate);
     if lanes.lacked_memory() {

@@ -1,6 +1,6 @@
 //! What becomes of the segments of a run: a report of them, or a count.
 
-ghost use Rattle.std.specs.Prelude.{◌≡◌, ◌<◌, ◌≤◌, ◌++◌, ◌∷◌, ℕ, map, length, take};
+ghost use Rattle.std.specs.Prelude.{◌≡◌, ◌<◌, ◌≤◌, ◌-◌, ◌^◌, ◌++◌, ◌∷◌, ℕ, map, length, min, sum_by, take};
 ghost use Rattle.std.specs.Prelude.{List, OnOk, IfOk, MatchResult, Option, None, Some, All};
 ghost use Rattle.std.specs.Io.KnownBytes.{Appends};
 ghost use Rattle.spin_endpoint.specs.declared.ends.TheConstants.{MAX_ENDPOINTS};
@@ -96,8 +96,10 @@ pub(crate) struct Report<'a, K: Sink> {
     pub(crate) out: &'a mut K,
 }
 
-// How many bytes the lines of all entries have, for which there is room from the start.
-fn text_bytes(trails: &[Trail]) -> usize {
+// How many bytes the lines of all entries have, for which there is room from the start, or the most that a count tells.
+fn text_bytes(trails: &[Trail]) -> usize
+    ensures { result ≡ min (sum_by (λ trail. length trail.text) trails.now) (2 ^ 64 - 1) }
+{
     let mut bytes: usize = 0;
     for trail in trails {
         bytes = bytes.saturating_add(trail.text.len());

@@ -17,7 +17,7 @@ impl Lanes {
     // Takes the trails and the jobs out of all lanes, and puts the marks of all entries and the jobs in the order of the
     // history: by place; at one place the accepted command first; and then by lane, line and part. A lane's marks stay
     // in their own order, and so do its jobs. It moves them, and takes a time linear in their number times the logarithm
-    // of the number of lanes; the lines stay where they are.
+    // of the number of lanes; the lines stay where they are, and so do entries that a lane keeps.
     pub(crate) fn weave(&mut self, alloc: Global) -> Result<(Trails, Marks, Jobs), NoMemory>
         requires marks { AreOfTheirLanes (λ mark. mark.lane) (marks_by_lane self.old) }
         requires marks_order { All AreMarksInOrder (marks_by_lane self.old) }
@@ -33,6 +33,7 @@ impl Lanes {
         ensures emptied { OnOk result (All IsEmptied self.new) }
         ensures seats { OnOk result (map (λ lane. lane.seat) self.new ≡ map (λ lane. lane.seat) self.old) }
         ensures stops { OnOk result (map (λ lane. lane.stop) self.new ≡ map (λ lane. lane.stop) self.old) }
+        ensures kept { OnOk result (map (λ lane. lane.entries) self.new ≡ map (λ lane. lane.entries) self.old) }
     {
         let (trails, marks, jobs) = self.gather(alloc)?;
         let mut marks = marks.into_vec();
@@ -50,6 +51,7 @@ impl Lanes {
         ensures emptied { OnOk result (All IsEmptied self.new) }
         ensures seats { OnOk result (map (λ lane. lane.seat) self.new ≡ map (λ lane. lane.seat) self.old) }
         ensures stops { OnOk result (map (λ lane. lane.stop) self.new ≡ map (λ lane. lane.stop) self.old) }
+        ensures kept { OnOk result (map (λ lane. lane.entries) self.new ≡ map (λ lane. lane.entries) self.old) }
     {
         let mut trails = Trails::new(alloc);
         let mut marks = Marks::new(alloc);

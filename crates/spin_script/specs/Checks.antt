@@ -56,8 +56,7 @@ imposes_unknown guards r = list_any (nat_lt guards) (effect_guards r.effect)
 
 -- the handler or a guard of the rule isn't there
 abbrev pub speaks_of_unknown : (handlers guards : ℕ) → Rule → Bool
-speaks_of_unknown handlers guards r =
-    option_map_or (nat_lt handlers) r.handler false || imposes_unknown guards r
+speaks_of_unknown handlers guards r = option_map_or (nat_lt handlers) r.handler false || imposes_unknown guards r
 
 -- ---- each kind of line
 
@@ -94,8 +93,7 @@ authoriser_checks s policy None = (true, cause.Undeclared) ∷ []
 authoriser_checks s policy (Some e) =
     (list_any (imposes_unknown (length s.guards)) (rules_if policy), cause.Undeclared)
     ∷ (
-      not (length (given_rules e.authority) == 0)
-          || not (list_all (is_fit_rule s.guards e) (rules_if policy)),
+      not (length (given_rules e.authority) == 0) || not (list_all (is_fit_rule s.guards e) (rules_if policy)),
       cause.Mismatch,
     )
     ∷ (is_none policy, cause.Native)
@@ -126,15 +124,13 @@ most_deeds = MAX_DEEDS
 -- there are as many command lines or deeds as there may be
 abbrev pub is_work_full : (version commands deeds : ℕ) → Work → Bool
 is_work_full version commands deeds w =
-    nat_lt (most_commands version) (commands + command_count w)
-    || nat_lt most_deeds (deeds + deed_count w)
+    nat_lt (most_commands version) (commands + command_count w) || nat_lt most_deeds (deeds + deed_count w)
 
 -- the causes for which a line can't stand behind the script so far, in order, each with its condition
 abbrev pub checks : NativeData → ScriptState → line.LineMeaning → List (Bool × Cause)
 checks n s (line.Modules count) = []
 checks n s (line.Event e owner sig m) =
-    (not (e == length s.events), cause.Next)
-    ∷ checked (merge_check m) ((nat_le s.modules owner, cause.Undeclared) ∷ [])
+    (not (e == length s.events), cause.Next) ∷ checked (merge_check m) ((nat_le s.modules owner, cause.Undeclared) ∷ [])
 checks n s (line.Endpoint p name) =
     (not (p == length s.endpoints), cause.Next)
     ∷ (list_any (λ known. bytes_eq known name) s.endpoints, cause.Repeated) ∷ []
@@ -144,17 +140,14 @@ checks n s (line.Handler h sig steps) =
     (step_checks (length s.endpoints) s.events steps)
 checks n s (line.NativeHandler h name) =
     (not (h == length s.handlers + 1), cause.Next) ∷ native_checks n s (native_at name n.handlers)
-checks n s (line.Guard g sig t) =
-    (not (g == length s.guards + 1), cause.Next) ∷ checked (test_check t sig) []
+checks n s (line.Guard g sig t) = (not (g == length s.guards + 1), cause.Next) ∷ checked (test_check t sig) []
 checks n s (line.NativeGuard g name) =
-    (not (g == length s.guards + 1), cause.Next) ∷ (is_none (native_at name n.guards), cause.Native)
-    ∷ []
+    (not (g == length s.guards + 1), cause.Next) ∷ (is_none (native_at name n.guards), cause.Native) ∷ []
 checks n s (line.Rules e r) = rule_checks s r (slice_get s.events e)
 checks n s (line.Authoriser e name) =
     authoriser_checks s (policy_at n (native_at name n.authorisers)) (slice_get s.events e)
 checks n s (line.Default e h) = default_checks s e h (slice_get s.events e)
 checks n s (line.Lane l t) =
-    (is_work_full s.version s.commands s.deeds (work_of l t), cause.Limit)
-    ∷ (nat_le MAX_LANES l, cause.Lane) ∷ []
+    (is_work_full s.version s.commands s.deeds (work_of l t), cause.Limit) ∷ (nat_le MAX_LANES l, cause.Lane) ∷ []
 checks n s line.Barrier = []
 checks n s (line.Retire p) = (nat_le (length s.endpoints) p, cause.Undeclared) ∷ []

@@ -35,13 +35,11 @@ is_allowed b = (b == 9) || nat_le 32 b && nat_le b 126
 abbrev pub version_word : List ℕ → Option ℕ
 version_word w =
     if bytes_eq w (codes "1") then Some 1
-    else (if bytes_eq w (codes "2") then Some 2
-    else (if bytes_eq w (codes "3") then Some 3 else None))
+    else (if bytes_eq w (codes "2") then Some 2 else (if bytes_eq w (codes "3") then Some 3 else None))
 
 -- the version that the words of the first line name
 abbrev pub version_of : List (List ℕ) → Option ℕ
-version_of (first ∷ second ∷ []) =
-    if bytes_eq first (codes "spin") then version_word second else None
+version_of (first ∷ second ∷ []) = if bytes_eq first (codes "spin") then version_word second else None
 version_of ws = None
 
 -- the first line that isn't skipped begins the script, where it names a version; else cause 3
@@ -52,16 +50,14 @@ first_head (Some version) = Ok (Begins version)
 -- a line of this kind, where one may stand here: cause 4 where the first word begins none, 5 where it is out of order
 abbrev pub kind_head : ScriptState → Option Kind → List (List ℕ) → Result Head Cause
 kind_head s None ws = Err cause.Keyword
-kind_head s (Some k) ws =
-    if is_out_of_order k s.section s.begins then Err cause.Order else Ok (Says k ws)
+kind_head s (Some k) ws = if is_out_of_order k s.section s.begins then Err cause.Order else Ok (Says k ws)
 
 -- where a first word begins with a number sign, the line is skipped
 abbrev pub words_head : ScriptState → List (List ℕ) → Result Head Cause
 words_head s [] = Ok Skipped
 words_head s (w ∷ ws) =
     if slice_index w 0 == 35 then Ok Skipped
-    else (if s.version == 0 then first_head (version_of (w ∷ ws))
-    else kind_head s (look_up w first_words) ws)
+    else (if s.version == 0 then first_head (version_of (w ∷ ws)) else kind_head s (look_up w first_words) ws)
 
 -- causes 2 to 5
 unfoldable pub head : ScriptState → List ℕ → Result Head Cause
@@ -72,8 +68,7 @@ head s line = if list_all is_allowed line then words_head s (words line) else Er
 -- the words say something that can stand behind s, and t is the script with it
 abbrev pub SaysWell : NativeData → ScriptState → ℕ → Kind → List (List ℕ) → ScriptState → Type 0
 SaysWell n s number k ws t =
-    (l : LineMeaning) × Spells s.version k ws l × (first_of (checks n s l) ≡ None)
-    × (t ≡ after n s number l)
+    (l : LineMeaning) × Spells s.version k ws l × (first_of (checks n s l) ≡ None) × (t ≡ after n s number l)
 
 -- a word can't stand where it does, or the words say something that can't stand behind s
 abbrev pub SaysIll : NativeData → ScriptState → Kind → List (List ℕ) → Cause → Type 0
@@ -117,5 +112,5 @@ most_bytes = MAX_TEXT
 
 -- What a text comes to, where these natives may be named.
 abbrev pub IsScript : NativeData → List ℕ → Outcome → Type 0
-IsScript n text o = MatchBool (nat_lt most_bytes (length text)) (o ≡ Err (0, cause.TooLarge))
-    (ComesTo n start 1 (lines text) o)
+IsScript n text o =
+    MatchBool (nat_lt most_bytes (length text)) (o ≡ Err (0, cause.TooLarge)) (ComesTo n start 1 (lines text) o)

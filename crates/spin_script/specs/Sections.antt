@@ -42,6 +42,4 @@ is_retire k = false
 -- `modules` stands a second time, or an endpoint isn't retired at once where a segment begins.
 abbrev pub is_out_of_order : Kind → ℕ → Bool → Bool
 is_out_of_order k before begins =
-    nat_lt (section k) before
-    || (section k == 1) && (before == 1)
-    || is_retire k && not begins
+    nat_lt (section k) before || (section k == 1) && (before == 1) || is_retire k && not begins

@@ -31,12 +31,7 @@ pub record NativeData : Type 0 where
 -- the natives as they were handed in, without their objects
 abbrev pub natives_seen : {A C E : Type 0} {B : A → Type 0} {D : C → Type 0} {F : E → Type 0}
     → Natives A C E B D F → NativeData
-natives_seen n = record {
-  handlers = native_handlers n;
-  guards = native_guards n;
-  authorisers =
-      native_authorisers n;
-}
+natives_seen n = record { handlers = native_handlers n; guards = native_guards n; authorisers = native_authorisers n }
 
 -- the index of the native of that name
 abbrev pub native_at : {X : Type 0} → List ℕ → List (Named X) → Option ℕ
@@ -96,14 +91,8 @@ start = record {
 
 -- an event without rules and without a default
 abbrev pub new_event : (owner : ℕ) → EventType → Merge → EventDef
-new_event owner sig m = record {
-  sig = sig;
-  owner = owner;
-  merge = m;
-  first_default = 0;
-  authority =
-      authority.Rules [];
-}
+new_event owner sig m =
+    record { sig = sig; owner = owner; merge = m; first_default = 0; authority = authority.Rules [] }
 
 -- the rules that were given, of which a native authoriser has none
 abbrev pub given_rules : Authority → List Rule
@@ -117,8 +106,7 @@ is_native (authority.Native native) = true
 
 -- the event of that number changed so, where it is there
 abbrev pub with_event : (EventDef → EventDef) → ℕ → List EventDef → List EventDef
-with_event change event events =
-    option_map_or (λ e. slice_set events event (change e)) (slice_get events event) events
+with_event change event events = option_map_or (λ e. slice_set events event (change e)) (slice_get events event) events
 
 -- the event with one rule more, behind those that were given
 abbrev pub with_rule : Rule → EventDef → EventDef
@@ -149,8 +137,7 @@ with_work s number lane w = record s {
   begins = false;
   segment = record {
     retires = s.segment.retires;
-    lines =
-        s.segment.lines ++ record { number = number; lane = lane; work = w } ∷ [];
+    lines = s.segment.lines ++ record { number = number; lane = lane; work = w } ∷ [];
   };
   commands = s.commands + command_count w;
   deeds = s.deeds + deed_count w;
@@ -172,46 +159,30 @@ with_handler n s (Some native) =
 -- the script with the native of that index as one guard more; the same script where there is none
 abbrev pub with_guard : NativeData → ScriptState → Option ℕ → ScriptState
 with_guard n s None = s
-with_guard n s (Some native) =
-    record s { section = 5; guards = s.guards ++ guard_if (slice_get n.guards native) ∷ [] }
+with_guard n s (Some native) = record s { section = 5; guards = s.guards ++ guard_if (slice_get n.guards native) ∷ [] }
 
 -- the script up to this line, which has that number in the text
 abbrev pub after : NativeData → ScriptState → ℕ → line.LineMeaning → ScriptState
 after n s number (line.Modules count) = record s { section = 1; modules = count }
-after n s number (line.Event e owner sig m) =
-    record s { section = 2; events = s.events ++ new_event owner sig m ∷ [] }
-after n s number (line.Endpoint p name) =
-    record s { section = 3; endpoints = s.endpoints ++ name ∷ [] }
+after n s number (line.Event e owner sig m) = record s { section = 2; events = s.events ++ new_event owner sig m ∷ [] }
+after n s number (line.Endpoint p name) = record s { section = 3; endpoints = s.endpoints ++ name ∷ [] }
 after n s number (line.Handler h sig steps) =
-    record s {
-      section = 4;
-      handlers =
-          s.handlers ++ record { sig = sig; act = record { steps = steps } } ∷ [];
-    }
+    record s { section = 4; handlers = s.handlers ++ record { sig = sig; act = record { steps = steps } } ∷ [] }
 after n s number (line.NativeHandler h name) = with_handler n s (native_at name n.handlers)
 after n s number (line.Guard g sig t) =
     record s { section = 5; guards = s.guards ++ record { sig = sig; test = t } ∷ [] }
 after n s number (line.NativeGuard g name) = with_guard n s (native_at name n.guards)
-after n s number (line.Rules e r) =
-    record s { section = 6; events = with_event (with_rule r) e s.events }
+after n s number (line.Rules e r) = record s { section = 6; events = with_event (with_rule r) e s.events }
 after n s number (line.Authoriser e name) = with_authority s e (native_at name n.authorisers)
-after n s number (line.Default e h) =
-    record s { section = 7; events = with_event (with_default h) e s.events }
+after n s number (line.Default e h) = record s { section = 7; events = with_event (with_default h) e s.events }
 after n s number (line.Lane l t) = with_work s number l (work_of l t)
 after n s number line.Barrier =
-    record s {
-      section = 8;
-      begins = true;
-      ended = s.ended ++ s.segment ∷ [];
-      segment =
-          empty_segment;
-    }
+    record s { section = 8; begins = true; ended = s.ended ++ s.segment ∷ []; segment = empty_segment }
 after n s number (line.Retire p) =
     record s {
       section = 8;
       begins = true;
-      segment =
-          record { retires = s.segment.retires ++ p ∷ []; lines = s.segment.lines };
+      segment = record { retires = s.segment.retires ++ p ∷ []; lines = s.segment.lines };
     }
 
 -- ---- what a script comes to

@@ -12,3 +12,4 @@ pub mod LiveCounts
 pub mod ClosedLogs
 pub mod SeatRenewals
 pub mod SeatPairs
+pub mod HomeSeats

@@ -4,14 +4,12 @@ use Rattle.std.specs.Prelude.{IsTrue}
 use Rattle.std.specs.List.{list_all}
 use Rattle.std.proofs.lemmas.Bool.{cases_eq, cases_lt}
 use Rattle.spin_word.specs.declared.command.TheConstants.{MAX_PLACE}
-use Rattle.spin_word.specs.declared.command.Command.{Command}
 use Rattle.spin_word.specs.Commands.{binding_or_none, bindings_or_none, no_number}
 use Rattle.spin_word.proofs.RowFields.{is_wide}
 use Rattle.spin_table.specs.Renamings.{StayNamed}
 use Rattle.spin_table.specs.Renewals.{is_live_in, live_numbers, old_number}
-use Rattle.spin_table.specs.States.{State}
 use Rattle.spin_table.proofs.RenewedNumbers.{AreNumbers, are_numbers, high_number, old_rises}
-use Rattle.spin_seat.specs.Answers.{Said, command, deed, Answer}
+use Rattle.spin_seat.specs.Answers.{Said, command, deed}
 use Rattle.spin_seat.specs.Renewals.{IsValid, NamesStay, ValidCommandsStayNamed}
 
 -- a number was at most so far past the place

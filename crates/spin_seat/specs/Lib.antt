@@ -8,4 +8,7 @@ pub mod Weaves
 pub mod Laws
 pub mod Renewals
 pub mod RenewedHubs
+pub mod Codes
+pub mod Homes
+pub mod Parties
 pub mod Inner

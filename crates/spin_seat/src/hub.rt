@@ -1,22 +1,17 @@
 //! What all seats share.
 
-ghost use Rattle.std.specs.Prelude.{◌≡◌, ◌<◌, ◌≤◌, List, All, map, length, None, IfOk, OnOk, MatchResult};
-ghost use Rattle.spin_word.specs.declared.command.TheConstants.{MAX_LANES, MAX_PLACE};
-ghost use Rattle.spin_log.specs.Rows.{IsCommandBelow};
-ghost use Rattle.spin_log.specs.History.{Moment};
-ghost use Rattle.spin_log.specs.Pens.{IsPen, IsSamePen, with_front, StandsIn, IsHistory, new_pens};
+ghost use Rattle.std.specs.Prelude.{◌≡◌, ◌<◌, ◌≤◌, All, map, length, None, IfOk, OnOk, MatchResult};
+ghost use Rattle.spin_word.specs.declared.command.TheConstants.{MAX_LANES};
+ghost use Rattle.spin_log.specs.Pens.{IsPen, IsSamePen, with_front, new_pens};
 ghost use Rattle.spin_log.specs.Steps.{longer};
 ghost use Rattle.spin_table.specs.SetupOf.{data_of};
-ghost use Rattle.spin_table.specs.States.{State};
-ghost use Rattle.spin_seat.specs.Replay.{IsCleanFrom};
-ghost use Rattle.spin_seat.specs.Seats.{IsSeat, IsSeatOf, AreFrom, AreOfLanes};
+ghost use Rattle.spin_seat.specs.Seats.{IsSeat, IsSeatOf, AreOfLanes};
 ghost use Rattle.spin_seat.specs.Calls.{ReadsOn};
-ghost use Rattle.spin_seat.specs.Weaves.{AnswersAreLegalFrom};
 
 use crate::seat::{Seat, Seats};
-use crate::seats::{pens_of, seats_of};
+use crate::seats::seats_of;
 use spin_code::Sincere;
-use spin_log::{Log, Rows};
+use spin_log::Log;
 use spin_objects::Catalogue;
 use spin_table::{Setup, Version};
 use spin_values::NoMemory;
@@ -97,30 +92,5 @@ impl Hub {
         } else {
             b.learn(self, a)
         }
-    }
-
-    /// The whole log, from all seats of the hub, the k-th being that of lane k. It is clean: each
-    /// row was accepted at its own place. And all that the seats have answered, as one list in the
-    /// order of places, is a legal history of the plain dispatcher, from the first state of all seats
-    /// up to the replay of the log.
-    /// After want of memory hub and seats are gone. It takes time linear in the log.
-    pub fn close(self, alloc: Global, seats: Seats) -> Result<Rows, NoMemory>
-        requires own { All (λ seat. seat.pen.log ≡ self.log.id) seats }
-        requires seats { All (IsSeat (data_of self.setup)) seats }
-        requires all { length seats ≡ self.log.lanes }
-        requires order { AreOfLanes 0 seats }
-        ensures clean { (first : State) → AreFrom first seats
-            → IfOk result (λ log. IsCleanFrom (data_of self.setup) first log) }
-        ensures legal { (first : State) → AreFrom first seats
-            → IfOk result (λ log. AnswersAreLegalFrom (data_of self.setup) first seats log) }
-        ensures each { IfOk result (λ log. All (λ seat. StandsIn log seat.pen) seats) }
-        ensures history { let pens = map (λ seat. seat.pen) seats in
-            IfOk result (λ log. (moments : List Moment) × IsHistory log pens moments) }
-        ensures rows { IfOk result (λ log. All (IsCommandBelow self.log.lanes) log × (length log ≤ MAX_PLACE)) }
-    {
-        let room = Vec::with_capacity(alloc, seats.len())?;
-        let pens = pens_of(room, seats);
-        let Hub { log, setup: _setup } = self;
-        log.close(alloc, pens)
     }
 }

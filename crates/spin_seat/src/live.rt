@@ -1,15 +1,18 @@
 //! The live bindings of a version, of which there may be too many.
 
-ghost use Rattle.std.specs.Prelude.{◌≡◌, ◌<◌, length, MatchResult};
+ghost use Rattle.std.specs.Prelude.{◌≡◌, ◌<◌, ◌≤◌, ◌↔◌, length, IsTrue, MatchResult};
 ghost use Rattle.spin_word.specs.declared.command.TheConstants.{MAX_PLACE};
 ghost use Rattle.spin_table.specs.SetupOf.{data_of};
 ghost use Rattle.spin_table.specs.Soundness.{IsSound};
 ghost use Rattle.std.specs.Option.{option_copied};
 ghost use Rattle.spin_table.specs.States.{binding_of, is_live};
 ghost use Rattle.spin_table.specs.Renewals.{is_live_in, live_numbers};
+ghost use Rattle.spin_seat.specs.Seats.{IsSeat};
 ghost use Rattle.spin_seat.specs.Inner.Gathering.{KeepsFrom};
 
+use crate::hub::Hub;
 use crate::renewal::RenewFault;
+use crate::seat::Seat;
 use spin_place::Binding;
 use spin_table::{Setup, Version};
 use spin_values::{NoMemory, Numbers};
@@ -84,5 +87,16 @@ pub(crate) fn live_below(
             }
             Err(RenewFault::NoMemory)
         }
+    }
+}
+
+impl Seat {
+    /// Whether [`MAX_PLACE`] bindings are live in the seat's version, so that a hub at it can't be renewed. It takes no
+    /// memory, and a time that grows with the places times the bindings.
+    pub fn is_crowded(&self, hub: &Hub) -> bool
+        requires { IsSeat (data_of hub.now.setup) self.now }
+        ensures { IsTrue result ↔ (MAX_PLACE ≤ length (live_numbers self.now.state)) }
+    {
+        live_count(&hub.setup, &self.version) >= MAX_PLACE
     }
 }

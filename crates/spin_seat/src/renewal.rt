@@ -1,6 +1,6 @@
 //! A hub that goes on over a new log.
 
-ghost use Rattle.std.specs.Prelude.{◌≡◌, ◌<◌, ◌≤◌, [], List, All, map, length, slice_index_or};
+ghost use Rattle.std.specs.Prelude.{◌≡◌, ◌<◌, ◌≤◌, List, All, map, length, slice_index_or};
 ghost use Rattle.std.specs.Prelude.{vec_capacity, IfOk, IfErr, OnOk, MatchResult};
 ghost use Rattle.spin_word.specs.declared.command.TheConstants.{MAX_PLACE};
 ghost use Rattle.spin_log.specs.Rows.{IsCommandBelow};
@@ -12,11 +12,12 @@ ghost use Rattle.spin_table.specs.Renewals.{live_numbers, renewed};
 ghost use Rattle.spin_seat.specs.Replay.{IsCleanFrom};
 ghost use Rattle.spin_seat.specs.Seats.{SeatValue, IsSeatFrom, AreFrom};
 ghost use Rattle.spin_seat.specs.Weaves.{AnswersAreLegalFrom};
+ghost use Rattle.spin_seat.specs.Homes.{AreFor, IsKeyOf};
 ghost use Rattle.spin_seat.specs.RenewedHubs.{AreAllSeats, FirstKnowsAll, KnowMore, IsFaultOf, IsRenewal};
 
 use crate::hub::Hub;
 use crate::live::live_below;
-use crate::renew::Ready;
+use crate::renew::{Moved, Ready};
 use crate::seat::{Seat, Seats};
 use spin_code::Sincere;
 use spin_log::Rows;
@@ -45,6 +46,15 @@ pub struct Unrenewed {
     pub fault: RenewFault,
     /// The hub as it was.
     pub hub: Hub,
+    /// Its seats, each of which may have read further rows.
+    pub seats: Seats,
+}
+
+/// The seats of a hub that was not renewed in place, and is as it was. They go on.
+#[derive(Drop)]
+pub struct Stayed {
+    /// Why it was not renewed.
+    pub fault: RenewFault,
     /// Its seats, each of which may have read further rows.
     pub seats: Seats,
 }
@@ -87,8 +97,12 @@ impl Hub {
         ensures live { IfOk result (λ ready. (seat : SeatValue) →
             ready.live ≡ live_numbers (slice_index_or seats.new 0 seat).state) }
         ensures left { IfOk result (λ ready. length ready.live < MAX_PLACE) }
-        ensures room { IfOk result (λ ready.
-            (ready.pens.items ≡ []) × (self.now.log.lanes ≤ vec_capacity ready.pens)) }
+        ensures key { let d = data_of self.now.setup in
+            IfOk result (λ ready. (seat : SeatValue) →
+            IsKeyOf ready.homes.table.shared.key ready.log.id d (renewed (slice_index_or seats.new 0 seat).state)) }
+        ensures homes { IfOk result (λ ready.
+            AreFor self.now.log.lanes ready.homes.table.shared.table_id ready.tickets) }
+        ensures room { IfOk result (λ ready. self.now.log.lanes ≤ vec_capacity ready.room.pens) }
         ensures fault { let d = data_of self.now.setup in
             (first : State) → AreFrom first seats.old
             → IfErr result (λ fault. IsFaultOf d first seats.new fault) }
@@ -98,6 +112,52 @@ impl Hub {
         let first = &seats[0];
         let live = live_below(alloc, &self.setup, &first.version)?;
         Ok(self.ready(alloc, first, live, lanes)?)
+    }
+
+    // Goes on over a new log, in place, as [`Hub::renew`] says; and makes the homes of the new seats, which whoever shares
+    // the hub by handles keeps beside it. After a fault the hub is as it was.
+    pub(crate) fn renew_in(&mut self, alloc: Global, seats: Seats) -> Result<Moved, Stayed>
+        requires sincere { ⟦<Catalogue as Sincere>⟧.sincere self.old.setup.catalogue }
+        requires all { AreAllSeats (data_of self.old.setup) self.old.log seats }
+        ensures all { let d = data_of self.old.setup in
+            MatchResult result
+            (λ done. AreAllSeats d self.new.log done.seats)
+            (λ left. AreAllSeats d self.new.log left.seats) }
+        ensures setup { self.new.setup ≡ self.old.setup }
+        ensures log { MatchResult result
+            (λ _. self.new.log.lanes ≡ self.old.log.lanes)
+            (λ _. self.new.log ≡ self.old.log) }
+        ensures pens { IfOk result (λ done.
+            map (λ seat. seat.pen) done.seats ≡ new_pens self.new.log.id self.old.log.lanes) }
+        ensures key { let d = data_of self.old.setup in
+            IfOk result (λ done. (first : State) → AreFrom first done.seats
+            → IsKeyOf done.homes.table.shared.key self.new.log.id d first) }
+        ensures homes { IfOk result (λ done.
+            AreFor self.old.log.lanes done.homes.table.shared.table_id done.tickets) }
+        ensures more { IfErr result (λ left. KnowMore (data_of self.old.setup) seats left.seats) }
+        ensures fault { let d = data_of self.old.setup in
+            (first : State) → AreFrom first seats
+            → IfErr result (λ left. IsFaultOf d first left.seats left.fault) }
+        ensures renewed { let d = data_of self.old.setup in
+            (first : State) → AreFrom first seats
+            → IfOk result (λ done. IsRenewal d first done.rows done.live done.seats) }
+        ensures clean { (first : State) → AreFrom first seats
+            → IfOk result (λ done. IsCleanFrom (data_of self.old.setup) first done.rows) }
+        ensures legal { (first : State) → AreFrom first seats
+            → IfOk result (λ done. AnswersAreLegalFrom (data_of self.old.setup) first seats done.rows) }
+        ensures each { IfOk result (λ done. All (λ seat. StandsIn done.rows seat.pen) seats) }
+        ensures history { let pens = map (λ seat. seat.pen) seats in
+            IfOk result (λ done. (moments : List Moment) × IsHistory done.rows pens moments) }
+        ensures rows { IfOk result (λ done.
+            All (IsCommandBelow self.old.log.lanes) done.rows × (length done.rows ≤ MAX_PLACE)) }
+    {
+        let mut items = seats.into_vec();
+        let ready = self.prepare(alloc, items.as_mut_slice());
+        let seats = Seats::from_vec(items);
+        match ready {
+            Ok(ready) => Ok(self.go_on(ready, seats)),
+            Err(fault) => Err(Stayed { fault, seats }),
+        }
     }
 
     /// Goes on over a new, empty log, with room for [`MAX_PLACE`] commands less one for each live binding: a hub lasts
@@ -149,16 +209,26 @@ impl Hub {
         ensures rows { IfOk result (λ done.
             All (IsCommandBelow self.log.lanes) done.rows × (length done.rows ≤ MAX_PLACE)) }
     {
-        let mut items = seats.into_vec();
-        let ready = self.prepare(alloc, items.as_mut_slice());
-        let seats = Seats::from_vec(items);
-        match ready {
-            Ok(ready) => Ok(self.renewed_into(ready, seats)),
-            Err(fault) => Err(Unrenewed {
-                fault,
-                hub: self,
-                seats,
-            }),
+        let mut hub = self;
+        match hub.renew_in(alloc, seats) {
+            Ok(moved) => {
+                let Moved {
+                    seats,
+                    rows,
+                    live,
+                    ..
+                } = moved;
+                Ok(Renewal {
+                    hub,
+                    seats,
+                    rows,
+                    live,
+                })
+            }
+            Err(stayed) => {
+                let Stayed { fault, seats } = stayed;
+                Err(Unrenewed { fault, hub, seats })
+            }
         }
     }
 }

@@ -25,7 +25,7 @@ use Rattle.spin_script.proofs.BareLines.{bare_state, bare_natives, after_same}
 use Rattle.spin_report.specs.Laws.{OneHistoryAs, OneRunAs}
 use Rattle.spin_report.proofs.Whole.{HasLaneLines, has_lane_lines, ReadAlike, history_as, run_as}
 use Rattle.spin_stages.specs.Laws.{OneScript, IsSaidAccepted}
-use Rattle.spin_stages.specs.Texts.{IsSaid, IsSignature, SayLine}
+use Rattle.spin_stages.specs.Texts.{SaysAtom, IsSignature, SayLine}
 use Rattle.spin_stages.proofs.SaidAtoms.{one_list, own_test, own_steps, own_merge, own_rule, own_task}
 use Rattle.spin_stages.proofs.SaidScripts.{script_from, one_more, none_more}
 use Rattle.spin_stages.proofs.SaidTexts.{SayLines, whole_form, says_script}
@@ -79,7 +79,7 @@ native_apart true s w is x =
 -- ---- lines
 
 -- two lists of words that are said alike are one where their first are, and the others
-first_of : (g : Bool) (a b : Atom) (xs bs : List Atom) (ws : List (List ℕ)) → ((w : List ℕ) → IsSaid g a w → IsSaid g b w → a ≡ b)
+first_of : (g : Bool) (a b : Atom) (xs bs : List Atom) (ws : List (List ℕ)) → ((w : List ℕ) → SaysAtom g a w → SaysAtom g b w → a ≡ b)
     → ((vs : List (List ℕ)) → AreSaid g xs vs → AreSaid g bs vs → xs ≡ bs) → AreSaid g (a ∷ xs) ws → AreSaid g (b ∷ bs) ws → ◌≡◌ {A = List Atom} (a ∷ xs) (b ∷ bs)
 first_of g a b xs bs [] one more x y = absurd x
 first_of g a b xs bs (w ∷ ws) one more x y =
@@ -87,13 +87,13 @@ first_of g a b xs bs (w ∷ ws) one more x y =
     let rest = more ws x.1 y.1 in
     λ i. first i ∷ rest i
 
-one_numeral : (g : Bool) (n m : ℕ) (w : List ℕ) → IsSaid g (Numeral n) w → IsSaid g (Numeral m) w → Numeral n ≡ Numeral m
+one_numeral : (g : Bool) (n m : ℕ) (w : List ℕ) → SaysAtom g (Numeral n) w → SaysAtom g (Numeral m) w → Numeral n ≡ Numeral m
 one_numeral g n m w x y = ap (λ (k : ℕ). Numeral k) (some_same _ n m x y)
 
-one_name : (g : Bool) (v u : List ℕ) (w : List ℕ) → IsSaid g (Called v) w → IsSaid g (Called u) w → Called v ≡ Called u
+one_name : (g : Bool) (v u : List ℕ) (w : List ℕ) → SaysAtom g (Called v) w → SaysAtom g (Called u) w → Called v ≡ Called u
 one_name g v u w x y = ap (λ (name : List ℕ). Called name) (sym x ∙ y)
 
-one_typed : (g : Bool) (s t : EventType) (w : List ℕ) → IsSaid g (Typed s) w → IsSaid g (Typed t) w → Typed s ≡ Typed t
+one_typed : (g : Bool) (s t : EventType) (w : List ℕ) → SaysAtom g (Typed s) w → SaysAtom g (Typed t) w → Typed s ≡ Typed t
 one_typed g s t w x y = ap (λ (sig : EventType). Typed sig) (one_signature g s t w x y)
 
 none : (g : Bool) (ws : List (List ℕ)) → AreSaid g [] ws → AreSaid g [] ws → ◌≡◌ {A = List Atom} [] []
@@ -104,7 +104,7 @@ name_alone : (g : Bool) (v u : List ℕ) (ws : List (List ℕ)) → AreSaid g (C
 name_alone g v u ws x y = first_of g (Called v) (Called u) [] [] ws (one_name g v u) (none g) x y
 
 -- a list that doesn't say whose words are what, where the first ones differ
-apart : (g : Bool) (a b : Atom) (xs bs : List Atom) (ws : List (List ℕ)) → ((w : List ℕ) → IsSaid g a w → IsSaid g b w → ⊥) → AreSaid g (a ∷ xs) ws → AreSaid g (b ∷ bs) ws → ◌≡◌ {A = List Atom} (a ∷ xs) (b ∷ bs)
+apart : (g : Bool) (a b : Atom) (xs bs : List Atom) (ws : List (List ℕ)) → ((w : List ℕ) → SaysAtom g a w → SaysAtom g b w → ⊥) → AreSaid g (a ∷ xs) ws → AreSaid g (b ∷ bs) ws → ◌≡◌ {A = List Atom} (a ∷ xs) (b ∷ bs)
 apart g a b xs bs [] never x y = absurd x
 apart g a b xs bs (w ∷ ws) never x y = absurd (never w x.0 y.0)
 

@@ -43,7 +43,7 @@ use Rattle.spin_grammar.specs.Forms.{Task, Install, Remove, Replace, Default, No
 use Rattle.spin_grammar.proofs.CanonicalSpelling.{both, second}
 use Rattle.spin_grammar.proofs.FormUniqueness.{differ}
 use Rattle.spin_grammar.proofs.Signatures.{one_of}
-use Rattle.spin_stages.specs.Texts.{IsSaid}
+use Rattle.spin_stages.specs.Texts.{SaysAtom}
 use Rattle.spin_stages.proofs.SaidSignatures.{same_bytes}
 use Rattle.spin_stages.proofs.SaidWords.{AreSaid}
 
@@ -92,7 +92,7 @@ of_bytes : (w : List ℕ) → slice_index w 0 ≡ 120 → class w ≡ 2
 of_bytes [] e = absurd (omega (arith, e))
 of_bytes (c ∷ cs) e = let first : c ≡ 120 = e in rw first refl
 
-said_class : (g : Bool) (a : Atom) (w : List ℕ) → IsOwn a → IsSaid g a w → class w ≡ class_of a
+said_class : (g : Bool) (a : Atom) (w : List ℕ) → IsOwn a → SaysAtom g a w → class w ≡ class_of a
 said_class g (Fixed word) w own said = ap class said ∙ own
 said_class g (Numeral n) w own said = of_digit w (number_digit w n said)
 said_class g (Argument k) w own said = ap class said
@@ -104,7 +104,7 @@ some_same : {A : Type 0} (o : Option A) (x y : A) → o ≡ Some x → o ≡ Som
 some_same o x y e f = cc
 
 -- two of them that one word says are one
-pub one_atom : (g : Bool) (a b : Atom) (w : List ℕ) → IsOwn a → IsOwn b → IsSaid g a w → IsSaid g b w → a ≡ b
+pub one_atom : (g : Bool) (a b : Atom) (w : List ℕ) → IsOwn a → IsOwn b → SaysAtom g a w → SaysAtom g b w → a ≡ b
 one_atom g (Called name) b w own other x y = absurd own
 one_atom g (Typed sig) b w own other x y = absurd own
 one_atom g a (Called name) w own other x y = absurd other

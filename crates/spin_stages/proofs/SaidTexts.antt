@@ -9,7 +9,7 @@ use Rattle.spin_grammar.specs.declared.kind.Kind.{Kind}
 use Rattle.spin_grammar.specs.declared.kind.Kind.TheVariants as kind
 use Rattle.spin_grammar.specs.Grammar.{Atom, Fixed, Numeral}
 use Rattle.spin_grammar.specs.Lines as line
-use Rattle.spin_grammar.specs.Lines.{LineMeaning, form, line_kind, wanted, Spells}
+use Rattle.spin_grammar.specs.Lines.{LineMeaning, form, line_form, line_kind, wanted, Spells}
 use Rattle.spin_grammar.specs.Lookup.{look_up}
 use Rattle.spin_grammar.specs.Spelling.{number}
 use Rattle.spin_grammar.specs.Words.{words}
@@ -19,7 +19,7 @@ use Rattle.spin_script.specs.Language.{Skipped, Says, is_allowed, version_word, 
 use Rattle.spin_script.specs.Language.{Passes, Outcome, ComesTo, IsScript, most_bytes}
 use Rattle.spin_script.specs.Sections.{first_words, is_out_of_order}
 use Rattle.spin_script.specs.States.{NativeData, ScriptData, ScriptState, start, after, script_in}
-use Rattle.spin_stages.specs.Texts.{SayLine, SaysScript, line_form, is_skipped, told_lines}
+use Rattle.spin_stages.specs.Texts.{SayLine, SaysScript, is_skipped, saying_lines}
 use Rattle.spin_stages.proofs.SaidScripts.{script_from, one_more, none_more, after_version}
 use Rattle.spin_stages.proofs.SaidSignatures.{same_bytes}
 use Rattle.spin_stages.proofs.SaidWords.{AreSaid, is_fit, words_said}
@@ -185,13 +185,13 @@ SayLines said told = AllZip (λ said told. (said.0 ≡ told.0) × SayLine said.1
 -- what the lines say that are told, and the script that they make behind s
 record Made (n : NativeData) (number : ℕ) (texts : List (List ℕ)) (s : ScriptState) (script : ScriptData) : Type 0 where
   said : List (ℕ × LineMeaning)
-  says : SayLines said (told_lines number texts)
+  says : SayLines said (saying_lines number texts)
   makes : script ≡ script_from n s said
 
-skipped : (number : ℕ) (text : List ℕ) (more : List (List ℕ)) → is_skipped (words text) ≡ true → told_lines number (text ∷ more) ≡ told_lines (number + 1) more
+skipped : (number : ℕ) (text : List ℕ) (more : List (List ℕ)) → is_skipped (words text) ≡ true → saying_lines number (text ∷ more) ≡ saying_lines (number + 1) more
 skipped number text more e = rw e refl
 
-told : (number : ℕ) (text : List ℕ) (more : List (List ℕ)) → is_skipped (words text) ≡ false → told_lines number (text ∷ more) ≡ (number, words text) ∷ told_lines (number + 1) more
+told : (number : ℕ) (text : List ℕ) (more : List (List ℕ)) → is_skipped (words text) ≡ false → saying_lines number (text ∷ more) ≡ (number, words text) ∷ saying_lines (number + 1) more
 told number text more e = rw e refl
 
 at_end : (n : NativeData) (number : ℕ) (s : ScriptState) (script : ScriptData) (b : Bool)
@@ -244,7 +244,7 @@ record Begun (n : NativeData) (number : ℕ) (texts : List (List ℕ)) (s : Scri
   first : ℕ × List (List ℕ)
   others : List (ℕ × List (List ℕ))
   said : List (ℕ × LineMeaning)
-  told : told_lines number texts ≡ first ∷ others
+  told : saying_lines number texts ≡ first ∷ others
   begins : AreSaid false (Fixed (codes "spin") ∷ Numeral version ∷ []) first.1
   says : SayLines said others
   makes : script ≡ script_from n (record s { version = version }) said
@@ -254,7 +254,7 @@ begun_first : (n : NativeData) (number : ℕ) (text : List ℕ) (more : List (Li
 begun_first n number text more s t version script skips says same m = record {
   version = version;
   first = (number, words text);
-  others = told_lines (number + 1) more;
+  others = saying_lines (number + 1) more;
   said = m.said;
   told = told number text more skips;
   begins = says;

@@ -15,12 +15,12 @@ use Rattle.spin_grammar.specs.Grammar.{Choices, expressions, tests, parts, steps
 use Rattle.spin_grammar.specs.Grammar.{as_number, chosen, is_argument, as_signature, as_blob, rising, accepts, may_end, reads}
 use Rattle.spin_grammar.proofs.CanonicalSpelling.{ok_same, chosen_word, by_number, by_count, by_rising, by_rise, by_signature, by_blob, both, second, went, over}
 use Rattle.spin_grammar.proofs.Signatures.{one_of}
-use Rattle.spin_stages.specs.Texts.{IsSaid}
+use Rattle.spin_stages.specs.Texts.{SaysAtom}
 use Rattle.spin_stages.proofs.SaidSignatures.{signature_spelled, guard_spelled}
 
 -- each of the words says what stands at its place, and there are no others
 abbrev pub AreSaid : (of_guard : Bool) → List Atom → List (List ℕ) → Type 0
-AreSaid of_guard atoms ws = AllZip (IsSaid of_guard) atoms ws
+AreSaid of_guard atoms ws = AllZip (SaysAtom of_guard) atoms ws
 
 -- ---- one word
 
@@ -32,13 +32,13 @@ inside low high n (Some m) e =
       | inr h ↦ absurd (let bad : None ≡ Some n = h.1 in cc)
     ]
 
-fixed_said : (g : Bool) (w : List ℕ) (cs : Choices) (p : Atom × List Want) → chosen w cs ≡ Ok p → IsSaid g p.0 w
-fixed_said g w cs p e = subst (λ (a : Atom). IsSaid g a w) (sym (chosen_word w cs p e)) refl
+fixed_said : (g : Bool) (w : List ℕ) (cs : Choices) (p : Atom × List Want) → chosen w cs ≡ Ok p → SaysAtom g p.0 w
+fixed_said g w cs p e = subst (λ (a : Atom). SaysAtom g a w) (sym (chosen_word w cs p e)) refl
 
-atom_said : (g : Bool) (w : List ℕ) (a : Atom) (next : List Want) (p : Atom × List Want) → (a, next) ≡ p → IsSaid g a w → IsSaid g p.0 w
-atom_said g w a next p e said = subst (λ (q : Atom × List Want). IsSaid g q.0 w) e said
+atom_said : (g : Bool) (w : List ℕ) (a : Atom) (next : List Want) (p : Atom × List Want) → (a, next) ≡ p → SaysAtom g a w → SaysAtom g p.0 w
+atom_said g w a next p e said = subst (λ (q : Atom × List Want). SaysAtom g q.0 w) e said
 
-number_said : (g : Bool) (low high : ℕ) (w : List ℕ) (next : List Want) (p : Atom × List Want) → as_number (within low high (number w)) next ≡ Ok p → IsSaid g p.0 w
+number_said : (g : Bool) (low high : ℕ) (w : List ℕ) (next : List Want) (p : Atom × List Want) → as_number (within low high (number w)) next ≡ Ok p → SaysAtom g p.0 w
 number_said g low high w next p e =
     let n = by_number (within low high (number w)) next p e in
     atom_said g w (Numeral n.0) next p n.2 (inside low high n.0 (number w) n.1)
@@ -54,7 +54,7 @@ argument_is (a ∷ b ∷ c ∷ ws) e =
     let long : length (a ∷ b ∷ c ∷ ws) ≡ 2 = grind (arith, nat_tests, both (eqb (length (a ∷ b ∷ c ∷ ws)) 2) _ e) in
     absurd (omega (arith, long))
 
-expression_said : (g : Bool) (w : List ℕ) (p : Atom × List Want) → accepts Expression w ≡ Ok p → IsSaid g p.0 w
+expression_said : (g : Bool) (w : List ℕ) (p : Atom × List Want) → accepts Expression w ≡ Ok p → SaysAtom g p.0 w
 unfolding accepts
 expression_said g w p e =
     elim (one_of (begins_with_digit w) (as_number (within 0 greatest (number w)) []) (cond (is_argument w) (Ok (Argument (slice_index w 1 - 48), [])) (chosen w expressions)) (Ok p) e) [
@@ -65,7 +65,7 @@ expression_said g w p e =
       ]
     ]
 
-handler_said : (g : Bool) (w : List ℕ) (p : Atom × List Want) → accepts HandlerOrAny w ≡ Ok p → IsSaid g p.0 w
+handler_said : (g : Bool) (w : List ℕ) (p : Atom × List Want) → accepts HandlerOrAny w ≡ Ok p → SaysAtom g p.0 w
 unfolding accepts
 handler_said g w p e =
     elim (one_of (begins_with_digit w) (as_number (within 1 1023 (number w)) []) (chosen w ((codes "any", []) ∷ [])) (Ok p) e) [
@@ -73,13 +73,13 @@ handler_said g w p e =
       | inr h ↦ fixed_said g w ((codes "any", []) ∷ []) p h.1
     ]
 
-bytes_said : (g : Bool) (w : List ℕ) (next : List Want) (p : Atom × List Want) → eqb (slice_index w 0) 120 ≡ true → as_blob (hex_bytes (drop 1 w)) next ≡ Ok p → IsSaid g p.0 w
+bytes_said : (g : Bool) (w : List ℕ) (next : List Want) (p : Atom × List Want) → eqb (slice_index w 0) 120 ≡ true → as_blob (hex_bytes (drop 1 w)) next ≡ Ok p → SaysAtom g p.0 w
 bytes_said g w next p x e =
     let first : slice_index w 0 ≡ 120 = grind (arith, nat_tests, x) in
     let b = by_blob (hex_bytes (drop 1 w)) next p e in
     atom_said g w (Blob b.0) next p b.2 (first, b.1)
 
-value_said : (g : Bool) (k : ℕ) (w : List ℕ) (p : Atom × List Want) → accepts (Values k) w ≡ Ok p → IsSaid g p.0 w
+value_said : (g : Bool) (k : ℕ) (w : List ℕ) (p : Atom × List Want) → accepts (Values k) w ≡ Ok p → SaysAtom g p.0 w
 unfolding accepts
 value_said g zero w p e = absurd cc
 value_said g (suc k) w p e =
@@ -88,7 +88,7 @@ value_said g (suc k) w p e =
       | inr h ↦ number_said g 0 greatest w (Values k ∷ []) p h.1
     ]
 
-name_said : (g : Bool) (w : List ℕ) (p : Atom × List Want) → accepts Name w ≡ Ok p → IsSaid g p.0 w
+name_said : (g : Bool) (w : List ℕ) (p : Atom × List Want) → accepts Name w ≡ Ok p → SaysAtom g p.0 w
 unfolding accepts
 name_said g w p e =
     elim (one_of (is_name w) (Ok (Called w, [])) (Err cause.Name) (Ok p) e) [
@@ -96,19 +96,19 @@ name_said g w p e =
       | inr h ↦ absurd (let bad : Err cause.Name ≡ Ok p = h.1 in cc)
     ]
 
-count_said : (g : Bool) (low high : ℕ) (want : Want) (w : List ℕ) (p : Atom × List Want) → accepts (Counted low high want) w ≡ Ok p → IsSaid g p.0 w
+count_said : (g : Bool) (low high : ℕ) (want : Want) (w : List ℕ) (p : Atom × List Want) → accepts (Counted low high want) w ≡ Ok p → SaysAtom g p.0 w
 unfolding accepts
 count_said g low high want w p e =
     let n = by_count (within low high (number w)) want p e in
     atom_said g w (Numeral n.0) (replicate n.0 want) p n.2 (inside low high n.0 (number w) n.1)
 
-bindings_said : (g : Bool) (w : List ℕ) (p : Atom × List Want) → accepts Bindings w ≡ Ok p → IsSaid g p.0 w
+bindings_said : (g : Bool) (w : List ℕ) (p : Atom × List Want) → accepts Bindings w ≡ Ok p → SaysAtom g p.0 w
 unfolding accepts
 bindings_said g w p e =
     let n = by_rising (within 0 4 (number w)) p e in
     atom_said g w (Numeral n.0) (rising 0 n.0) p n.2 (inside 0 4 n.0 (number w) n.1)
 
-rising_said : (g : Bool) (low more : ℕ) (w : List ℕ) (p : Atom × List Want) → accepts (Rising low more) w ≡ Ok p → IsSaid g p.0 w
+rising_said : (g : Bool) (low more : ℕ) (w : List ℕ) (p : Atom × List Want) → accepts (Rising low more) w ≡ Ok p → SaysAtom g p.0 w
 unfolding accepts
 rising_said g low more w p e =
     let n = by_rise (within low 4096 (number w)) more p e in
@@ -122,19 +122,19 @@ is_fit g GuardBody = g
 is_fit g (Counted low high want) = is_fit g want
 is_fit g want = true
 
-handlers_said : (g : Bool) (w : List ℕ) (next : List Want) (p : Atom × List Want) → not g ≡ true → as_signature (signature w) next ≡ Ok p → IsSaid g p.0 w
+handlers_said : (g : Bool) (w : List ℕ) (next : List Want) (p : Atom × List Want) → not g ≡ true → as_signature (signature w) next ≡ Ok p → SaysAtom g p.0 w
 handlers_said true w next p b e = absurd cc
 handlers_said false w next p b e =
     let s = by_signature (signature w) next p e in
     atom_said false w (Typed s.0) next p s.2 (signature_spelled w s.0 s.1)
 
-guards_said : (g : Bool) (w : List ℕ) (next : List Want) (p : Atom × List Want) → g ≡ true → as_signature (guard_signature w) next ≡ Ok p → IsSaid g p.0 w
+guards_said : (g : Bool) (w : List ℕ) (next : List Want) (p : Atom × List Want) → g ≡ true → as_signature (guard_signature w) next ≡ Ok p → SaysAtom g p.0 w
 guards_said false w next p b e = absurd cc
 guards_said true w next p b e =
     let s = by_signature (guard_signature w) next p e in
     atom_said true w (Typed s.0) next p s.2 (guard_spelled w s.0 s.1)
 
-handler_body : (g : Bool) (w : List ℕ) (p : Atom × List Want) → not g ≡ true → accepts HandlerBody w ≡ Ok p → IsSaid g p.0 w
+handler_body : (g : Bool) (w : List ℕ) (p : Atom × List Want) → not g ≡ true → accepts HandlerBody w ≡ Ok p → SaysAtom g p.0 w
 unfolding accepts
 handler_body g w p b e =
     elim (one_of (bytes_eq w (codes "native")) (Ok (Fixed w, Name ∷ [])) (as_signature (signature w) (Steps ∷ [])) (Ok p) e) [
@@ -142,7 +142,7 @@ handler_body g w p b e =
       | inr h ↦ handlers_said g w (Steps ∷ []) p b h.1
     ]
 
-guard_body : (g : Bool) (w : List ℕ) (p : Atom × List Want) → g ≡ true → accepts GuardBody w ≡ Ok p → IsSaid g p.0 w
+guard_body : (g : Bool) (w : List ℕ) (p : Atom × List Want) → g ≡ true → accepts GuardBody w ≡ Ok p → SaysAtom g p.0 w
 unfolding accepts
 guard_body g w p b e =
     elim (one_of (bytes_eq w (codes "native")) (Ok (Fixed w, Name ∷ [])) (as_signature (guard_signature w) (Test ∷ [])) (Ok p) e) [
@@ -150,7 +150,7 @@ guard_body g w p b e =
       | inr h ↦ guards_said g w (Test ∷ []) p b h.1
     ]
 
-word_said : (g : Bool) (want : Want) (w : List ℕ) (p : Atom × List Want) → is_fit g want ≡ true → accepts want w ≡ Ok p → IsSaid g p.0 w
+word_said : (g : Bool) (want : Want) (w : List ℕ) (p : Atom × List Want) → is_fit g want ≡ true → accepts want w ≡ Ok p → SaysAtom g p.0 w
 unfolding accepts
 word_said g (Number low high) w p b e = number_said g low high w [] p e
 word_said g Name w p b e = name_said g w p e

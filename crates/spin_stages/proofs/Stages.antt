@@ -39,28 +39,28 @@ whole_behind a b c packets other stood by = absurd by
 script_refused : (natives : NativeData) (before after : ShelfSeen) (held : List File) (name text : List ℕ) (status : ℕ) (end : End) → status ≡ exit_status end
     → HoldsText before held name text → (Rose before.faults after.faults → ⊥) → NoScriptBy natives before after name end → (status ≡ 2) ⊎ (status ≡ 7)
 script_refused natives before after held name text status (Refused line cause) is holds calm by = inl is
-script_refused natives before after held name text status (Unread Script) is holds calm by = absurd (calm by.faults)
-script_refused natives before after held name text status (Absent Script) is holds calm by = absurd (script_there before held name text holds by.1)
+script_refused natives before after held name text status (Unread Script) is holds calm by = absurd (calm by.0.faults)
+script_refused natives before after held name text status (Absent Script) is holds calm by = absurd (script_there before held name text holds by.0.1)
 script_refused natives before after held name text status NoMemory is holds calm by = inr is
-script_refused natives before after held name text status other is holds calm by = absurd by
+script_refused natives before after held name text status other is holds calm by = absurd by.0
 
 -- one that isn't there is absent
 script_lost : (natives : NativeData) (before after : ShelfSeen) (held : List File) (name : List ℕ) (status : ℕ) (end : End) → status ≡ exit_status end
     → LacksText before held name → (Rose before.faults after.faults → ⊥) → NoScriptBy natives before after name end → (status ≡ 6) ⊎ (status ≡ 7)
-script_lost natives before after held name status (Refused line cause) is lacks calm by = absurd (refused_nothing natives before held name line cause lacks by.1)
-script_lost natives before after held name status (Unread Script) is lacks calm by = absurd (calm by.faults)
+script_lost natives before after held name status (Refused line cause) is lacks calm by = absurd (refused_nothing natives before held name line cause lacks by.0.1)
+script_lost natives before after held name status (Unread Script) is lacks calm by = absurd (calm by.0.faults)
 script_lost natives before after held name status (Absent Script) is lacks calm by = inl is
 script_lost natives before after held name status NoMemory is lacks calm by = inr is
-script_lost natives before after held name status other is lacks calm by = absurd by
+script_lost natives before after held name status other is lacks calm by = absurd by.0
 
 -- and only for want of memory a good one isn't read
 pub script_memory : (natives : NativeData) (before after : ShelfSeen) (held : List File) (name text : List ℕ) (status : ℕ) (end : End) → status ≡ exit_status end
     → HoldsText before held name text → IsScriptText natives text → (Rose before.faults after.faults → ⊥) → NoScriptBy natives before after name end → status ≡ 7
-script_memory natives before after held name text status (Refused line cause) is holds script calm by = absurd (script_good natives before held name text line cause holds script by.1)
-script_memory natives before after held name text status (Unread Script) is holds script calm by = absurd (calm by.faults)
-script_memory natives before after held name text status (Absent Script) is holds script calm by = absurd (script_there before held name text holds by.1)
+script_memory natives before after held name text status (Refused line cause) is holds script calm by = absurd (script_good natives before held name text line cause holds script by.0.1)
+script_memory natives before after held name text status (Unread Script) is holds script calm by = absurd (calm by.0.faults)
+script_memory natives before after held name text status (Absent Script) is holds script calm by = absurd (script_there before held name text holds by.0.1)
 script_memory natives before after held name text status NoMemory is holds script calm by = is
-script_memory natives before after held name text status other is holds script calm by = absurd by
+script_memory natives before after held name text status other is holds script calm by = absurd by.0
 
 -- The script comes first: it wasn't read, or it was.
 abbrev pub ScriptFirst : NativeData → ShelfSeen → ShelfSeen → List ℕ → End → Type 0

@@ -10,7 +10,7 @@ use Rattle.spin_pcap.specs.declared.order.Order.{Order}
 use Rattle.spin_pcap.specs.declared.order.Order.TheVariants as order
 use Rattle.spin_pcap.specs.Captures.{ordered_number, ordered_number_at, is_magic, is_version, order_of, fields_of, header_of, IsBody}
 use Rattle.spin_pcap.specs.Whole.{cut_of}
-use Rattle.spin_stages.specs.WholeCaptures.{HasHeader, HoldsRecords}
+use Rattle.spin_stages.specs.WholeCaptures.{HasFileHeader, HoldsRecords}
 
 -- ---- the header
 
@@ -58,7 +58,7 @@ one_magic : (n : ℕ) (b : Bool) → eqb n 0xa1b2c3d4 ≡ b → (b || eqb n 0xa1
 one_magic n true e h = inl (grind (arith, nat_tests, e))
 one_magic n false e h = inr (grind (arith, nat_tests, h))
 
-header_by : (bytes : List ℕ) (found : Order) (o : Option Order) → 24 ≤ length bytes → order_of bytes ≡ o → fields_of o bytes ≡ Ok found → HasHeader found bytes
+header_by : (bytes : List ℕ) (found : Order) (o : Option Order) → 24 ≤ length bytes → order_of bytes ≡ o → fields_of o bytes ≡ Ok found → HasFileHeader found bytes
 header_by bytes found None long at e = absurd (let bad : Err fault.BadMagic ≡ Ok found = e in cc)
 header_by bytes found (Some way) long at e =
     let fields = fields_are bytes way found e in
@@ -66,7 +66,7 @@ header_by bytes found (Some way) long at e =
     let last = second (eqb (ordered_number_at way 4 2 bytes) 2) (eqb (ordered_number_at way 6 2 bytes) 4) fields.1 in
     let major : ordered_number_at way 4 2 bytes ≡ 2 = grind (arith, nat_tests, first) in
     let minor : ordered_number_at way 6 2 bytes ≡ 4 = grind (arith, nat_tests, last) in
-    subst (λ (o : Order). HasHeader o bytes) fields.0
+    subst (λ (o : Order). HasFileHeader o bytes) fields.0
     (record {
       long = long;
       magic = one_magic (ordered_number way 4 bytes) (eqb (ordered_number way 4 bytes) 0xa1b2c3d4) refl (magic_of bytes way at);
@@ -74,7 +74,7 @@ header_by bytes found (Some way) long at e =
       link = fields.2;
     })
 
-pub has_header : (bytes : List ℕ) (way : Order) → header_of bytes ≡ Ok way → HasHeader way bytes
+pub has_header : (bytes : List ℕ) (way : Order) → header_of bytes ≡ Ok way → HasFileHeader way bytes
 has_header bytes way e =
     elim (one_of (ltb (length bytes) 24) (Err fault.Short) (fields_of (order_of bytes) bytes) (Ok way) e) [
       | inl x ↦ absurd (let bad : Err fault.Short ≡ Ok way = x.1 in cc)

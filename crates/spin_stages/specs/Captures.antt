@@ -11,7 +11,7 @@ use Rattle.spin_pcap.specs.declared.whole.Captured as whole
 use Rattle.spin_pcap.specs.Captures.{header_of, IsCapture}
 use Rattle.spin_pcap.specs.Passing.{ReaderState, IsFresh, left_for, fault_number}
 use Rattle.spin_pcap.specs.Whole.{cut_of, IsRefused}
-use Rattle.spin_report.specs.Runs.{Captured}
+use Rattle.spin_report.specs.Runs.{CaptureSeen}
 use Rattle.spin_script.specs.States.{NativeData}
 use Rattle.spin_stages.specs.declared.end.End.{End}
 use Rattle.spin_stages.specs.declared.end.End.TheVariants.{Capture, Unread, Absent, NoMemory}
@@ -143,16 +143,16 @@ HasBadRecord files None at fault = ⊥
 HasBadRecord files (Some name) at fault = IfSome files (λ held. IsBadAt held name at fault)
 
 -- what contracts see of a capture that was read whole
-abbrev pub capture_of : whole.Captured → Captured
+abbrev pub capture_of : whole.Captured → CaptureSeen
 capture_of capture = record { frames = capture.frames; cut = capture.cut }
 
 -- The file of that name is a good capture with these records and that rest.
-abbrev pub IsWholeCapture : List File → List ℕ → Captured → Type 0
+abbrev pub IsWholeCapture : List File → List ℕ → CaptureSeen → Type 0
 IsWholeCapture held name capture =
     (last : Next) × IsCaptureFile held name capture.frames (Ok last) × (capture.cut ≡ cut_of last)
 
 -- This is what the capture that is named has, where the shelf tells its files; where none is named there is none.
-abbrev pub IsCaptured : Option (List File) → Option (List ℕ) → Option Captured → Type 0
+abbrev pub IsCaptured : Option (List File) → Option (List ℕ) → Option CaptureSeen → Type 0
 IsCaptured files None None = ⊤
 IsCaptured files (Some name) (Some capture) = IfSome files (λ held. IsWholeCapture held name capture)
 IsCaptured files packets other = ⊥

@@ -1,7 +1,8 @@
 -- Files on the shelf that are read whole, the script among them, and what reading one comes to.
-use Rattle.std.specs.Prelude.{◌≡◌, ◌<◌, ◌⊎◌, ℕ, Option, Some, None, List, length, IfSome, MatchResult, Result, Ok}
+use Rattle.std.specs.Prelude.{◌≡◌, ◌<◌, ◌+◌, ◌⊎◌, ℕ, Option, Some, None, List, length, IfSome, MatchResult, Result, Ok}
 use Rattle.spin_outside.specs.Counts.{Rose}
 use Rattle.spin_outside.specs.Files.{File, content, IsLacking}
+use Rattle.spin_outside.specs.declared.shelf.TheConstants.{READ_SIZE}
 use Rattle.spin_outside.specs.Seen.{ShelfSeen}
 use Rattle.spin_script.specs.declared.script.ScriptFault.{ScriptFault}
 use Rattle.spin_script.specs.declared.script.ScriptFault.TheVariants as fault
@@ -11,10 +12,11 @@ use Rattle.spin_script.specs.States.{NativeData, ScriptData}
 use Rattle.spin_stages.specs.declared.end.End.{End}
 use Rattle.spin_stages.specs.declared.end.End.TheVariants.{Refused, Unread, Absent, NoMemory}
 use Rattle.spin_stages.specs.declared.end.Input.TheVariants.{Script}
+use Rattle.spin_stages.specs.declared.files.TheConstants.{TEXT_LIMIT}
 use Rattle.spin_stages.specs.declared.files.LoadFault.{LoadFault}
 use Rattle.spin_stages.specs.declared.files.LoadFault.TheVariants as load
 use Rattle.spin_stages.specs.Outside.{Outside, NoReadFailed}
-use Rattle.spin_stages.specs.Shelves.{ShelfStood, ShelfFailed, ShelfLacked}
+use Rattle.spin_stages.specs.Shelves.{ReadsFew, ShelfStood, ShelfFailed, ShelfLacked}
 
 -- The text was read under the name: where the shelf tells its files, it is that file's content.
 abbrev pub IsContent : Option (List File) → List ℕ → List ℕ → Type 0
@@ -65,14 +67,19 @@ end_by (fault.Bad line cause) = Refused line cause
 end_by fault.NoMemory = NoMemory
 
 -- Why there is no script of that name.
-abbrev pub NoScriptBy : NativeData → ShelfSeen → ShelfSeen → List ℕ → End → Type 0
-NoScriptBy natives before after name (Refused line cause) =
+abbrev pub LacksScriptBy : NativeData → ShelfSeen → ShelfSeen → List ℕ → End → Type 0
+LacksScriptBy natives before after name (Refused line cause) =
     ShelfStood before after × IsScriptRefused natives before.files name line cause
-NoScriptBy natives before after name (Unread Script) = ShelfFailed before after
-NoScriptBy natives before after name (Absent Script) =
+LacksScriptBy natives before after name (Unread Script) = ShelfFailed before after
+LacksScriptBy natives before after name (Absent Script) =
     ShelfLacked before after × IsLacking before.files name
-NoScriptBy natives before after name NoMemory = ShelfStood before after
-NoScriptBy natives before after name other = ⊥
+LacksScriptBy natives before after name NoMemory = ShelfStood before after
+LacksScriptBy natives before after name other = ⊥
+
+-- There is no script of that name, and why; its file was read no further than the limit and one piece more.
+abbrev pub NoScriptBy : NativeData → ShelfSeen → ShelfSeen → List ℕ → End → Type 0
+NoScriptBy natives before after name end =
+    LacksScriptBy natives before after name end × ReadsFew before after name (TEXT_LIMIT + READ_SIZE)
 
 -- ---- what is known of a script where the shelf tells its files
 

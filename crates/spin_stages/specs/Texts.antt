@@ -1,7 +1,7 @@
 -- What the text of a script says, whether or not a line of it is refused: which lines are, and why, is `IsScript`.
 use Rattle.std.specs.Prelude.{◌≡◌, ◌≤◌, ◌==◌, ◌+◌, ℕ, max, Bool, true, false, not, if◌then◌else◌, List, [], ◌∷◌, ◌++◌, map}
 use Rattle.std.specs.Prelude.{Option, Some, None, length, drop, slice_index, codes, bytes_eq}
-use Rattle.std.specs.List.{AllZip, filter, filter_map, find, flat_map, fold, enumerate_from, position}
+use Rattle.std.specs.List.{AllZip, filter, filter_map, find, fold, enumerate_from, position}
 use Rattle.std.specs.Option.{option_map, option_map_or}
 use Rattle.std.specs.Char.{to_ascii_lowercase}
 use Rattle.std.specs.Str.Lines.{lines}
@@ -12,10 +12,9 @@ use Rattle.spin_table.specs.declared.event.Authority.TheVariants as authority
 use Rattle.spin_table.specs.declared.event.EventDef.{EventDef}
 use Rattle.spin_table.specs.declared.setup.TheConstants.{MAX_LIVE}
 use Rattle.spin_grammar.specs.Canonical.{signature_word}
-use Rattle.spin_grammar.specs.Forms.{step_form, test_form, merge_form, rule_form, task_form}
 use Rattle.spin_grammar.specs.Grammar.{Atom, Fixed, Numeral, Argument, Called, Typed, Blob}
 use Rattle.spin_grammar.specs.Lines as line
-use Rattle.spin_grammar.specs.Lines.{LineMeaning}
+use Rattle.spin_grammar.specs.Lines.{LineMeaning, line_form}
 use Rattle.spin_grammar.specs.Spelling.{number, hex_bytes}
 use Rattle.spin_grammar.specs.Tasks.{work_of}
 use Rattle.spin_grammar.specs.Words.{words}
@@ -33,34 +32,18 @@ IsSignature true sig w =
     (length sig.params ≤ MAX_PARAMS) × (sig.gives ≡ false) × (map to_ascii_lowercase w ≡ signature_word sig)
 
 -- The word says this, where the signature is that of a guard or isn't.
-abbrev pub IsSaid : (of_guard : Bool) → Atom → List ℕ → Type 0
-IsSaid of_guard (Fixed word) w = w ≡ word
-IsSaid of_guard (Numeral n) w = number w ≡ Some n
-IsSaid of_guard (Argument k) w = w ≡ 97 ∷ (48 + k) ∷ []
-IsSaid of_guard (Called name) w = w ≡ name
-IsSaid of_guard (Typed sig) w = IsSignature of_guard sig w
-IsSaid of_guard (Blob bytes) w = (slice_index w 0 ≡ 120) × (hex_bytes (drop 1 w) ≡ Some bytes)
-
--- the words of a line
-abbrev pub line_form : LineMeaning → List Atom
-line_form (line.Modules n) = Fixed (codes "modules") ∷ Numeral n ∷ []
-line_form (line.Event e owner sig m) = Fixed (codes "event") ∷ Numeral e ∷ Numeral owner ∷ Typed sig ∷ merge_form m
-line_form (line.Endpoint p name) = Fixed (codes "endpoint") ∷ Numeral p ∷ Called name ∷ []
-line_form (line.Handler h sig steps) = Fixed (codes "handler") ∷ Numeral h ∷ Typed sig ∷ flat_map step_form steps
-line_form (line.NativeHandler h name) = Fixed (codes "handler") ∷ Numeral h ∷ Fixed (codes "native") ∷ Called name ∷ []
-line_form (line.Guard g sig t) = Fixed (codes "guard") ∷ Numeral g ∷ Typed sig ∷ test_form t
-line_form (line.NativeGuard g name) = Fixed (codes "guard") ∷ Numeral g ∷ Fixed (codes "native") ∷ Called name ∷ []
-line_form (line.Rules e r) = Fixed (codes "rule") ∷ Numeral e ∷ rule_form r
-line_form (line.Authoriser e name) = Fixed (codes "authoriser") ∷ Numeral e ∷ Called name ∷ []
-line_form (line.Default e h) = Fixed (codes "default") ∷ Numeral e ∷ Numeral h ∷ []
-line_form (line.Lane l t) = Fixed (codes "lane") ∷ Numeral l ∷ task_form t
-line_form line.Barrier = Fixed (codes "barrier") ∷ []
-line_form (line.Retire p) = Fixed (codes "retire") ∷ Numeral p ∷ []
+abbrev pub SaysAtom : (of_guard : Bool) → Atom → List ℕ → Type 0
+SaysAtom of_guard (Fixed word) w = w ≡ word
+SaysAtom of_guard (Numeral n) w = number w ≡ Some n
+SaysAtom of_guard (Argument k) w = w ≡ 97 ∷ (48 + k) ∷ []
+SaysAtom of_guard (Called name) w = w ≡ name
+SaysAtom of_guard (Typed sig) w = IsSignature of_guard sig w
+SaysAtom of_guard (Blob bytes) w = (slice_index w 0 ≡ 120) × (hex_bytes (drop 1 w) ≡ Some bytes)
 
 -- The words say this line: each what stands at its place, and there are no others.
 abbrev pub SayLine : LineMeaning → List (List ℕ) → Type 0
 SayLine l [] = ⊥
-SayLine l (w ∷ ws) = AllZip (IsSaid (bytes_eq w (codes "guard"))) (line_form l) (w ∷ ws)
+SayLine l (w ∷ ws) = AllZip (SaysAtom (bytes_eq w (codes "guard"))) (line_form l) (w ∷ ws)
 
 -- ---- lines
 
@@ -70,8 +53,8 @@ is_skipped [] = true
 is_skipped (w ∷ ws) = slice_index w 0 == 35
 
 -- the lines that aren't skipped, each with its number and its words
-abbrev pub told_lines : ℕ → List (List ℕ) → List (ℕ × List (List ℕ))
-told_lines first texts = filter (λ told. not (is_skipped told.1)) (enumerate_from first (map words texts))
+abbrev pub saying_lines : ℕ → List (List ℕ) → List (ℕ × List (List ℕ))
+saying_lines first texts = filter (λ told. not (is_skipped told.1)) (enumerate_from first (map words texts))
 
 -- ---- what lines make
 
@@ -154,7 +137,7 @@ pub record SaysScript (n : NativeData) (text : List ℕ) (script : ScriptData) :
   pub said : List (ℕ × LineMeaning)
   pub first : ℕ × List (List ℕ)
   pub others : List (ℕ × List (List ℕ))
-  pub told : told_lines 1 (lines text) ≡ first ∷ others
-  pub begins : AllZip (IsSaid false) (Fixed (codes "spin") ∷ Numeral version ∷ []) first.1
+  pub told : saying_lines 1 (lines text) ≡ first ∷ others
+  pub begins : AllZip (SaysAtom false) (Fixed (codes "spin") ∷ Numeral version ∷ []) first.1
   pub says : AllZip (λ said told. (said.0 ≡ told.0) × SayLine said.1 told.1) said others
   pub makes : script ≡ script_with n version said

@@ -3,10 +3,10 @@ use Rattle.std.specs.Prelude.{◌≡◌, ◌⊎◌, ◌≤◌, ◌+◌, ℕ, Lis
 use Rattle.spin_outside.specs.Files.{File, content}
 use Rattle.spin_pcap.specs.declared.order.Order.{Order}
 use Rattle.spin_pcap.specs.Captures.{ordered_number_at, IsRecord, IsCut}
-use Rattle.spin_report.specs.Runs.{Captured}
+use Rattle.spin_report.specs.Runs.{CaptureSeen}
 
 -- The file begins with the header of a capture of Ethernet frames, whose numbers stand in that order.
-pub record HasHeader (way : Order) (file : List ℕ) : Type 0 where
+pub record HasFileHeader (way : Order) (file : List ℕ) : Type 0 where
   pub long : 24 ≤ length file
   pub magic : (ordered_number_at way 0 4 file ≡ 0xa1b2c3d4) ⊎ (ordered_number_at way 0 4 file ≡ 0xa1b23c4d)
   pub version : (ordered_number_at way 4 2 file ≡ 2) × (ordered_number_at way 6 2 file ≡ 4)
@@ -20,15 +20,15 @@ HoldsRecords way given bytes (frame ∷ frames) cut =
     (rest : List ℕ) × IsRecord way given bytes frame rest × HoldsRecords way (given + 1) rest frames cut
 
 -- The file of that name is a capture that has this.
-pub record HasCapture (held : List File) (name : List ℕ) (captured : Captured) : Type 0 where
+pub record HasCapture (held : List File) (name : List ℕ) (captured : CaptureSeen) : Type 0 where
   pub bytes : List ℕ
   pub found : content held name ≡ Some bytes
   pub order : Order
-  pub header : HasHeader order bytes
+  pub header : HasFileHeader order bytes
   pub records : HoldsRecords order 0 (drop 24 bytes) captured.frames captured.cut
 
 -- This is what the capture that is named has; where none is named there is none.
-abbrev pub IsCapturedWhole : List File → Option (List ℕ) → Option Captured → Type 0
-IsCapturedWhole held None None = ⊤
-IsCapturedWhole held (Some name) (Some captured) = HasCapture held name captured
-IsCapturedWhole held packets captured = ⊥
+abbrev pub IsNamedCapture : List File → Option (List ℕ) → Option CaptureSeen → Type 0
+IsNamedCapture held None None = ⊤
+IsNamedCapture held (Some name) (Some captured) = HasCapture held name captured
+IsNamedCapture held packets captured = ⊥

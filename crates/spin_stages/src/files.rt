@@ -1,14 +1,15 @@
 //! Files that are read whole, and the script among them.
 
-ghost use Rattle.std.specs.Prelude.{◌≤◌, length, IfOk, IfErr, IsErrOf, ◌≡◌};
+ghost use Rattle.std.specs.Prelude.{◌≤◌, ◌+◌, length, IfOk, IfErr, IsErrOf, ◌≡◌};
 ghost use Rattle.spin_outside.specs.Files.{IsLacking};
+ghost use Rattle.spin_outside.specs.declared.shelf.TheConstants.{READ_SIZE};
 ghost use Rattle.spin_word.specs.declared.command.TheConstants.{MAX_PLACE};
 ghost use Rattle.spin_script.specs.States.{natives_seen};
 ghost use Rattle.spin_script.specs.Scripts.{script_seen};
 ghost use Rattle.spin_script.specs.Segments.{IsOrderly};
 ghost use Rattle.spin_script.specs.Soundness.{AreValid, command_lines};
 ghost use Rattle.spin_stages.specs.Loading.{IsContent, IsOver, LoadsByCount, IsLoaded, NoScriptBy, end_by};
-ghost use Rattle.spin_stages.specs.Shelves.{ShelfStood, ReadsOnly};
+ghost use Rattle.spin_stages.specs.Shelves.{ShelfStood, ReadsFew, ReadsOnly};
 
 use crate::end::{End, Input};
 use spin_code::Sincere;
@@ -38,7 +39,7 @@ pub enum LoadFault {
 }
 
 /// The bytes of the file of that name, which has at most so many. `TooLarge` comes only where a longer one stands
-/// under the name. It takes time linear in the bytes, and reads little more than the limit. However it ends, it reads
+/// under the name. It takes time linear in the bytes. However it ends, it reads at most 4,096 bytes past the limit, and
 /// no other file.
 pub fn load<F: Shelf>(
     alloc: Global,
@@ -54,6 +55,7 @@ pub fn load<F: Shelf>(
         → IsLacking (F.seen shelf.old).files name.now }
     ensures files { (F.seen shelf.new).files ≡ (F.seen shelf.old).files }
     ensures reads { ReadsOnly (F.seen shelf.old) (F.seen shelf.new) name.now }
+    ensures bound { ReadsFew (F.seen shelf.old) (F.seen shelf.new) name.now (limit + READ_SIZE) }
     ensures cause { LoadsByCount (F.seen shelf.old) (F.seen shelf.new) result }
 {
     let file = match shelf.find(name) {
@@ -83,7 +85,7 @@ fn end_by(fault: ScriptFault) -> End
     }
 }
 
-/// The script of that name. No other file is read.
+/// The script of that name. No other file is read, and of this one at most 4,096 bytes past its limit.
 pub fn script_of<F: Shelf>(
     alloc: Global,
     shelf: &mut F,
@@ -93,6 +95,7 @@ pub fn script_of<F: Shelf>(
     requires sincere { ⟦<Natives as Sincere>⟧.sincere natives }
     ensures stood { IfOk result (λ _. ShelfStood (F.seen shelf.old) (F.seen shelf.new)) }
     ensures reads { ReadsOnly (F.seen shelf.old) (F.seen shelf.new) name.now }
+    ensures bound { ReadsFew (F.seen shelf.old) (F.seen shelf.new) name.now (TEXT_LIMIT + READ_SIZE) }
     ensures loaded { IfOk result (λ script.
         IsLoaded (natives_seen natives) (F.seen shelf.old).files name.now (script_seen script)) }
     ensures sincere { IfOk result

@@ -31,11 +31,7 @@ use Rattle.spin_table.specs.Units.{is_fit_guard, is_fit_default}
 -- a number of modules, of live bindings, or of events that is out of its range
 abbrev pub has_wrong_size : ℕ → ℕ → ℕ → Bool
 has_wrong_size modules live events =
-    (modules == 0)
-    || nat_lt MAX_MODULES modules
-    || (live == 0)
-    || nat_lt MAX_LIVE live
-    || nat_lt MAX_EVENTS events
+    (modules == 0) || nat_lt MAX_MODULES modules || (live == 0) || nat_lt MAX_LIVE live || nat_lt MAX_EVENTS events
 
 abbrev pub has_bad_owner : ℕ → EventDef → Bool
 has_bad_owner modules e = nat_le modules e.owner
@@ -52,17 +48,11 @@ part_kind (part.Bytes arg from) = kind.Bytes
 -- addresses, of UDP the payload, both ports and both addresses
 abbrev pub takes_layer : List Param → Layer → Bool
 takes_layer params layer.Ipv4 =
-    (length params == 4)
-    && is_of_kind (slice_get params 0) kind.Bytes
-    && is_of_kind (slice_get params 1) kind.Word
-    && is_of_kind (slice_get params 2) kind.Word
-    && is_of_kind (slice_get params 3) kind.Word
+    (length params == 4) && is_of_kind (slice_get params 0) kind.Bytes && is_of_kind (slice_get params 1) kind.Word
+    && is_of_kind (slice_get params 2) kind.Word && is_of_kind (slice_get params 3) kind.Word
 takes_layer params layer.Udp =
-    (length params == 5)
-    && is_of_kind (slice_get params 0) kind.Bytes
-    && is_of_kind (slice_get params 1) kind.Word
-    && is_of_kind (slice_get params 2) kind.Word
-    && is_of_kind (slice_get params 3) kind.Word
+    (length params == 5) && is_of_kind (slice_get params 0) kind.Bytes && is_of_kind (slice_get params 1) kind.Word
+    && is_of_kind (slice_get params 2) kind.Word && is_of_kind (slice_get params 3) kind.Word
     && is_of_kind (slice_get params 4) kind.Word
 
 -- the parameters have the kinds of the parts
@@ -71,11 +61,9 @@ takes_parts parts e = pointwise same_kind (kinds_of e.sig) (map part_kind parts)
 
 -- what the step raises is there, and takes what it gets
 abbrev pub is_step_fit : List EventDef → ActStep → Bool
-is_step_fit events (step.Up event parts) =
-    option_map_or (takes_parts parts) (slice_get events event) false
+is_step_fit events (step.Up event parts) = option_map_or (takes_parts parts) (slice_get events event) false
 is_step_fit events (step.Layer k event) =
-    option_map_or (λ (e : EventDef). takes_layer e.sig.params k) (slice_get events event)
-    false
+    option_map_or (λ (e : EventDef). takes_layer e.sig.params k) (slice_get events event) false
 is_step_fit events s = true
 
 abbrev pub raises_amiss : List EventDef → HandlerUnit → Bool
@@ -83,8 +71,7 @@ raises_amiss events h = not (list_all (is_step_fit events) h.act.steps)
 
 -- the first default, if there is one, can't serve the event of that number
 abbrev pub has_bad_default : List HandlerUnit → ℕ × EventDef → Bool
-has_bad_default handlers numbered =
-    not (is_fit_default handlers numbered.0 numbered.1 numbered.1.first_default)
+has_bad_default handlers numbered = not (is_fit_default handlers numbered.0 numbered.1 numbered.1.first_default)
 
 -- the guards that the rule imposes are there, and ask of the event's parameters
 abbrev pub is_fit_rule : List GuardUnit → EventDef → Rule → Bool
@@ -93,9 +80,7 @@ is_fit_rule guards e rule = list_all (is_fit_guard guards e) (effect_guards rule
 -- the native authoriser isn't there, or a guard that the rules impose isn't there or asks of other parameters
 abbrev pub has_bad_policy : List (List Rule) → List GuardUnit → EventDef → Bool
 has_bad_policy policies guards e =
-    not
-    (has_authority policies e.authority
-    && list_all (is_fit_rule guards e) (rules_of policies e.authority))
+    not (has_authority policies e.authority && list_all (is_fit_rule guards e) (rules_of policies e.authority))
 
 -- the first of these faults
 abbrev pub first_fault : List (Option SetupFault) → Option SetupFault

@@ -29,8 +29,6 @@ IsOrderFault bs (fault.Refused r) = ⊥
 IsOrderFault bs fault.NoMemory = Unit {0}
 
 -- a conflict among the bindings that the command would leave; want of memory comes at any time
-abbrev pub IsChangeFault : List (List Rule) → EventDef → ℕ → Command → EventState → StepFault
-    → Type 0
-IsChangeFault policies e number c s (fault.Refused r) =
-    IsConflict c.op (event_after policies e number c s).bindings r
+abbrev pub IsChangeFault : List (List Rule) → EventDef → ℕ → Command → EventState → StepFault → Type 0
+IsChangeFault policies e number c s (fault.Refused r) = IsConflict c.op (event_after policies e number c s).bindings r
 IsChangeFault policies e number c s fault.NoMemory = Unit {0}

@@ -26,8 +26,7 @@ use Rattle.spin_table.specs.Verdicts.{answer_to, is_denied, named_rule}
 
 -- 3: the op uses a handler, and there is none of its number
 abbrev pub lacks_handler : List HandlerUnit → Command → Bool
-lacks_handler handlers c =
-    handler_is_used c.op && ((c.handler == 0) || nat_lt (length handlers) c.handler)
+lacks_handler handlers c = handler_is_used c.op && ((c.handler == 0) || nat_lt (length handlers) c.handler)
 
 -- 4: the op uses a guard, and there is none of its number
 abbrev pub lacks_guard : List GuardUnit → Command → Bool
@@ -81,8 +80,7 @@ abbrev pub is_denied_by : List (List Rule) → EventDef → List Binding → Com
 is_denied_by policies e bs c = is_denied (answer_to policies e bs c)
 
 -- 12: the owner would have a handler run asynchronously that changes an argument
-abbrev pub forces_a_change_apart : List (List Rule) → List HandlerUnit → EventDef
-    → List Binding → Command → Bool
+abbrev pub forces_a_change_apart : List (List Rule) → List HandlerUnit → EventDef → List Binding → Command → Bool
 forces_a_change_apart policies handlers e bs c =
     is_install c.op
     && forces_apart (rules_of policies e.authority) (answer_to policies e bs c)
@@ -93,8 +91,7 @@ abbrev pub is_full : ℕ → List Binding → Command → Bool
 is_full live bs c = is_install c.op && nat_le live (length bs)
 
 -- the refusals that come of what the command names, on this event with these bindings
-abbrev pub unit_refusals : List HandlerUnit → List GuardUnit → EventDef → List Binding
-    → Command → List (Bool × Refusal)
+abbrev pub unit_refusals : List HandlerUnit → List GuardUnit → EventDef → List Binding → Command → List (Bool × Refusal)
 unit_refusals handlers guards e bs c =
     (lacks_handler handlers c, refusal.UnknownHandler)
     ∷ (lacks_guard guards c, refusal.UnknownGuard)

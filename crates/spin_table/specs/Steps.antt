@@ -65,8 +65,7 @@ installed rules v number c = record {
 
 -- the binding with another handler and other guards, which keeps number, requester, place and mode
 abbrev pub replaced : List Rule → Verdict → Command → Binding → Binding
-replaced rules v c b =
-    record b { handler = c.handler; own_guard = c.guard; imposed = imposed_guards rules v }
+replaced rules v c b = record b { handler = c.handler; own_guard = c.guard; imposed = imposed_guards rules v }
 
 -- it is replaced where it is the target
 abbrev pub replaced_at : List Rule → Verdict → Command → Binding → Binding
@@ -88,8 +87,7 @@ default_after c o default = default
 -- the event after a command under that place
 abbrev pub event_after : List (List Rule) → EventDef → ℕ → Command → EventState → EventState
 event_after policies e place c s = record {
-  bindings = bindings_after (rules_of policies e.authority)
-      (answer_to policies e s.bindings c) place c c.op s.bindings;
+  bindings = bindings_after (rules_of policies e.authority) (answer_to policies e s.bindings c) place c c.op s.bindings;
   tests = s.tests;
   default = default_after c c.op s.default;
 }
@@ -97,16 +95,14 @@ event_after policies e place c s = record {
 -- the command's event is changed, and no other
 abbrev pub events_after : List (List Rule) → ℕ → Command → Option EventDef → Option EventState
     → List EventState → List EventState
-events_after policies place c (Some e) (Some s) events =
-    slice_set events c.event (event_after policies e place c s)
+events_after policies place c (Some e) (Some s) events = slice_set events c.event (event_after policies e place c s)
 events_after policies place c _ _ events = events
 
 -- the state after a command that is accepted: the place is one greater, and one thing else is changed
 abbrev pub state_after : SetupData → Command → State → State
 state_after d c s = record {
   place = s.place + 1;
-  events = events_after d.policies (s.place + 1) c (slice_get d.events c.event)
-      (slice_get s.events c.event) s.events;
+  events = events_after d.policies (s.place + 1) c (slice_get d.events c.event) (slice_get s.events c.event) s.events;
 }
 
 -- the event's live bindings, or none where there is no event
@@ -132,14 +128,12 @@ IsConflict o bs r = ⊥
 abbrev pub ChangesTo : SetupData → State → Command → Verdicted → State → Type 0
 ChangesTo d s c verdicted.Accepted next =
     (next ≡ state_after d c s) × IsOrderly c.op (bindings_at (state_after d c s) c.event)
-ChangesTo d s c (verdicted.Refused r) next =
-    (next ≡ s) × IsConflict c.op (bindings_at (state_after d c s) c.event) r
+ChangesTo d s c (verdicted.Refused r) next = (next ≡ s) × IsConflict c.op (bindings_at (state_after d c s) c.event) r
 
 -- the command has this verdict at the state, and leaves that one
 abbrev pub IsStep : SetupData → State → Command → Verdicted → State → Type 0
 IsStep d s c v next =
-    MatchOption (refusal_of d s c) (ChangesTo d s c v next)
-    (λ r. (v ≡ verdicted.Refused r) × (next ≡ s))
+    MatchOption (refusal_of d s c) (ChangesTo d s c v next) (λ r. (v ≡ verdicted.Refused r) × (next ≡ s))
 
 -- the command may be refused at the state by a conflict of this cycle
 abbrev pub MayConflict : SetupData → State → Command → List ℕ → Type 0

@@ -63,21 +63,16 @@ has_wrong_mode m act = sets_argument act && not (is_filter m)
 
 -- the handler has the event's signature, raises greater events alone, and may run in this mode
 abbrev pub is_handler_for : ℕ → EventDef → Mode → HandlerUnit → Bool
-is_handler_for event e m h =
-    same_signature h.sig e.sig
-    && not (raises_down event h.act)
-    && not (has_wrong_mode m h.act)
+is_handler_for event e m h = same_signature h.sig e.sig && not (raises_down event h.act) && not (has_wrong_mode m h.act)
 
 -- a handler of that number is there and serves the event in this mode
 abbrev pub is_fit_handler : List HandlerUnit → ℕ → EventDef → Mode → ℕ → Bool
-is_fit_handler handlers event e m handler =
-    option_map_or (is_handler_for event e m) (numbered handlers handler) false
+is_fit_handler handlers event e m handler = option_map_or (is_handler_for event e m) (numbered handlers handler) false
 
 -- a guard of that number is there and asks of the event's parameters
 abbrev pub is_fit_guard : List GuardUnit → EventDef → ℕ → Bool
 is_fit_guard guards e guard =
-    option_map_or (λ (g : GuardUnit). same_parameter_kinds g.sig e.sig)
-    (numbered guards guard) false
+    option_map_or (λ (g : GuardUnit). same_parameter_kinds g.sig e.sig) (numbered guards guard) false
 
 -- no guard, or one that asks of the event's parameters
 abbrev pub is_fit_own_guard : List GuardUnit → EventDef → ℕ → Bool
@@ -85,5 +80,4 @@ is_fit_own_guard guards e guard = (guard == 0) || is_fit_guard guards e guard
 
 -- no default, or one that serves the event
 abbrev pub is_fit_default : List HandlerUnit → ℕ → EventDef → ℕ → Bool
-is_fit_default handlers event e handler =
-    (handler == 0) || is_fit_handler handlers event e mode.Plain handler
+is_fit_default handlers event e handler = (handler == 0) || is_fit_handler handlers event e mode.Plain handler

@@ -19,16 +19,14 @@ request_of bs c = record {
   op = c.op;
   requester = c.requester;
   handler = c.handler;
-  target_owner = if target_is_used c.op then option_map (λ b. b.requester)
-      (binding_of bs c.target) else None;
+  target_owner = if target_is_used c.op then option_map (λ b. b.requester) (binding_of bs c.target) else None;
   live = live_of bs c.requester;
 }
 
 -- the owner is allowed, and others get the answer of the owner's rules
 abbrev pub answer_to : List (List Rule) → EventDef → List Binding → Command → Verdict
 answer_to policies e bs c =
-    if c.requester == e.owner then verdict.Allow else verdict_of
-    (rules_of policies e.authority) (request_of bs c)
+    if c.requester == e.owner then verdict.Allow else verdict_of (rules_of policies e.authority) (request_of bs c)
 
 -- the verdict is a denial, by whatever rule or by none
 abbrev pub is_denied : Verdict → Bool

@@ -10,7 +10,7 @@ use Rattle.spin_pcap.specs.declared.next.Next.TheVariants as next
 use Rattle.spin_pcap.specs.declared.order.Order.TheVariants as order
 use Rattle.spin_pcap.proofs.CaptureTotality.{each_is_capture}
 use Rattle.spin_report.specs.Histories.{report_text}
-use Rattle.spin_report.specs.Runs.{Captured}
+use Rattle.spin_report.specs.Runs.{CaptureSeen}
 use Rattle.spin_run.specs.Ends.{IsReadWhole}
 use Rattle.spin_run.specs.declared.end.RunEnd.{RunEnd}
 use Rattle.spin_run.specs.declared.end.RunEnd.TheVariants as run
@@ -28,9 +28,9 @@ use Rattle.spin_stages.specs.Held.{held_seen}
 use Rattle.spin_top.specs.Headline.{Headline, HeadlineJoined, IsJoinedWhole, WasRunWhole}
 use Rattle.spin_top.specs.Join.{IsJoinedFile, JoinHasCause, RanJoined}
 use Rattle.spin_stages.specs.Outside.{Outside}
-use Rattle.spin_top.specs.Run.{end_of, NotRunBy, Ran, RanOver, RunHasCause}
+use Rattle.spin_top.specs.Run.{end_of, NotRunBy, RunCameTo, RanOver, RunHasCause}
 use Rattle.spin_top.specs.Statuses.{Call, CommandHasCause, Row}
-use Rattle.spin_stages.specs.WholeCaptures.{HasCapture, IsCapturedWhole}
+use Rattle.spin_stages.specs.WholeCaptures.{HasCapture, IsNamedCapture}
 use Rattle.spin_words.specs.Words.{IsSpelled}
 use Rattle.spin_offline.proofs.CheckCauses.{appends_nothing, told_nothing}
 use Rattle.spin_words.proofs.CommandForms.{one_asked}
@@ -57,20 +57,20 @@ has_capture held name frames last file = record {
 }
 
 -- a capture that was read whole is that of its file
-whole_file : (held : List File) (name : List ℕ) (frames : List (List ℕ)) (ending : Result Next PcapFault) (captured : Option Captured)
-    → IsCaptureFile held name frames ending → IsReadWhole frames (Some ending) captured → IsCapturedWhole held (Some name) captured
+whole_file : (held : List File) (name : List ℕ) (frames : List (List ℕ)) (ending : Result Next PcapFault) (captured : Option CaptureSeen)
+    → IsCaptureFile held name frames ending → IsReadWhole frames (Some ending) captured → IsNamedCapture held (Some name) captured
 whole_file held name frames (Ok next.Packet) captured file is = absurd is
-whole_file held name frames (Ok next.End) captured file is = subst (λ c. IsCapturedWhole held (Some name) c) (sym is) (has_capture held name frames next.End file)
+whole_file held name frames (Ok next.End) captured file is = subst (λ c. IsNamedCapture held (Some name) c) (sym is) (has_capture held name frames next.End file)
 whole_file held name frames (Ok (next.Cut count)) captured file is =
-    subst (λ c. IsCapturedWhole held (Some name) c) (sym is) (has_capture held name frames (next.Cut count) file)
+    subst (λ c. IsNamedCapture held (Some name) c) (sym is) (has_capture held name frames (next.Cut count) file)
 whole_file held name frames (Err wrong) captured file is = absurd is
 
 captured_from : (files : Option (List File)) (held : List File) (packets : Option (List ℕ)) (bytes : List ℕ) (frames : List (List ℕ))
-    (rest : Option (Result Next PcapFault)) (captured : Option Captured) → files ≡ Some held → AreBytesOf files packets bytes
-    → AreRecordsOf packets bytes frames rest → IsReadWhole frames rest captured → IsCapturedWhole held packets captured
+    (rest : Option (Result Next PcapFault)) (captured : Option CaptureSeen) → files ≡ Some held → AreBytesOf files packets bytes
+    → AreRecordsOf packets bytes frames rest → IsReadWhole frames rest captured → IsNamedCapture held packets captured
 captured_from files held None bytes frames rest captured told capture are whole =
     let none : captured ≡ None = subst (λ r. IsReadWhole frames r captured) are.1 whole in
-    subst (λ c. IsCapturedWhole held None c) (sym none) tt
+    subst (λ c. IsNamedCapture held None c) (sym none) tt
 captured_from files held (Some name) bytes frames rest captured told capture are whole =
     let file : IsCaptureFile held name frames are.0 = record { bytes = bytes; found = bytes_at files held name bytes told capture; order = are.2; capture = are.3 } in
     whole_file held name frames are.0 captured file (subst (λ r. IsReadWhole frames r captured) are.1 whole)
@@ -85,17 +85,17 @@ ran_whole run.NoMemory same = let no : 0 ≡ 7 = ap exit_status same in absurd (
 ran_whole (run.Endpoint at) same = let no : 0 ≡ 8 = ap exit_status same in absurd (omega (arith, no))
 
 stop_not_whole : (natives : NativeData) (before after : ShelfSeen) (name : List ℕ) (packets : Option (List ℕ)) → NotRunBy natives before after name packets Whole → ⊥
-stop_not_whole natives before after name packets (inl by) = by
+stop_not_whole natives before after name packets (inl by) = by.0
 stop_not_whole natives before after name packets (inr by) = by.1
 
 not_joined_whole : (natives : NativeData) (before after : ShelfSeen) (name packets : List ℕ) → NotBothBy natives before after name (Some packets) Whole → ⊥
-not_joined_whole natives before after name packets (inl by) = by
+not_joined_whole natives before after name packets (inl by) = by.0
 not_joined_whole natives before after name packets (inr by) = by.1
 
 whole_of : (natives : NativeData) (before after : Outside) (name : List ℕ) (packets : Option (List ℕ))
-    → RunHasCause natives before after name packets Whole → Ran natives before after name packets run.Whole
+    → RunHasCause natives before after name packets Whole → RunCameTo natives before after name packets run.Whole
 whole_of natives before after name packets (inl stop) = absurd (stop_not_whole natives before.shelf after.shelf name packets stop.0)
-whole_of natives before after name packets (inr ran) = subst (λ e. Ran natives before after name packets e) (ran_whole ran.0 ran.1) ran.2
+whole_of natives before after name packets (inr ran) = subst (λ e. RunCameTo natives before after name packets e) (ran_whole ran.0 ran.1) ran.2
 
 joined_of : (natives : NativeData) (before after : Outside) (name packets : List ℕ)
     → JoinHasCause natives before after name packets Whole → RanJoined natives before after name packets run.Whole
@@ -106,9 +106,9 @@ joined_of natives before after name packets (inr ran) = subst (λ e. RanJoined n
 
 -- over these records, of which it is known what capture has them
 ran_to_end : (natives : NativeData) (held : List File) (before after : Outside) (name : List ℕ) (Has : List (List ℕ) → Option (Result Next PcapFault) → Type 0) (from to : SourceSeen)
-    (IsItsCapture : Option Captured → Type 0) (frames : List (List ℕ)) (rest : Option (Result Next PcapFault)) → before.shelf.files ≡ Some held
+    (IsItsCapture : Option CaptureSeen → Type 0) (frames : List (List ℕ)) (rest : Option (Result Next PcapFault)) → before.shelf.files ≡ Some held
     → RanOver natives before after name Has from to run.Whole → Has frames rest
-    → ((captured : Option Captured) → IsReadWhole frames rest captured → IsItsCapture captured) → WasRunWhole natives held name IsItsCapture before after
+    → ((captured : Option CaptureSeen) → IsReadWhole frames rest captured → IsItsCapture captured) → WasRunWhole natives held name IsItsCapture before after
 ran_to_end natives held before after name Has from to IsItsCapture frames rest told over has is_its =
     let ended = over.ended_so frames rest has in
     record {
@@ -127,15 +127,15 @@ ran_to_end natives held before after name Has from to IsItsCapture frames rest t
     }
 
 run_whole : (natives : NativeData) (held : List File) (before after : Outside) (name : List ℕ) (packets : Option (List ℕ)) → before.shelf.files ≡ Some held
-    → RunHasCause natives before after name packets Whole → WasRunWhole natives held name (IsCapturedWhole held packets) before after
+    → RunHasCause natives before after name packets Whole → WasRunWhole natives held name (IsNamedCapture held packets) before after
 run_whole natives held before after name packets told cause =
     let ran = whole_of natives before after name packets cause in
     let records = some_records before.shelf.files packets ran.bytes ran.capture in
-    ran_to_end natives held before after name (AreRecordsOf packets ran.bytes) ran.from ran.to (IsCapturedWhole held packets) records.0 records.1 told ran.over records.2
+    ran_to_end natives held before after name (AreRecordsOf packets ran.bytes) ran.from ran.to (IsNamedCapture held packets) records.0 records.1 told ran.over records.2
     (λ captured whole. captured_from before.shelf.files held packets ran.bytes records.0 records.1 captured told ran.capture records.2 whole)
 
 -- what was read of a joined capture is that of its file, joined
-joined_whole : (held : List File) (packets : List ℕ) (frames : List (List ℕ)) (last : Next) (captured : Option Captured) → IsCaptureFile held packets frames (Ok last)
+joined_whole : (held : List File) (packets : List ℕ) (frames : List (List ℕ)) (last : Next) (captured : Option CaptureSeen) → IsCaptureFile held packets frames (Ok last)
     → IsReadWhole (joined_frames [] frames) (Some (Ok last)) captured → IsJoinedWhole held packets captured
 joined_whole held packets frames next.Packet captured file is = absurd is
 joined_whole held packets frames next.End captured file is = record { file = _; capture = has_capture held packets frames next.End file; joined = is }

@@ -81,7 +81,7 @@ pub not_behind : (natives : NativeData) (before after : Outside) (mid : ShelfSee
 not_behind natives before after mid name packets bytes script (Capture number fault) stood loaded joined good refused only =
     absurd (good_not_bad order.Little refused.1 (header_of bytes) (joined_good bytes good).header refused.3)
 not_behind natives before after mid name packets bytes script NoMemory stood loaded joined good refused only =
-    inl (inl (stood_stood before.shelf mid after.shelf stood joined.0), only)
+    inl (inr ((script, loaded), stood_stood before.shelf mid after.shelf stood joined.0), only)
 not_behind natives before after mid name packets bytes script other stood loaded joined good refused only = absurd refused
 
 -- ---- the run

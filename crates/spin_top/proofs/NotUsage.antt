@@ -33,12 +33,12 @@ vm_not_usage vm.WriteFault is = let no : 1 ≡ 5 = ap exit_status is in omega (a
 vm_not_usage vm.NoMemory is = let no : 1 ≡ 7 = ap exit_status is in omega (arith, no)
 
 both_not_usage : (natives : NativeData) (before after : ShelfSeen) (name : List ℕ) (packets : Option (List ℕ)) → NotBothBy natives before after name packets Usage → ⊥
-both_not_usage natives before after name packets (inl by) = by
+both_not_usage natives before after name packets (inl by) = by.0
 both_not_usage natives before after name packets (inr by) = by.1
 
 -- nor does any stage before
 no_run_usage : (natives : NativeData) (before after : ShelfSeen) (name : List ℕ) (packets : Option (List ℕ)) → NotRunBy natives before after name packets Usage → ⊥
-no_run_usage natives before after name packets (inl by) = by
+no_run_usage natives before after name packets (inl by) = by.0
 no_run_usage natives before after name packets (inr by) = by.1
 
 no_check_usage : (natives : NativeData) (before after : ShelfSeen) (name report : List ℕ) (packets : Option (List ℕ)) → NotJudgedBy natives before after name report packets Usage → ⊥
@@ -50,7 +50,7 @@ suited_not_usage false before after trace by = let no : 1 ≡ 12 = ap exit_statu
 suited_not_usage true before after trace by = by
 
 no_trace_usage : (natives : NativeData) (before after : ShelfSeen) (name trace : List ℕ) → NotTracedBy natives before after name trace Usage → ⊥
-no_trace_usage natives before after name trace (inl by) = by
+no_trace_usage natives before after name trace (inl by) = by.0
 no_trace_usage natives before after name trace (inr by) = suited_not_usage by.0 before after trace by.2
 
 answer_not_usage : (whether : Bool) → Usage ≡ answer_end whether → ⊥

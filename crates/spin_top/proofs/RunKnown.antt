@@ -14,7 +14,7 @@ use Rattle.spin_stages.specs.Captures.{AreBytesOf, IsBadCapture, KnowsNoCapture}
 use Rattle.spin_stages.specs.Ends.{exit_status}
 use Rattle.spin_stages.specs.Loading.{HoldsText}
 use Rattle.spin_stages.specs.Outside.{Outside}
-use Rattle.spin_top.specs.Run.{end_of, IsComplete, KnowsCapture, NoneRose, NotRunBy, Ran, RanOver, RunHasCause, RunKnows}
+use Rattle.spin_top.specs.Run.{end_of, IsComplete, KnowsCapture, NoneRose, NotRunBy, RunCameTo, RanOver, RunHasCause, RunKnows}
 use Rattle.spin_stages.proofs.ReadingUniqueness.{good_records, header_at, header_lacks, headers_differ, records_at}
 use Rattle.spin_stages.proofs.ShelfLemmas.{tells_nothing}
 use Rattle.spin_stages.proofs.Stages.{ScriptFirst, knows_no_script, knows_refused, opened_bad, opened_lost, opened_memory, script_memory}
@@ -46,7 +46,7 @@ run_first natives before after name packets end (inr ran) = inr (ran.2.over.scri
 -- ---- a capture that isn't there
 
 named_header : (natives : NativeData) (before after : Outside) (held : List File) (name capture text : List ℕ) (packets : Option (List ℕ)) (ended : RunEnd)
-    → HoldsText before.shelf held name text → packets ≡ Some capture → content held capture ≡ None → Ran natives before after name packets ended → ⊥
+    → HoldsText before.shelf held name text → packets ≡ Some capture → content held capture ≡ None → RunCameTo natives before after name packets ended → ⊥
 named_header natives before after held name capture text packets ended holds named lacking ran =
     header_lacks held capture (header_at before.shelf.files held capture ran.bytes holds.told (subst (λ p. AreBytesOf before.shelf.files p ran.bytes) named ran.capture)) lacking
 
@@ -66,7 +66,7 @@ lost_at natives before after name packets status end is (inr ran) =
 -- ---- a bad capture
 
 bad_whole : (natives : NativeData) (before after : Outside) (held : List File) (name capture text : List ℕ)
-    → HoldsText before.shelf held name text → IsBadCapture held capture → Ran natives before after name (Some capture) run.Whole → ⊥
+    → HoldsText before.shelf held name text → IsBadCapture held capture → RunCameTo natives before after name (Some capture) run.Whole → ⊥
 bad_whole natives before after held name capture text holds (inl header) ran =
     headers_differ held capture header.0 (header_at before.shelf.files held capture ran.bytes holds.told ran.capture) header.1
 bad_whole natives before after held name capture text holds (inr bad) ran =
@@ -80,9 +80,9 @@ stop_bad natives before after name packets status end is (inr by) held text capt
     opened_bad before.shelf after.shelf packets status end is calm.faults calm.absences by.1
 
 ran_bad : (natives : NativeData) (before after : Outside) (name : List ℕ) (packets : Option (List ℕ)) (status : ℕ) (end : End) (ended : RunEnd)
-    → status ≡ exit_status end → end ≡ end_of ended → Ran natives before after name packets ended → KnowsCapture natives before after name packets status
+    → status ≡ exit_status end → end ≡ end_of ended → RunCameTo natives before after name packets ended → KnowsCapture natives before after name packets status
 ran_bad natives before after name packets status end run.Whole is same ran held text capture holds script named bad calm =
-    absurd (bad_whole natives before after held name capture text holds bad (subst (λ p. Ran natives before after name p run.Whole) named ran))
+    absurd (bad_whole natives before after held name capture text holds bad (subst (λ p. RunCameTo natives before after name p run.Whole) named ran))
 ran_bad natives before after name packets status end (run.Capture at fault) is same ran held text capture holds script named bad calm = inl (is ∙ ap exit_status same)
 ran_bad natives before after name packets status end run.ReadFault is same ran held text capture holds script named bad calm = absurd (calm.faults ran.shelf.faults)
 ran_bad natives before after name packets status end run.WriteFault is same ran held text capture holds script named bad calm = absurd (calm.sink (sink_rose natives before after name _ _ _ ran.over))
@@ -105,7 +105,7 @@ stop_complete natives before after name packets status end is (inr by) held text
     inr (opened_memory before.shelf after.shelf held packets status end is holds.told good calm.faults calm.absences by.1)
 
 ran_complete : (natives : NativeData) (before after : Outside) (name : List ℕ) (packets : Option (List ℕ)) (status : ℕ) (end : End) (ended : RunEnd)
-    → status ≡ exit_status end → end ≡ end_of ended → Ran natives before after name packets ended → IsComplete natives before after name packets status
+    → status ≡ exit_status end → end ≡ end_of ended → RunCameTo natives before after name packets ended → IsComplete natives before after name packets status
 ran_complete natives before after name packets status end run.Whole is same ran held text holds script good calm = inl (is ∙ ap exit_status same)
 ran_complete natives before after name packets status end (run.Capture at fault) is same ran held text holds script good calm =
     let records = good_records before.shelf.files held packets ran.bytes holds.told ran.capture good in

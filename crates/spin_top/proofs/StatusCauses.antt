@@ -1,14 +1,19 @@
 -- Which status comes, from the causes of all commands.
-use Rattle.std.proofs.Common.{◌≡◌, ℕ, zero, suc, List, refl, sym, subst, ◌∙◌, inl, inr}
+use Rattle.std.proofs.Common.{◌≡◌, ◌≤◌, ◌+◌, ℕ, zero, suc, List, refl, sym, subst, ◌∙◌, inl, inr, arith}
+use Rattle.spin_outside.specs.Seen.{ShelfSeen}
+use Rattle.spin_outside.specs.declared.shelf.TheConstants.{READ_SIZE}
 use Rattle.spin_script.specs.States.{NativeData}
 use Rattle.spin_stages.specs.declared.end.End.{End}
 use Rattle.spin_stages.specs.declared.end.End.TheVariants.{Whole, Usage, Refused, Capture, Unread, WriteFault, Absent, NoMemory, Endpoint, NoHistory, LongReport, Trace, Unsuited}
 use Rattle.spin_stages.specs.declared.end.Input.{Input}
+use Rattle.spin_stages.specs.declared.files.TheConstants.{TEXT_LIMIT}
 use Rattle.spin_words.specs.declared.words.Asked.{Asked}
 use Rattle.spin_words.specs.declared.words.Asked.TheVariants.{Run, Gen, Check, Join, Vm}
 use Rattle.spin_words.specs.Words.{IsAsked}
 use Rattle.spin_stages.specs.Ends.{exit_status}
+use Rattle.spin_stages.specs.Loading.{NoScriptBy}
 use Rattle.spin_stages.specs.Outside.{OnlyStops, Outside}
+use Rattle.spin_stages.specs.Shelves.{ReadsFew}
 use Rattle.spin_top.specs.Statuses.{AsksNothing, ByCommand, Call, CommandHasCause, CommandKnows, HasCause, IsCommandStatus, IsStatus, KeepsTable, KnowsCommand, KnowsUsage, Row}
 use Rattle.spin_offline.specs.Vm.{IsVmStatus}
 use Rattle.spin_offline.proofs.CheckKnown.{check_known}
@@ -17,18 +22,27 @@ use Rattle.spin_top.proofs.GenCauses.{gen_known}
 use Rattle.spin_top.proofs.JoinKnown.{join_known}
 use Rattle.spin_top.proofs.NotUsage.{check_cause_not_usage, gen_cause_not_usage, join_cause_not_usage, run_cause_not_usage, vm_cause_not_usage}
 use Rattle.spin_top.proofs.RunKnown.{run_known}
-use Rattle.spin_stages.proofs.ShelfLemmas.{same_stood}
+use Rattle.spin_stages.proofs.ShelfLemmas.{if_some, same_stood}
 use Rattle.spin_offline.proofs.VmKnown.{vm_known}
 
 -- ---- each command
 
+-- nothing was read
+reads_none : (shelf : ShelfSeen) (name : List ℕ) (most : ℕ) → ReadsFew shelf shelf name most
+reads_none shelf name most = if_some shelf.files (λ _. shelf.reads name ≤ shelf.reads name + most) (λ held told. omega arith)
+
+-- nor was the script, for want of memory
+nothing_read : (natives : NativeData) (before after : ShelfSeen) (name : List ℕ) → after ≡ before → NoScriptBy natives before after name NoMemory
+nothing_read natives before after name same =
+    (same_stood before after same, subst (λ shelf. ReadsFew before shelf name (TEXT_LIMIT + READ_SIZE)) (sym same) (reads_none before name (TEXT_LIMIT + READ_SIZE)))
+
 -- nothing was done for want of memory, which is a cause of every command
 only_memory : (natives : NativeData) (before after : Outside) (asked : Asked) → after.shelf ≡ before.shelf → OnlyStops before after NoMemory → CommandHasCause natives before after asked NoMemory
-only_memory natives before after (Run name packets) same only = inl (inl (same_stood before.shelf after.shelf same), only)
+only_memory natives before after (Run name packets) same only = inl (inl (nothing_read natives before.shelf after.shelf name same), only)
 only_memory natives before after (Gen number) same only = (same, inl (refl, only))
-only_memory natives before after (Check name report packets) same only = inl (inl (inl (same_stood before.shelf after.shelf same)), only)
-only_memory natives before after (Join name packets) same only = inl (inl (same_stood before.shelf after.shelf same), only)
-only_memory natives before after (Vm name trace) same only = inl (inl (same_stood before.shelf after.shelf same), only)
+only_memory natives before after (Check name report packets) same only = inl (inl (inl (nothing_read natives before.shelf after.shelf name same)), only)
+only_memory natives before after (Join name packets) same only = inl (inl (nothing_read natives before.shelf after.shelf name same), only)
+only_memory natives before after (Vm name trace) same only = inl (inl (nothing_read natives before.shelf after.shelf name same), only)
 
 -- words that ask for a command aren't usage
 not_usage : (natives : NativeData) (before after : Outside) (asked : Asked) → CommandHasCause natives before after asked Usage → ⊥

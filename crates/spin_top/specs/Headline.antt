@@ -7,16 +7,16 @@ use Rattle.spin_reass.specs.Joining.{joined_frames}
 use Rattle.spin_script.specs.Language.{IsScript}
 use Rattle.spin_script.specs.States.{NativeData, ScriptData}
 use Rattle.spin_report.specs.Histories.{HistorySeen, report_text}
-use Rattle.spin_report.specs.Runs.{Captured, IsRun, Standing}
+use Rattle.spin_report.specs.Runs.{CaptureSeen, IsRun, RunPoint}
 use Rattle.spin_stages.specs.Outside.{Outside}
 use Rattle.spin_top.specs.Statuses.{Call}
 use Rattle.spin_stages.specs.Texts.{SaysScript}
-use Rattle.spin_stages.specs.WholeCaptures.{HasCapture, IsCapturedWhole}
+use Rattle.spin_stages.specs.WholeCaptures.{HasCapture, IsNamedCapture}
 
 -- The script under that name was run to its end, over a shelf with these files: there are one script, one capture and
 -- one history of which all this holds.
 pub record WasRunWhole (natives : NativeData) (held : List File) (name : List ℕ)
-    (IsItsCapture : Option Captured → Type 0) (before after : Outside) : Type 0 where
+    (IsItsCapture : Option CaptureSeen → Type 0) (before after : Outside) : Type 0 where
   -- The text under the name says the script, and is accepted as it: no line of it is refused.
   pub text : List ℕ
   pub found : content held name ≡ Some text
@@ -24,11 +24,11 @@ pub record WasRunWhole (natives : NativeData) (held : List File) (name : List �
   pub said : SaysScript natives text script
   pub accepted : IsScript natives text (Ok script)
   -- The capture is that of the call, or none.
-  pub captured : Option Captured
+  pub captured : Option CaptureSeen
   pub capture : IsItsCapture captured
   -- The history is a legal one, which answers what the script asks over the records of the capture.
   pub history : HistorySeen
-  pub last : Standing
+  pub last : RunPoint
   pub run : IsRun script captured before.ends history last
   -- To the output exactly the report of the history was appended.
   pub written : Appends before.sink.told after.sink.told (report_text history)
@@ -43,12 +43,12 @@ Headline call =
     → call.before.shelf.files ≡ Some held
     → call.words ≡ codes "run" ∷ name ∷ option_to_list packets
     → call.status ≡ 0
-    → WasRunWhole call.natives held name (IsCapturedWhole held packets) call.before call.after
+    → WasRunWhole call.natives held name (IsNamedCapture held packets) call.before call.after
 
 -- This is the capture of that name as it is joined: its records with fragmented datagrams made whole, and the rest that
 -- it has behind them.
-pub record IsJoinedWhole (held : List File) (packets : List ℕ) (captured : Option Captured) : Type 0 where
-  pub file : Captured
+pub record IsJoinedWhole (held : List File) (packets : List ℕ) (captured : Option CaptureSeen) : Type 0 where
+  pub file : CaptureSeen
   pub capture : HasCapture held packets file
   pub joined : captured ≡ Some (record { frames = joined_frames [] file.frames; cut = file.cut })
 

@@ -56,7 +56,7 @@ ShelfBy before after other = ShelfStood before after
 -- records ended so; and then the line of that end was written. Of the capture no more was read than its header, the
 -- records that are wanted up to a stop in a segment, and 65,536 bytes past these. On a shelf that tells no files the
 -- capture has some bytes, of which all this holds.
-pub record Ran (natives : NativeData) (before after : Outside) (name : List ℕ)
+pub record RunCameTo (natives : NativeData) (before after : Outside) (name : List ℕ)
     (packets : Option (List ℕ)) (ended : RunEnd) : Type 0 where
   pub shelf : ShelfBy before.shelf after.shelf ended
   -- the bytes of the capture, if one is named
@@ -79,7 +79,7 @@ NotRunBy natives before after name packets end =
 abbrev pub RunHasCause : NativeData → Outside → Outside → List ℕ → Option (List ℕ) → End → Type 0
 RunHasCause natives before after name packets end =
     (NotRunBy natives before.shelf after.shelf name packets end × OnlyStops before after end)
-    ⊎ ((ended : RunEnd) × (end ≡ end_of ended) × Ran natives before after name packets ended)
+    ⊎ ((ended : RunEnd) × (end ≡ end_of ended) × RunCameTo natives before after name packets ended)
 
 -- The status of a run of these files is the number of an end that has its cause.
 abbrev pub IsRunStatus : NativeData → Outside → Outside → List ℕ → Option (List ℕ) → ℕ → Type 0

@@ -120,7 +120,8 @@ fn choose<R: Threads + Sync, F: Shelf, K: Sink, G: Gate>(
 /// | 12 | under `vm`, exactly where the script is read and isn't suited | `stop 12 script` |
 ///
 /// A stop line follows what was written before. A stop line that can't be written leaves the status. A stop before the
-/// report began leaves the endpoints as they were. Under `run` the capture is read as the segments need it: after a
+/// report began leaves the endpoints as they were. Of a script that isn't read, or is refused, at most 1,048,576 bytes and
+/// 4,096 more are read. Under `run` the capture is read as the segments need it: after a
 /// stop in a segment, where the capture has all records that the segments up to this one want, at most 65,536 bytes
 /// past its header and these records were read.
 pub fn spin<R: Threads + Sync, F: Shelf, K: Sink, G: Gate>(

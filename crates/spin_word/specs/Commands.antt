@@ -89,11 +89,7 @@ has_widths c =
 
 -- it is free and plain, and names no other binding
 abbrev pub is_placeless : Command → Bool
-is_placeless c =
-    (number_of_place c.place == 0)
-    && (number_of_mode c.mode == 0)
-    && all_none c.before
-    && all_none c.after
+is_placeless c = (number_of_place c.place == 0) && (number_of_mode c.mode == 0) && all_none c.before && all_none c.after
 
 -- each field that the op doesn't use is empty
 abbrev pub leaves_unused : Command → Bool
@@ -105,8 +101,7 @@ leaves_unused c =
 
 -- the valid commands
 abbrev pub is_command : Command → Bool
-is_command c =
-    has_widths c && bindings_or_none c.before && bindings_or_none c.after && leaves_unused c
+is_command c = has_widths c && bindings_or_none c.before && bindings_or_none c.after && leaves_unused c
 
 -- the command that does this to an event, with each other field empty
 abbrev pub bare_command : Op → (lane event requester : ℕ) → Command

@@ -1,7 +1,12 @@
-use Rattle.std.proofs.Common.{rules, refl, inl, inr}
-use Rattle.spin_c.specs.declared.ask.Outcome.TheVariants as outcome
+use Rattle.std.proofs.Common.{inl}
+use Rattle.spin_c.specs.declared.ask.Ask.TheVariants as asked
+use Rattle.spin_c.proofs.Ungiven.{ungiven}
 use Rattle.spin_c.proofs.spin_raise.Goals as goal
+
+pub returns-in-Ok : goal.returns-in-Ok
+returns-in-Ok c = inl (c.in-Ok.ensures.0, rw c.in-Ok.ensures.1 at c.ask_of.ensures)
 
 pub returns-in-Err : goal.returns-in-Err
 returns-in-Err c =
-    inl (search rules, record { told = outcome.NoMemory; called = inr (refl, refl, tt); number_is = c.tell-in-Err.ensures.number; answer_is = c.tell-in-Err.ensures.answer })
+    ungiven c.args.lane.now.kept (asked.Raise c.args.event) c.args.bytes.now c.args.args.now c.in-Err.why c.tell.result c.tell.new.answer (λ args. tt) c.in-Err.ensures
+    c.tell.ensures.number c.tell.ensures.answer

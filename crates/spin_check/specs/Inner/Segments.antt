@@ -6,13 +6,13 @@ use Rattle.spin_table.specs.Soundness.{IsSound}
 use Rattle.spin_endpoint.specs.Named.{NamedEnd}
 use Rattle.spin_script.specs.declared.script.Segment.{Segment}
 use Rattle.spin_text.specs.Words.{ended, text_of}
-use Rattle.spin_report.specs.Histories.{Retired, SegmentSeen, retire_line, segment_line, segment_lines}
-use Rattle.spin_report.specs.Runs.{Standing, IsSegmentRun}
+use Rattle.spin_report.specs.Histories.{Retirement, SegmentSeen, retire_line, segment_line, segment_lines}
+use Rattle.spin_report.specs.Runs.{RunPoint, IsSegmentRun}
 use Rattle.spin_script.specs.Soundness.{commands_in}
 use Rattle.spin_check.specs.Inner.Standings.{AreFlags}
 
 -- the text of what stands before a segment's entries
-abbrev pub head_text : ℕ → ℕ → List Retired → List ℕ
+abbrev pub head_text : ℕ → ℕ → List Retirement → List ℕ
 head_text number start retired = text_of (map retire_line retired) ++ ended (segment_line number start)
 
 -- Where a check stands between two segments: the state, the records of the capture that are left, which endpoints
@@ -23,12 +23,12 @@ pub record Mark : Type 0 where
   pub flags : List Bool
   pub rest : List ℕ
 
-abbrev pub standing : Mark → List NamedEnd → Standing
+abbrev pub standing : Mark → List NamedEnd → RunPoint
 standing mark ends = record { state = mark.state; left = mark.left; ends = ends }
 
 -- The segment's part of the report is what is left of the report begins with.
 pub record IsPart (d : SetupData) (lanes : ℕ) (names : List (List ℕ)) (number : ℕ)
-    (segment : Segment) (before : Standing) (rest : List ℕ) (seen : SegmentSeen) (after : Standing)
+    (segment : Segment) (before : RunPoint) (rest : List ℕ) (seen : SegmentSeen) (after : RunPoint)
     (more : List ℕ) : Type 0 where
   pub run : IsSegmentRun d lanes names segment before seen after
   pub text : rest ≡ text_of (segment_lines number seen) ++ more
@@ -41,14 +41,14 @@ pub record Passes (d : SetupData) (lanes : ℕ) (names : List (List ℕ)) (numbe
   pub part : IsPart d lanes names number segment (standing mark ends) mark.rest seen
       (standing next ends_after) next.rest
   pub flags : AreFlags names ends_after next.flags
-  pub only : (s : SegmentSeen) (after : Standing) (more : List ℕ)
+  pub only : (s : SegmentSeen) (after : RunPoint) (more : List ℕ)
       → IsPart d lanes names number segment (standing mark ends) mark.rest s after more
       → (after ≡ standing next ends_after) × (s ≡ seen) × (more ≡ next.rest)
 
 -- The check goes over the segment; none where the report goes on with no history of it.
 abbrev pub Goes : SetupData → ℕ → List (List ℕ) → ℕ → Segment → Mark → List NamedEnd → Option Mark → Type 0
 Goes d lanes names number segment mark ends None =
-    (s : SegmentSeen) (after : Standing) (more : List ℕ)
+    (s : SegmentSeen) (after : RunPoint) (more : List ℕ)
     → IsPart d lanes names number segment (standing mark ends) mark.rest s after more → ⊥
 Goes d lanes names number segment mark ends (Some next) =
     Passes d lanes names number segment mark ends next

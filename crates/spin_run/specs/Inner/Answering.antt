@@ -2,7 +2,6 @@
 use Rattle.std.specs.Prelude.{◌≡◌, ◌+◌, ℕ, List, [], ◌∷◌, ◌++◌, map, length, All, Result, Ok, Err, ⊤}
 use Rattle.std.specs.List.{enumerate_from}
 use Rattle.std.specs.Arc.{arc_value}
-use Rattle.spin_word.specs.declared.command.TheConstants.{MAX_PLACE}
 use Rattle.spin_log.specs.Pens.{PenValue, IsSamePen}
 use Rattle.spin_table.specs.Setups.{SetupData}
 use Rattle.spin_table.specs.States.{State}
@@ -11,21 +10,24 @@ use Rattle.spin_proto.specs.declared.deed.Job.{Job}
 use Rattle.spin_proto.specs.Replies.{BelongsTo}
 use Rattle.spin_seat.specs.declared.answer.SeatFault.{SeatFault}
 use Rattle.spin_seat.specs.declared.answer.SeatFault.TheVariants as fault
-use Rattle.spin_seat.specs.Seats.{IsSeatOf}
-use Rattle.spin_seat.specs.Runs.{Ran, GainsPins}
+use Rattle.spin_seat.specs.Seats.{IsSeatFrom}
+use Rattle.spin_seat.specs.Calls.{IsFaultAt}
+use Rattle.spin_seat.specs.Runs.{RanFrom, GainsPinsPast}
 use Rattle.spin_report.specs.declared.entry.Entry.{Entry}
 use Rattle.spin_word.specs.declared.work.Work.{Work}
 use Rattle.spin_report.specs.Asked.{Numbered, asked_of}
 use Rattle.spin_report.specs.Segments.{raise_with}
 use Rattle.spin_run.specs.declared.lane.Lane.{Lane}
 use Rattle.spin_run.specs.Trails.{IsTrailOf}
-use Rattle.spin_run.specs.Lanes.{seat_answer, job_asked, jobs_from, AreJobsOf, BeginsWithCommand, IsFresh}
+use Rattle.spin_run.specs.Lanes.{seat_answer, job_asked, jobs_from, AreJobsOf, BeginsWithCommand, IsFresh, kept_with}
 
--- Since its pen had that value, the lane has given these entries and left their jobs.
-pub record HasAnswered (d : SetupData) (before : PenValue) (given : List Entry) (lane : Lane) : Type 0 where
-  pub ran : Ran d before (map seat_answer given) lane.seat.pen
-  pub pins : GainsPins before (map seat_answer given) lane.seat.pen
-  pub jobs_are : AreJobsOf d given lane.seat.pen.front lane.jobs
+-- Since its pen had that value, the lane, whose log follows on the first state, has given these entries and left their
+-- jobs.
+pub record HasAnswered (d : SetupData) (first : State) (before : PenValue) (given : List Entry) (lane : Lane)
+    : Type 0 where
+  pub ran : RanFrom d first before (map seat_answer given) lane.seat.pen
+  pub pins : GainsPinsPast first.place before (map seat_answer given) lane.seat.pen
+  pub jobs_are : AreJobsOf d first given lane.seat.pen.front lane.jobs
   pub told : IsTrailOf given lane.trail
 
 -- the lane answers these, by entries that it gives behind those that it has given
@@ -33,16 +35,18 @@ pub record Answers (d : SetupData) (asked : List Numbered) (old new : Lane) : Ty
   pub added : List Entry
   pub asked_are : map asked_of added ≡ asked
   pub count : length new.trail.marks ≡ length old.trail.marks + length added
+  pub first : new.seat.first ≡ old.seat.first
+  pub kept : new.entries ≡ kept_with old.entries added
   pub goes_on : (before : PenValue) (given : List Entry)
-      → HasAnswered d before given old → HasAnswered d before (given ++ added) new
+      → HasAnswered d old.seat.first before given old → HasAnswered d old.seat.first before (given ++ added) new
 
--- The lane answers the first of these, and ends before a command, since the log is full.
+-- The lane answers the first of these, and ends before a command, since no place is left in the log.
 pub record EndsFull (d : SetupData) (asked : List Numbered) (old new : Lane) : Type 0 where
   pub first : List Numbered
   pub left : List Numbered
   pub parts : asked ≡ first ++ left
   pub answers : Answers d first old new
-  pub full : length new.seat.pen.front ≡ MAX_PLACE
+  pub full : IsFaultAt old.seat.first.place (length new.seat.pen.front) fault.Full
   pub next : BeginsWithCommand left
 
 -- what becomes of a lane that is asked these. Of one that has no memory nothing is said
@@ -53,7 +57,7 @@ Comes d asked old (Err fault.NoMemory) new = ⊤
 
 -- the lane's seat is still that of its lane
 abbrev pub Stays : SetupData → Lane → Lane → Type 0
-Stays d old new = IsSeatOf d new.seat × IsSamePen old.seat.pen new.seat.pen
+Stays d old new = IsSeatFrom d old.seat.first new.seat × IsSamePen old.seat.pen new.seat.pen
 
 -- ---- jobs
 

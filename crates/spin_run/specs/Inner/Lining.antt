@@ -1,10 +1,10 @@
 -- Parts of a segment's text, as its lines are made of them.
 use Rattle.std.specs.Prelude.{ℕ, Bool, not, ◌==◌, List, [], ◌∷◌, map, filter, zip, slice_index_or}
 use Rattle.std.specs.List.{range_with_len}
-use Rattle.spin_report.specs.Histories.{Retired}
+use Rattle.spin_report.specs.Histories.{Retirement}
 
 -- endpoints that are retired, each with whether one stood
-abbrev pub retired_as : List ℕ → List Bool → List Retired
+abbrev pub retired_as : List ℕ → List Bool → List Retirement
 retired_as numbers stood =
     map (λ one. record { endpoint = one.0; stood = one.1 }) (zip numbers stood)
 

@@ -14,7 +14,7 @@ use Rattle.spin_script.specs.declared.script.Segment.{Segment}
 use Rattle.spin_script.specs.States.{ScriptData}
 use Rattle.spin_report.specs.Histories.{SegmentSeen, HistorySeen, front_text, report_text, entries_of}
 use Rattle.spin_report.specs.Segments.{wanted_by}
-use Rattle.spin_report.specs.Runs.{Standing, IsSegmentRun, sends_in}
+use Rattle.spin_report.specs.Runs.{RunPoint, IsSegmentRun, segment_sends}
 use Rattle.spin_run.specs.declared.end.RunEnd.{RunEnd}
 use Rattle.spin_run.specs.declared.end.RunEnd.TheVariants as end
 use Rattle.spin_run.specs.Records.{room_of}
@@ -39,7 +39,7 @@ moment state capture source sink ends = record {
 }
 
 -- as a standing, where these records are left
-abbrev pub standing : Moment → List (List ℕ) → Standing
+abbrev pub standing : Moment → List (List ℕ) → RunPoint
 standing now left = record { state = now.state; left = left; ends = now.outside.ends }
 
 -- ---- one segment
@@ -57,7 +57,7 @@ abbrev pub setting_of : ScriptData → Setting
 setting_of script = setting script.setup script.lanes script.endpoints
 
 -- The segment was run from the moment on: this is its part of the history, and so it leaves the standing.
-abbrev pub RunsFrom : Setting → Segment → Moment → List (List ℕ) → SegmentSeen → Standing → Type 0
+abbrev pub RunsFrom : Setting → Segment → Moment → List (List ℕ) → SegmentSeen → RunPoint → Type 0
 RunsFrom s segment before left part next =
     IsSegmentRun s.setup s.lanes s.endpoints segment (standing before left) part next
 
@@ -88,18 +88,18 @@ StopsOne s number segment before after left rest end.ReadFault =
     × (after.outside.ends ≡ retired_for s segment before)
     × Writes before.outside after.outside []
 StopsOne s number segment before after left rest end.WriteFault =
-    (part : SegmentSeen) × (next : Standing) × RunsFrom s segment before left part next
+    (part : SegmentSeen) × (next : RunPoint) × RunsFrom s segment before left part next
     × (after.outside.ends ≡ next.ends)
     × WritesInto before.outside after.outside [] (segment_text number part)
 StopsOne s number segment before after left rest end.NoMemory =
     ((after.outside.ends ≡ before.outside.ends)
     ⊎ ((after.outside.ends ≡ retired_for s segment before)
-    ⊎ ((part : SegmentSeen) × (next : Standing) × RunsFrom s segment before left part next
+    ⊎ ((part : SegmentSeen) × (next : RunPoint) × RunsFrom s segment before left part next
     × (after.outside.ends ≡ next.ends))))
     × Writes before.outside after.outside []
 StopsOne s number segment before after left rest (end.Endpoint endpoint) =
-    (part : SegmentSeen) × (next : Standing) × RunsFrom s segment before left part next
-    × StopsAt s.endpoints (sends_in part) endpoint (retired_for s segment before)
+    (part : SegmentSeen) × (next : RunPoint) × RunsFrom s segment before left part next
+    × StopsAt s.endpoints (segment_sends part) endpoint (retired_for s segment before)
     after.outside.ends
     × Writes before.outside after.outside []
 StopsOne s number segment before after left rest end.Whole = ⊥

@@ -3,6 +3,8 @@
 
 use plain_std::alloc::{AllocError, Global};
 use std::marker::PhantomData;
+use std::mem;
+use std::sync::Mutex;
 use std::sync::atomic::{AtomicU64, Ordering::SeqCst};
 
 /// What holds between any two steps.
@@ -20,10 +22,11 @@ pub trait Join<V> {}
 /// What one thread knows of the table.
 pub struct Seat<S, V>(PhantomData<fn() -> (S, V)>);
 
-/// The words.
+/// The words and the slots. A lock guards each slot, which nobody holds twice at once: the proved one has none.
 pub struct Shared<S, V, K, R> {
     words: Box<[AtomicU64]>,
-    types: PhantomData<fn() -> (S, V, K, R)>,
+    slots: Box<[Mutex<S>]>,
+    types: PhantomData<fn() -> (V, K, R)>,
 }
 
 /// The words and who owns them.
@@ -34,28 +37,59 @@ pub struct Table<S, V, K, R, A> {
 
 /// The words once no thread shares them.
 pub struct Closed<S, A> {
-    words: Vec<u64>,
+    words: Box<[AtomicU64]>,
     owner: PhantomData<(S, A)>,
 }
 
+/// A list with room for so many items.
+fn room<X>(count: usize) -> Result<Vec<X>, AllocError> {
+    let mut room = Vec::new();
+    room.try_reserve_exact(count).map_err(|_| AllocError)?;
+    Ok(room)
+}
+
 impl<S, V, K, R: TableRule<S, V, K>> Table<S, V, K, R, Global> {
-    /// A table of these words, and the first seat.
-    pub fn of_words(_alloc: Global, words: &[u64], _known: &K) -> Result<(Self, Seat<S, V>), AllocError> {
-        let mut room = Vec::new();
-        room.try_reserve_exact(words.len()).map_err(|_| AllocError)?;
-        room.extend(words.iter().map(|word| AtomicU64::new(*word)));
-        let shared = Shared { words: room.into_boxed_slice(), types: PhantomData };
+    /// A table of these words and slots, and the first seat.
+    fn of(words: &[u64], slots: Vec<Mutex<S>>) -> Result<(Self, Seat<S, V>), AllocError> {
+        let mut own = room(words.len())?;
+        own.extend(words.iter().map(|word| AtomicU64::new(*word)));
+        let shared = Shared { words: own.into_boxed_slice(), slots: slots.into_boxed_slice(), types: PhantomData };
         Ok((Table { shared, owner: PhantomData }, Seat(PhantomData)))
     }
 
-    /// What the words are in the end.
+    /// A table of these words, and the first seat.
+    pub fn of_words(_alloc: Global, words: &[u64], _known: &K) -> Result<(Self, Seat<S, V>), AllocError> {
+        Table::of(words, Vec::new())
+    }
+
+    /// What the words are in the end. It takes no memory.
     pub fn close_with(self, _seat: Seat<S, V>) -> Closed<S, Global> {
-        let words = self.shared.words.iter().map(|word| word.load(SeqCst)).collect();
-        Closed { words, owner: PhantomData }
+        Closed { words: self.shared.words, owner: PhantomData }
+    }
+}
+
+impl<T, V, K, R: TableRule<Option<T>, V, K>> Table<Option<T>, V, K, R, Global> {
+    /// A table of these words and so many slots, each of nothing, and the first seat.
+    pub fn vacant(
+        _alloc: Global, words: &[u64], count: usize, _known: &K,
+    ) -> Result<(Self, Seat<Option<T>, V>), AllocError> {
+        let mut slots = room(count)?;
+        slots.extend((0..count).map(|_| Mutex::new(None)));
+        Table::of(words, slots)
     }
 }
 
 impl<S, V, K, R> Shared<S, V, K, R> {
+    /// Puts `new` there, and answers what stood there, with a new seat.
+    pub fn swap_new_seat<P: Play<S, V>>(&self, at: usize, new: u64) -> (u64, Seat<S, V>) {
+        (self.words[at].swap(new, SeqCst), Seat(PhantomData))
+    }
+
+    /// Puts `new` into a slot that the seat holds, and answers what was there.
+    pub fn exchange(&self, _seat: &mut Seat<S, V>, slot: usize, new: S) -> S {
+        mem::replace(&mut *self.slots[slot].lock().unwrap(), new)
+    }
+
     pub fn split_seat<P: Split<V>>(&self, _seat: &mut Seat<S, V>) -> Seat<S, V> {
         Seat(PhantomData)
     }
@@ -87,7 +121,7 @@ impl<S, V, K, R> Shared<S, V, K, R> {
 
 impl<S, A> Closed<S, A> {
     pub fn word(&self, at: usize) -> u64 {
-        self.words[at]
+        self.words[at].load(SeqCst)
     }
 
     pub fn free(self) {}
@@ -119,6 +153,17 @@ mod tests {
         let closed = table.close_with(seat);
         assert_eq!((closed.word(0), closed.word(1)), (11, 3));
         closed.free();
+    }
+
+    #[test]
+    fn a_value_goes_through_a_slot() {
+        impl<T> TableRule<Option<T>, (), ()> for Any {}
+        impl<T> Play<Option<T>, ()> for Any {}
+        let (table, _) = Table::<Option<u8>, _, _, Any, _>::vacant(Global, &[1, 1], 2, &()).unwrap();
+        let (found, mut seat) = table.shared.swap_new_seat::<Any>(1, 0);
+        assert_eq!((found, table.shared.swap_new_seat::<Any>(1, 0).0), (1, 0));
+        assert_eq!(table.shared.exchange(&mut seat, 1, Some(7)), None);
+        assert_eq!(table.shared.exchange(&mut seat, 1, None), Some(7));
     }
 
     #[test]

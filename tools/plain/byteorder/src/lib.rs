@@ -9,6 +9,12 @@ pub trait ByteOrder {
     fn write_u16(bytes: &mut [u8], number: u16);
     fn write_u32(bytes: &mut [u8], number: u32);
     fn write_u64(bytes: &mut [u8], number: u64);
+
+    fn write_u32_into(numbers: &[u32], bytes: &mut [u8]) {
+        for (at, number) in numbers.iter().enumerate() {
+            Self::write_u32(&mut bytes[4 * at..], *number);
+        }
+    }
 }
 
 /// The highest byte first.

@@ -122,6 +122,10 @@ impl<T> Vec<T> {
         self.0.truncate(count);
     }
 
+    pub fn retain<F: FnMut(&T) -> bool>(&mut self, keeps: F) {
+        self.0.retain(keeps);
+    }
+
     pub fn clear(&mut self) {
         self.0.clear();
     }
@@ -223,7 +227,8 @@ mod tests {
         assert_eq!((list.as_slice(), more.len()), ([2, 3, 4, 9, 9, 7].as_slice(), 0));
         list.sort_by_key(|x| std::cmp::Reverse(*x)).unwrap();
         list.truncate(4);
-        assert_eq!(list.into_iter().collect::<List<_>>(), [9, 9, 7, 4]);
+        list.retain(|x| *x != 7);
+        assert_eq!(list.into_iter().collect::<List<_>>(), [9, 9, 4]);
     }
 
     #[test]

@@ -1,22 +1,30 @@
 use Rattle.std.proofs.Common.{refl}
-use Rattle.std.specs.Arc.{arc_value}
-use Rattle.spin_table.specs.SetupOf.{data_of}
 use Rattle.spin_c.proofs.Turning.{stays_well}
 use Rattle.spin_c.proofs.turn.raise.Goals as goal
 
+pub raise-requires-clause-seat : goal.raise-requires-clause-seat
+raise-requires-clause-seat g c = rw c.deref.ensures c.requires.well.0.own.1.is_seat.0
+
 pub returns-in-Ok-clause-well : goal.returns-in-Ok-clause-well
-returns-in-Ok-clause-well g c =
-    let hub = arc_value c.args.lane.now.hub in
-    stays_well hub.log (data_of hub.setup) c.args.lane.now.waiting c.args.lane.now.seat c.raise.new.seat c.requires.well c.raise.ensures.same
-    (rw c.deref.ensures at c.raise.ensures.seat) c.raise.ensures.first
+returns-in-Ok-clause-well g c = (
+  stays_well c.args.lane.now c.raise.new.seat c.requires.well c.raise.ensures.same (rw c.deref.ensures at c.raise.ensures.seat) c.raise.ensures.first,
+  rw c.deref.ensures at c.raise.ensures.well,
+)
 
 pub returns-in-Ok-clause-raises : goal.returns-in-Ok-clause-raises
 returns-in-Ok-clause-raises g c = (
-  (refl, c.raise.ensures.first, refl, refl),
+  (refl, c.raise.ensures.first, refl, refl, refl, refl, refl),
   record {
     reply = c.in-Ok.ensures.answer.0;
     kept = c.in-Ok.ensures.answer.1;
-    gives = rw c.deref.ensures at c.in-Ok.ensures.answer.3;
     told_is = c.in-Ok.ensures.answer.2;
+    replay = rw c.deref.ensures at c.in-Ok.ensures.answer.3;
+    gives = rw c.deref.ensures at c.in-Ok.ensures.answer.4;
   },
+)
+
+pub returns-in-Err-clause-well : goal.returns-in-Err-clause-well
+returns-in-Err-clause-well g c = (
+  stays_well c.args.lane.now c.raise.new.seat c.requires.well c.raise.ensures.same (rw c.deref.ensures at c.raise.ensures.seat) c.raise.ensures.first,
+  rw c.deref.ensures at c.raise.ensures.well,
 )

@@ -9,19 +9,19 @@ use Rattle.spin_cases.proofs.lanes.run_over.Goals as goal
 pub run_lanes-requires-clause-ready : goal.run_lanes-requires-clause-ready
 run_lanes-requires-clause-ready g c κs within =
     let d = data_of c.args.hub.now.setup in let id = c.args.hub.now.log.id in let lanes = c.in_ok-lanes.lanes in let made = c.in_ok-lanes.ensures in
-    let new = are_new d id 2 c.args.seats lanes (omega arith) (omega arith) c.requires.pens c.requires.seats made.seats made.fresh in
+    let new = are_new d c.requires.seats.0 id 2 c.args.seats lanes (omega arith) (omega arith) c.requires.pens c.requires.seats.1 made.seats made.fresh in
     subst (λ (n : ℕ). AreAtRest d id n lanes) (sym c.requires.two) (rest_of_ready d id 2 lanes new.ready)
 
 pub run_lanes-requires-clause-lines : goal.run_lanes-requires-clause-lines
 run_lanes-requires-clause-lines g c κs within =
     let d = data_of c.args.hub.now.setup in let id = c.args.hub.now.log.id in let lanes = c.in_ok-lanes.lanes in let made = c.in_ok-lanes.ensures in
-    let new = are_new d id 2 c.args.seats lanes (omega arith) (omega arith) c.requires.pens c.requires.seats made.seats made.fresh in
+    let new = are_new d c.requires.seats.0 id 2 c.args.seats lanes (omega arith) (omega arith) c.requires.pens c.requires.seats.1 made.seats made.fresh in
     subst (λ (n : ℕ). IsFitSegment n c.args.segment.now.lines) (sym new.ready.all) c.requires.lines
 
 pub returns : goal.returns
 returns g c =
     let d = data_of c.args.hub.now.setup in let id = c.args.hub.now.log.id in let lanes = c.in_ok-lanes.lanes in let made = c.in_ok-lanes.ensures in
-    let new = are_new d id 2 c.args.seats lanes (omega arith) (omega arith) c.requires.pens c.requires.seats made.seats made.fresh in
+    let new = are_new d c.requires.seats.0 id 2 c.args.seats lanes (omega arith) (omega arith) c.requires.pens c.requires.seats.1 made.seats made.fresh in
     let after = c.run_lanes.new.lanes in
     let asked = asked_in c.args.segment.now.lines c.new-frames.result in
     let given = c.run_lanes.ensures.0 in

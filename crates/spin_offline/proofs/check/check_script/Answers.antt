@@ -2,7 +2,7 @@ use Rattle.std.proofs.Common.{refl}
 use Rattle.std.specs.Prelude.{option_map}
 use Rattle.spin_check.specs.RunTexts.{capture_of}
 use Rattle.spin_stages.specs.declared.end.End.TheVariants.{NoMemory}
-use Rattle.spin_offline.proofs.CheckCauses.{not_captured, not_judged, not_reported, was_answered}
+use Rattle.spin_offline.proofs.CheckCauses.{not_captured, not_reported, was_answered}
 use Rattle.spin_offline.proofs.check.check_script.Goals as goal
 
 pub returns-in-Err : goal.returns-in-Err
@@ -21,7 +21,8 @@ pub returns-in-Err-is_of_history : goal.returns-in-Err-is_of_history
 returns-in-Err-is_of_history g c natives before name stood loaded = (
   NoMemory,
   c.stop-in-Err-is_of_history.ensures.status,
-  not_judged _ _ _ _ _ _ _ _ stood c.in-Ok.ensures.stood c.in-Ok-report_of.ensures.stood (record { ends = refl; tells = c.stop-in-Err-is_of_history.ensures.line }),
+  not_reported _ _ _ _ _ _ _ _ _ (option_map capture_of c.in-Ok.capture) NoMemory
+      stood loaded c.in-Ok.ensures.stood c.in-Ok.ensures.read c.in-Ok-report_of.ensures.stood (record { ends = refl; tells = c.stop-in-Err-is_of_history.ensures.line }),
 )
 
 pub returns : goal.returns

@@ -4,7 +4,7 @@ use Rattle.std.specs.Io.KnownBytes.{IsAtEnd}
 use Rattle.spin_outside.specs.Sources.{SourceSeen}
 use Rattle.spin_pcap.specs.declared.fault.PcapFault.{PcapFault}
 use Rattle.spin_pcap.specs.declared.order.Order.{Order}
-use Rattle.spin_pcap.specs.Captures.{ordered_number, captured}
+use Rattle.spin_pcap.specs.Captures.{ordered_number, captured_length}
 use Rattle.spin_pcap.specs.Passing.{Passes}
 use Rattle.spin_pcap.proofs.SourceBytes.{copies-whole, copies-part, failed, no_refusal, whatever}
 use Rattle.spin_pcap.proofs.WholeRecords.{passes-record, within_record, answers-packet, header-left}
@@ -15,9 +15,9 @@ behind : (frame held held' held'' : List ℕ) (source source' : SourceSeen) → 
 behind frame held held' held'' source source' is p = subst (λ (ys : List ℕ). Passes frame ys source held'' source') is p
 
 -- what the header at the front of what is held says
-says : (way : Order) (held held' : List ℕ) (read : ℕ) → held ≡ held' → read ≡ ordered_number way 4 (take (length held - 8) (drop 8 held)) → captured way held' ≡ read
+says : (way : Order) (held held' : List ℕ) (read : ℕ) → held ≡ held' → read ≡ ordered_number way 4 (take (length held - 8) (drop 8 held)) → captured_length way held' ≡ read
 says way held held' read same is =
-    ap (λ ys. captured way ys) (sym same) ∙ ap (λ ys. ordered_number way 4 ys) (sym (take_rest held 8)) ∙ sym is
+    ap (λ ys. captured_length way ys) (sym same) ∙ ap (λ ys. ordered_number way 4 ys) (sym (take_rest held 8)) ∙ sym is
 
 pub returns-in-Err-clause-answer : goal.returns-in-Err-clause-answer
 returns-in-Err-clause-answer g c = whatever _ _ (λ bytes. failed _ _ c.in-Err.ensures.failed)
@@ -64,7 +64,7 @@ returns-then-whole-clause-answer g c =
     let same : c.held-held.result.now ≡ c.need.new.self = c.held-held.ensures.same in
     let size : 16 ≤ length c.need.new.self = omega (arith, c.if-held-lt-RECORD.false, ap length same) in
     let all : length c.copy_body.new.frame ≡ c.read_u32-captured.result = copies-whole PcapFault _ _ _ _ _ c.if-whole.true c.in-Ok.ensures.copied in
-    let says : captured c.args.order c.need.new.self ≡ c.read_u32-captured.result =
+    let says : captured_length c.args.order c.need.new.self ≡ c.read_u32-captured.result =
     says c.args.order c.held-held.result.now c.need.new.self c.read_u32-captured.result same c.read_u32-captured.ensures in
     answers-packet c.args.order c.args.given c.args.window.now c.need.new.self c.copy_body.new.window c.copy_body.new.frame _ _ _ c.need.ensures.passed size
     (behind c.copy_body.new.frame c.need.new.self c.skip.new.self c.copy_body.new.window _ _ c.skip.ensures.skipped c.copy_body.ensures.passed)
@@ -82,7 +82,7 @@ returns-in-Err-clause-refused g c = no_refusal c.args.given _ (omega (arith, c.i
 pub returns-in-Err-clause-memory : goal.returns-in-Err-clause-memory
 returns-in-Err-clause-memory g c =
     let same : c.held-held.result.now ≡ c.need.new.self = c.held-held.ensures.same in
-    let says : captured c.args.order c.need.new.self ≡ c.read_u32-captured.result =
+    let says : captured_length c.args.order c.need.new.self ≡ c.read_u32-captured.result =
     says c.args.order c.held-held.result.now c.need.new.self c.read_u32-captured.result same c.read_u32-captured.ensures in
     λ _. header-left c.args.order c.args.given c.args.window.now c.need.new.self _ _ c.need.ensures.passed
     (omega (arith, c.if-held-lt-RECORD.false, ap length same)) (omega (arith, c.if-given-ge-MAX_RECORDS.false))

@@ -1,4 +1,4 @@
-use Rattle.std.proofs.Common.{◌<◌, Some, None, subst, ◌∙◌}
+use Rattle.std.proofs.Common.{◌<◌, Some, None, subst}
 use Rattle.spin_raise.specs.declared.bound.Runner.TheVariants as runner
 use Rattle.spin_table.specs.SetupOf.{data_of}
 use Rattle.spin_proto.specs.declared.reply.TheConstants.{MAX_RUNS}

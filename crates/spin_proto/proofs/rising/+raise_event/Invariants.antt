@@ -1,4 +1,4 @@
-use Rattle.std.proofs.Common.{◌≡◌, ◌-◌, length, fold, reverse}
+use Rattle.std.proofs.Common.{◌≡◌, ◌-◌, [], length, fold, reverse}
 use Rattle.std.specs.List.{flat_map}
 use Rattle.spin_raise.specs.Firing.{as_found, fired, items_by, answer_of}
 use Rattle.spin_raise.specs.Progress.{to_come, answer_after}
@@ -24,6 +24,7 @@ invariant-turns g l =
     (flat_map (λ f. marks_of l.event (raised_after l.runner u bounds l.event) (items_by f)) rest) l.fn.walk l.walk)
     × (fold (answer_after b.merge) l.progress.answer rest ≡ answer_of b.merge all)
     × FiringsRise (length l.version.events) l.event rest
+    × (l.ups ≡ [])
 
 abbrev pub decreases-turns : goal.decreases-turns
 decreases-turns g l = length (to_come l.runner (units_in (data_of l.setup)) (as_found l.bound) l.progress)

@@ -1,11 +1,11 @@
 use Rattle.std.proofs.Common.{◌≡◌, ◌++◌, ℕ, Bool, false, map, get_or, ap, ◌∙◌, arith, rules}
 use Rattle.spin_text.specs.Words.{ended}
-use Rattle.spin_report.specs.Histories.{Retired, retire_line}
+use Rattle.spin_report.specs.Histories.{Retirement, retire_line}
 use Rattle.spin_run.specs.Inner.Lining.{retired_as}
 use Rattle.spin_run.proofs.TextLines.{added, side_at, side_all}
 use Rattle.spin_run.proofs.lines.add_retired.Goals as goal
 
-abbrev one_of : ℕ × Bool → Retired
+abbrev one_of : ℕ × Bool → Retirement
 one_of one = record { endpoint = one.0; stood = one.1 }
 
 pub loop-at-preserved : goal.loop-at-preserved

@@ -8,8 +8,8 @@ meet-requires-clause-first g c =
     let split = c.split_at_mut-left.ensures in
     let inside = c.requires.inside in
     let both =
-    both_of_hub (data_of c.args.hub.now.setup) c.args.hub.now.log.id c.args.lanes.now c.split_at_mut-left.result.0.now c.split_at_mut-left.result.1.now c.args.k
-    c.index-left-0.result c.index-right-0.result split.value split.front_len c.requires.after (omega (arith, inside, split.back_len)) c.requires.seats in
+    both_of_hub (data_of c.args.hub.now.setup) c.requires.seats.0 c.args.hub.now.log.id c.args.lanes.now c.split_at_mut-left.result.0.now c.split_at_mut-left.result.1.now c.args.k
+    c.index-left-0.result c.index-right-0.result split.value split.front_len c.requires.after (omega (arith, inside, split.back_len)) c.requires.seats.1 in
     both.1.1.1 ∙ sym both.0.1.1
 
 pub returns : goal.returns
@@ -23,7 +23,6 @@ returns g c =
     let x = c.index-left-0.result in
     let y = c.index-right-0.result in
     let some : 0 < length right = omega (arith, inside, split.back_len) in
-    let both = both_of_hub d c.args.hub.now.log.id c.args.lanes.now left right c.args.k x y split.value split.front_len after some c.requires.seats in
     meets d c.args.lanes.now left right c.args.k x y c.meet.new.a c.meet.new.b c.meet.result split.value split.front_len after some
-    (c.meet.ensures.seat_a, c.meet.ensures.first.0 ∙ both.0.1.1) (c.meet.ensures.seat_b, c.meet.ensures.first.1 ∙ both.1.1.1)
+    (c.meet.ensures.seat_a, c.meet.ensures.first.0) (c.meet.ensures.seat_b, c.meet.ensures.first.1)
     c.meet.ensures.a c.meet.ensures.b c.meet.ensures.whole c.meet.ensures.reads c.meet.ensures.pens

@@ -1,7 +1,8 @@
-use Rattle.std.proofs.Common.{◌≡◌, ℕ, map, length, refl, sym, ap, subst, ◌∙◌, arith}
+use Rattle.std.proofs.Common.{◌≡◌, ◌≤◌, ℕ, map, length, refl, sym, ap, subst, ◌∙◌, arith, take_all}
 use Rattle.std.proofs.lemmas.Result.{err_from_is_err_and}
 use Rattle.spin_endpoint.specs.Inner.View.{view_of}
 use Rattle.spin_table.specs.SetupOf.{data_of}
+use Rattle.spin_script.specs.Soundness.{command_lines}
 use Rattle.spin_run.specs.Ends.{seen}
 use Rattle.spin_run.specs.Records.{room_of}
 use Rattle.spin_run.specs.Segments.{IsFitSegment, state_of}
@@ -15,7 +16,7 @@ pub loop-number-init : goal.loop-number-init
 loop-number-init g c = record {
   stands = λ left rest r. (left, r, λ version reader start tally told. told);
   ready = c.requires.ready;
-  room = omega (arith, ap length c.requires.front);
+  room = omega (arith, c.requires.start);
   keep = refl;
   same = refl;
   reads = refl;
@@ -123,7 +124,10 @@ loop-number-preserved g c =
     }
 
 pub place-requires : goal.place-requires
-place-requires g c = record { ready = c.loop-number.invariant.ready }
+place-requires g c =
+    let done : length c.args.segments.now ≤ c.loop-number.number = omega arith in
+    let whole = ap command_lines (take_all c.loop-number.number c.args.segments.now done) in
+    record { ready = c.loop-number.invariant.ready; few = omega (arith, c.loop-number.invariant.room, whole, c.requires.commands) }
 
 pub returns : goal.returns
 returns g c =

@@ -5,7 +5,7 @@ use Rattle.spin_table.specs.SetupOf.{data_of}
 use Rattle.spin_script.specs.Soundness.{command_lines}
 use Rattle.spin_run.specs.Ends.{RunSeen, faults_of}
 use Rattle.spin_run.specs.Summaries.{Counts}
-use Rattle.spin_run.specs.Segments.{AreReady, front_of, state_of}
+use Rattle.spin_run.specs.Segments.{AreReady, place_of, state_of}
 use Rattle.spin_run.specs.Inner.Steps.{moment, setting, script_in, HasToldAll}
 use Rattle.spin_run.proofs.SegmentRuns.{KeepsRecords}
 use Rattle.spin_run.proofs.script.run_each.Given as goal
@@ -25,7 +25,7 @@ invariant-loop-number g l =
           → HasToldAll (script_in s l.segments version) reader frames left start l.number
           (moment (state_of d l.lanes) l.capture (source l.source) (sink l.out) (all l.ends.ends.items)) tally (g.T.Telling.counts l.out));
       ready : AreReady d l.hub.log.id l.hub.log.lanes l.lanes;
-      room : length (front_of l.lanes) ≤ command_lines (take l.number l.segments);
+      room : place_of d l.lanes ≤ command_lines (take l.number l.segments);
       keep : (source l.source).keep ≡ (source l.fn.source).keep;
       same : g.T.Telling.reference l.out ≡ g.T.Telling.reference l.fn.out;
       reads : (source l.source).faults ≡ (source l.fn.source).faults;

@@ -4,6 +4,7 @@ use Rattle.std.proofs.lemmas.Result.{err_from_is_err_and}
 use Rattle.spin_endpoint.specs.Inner.View.{view_of}
 use Rattle.spin_table.specs.States.{start_of}
 use Rattle.spin_table.specs.SetupOf.{data_of}
+use Rattle.spin_seat.specs.Places.{place_past}
 use Rattle.spin_seat.specs.Seats.{IsSeatOf}
 use Rattle.spin_run.specs.Ends.{seen}
 use Rattle.spin_run.specs.Segments.{state_of}
@@ -67,7 +68,7 @@ returns-in_err-lanes g c =
 
 pub of_seats-requires-clause-seats : goal.of_seats-requires-clause-seats
 of_seats-requires-clause-seats g c =
-    subst (λ st. All (IsSeatOf (data_of st)) c.in_ok-hub.seats) (sym c.in_ok-hub.ensures.setup) c.in_ok-hub.ensures.seats
+    (start_of (data_of c.in_ok-hub.hub.setup), subst (λ st. All (IsSeatOf (data_of st)) c.in_ok-hub.seats) (sym c.in_ok-hub.ensures.setup) c.in_ok-hub.ensures.seats)
 
 pub run_each-requires-clause-sincere : goal.run_each-requires-clause-sincere
 run_each-requires-clause-sincere g c κs lives = rw c.in_ok-hub.ensures.setup c.requires.sincere
@@ -75,8 +76,11 @@ run_each-requires-clause-sincere g c κs lives = rw c.in_ok-hub.ensures.setup c.
 pub run_each-requires-clause-ready : goal.run_each-requires-clause-ready
 run_each-requires-clause-ready g c κs lives = c.in_ok-lanes.ensures.ready
 
-pub run_each-requires-clause-front : goal.run_each-requires-clause-front
-run_each-requires-clause-front g c κs lives = c.in_ok-lanes.ensures.front
+pub run_each-requires-clause-start : goal.run_each-requires-clause-start
+run_each-requires-clause-start g c κs lives =
+    let d = data_of c.in_ok-hub.hub.setup in
+    let seats = subst (λ st. All (IsSeatOf (data_of st)) c.in_ok-hub.seats) (sym c.in_ok-hub.ensures.setup) c.in_ok-hub.ensures.seats in
+    (λ i. place_past ((c.in_ok-lanes.ensures.first (start_of d) seats).0 i).place (length (c.in_ok-lanes.ensures.front i)))
 
 pub run_each-requires-clause-valid : goal.run_each-requires-clause-valid
 run_each-requires-clause-valid g c κs lives = c.requires.valid
@@ -105,7 +109,9 @@ returns g c =
     let after = seen (source c.run_each.new.source) (sink c.run_each.new.out) (all c.run_each.new.ends.ends.items) in
     let lanes_are : length lanes ≡ c.args.lane_count = c.in_ok-lanes.ensures.ready.all ∙ c.in_ok-hub.ensures.lanes in
     let same : made ≡ s = λ i. setting (data_of (c.in_ok-hub.ensures.setup i)) (lanes_are i) c.args.names.now in
-    let start : state_of (data_of c.in_ok-hub.hub.setup) lanes ≡ start_of (data_of c.args.setup) = c.in_ok-lanes.ensures.start ∙ ap (λ (st : _). start_of (data_of st)) c.in_ok-hub.ensures.setup in
+    let seats = subst (λ st. All (IsSeatOf (data_of st)) c.in_ok-hub.seats) (sym c.in_ok-hub.ensures.setup) c.in_ok-hub.ensures.seats in
+    let start : state_of (data_of c.in_ok-hub.hub.setup) lanes ≡ start_of (data_of c.args.setup) =
+    (c.in_ok-lanes.ensures.first (start_of (data_of c.in_ok-hub.hub.setup)) seats).1 ∙ ap (λ (st : _). start_of (data_of st)) c.in_ok-hub.ensures.setup in
     record {
       end = λ version.
           let script = script_in s c.args.segments.now version in

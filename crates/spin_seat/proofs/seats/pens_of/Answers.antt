@@ -1,4 +1,4 @@
-use Rattle.std.proofs.Common.{◌∙◌, ◌++◌, ◌∷◌, [], ◌+◌, ap, length, arith, length-append}
+use Rattle.std.proofs.Common.{◌∙◌, ◌++◌, ◌∷◌, [], ap, length, arith, length-append}
 use Rattle.std.specs.Prelude.{map}
 use Rattle.spin_log.specs.Pens.{PenValue}
 use Rattle.spin_seat.specs.Seats.{SeatValue}

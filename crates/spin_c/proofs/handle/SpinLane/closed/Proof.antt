@@ -21,7 +21,7 @@ use Rattle.std.specs.Prelude.{None, Option}
 use Rattle.core.proofs.cell.Inside.{one}
 use Rattle.std_heap.proofs.Global.TheLaws as heap_laws
 use Rattle.std.proofs.raw_atomic.Walks.{proved_at, leaves}
-use Rattle.spin_c.specs.Lanes.{LaneAt}
+use Rattle.spin_c.specs.Lanes.{HeldAt}
 use Rattle.spin_c.specs.Waiting.{IsWell}
 use Rattle.spin_c.proofs.Values.{both}
 use Rattle.spin_c.proofs.Maybes.{Z, words_good}
@@ -37,7 +37,7 @@ closed_spec 𝓤 𝓛 𝓜 𝓡 wired =
     let hs : Stays En.signature.params En.kept = (stay_dropped (plain (λ _. Z)) yes, tt) in
     proved_at 𝓛 En hs c 𝓜 𝓡 (Goes-dropped 𝓛 0 (plain (λ _. Z)) yes (λ κs x f. refl), tt) #self fn (code.unfolded 𝓤 H 𝓜 𝓡 wired) (λ z are.
     let κs = z.0.0 in let Post : Val → SProp 𝓤 = (walk_of 𝓛 En hs c).post z in let Run : List Val → SProp 𝓤 = λ ws. WpFn 𝓤 H 𝓣.C 𝓣.Λ fn ws Post in
-    let a = z.0.3.0 in let nothing_there : Option LaneAt = None in
+    let a = z.0.3.0 in let nothing_there : Option HeldAt = None in
     let h = one (layout Z) z.0.4.0 ((LZ.lawful 𝓛).typed a z.0.4.0 are.0) in let w : Val = both (ptr_val null_ptr) h.0 in
     qed 𝓛 ((‵ ftrue ⊛ ‵ (owns (types_at En.signature.params κs) z.0.3 z.0.4)) ∷ raw (emp 𝓤) ∷ []) ∵
     split ! $ move ! (1 ∷ []) $ fsplit ! $ rewrite ! 0 (λ (us : List Val). ‵ (Z.own_val a us)) h.1 refl $ feq_i ! Ptr null_ptr null_ptr refl $ nothing ! $ fpack !

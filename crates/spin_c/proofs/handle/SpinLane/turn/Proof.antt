@@ -42,11 +42,11 @@ use Rattle.spin_objects.specs.contracts.natives.Natives.new.dyn-2 as second'
 use Rattle.spin_objects.specs.contracts.natives.Natives.new.dyn-3 as third'
 use Rattle.spin_objects.proofs.natives.Natives.new.Met as fresh_met
 use Rattle.spin_script.specs.States.{NativeData, natives_seen}
-use Rattle.spin_c.specs.Lanes.{row_at, LaneAt, no_first, no_second, no_third}
+use Rattle.spin_c.specs.Lanes.{row_at, HeldAt, no_first, no_second, no_third}
 use Rattle.spin_c.specs.Turns.{Turns}
-use Rattle.spin_c.specs.Waiting.{IsWell}
+use Rattle.spin_c.specs.Waiting.{IfLane, IsWell}
 use Rattle.spin_c.specs.Verdicts.{no_natives}
-use Rattle.spin_c.proofs.Laws.{row_laws, Bare, bare_laws, each_some, none_seen}
+use Rattle.spin_c.proofs.Laws.{row_laws, Bare, bare_laws, each_lane, none_seen}
 use Rattle.spin_c.specs.declared.ask.Ask.{Ask}
 use Rattle.spin_c.specs.declared.ask.Ask.TheVariants as asked
 use Rattle.spin_c.specs.contracts.ask.Call as call
@@ -86,8 +86,17 @@ asks_blank a (asked.Raise event args) f = tt
 asks_blank a (asked.Command row) f = tt
 asks_blank a (asked.Step index) f = tt
 asks_blank a (asked.Bytes index) f = tt
+asks_blank a (asked.Later event args) f = tt
+asks_blank a (asked.Job index) f = tt
+asks_blank a (asked.JobStep index) f = tt
+asks_blank a (asked.JobBytes index) f = tt
+asks_blank a (asked.Cycle index) f = tt
 asks_blank a (asked.Before index) f = tt
+asks_blank a asked.Gather f = tt
 asks_blank a asked.Renew f = tt
+asks_blank a asked.End f = tt
+asks_blank a (asked.RowAt index) f = tt
+asks_blank a asked.Return f = tt
 asks_blank a asked.Close f = tt
 
 pub turn_spec : {M : Type 1} → statement M
@@ -128,10 +137,10 @@ turn_spec 𝓤 𝓛 𝓜 𝓡 wired =
     (t ∷ []) (λ shown. let g = one (layout Bare) (t ∷ []) ((bare_laws.lawful 𝓛).typed n (t ∷ []) shown) in rewrite ! 0 (λ (us : List Val). ‵ (Bare.own_val n us)) g.1 refl $
     let G = triple_of 𝓛 (callee.signature no_first no_second no_third) (callee.spec no_first no_second no_third 𝓛 𝓜.mem 𝓡.returns) in
     let y : G.Ghost = ((tt, tt, tt, (m, (n, (q, tt))), (w ∷ [], (g.0 ∷ [], (k.0 ∷ [], tt)))), tt) in let Pair = Tuple (Mb ∷ O ∷ []) in
-    let Sincere : Type 0 = IfSome d.kept (λ (l : LaneAt). IsSincere _ _ _ (arc_value l.hub).setup.catalogue.natives) in let Bares : Type 0 = IsSincere _ _ _ n in
+    let Sincere : Type 0 = IfSome d.kept (λ (h : HeldAt). IfLane h (λ l. IsSincere _ _ _ (arc_value l.party).hub.setup.catalogue.natives)) in let Bares : Type 0 = IsSincere _ _ _ n in
     move ! (2 ∷ 3 ∷ []) $ fjoin ! $ move ! (1 ∷ 0 ∷ []) $ fjoin ! $ move ! (1 ∷ 0 ∷ []) $ fjoin ! $ move ! (1 ∷ 0 ∷ []) $ join ! $
     use0 𝓛 (raw (fact 𝓤 (IsWell d.kept))) (fact_i 𝓤 (IsWell d.kept) (emp 𝓤) well) $
-    use0 𝓛 (raw (fact 𝓤 Sincere)) (fact_i 𝓤 Sincere (emp 𝓤) (each_some (λ (l : LaneAt). IsSincere _ _ _ (arc_value l.hub).setup.catalogue.natives)
+    use0 𝓛 (raw (fact 𝓤 Sincere)) (fact_i 𝓤 Sincere (emp 𝓤) (each_lane (λ l. IsSincere _ _ _ (arc_value l.party).hub.setup.catalogue.natives)
     (λ l. record { handlers = λ k n low. absurd n.object.vtable; guards = λ k n low. absurd n.object.vtable; authorisers = λ k n low. absurd n.object.vtable }) d.kept)) $ join ! $
     use0 𝓛 (raw (fact 𝓤 Bares))
     (fact_i 𝓤 Bares (emp 𝓤) (record { handlers = λ k n low. absurd n.object.vtable; guards = λ k n low. absurd n.object.vtable; authorisers = λ k n low. absurd n.object.vtable })) $ join ! $

@@ -2,7 +2,7 @@ use Rattle.std.proofs.Common.{◌≡◌, ◌++◌, ℕ, List, length, take, drop
 use Rattle.std.proofs.lemmas.List.{length-append, length-take-le, length-drop, drop-drop}
 use Rattle.spin_outside.specs.Sources.{SourceSeen}
 use Rattle.spin_pcap.specs.declared.next.Next.TheVariants as next
-use Rattle.spin_pcap.specs.Captures.{captured}
+use Rattle.spin_pcap.specs.Captures.{captured_length}
 use Rattle.spin_pcap.specs.Passing.{ReaderState, Passes, IsAnswer, IsGone, IfReading, left_for}
 use Rattle.spin_pcap.specs.Inner.Held.{HasPassed}
 use Rattle.spin_pcap.proofs.SourceBytes.{passes-none, passes-skip}
@@ -11,17 +11,17 @@ use Rattle.spin_pcap.proofs.reader.Reader.pass.Goals as goal
 
 -- the bytes of a record that is held
 frame_of : ReaderState → List ℕ
-frame_of r = take (captured r.order r.held) (drop 16 r.held)
+frame_of r = take (captured_length r.order r.held) (drop 16 r.held)
 
-size_of : (before after : ReaderState) → HasPassed before after → length (frame_of before) ≡ captured before.order before.held
+size_of : (before after : ReaderState) → HasPassed before after → length (frame_of before) ≡ captured_length before.order before.held
 unfolding frame_of
-size_of before after h = length-take-le (captured before.order before.held) (drop 16 before.held) (omega (arith, length-drop 16 before.held, h.whole))
+size_of before after h = length-take-le (captured_length before.order before.held) (drop 16 before.held) (omega (arith, length-drop 16 before.held, h.whole))
 
 -- they are gone behind the header
 gone_of : (before after : ReaderState) (source : SourceSeen) → HasPassed before after → Passes (frame_of before) (drop 16 before.held) source after.held source
 unfolding frame_of
 gone_of before after source h =
-    let n = captured before.order before.held in
+    let n = captured_length before.order before.held in
     let is : after.held ≡ drop n (drop 16 before.held) = ap (λ (r : ReaderState). r.held) h.reader ∙ sym (drop-drop n 16 before.held) in
     subst (λ (ys : List ℕ). Passes (take n (drop 16 before.held)) (drop 16 before.held) source ys source) (sym is)
     (passes-skip (drop 16 before.held) source n (omega (arith, length-drop 16 before.held, h.whole)))

@@ -1,4 +1,4 @@
-use Rattle.std.proofs.Common.{◌≡◌, ◌<◌, ◌^◌, length, refl, sym, ◌∙◌, subst, arith}
+use Rattle.std.proofs.Common.{◌≡◌, ◌<◌, ◌^◌, ◌∷◌, [], length, refl, sym, subst, arith}
 use Rattle.std.specs.Prelude.{All}
 use Rattle.std.proofs.lemmas.Result.{on_ok_weaker}
 use Rattle.spin_table.specs.SetupOf.{data_of}
@@ -7,9 +7,7 @@ use Rattle.spin_report.specs.declared.entry.What.{What}
 use Rattle.spin_report.specs.Jobs.{answer_calls}
 use Rattle.spin_report.specs.declared.entry.What.TheVariants as what
 use Rattle.spin_report.specs.declared.entry.Entry.{Entry}
-use Rattle.spin_table.specs.States.{State}
-use Rattle.spin_seat.specs.Calls.{GivesFrom}
-use Rattle.spin_run.specs.Lanes.{seat_answer}
+use Rattle.spin_run.specs.Lanes.{kept_with}
 use Rattle.spin_run.specs.declared.lane.Lane.{Lane}
 use Rattle.spin_run.specs.Trails.{AddsTo}
 use Rattle.spin_run.specs.Inner.Answering.{AddsJobs}
@@ -31,15 +29,15 @@ pub returns-clause-ok : goal.returns-clause-ok
 returns-clause-ok g c =
     let d = data_of c.args.hub.now.setup in
     let old = c.args.self.now in
-    let new : Lane = record { seat = c.raise_into.new.self; trail = c.add.new.self; jobs = c.leave_jobs.new.jobs; stop = old.stop } in
+    let new : Lane = record { seat = c.raise_into.new.self; trail = c.add.new.self; jobs = c.leave_jobs.new.jobs; stop = old.stop; entries = c.keep.new.entries } in
     let entry : Entry = record { place = c.in_ok-place.place; lane = old.seat.pen.lane; line = c.args.line; part = c.args.part; what = what.Deed c.args.deed.now c.raise_into.new.buffer } in
     let lent : Entry = record entry { lane = c.lane-lane.result; what = c.answered-what.result } in
     let same : lent ≡ entry = λ i. record entry { lane = c.lane-lane.ensures.lane i; what = c.answered-what.ensures i } in
     let adds : AddsJobs entry new.seat.state (answer_calls entry.what) old.jobs new.jobs =
     subst (λ (e : Entry). AddsJobs e new.seat.state (answer_calls e.what) old.jobs new.jobs) same c.in_ok-leave_jobs.ensures in
-    let gives = subst (λ (first : State). GivesFrom d first old.seat.pen (seat_answer entry) new.seat.pen) c.requires.seat.1 c.in_ok-place.ensures.answer in
+    let kept = subst (λ (e : Entry). new.entries ≡ kept_with old.entries (e ∷ [])) same c.in_ok-keep.ensures in
     on_ok_weaker c.add.result
     (λ (added : AddsTo old.trail lent new.trail).
     reply_more d old new entry new.seat.state (subst (λ (e : Entry). AddsTo old.trail e new.trail) same added)
-    gives (c.raise_into.ensures.seat, c.raise_into.ensures.first ∙ c.requires.seat.1) c.in_ok-place.ensures.whole refl adds)
+    c.in_ok-place.ensures.answer (c.raise_into.ensures.seat, c.raise_into.ensures.first) c.in_ok-place.ensures.whole refl kept adds)
     c.add.ensures

@@ -11,7 +11,7 @@ use Rattle.spin_run.proofs.lane.Lane.answer_lines.Goals.{then-line-lane+in_ok-an
 pub loop-line-init : goal.loop-line-init
 loop-line-init g c =
     begins (data_of c.args.hub.now.setup) c.args.self.now.seat.pen.lane c.args.segment.now.lines
-    c.args.frames.now c.as_slice-left.result.now c.args.self.now c.as_slice-left.ensures c.requires.ready.seat
+    c.args.frames.now c.as_slice-left.result.now c.args.self.now c.as_slice-left.ensures c.requires.ready.seat.0
 
 pub answer_line-requires-clause-few : goal.answer_line-requires-clause-few
 answer_line-requires-clause-few g c κs within =

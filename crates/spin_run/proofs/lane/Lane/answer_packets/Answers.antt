@@ -22,7 +22,7 @@ answer_raise-requires-clause-few g c κs within =
     omega (arith, lt, few, count, packets_count lane c.args.line c.args.event 1 done, length-take i c.args.records.now)
 
 pub loop-frame-init : goal.loop-frame-init
-loop-frame-init g c = (answers_nothing (data_of c.args.hub.now.setup) c.args.self.now, (c.requires.seat, (refl, refl, refl)), refl)
+loop-frame-init g c = (answers_nothing (data_of c.args.hub.now.setup) c.args.self.now, ((c.requires.seat, refl), (refl, refl, refl)), refl)
 
 pub loop-frame-preserved : goal.loop-frame-preserved
 loop-frame-preserved g c =
@@ -43,6 +43,6 @@ loop-frame-preserved g c =
     (λ j. (c.loop-frame.invariant.1.1.2 j, (c.in_ok-args.ensures ∙ ap (λ (b : List ℕ). value.Bytes b ∷ []) c.deref.ensures) j)) c.in_ok-room.ensures.ok in
     let more = packets_more lane c.args.line c.args.event i part c.args.records.now frame lt c.frame-item.is (omega (arith, number)) in (
       subst (λ l. Answers d l old new) (sym more) (answers_then d first one old now new c.loop-frame.invariant.0 step),
-      stays_then d old now new c.loop-frame.invariant.1.1 c.answer_raise.ensures.stays,
+      stays_then d old now new c.loop-frame.invariant.1 c.answer_raise.ensures.stays,
       omega (arith, number),
     )

@@ -11,4 +11,4 @@ loop-lane-preserved c =
     c.loop-lane.jobs c.append.new.self c.lane-item.result _
     (omega (arith, c.loop-lane-test.true, c.loop-lane.invariant.count)) c.loop-lane.invariant (c.replace.ensures.after ∙ c.new.ensures, c.in_ok-append.ensures.ok.1)
     (c.in_ok-push.ensures.ok ∙ ap (λ (t : Trail). c.loop-lane.trails ++ t ∷ []) (c.replace.ensures.value ∙ (λ h. record taken { marks = c.in_ok-take_over.ensures.1 h })))
-    c.in_ok-take_over.ensures.0 c.in_ok-append.ensures.ok.0 refl refl
+    c.in_ok-take_over.ensures.0 c.in_ok-append.ensures.ok.0 refl refl refl

@@ -6,6 +6,7 @@ use Rattle.spin_table.specs.SetupOf.{data_of}
 use Rattle.spin_table.specs.Renewals.{renewed}
 use Rattle.spin_seat.specs.Seats.{SeatValue, IsSeatFrom}
 use Rattle.spin_seat.proofs.SeatRenewals.{still_order, last_lane}
+use Rattle.spin_seat.specs.Homes.{AreFor}
 use Rattle.spin_seat.proofs.hub.Hub.prepare.Goals as goal
 
 pub returns-clause-lanes : goal.returns-clause-lanes
@@ -32,7 +33,11 @@ returns-clause-seats g c = λ seat.
     subst (λ (s : SeatValue). All (IsSeatFrom (data_of c.args.self.now.setup) (renewed s.state)) c.in_ok-ready.field-0.seats)
     (get_or_default c.gather.new.seats 0 c.index-seats-0.result seat inside) c.in_ok-ready.ensures.seats
 
+pub returns-clause-homes : goal.returns-clause-homes
+returns-clause-homes g c =
+    let ready = c.in_ok-ready.field-0 in
+    subst (λ (n : ℕ). AreFor n ready.homes.table.shared.table_id ready.tickets) (sym c.in_ok-ready.ensures.lanes ∙ returns-clause-lanes g c) c.in_ok-ready.ensures.homes
+
 pub returns-clause-room : goal.returns-clause-room
 returns-clause-room g c =
-    let room = c.in_ok-ready.ensures.room in
-    (room.0, subst (λ (n : ℕ). n ≤ vec_capacity c.in_ok-ready.field-0.pens) (sym c.in_ok-ready.ensures.lanes ∙ returns-clause-lanes g c) room.1)
+    subst (λ (n : ℕ). n ≤ vec_capacity c.in_ok-ready.field-0.room.pens) (sym c.in_ok-ready.ensures.lanes ∙ returns-clause-lanes g c) c.in_ok-ready.ensures.room

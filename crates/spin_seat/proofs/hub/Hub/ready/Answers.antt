@@ -7,6 +7,7 @@ use Rattle.spin_table.specs.States.{State}
 use Rattle.spin_table.specs.Renewals.{NameGiven, renewed}
 use Rattle.spin_seat.specs.Seats.{SeatValue, IsSeatFrom}
 use Rattle.spin_seat.proofs.SeatInvariants.{place_fits, next_room, new_know_nothing}
+use Rattle.spin_seat.proofs.HomeSeats.{first_of, key_from}
 use Rattle.spin_seat.proofs.hub.Hub.ready.Goals as goal
 
 pub renewed-requires-clause-given : goal.renewed-requires-clause-given
@@ -52,3 +53,17 @@ returns-clause-seats g c =
     let state : c.deref.result.now ≡ c.args.seat.now.state = c.deref.ensures ∙ ap (λ (s : SeatValue). s.state) seat in
     let is : arc_value c.in_ok-first.first ≡ renewed c.args.seat.now.state = c.in_ok-first.ensures.ok ∙ (c.in_ok-renewed.ensures.renewed ∙ ap renewed state) in
     subst (λ (s : State). All (IsSeatFrom (data_of c.args.self.now.setup) s) c.in_ok-seats.seats) is c.in_ok-seats.ensures.seats
+
+pub returns-clause-key : goal.returns-clause-key
+returns-clause-key g c =
+    let seat : ◌≡◌ {A = SeatValue} (record {
+      pen = c.seat.inside.pen;
+      first = arc_value c.seat.inside.first;
+      state = arc_value c.seat.inside.version;
+      kept = c.seat.inside.kept;
+    }) c.args.seat.now = c.seat.view_is in
+    let d = data_of c.args.self.now.setup in
+    let state : c.deref.result.now ≡ c.args.seat.now.state = c.deref.ensures ∙ ap (λ (s : SeatValue). s.state) seat in
+    let is : arc_value c.in_ok-first.first ≡ renewed c.args.seat.now.state = c.in_ok-first.ensures.ok ∙ (c.in_ok-renewed.ensures.renewed ∙ ap renewed state) in
+    let one = first_of d (arc_value c.in_ok-first.first) c.in_ok-seats.seats c.get.result.now c.in_ok-seats.ensures.seats c.get.ensures in
+    key_from _ _ d _ _ c.in_ok-homes.ensures.key (one ∙ is)

@@ -1,0 +1,132 @@
+"""The calls of the shared library, with what they are handed, as bindings/c/spin.h has them."""
+
+import ctypes
+import os
+from enum import IntEnum
+from os import PathLike, fspath
+from pathlib import Path
+from typing import Any
+
+from codzvregi.faults import NoLibrary
+
+# The shared library, whose number is the version of its calls.
+NAME = "libcodzvregi.so.2"
+
+
+class Error(IntEnum):
+    """What a call answers: 0, or the number of an error."""
+
+    OK = 0
+    NO_MEMORY = 1
+    BAD_SCRIPT = 2
+    NO_HISTORY = 3
+    CLOSED = 4
+    OPEN = 5
+    NO_COMMAND = 6
+    FULL = 7
+    REFUSED = 8
+    NO_REPLY = 9
+    NO_STEP = 10
+    TOO_SMALL = 11
+    NO_ARGUMENT = 12
+    NO_LANE = 13
+    TAKEN = 14
+    NO_BINDING = 15
+    BAD_CAPTURE = 16
+    SHARED = 17
+    NO_JOB = 18
+    ENDED = 19
+    NO_ROW = 20
+    NO_TEXT = 21
+
+
+class SpinFault(ctypes.Structure):
+    """As struct spin_fault."""
+
+    _fields_ = [("line", ctypes.c_uint32), ("cause", ctypes.c_uint32)]
+
+
+class SpinAnswer(ctypes.Structure):
+    """As struct spin_answer."""
+
+    _fields_ = [
+        *(("place", ctypes.c_uint32), ("kind", ctypes.c_uint32)),
+        *(("value", ctypes.c_uint64), ("steps", ctypes.c_uint64)),
+    ]
+
+
+class SpinArg(ctypes.Structure):
+    """As struct spin_arg."""
+
+    _fields_ = [("kind", ctypes.c_uint64), ("at", ctypes.c_uint64), ("length", ctypes.c_uint64)]
+
+
+class SpinStep(ctypes.Structure):
+    """As struct spin_step."""
+
+    _fields_ = [
+        *(("kind", ctypes.c_uint32), ("event", ctypes.c_uint32), ("number", ctypes.c_uint32)),
+        *(("answer", ctypes.c_uint32), ("value", ctypes.c_uint64), ("length", ctypes.c_uint64)),
+    ]
+
+
+class SpinLane(ctypes.Structure):
+    """As struct spin_lane."""
+
+    _fields_ = [("at", ctypes.c_void_p)]
+
+
+# A row is four words.
+SpinRow = ctypes.c_uint64 * 4
+
+# The types of what is handed in: a text with its length, a list with its, an index.
+_BYTE, _SIZE, _NUMBER, _INDEX = ctypes.c_uint8, ctypes.c_size_t, ctypes.c_uint32, ctypes.c_uint64
+_TEXT: list[Any] = [ctypes.c_char_p, _SIZE]
+_FAULT, _ANSWER, _STEP = ctypes.POINTER(SpinFault), ctypes.POINTER(SpinAnswer), ctypes.POINTER(SpinStep)
+_LANE, _ROW, _LENGTH = ctypes.POINTER(SpinLane), ctypes.POINTER(SpinRow), ctypes.POINTER(_INDEX)
+_WORDS, _ARGS = [ctypes.POINTER(_INDEX), _SIZE], [ctypes.POINTER(SpinArg), _SIZE]
+
+# What each call is handed. Each answers a number.
+_GIVEN: dict[str, list[Any]] = {
+    "spin_version": [],
+    "spin_check": [*_TEXT, *_TEXT, *_TEXT, _FAULT],
+    "spin_check_packets": [*_TEXT, *_TEXT, *_TEXT, *_TEXT, _FAULT],
+    "spin_open_lanes": [*_TEXT, _BYTE, _LANE, _ANSWER],
+    "spin_seat": [_LANE, _BYTE, _LANE],
+    "spin_raise_words": [_LANE, _BYTE, *_WORDS, _ANSWER],
+    "spin_raise": [_LANE, _BYTE, *_TEXT, *_ARGS, _ANSWER],
+    "spin_later": [_LANE, _BYTE, *_TEXT, *_ARGS, _ANSWER],
+    "spin_step": [_LANE, _INDEX, _STEP],
+    "spin_step_bytes": [_LANE, _INDEX, *_TEXT, _LENGTH],
+    "spin_job": [_LANE, _INDEX, _ANSWER],
+    "spin_job_step": [_LANE, _INDEX, _STEP],
+    "spin_job_bytes": [_LANE, _INDEX, *_TEXT, _LENGTH],
+    "spin_command": [_LANE, _ROW, _ANSWER],
+    "spin_cycle": [_LANE, _INDEX, _ANSWER],
+    "spin_return": [_LANE, _ANSWER],
+    "spin_gather": [_LANE, _ANSWER],
+    "spin_renew": [_LANE, _ANSWER],
+    "spin_before": [_LANE, _INDEX, _ANSWER],
+    "spin_end": [_LANE, _ANSWER],
+    "spin_row_at": [_LANE, _INDEX, _ROW],
+    "spin_close": [_LANE, _ANSWER],
+    "spin_cause_text": [_NUMBER, *_TEXT, _LENGTH],
+    "spin_fault_text": [_NUMBER, *_TEXT, _LENGTH],
+}
+
+
+def load(path: str | PathLike[str] | None) -> ctypes.CDLL:
+    """The calls of the shared library of this path. Where none is given it is the one that CODZVREGI_LIBRARY names,
+    else the one in this package, else the system's."""
+    within = Path(__file__).parent / NAME
+    usual = fspath(within) if within.is_file() else NAME
+    file = os.environ.get("CODZVREGI_LIBRARY", usual) if path is None else fspath(path)
+    try:
+        calls = ctypes.CDLL(file)
+        for name, given in _GIVEN.items():
+            call = getattr(calls, name)
+            call.argtypes, call.restype = given, _NUMBER
+        calls.codzvregi_proved.argtypes, calls.codzvregi_proved.restype = [], ctypes.c_char_p
+    except (OSError, AttributeError) as why:
+        raise NoLibrary(f"the library can't be loaded: {why}") from None
+    return calls

@@ -1,0 +1,421 @@
+-- What is done, one thing after another.
+use Rattle.std.proofs.Common.{◌≡◌, ◌+◌, ◌<◌, ℕ, zero, suc, Bool, true, false, cond, not, List, [], ◌∷◌, ◌++◌, map, filter, length, All, Option, Some, None, Result, Ok, Err, refl, sym, ap, subst, ◌∙◌, arith, append_assoc, lit<, get_or, take, drop, ◌≤◌, ◌-◌, ◌==◌, ⊎_elim}
+use Rattle.std.specs.Prelude.{bytes_eq}
+use Rattle.std.specs.List.{flat_map, filter_map}
+use Rattle.std.specs.Option.{option_map}
+use Rattle.std.specs.Io.KnownBytes.{Appends}
+use Rattle.std.proofs.KnownBytes.{Appends-trans}
+use Rattle.std.proofs.lemmas.Bool.Decides.{eqb_tells}
+use Rattle.std.proofs.lemmas.List.{append-nil, length-append, map-append, take_all, take_rest}
+use Rattle.std.proofs.lemmas.List.Elements.{filter-append, filter_map-append, All-append}
+use Rattle.std.proofs.lemmas.Grind.{flat_map-append, take_at_read}
+use Rattle.spin_table.specs.Setups.{SetupData}
+use Rattle.spin_table.specs.States.{State}
+use Rattle.spin_proto.specs.declared.deed.JobCall.{JobCall}
+use Rattle.spin_proto.specs.declared.reply.Reply.{Reply}
+use Rattle.spin_proto.specs.Parts.{trace_in}
+use Rattle.spin_proto.specs.Replies.{IsDeedReply, IsJobReply, calls_left}
+use Rattle.spin_values.specs.declared.values.Value.{Value}
+use Rattle.spin_values.specs.declared.values.Value.TheVariants as value
+use Rattle.spin_word.specs.declared.work.Deed.TheVariants as deed
+use Rattle.spin_filter.specs.Passing.{Passed, AreJobReplies, IsPassed}
+use Rattle.spin_proto.specs.declared.reply.Step.{Step}
+use Rattle.spin_proto.specs.declared.reply.Step.TheVariants as step
+use Rattle.spin_endpoint.specs.declared.faults.DeliverFault.{DeliverFault}
+use Rattle.spin_endpoint.specs.declared.faults.DeliverFault.TheVariants as fault
+use Rattle.spin_endpoint.specs.Endpoints.{EndpointSeen, gained}
+use Rattle.spin_endpoint.specs.Named.{NamedEnd, Delivers, changed_as, with_piece, stands}
+use Rattle.spin_endpoint.specs.Sends.{SentSeen, name_of, pieces_for, received, all_received, is_lost}
+use Rattle.spin_endpoint.proofs.ReceivedSends.{all_received_none, all_received_more, stands_still, none_stands}
+use Rattle.spin_frames.specs.declared.head.Head.{Head}
+use Rattle.spin_frames.specs.Packets.{Packet}
+use Rattle.spin_frames.specs.Written.{written_record}
+use Rattle.spin_filter.specs.declared.counts.Counts.{Counts}
+use Rattle.spin_filter.specs.Counting.{Marked, Happened, Sending, AreCounts, joined, nothing, with_step, with_job, with_outcome, with_losts, just_steps, just_job, just_outcome, sent_by, sends_in, sendings, later_steps, job_steps, steps_of_jobs, happened_in_jobs, happened_at, outcome_of}
+use Rattle.spin_filter.specs.Sending.{is_writer, handed, lost_of, written_by, IsFrame, IsPut, IsHanded, IsMade, AreSent, Outlets, with_lost_of, IsDone}
+
+-- ---- endpoints
+
+gained_twice : (xs ys : List (List ℕ)) (end : EndpointSeen) → gained ys (gained xs end) ≡ gained (xs ++ ys) end
+gained_twice xs ys end = ap (λ pieces. record end { pieces = pieces }) (twice end.pieces) where
+  twice : (pieces : Option (List (List ℕ))) → option_map (λ told. told ++ ys) (option_map (λ told. told ++ xs) pieces) ≡ option_map (λ told. told ++ (xs ++ ys)) pieces
+  twice None = refl
+  twice (Some told) = ap Some (append_assoc told xs ys)
+
+pieces-then : (names : List (List ℕ)) (a b : List SentSeen) (name : List ℕ) → pieces_for names (a ++ b) name ≡ pieces_for names a name ++ pieces_for names b name
+pieces-then names a b name =
+    ap (λ xs. map (λ (s : SentSeen). s.bytes) xs) (filter-append (λ (s : SentSeen). bytes_eq name (name_of names s.endpoint)) a b)
+    ∙ map-append (λ (s : SentSeen). s.bytes) (filter (λ (s : SentSeen). bytes_eq name (name_of names s.endpoint)) a) (filter (λ (s : SentSeen). bytes_eq name (name_of names s.endpoint)) b)
+
+received-then : (names : List (List ℕ)) (a b : List SentSeen) (name : List ℕ) (up : Bool) (object : EndpointSeen)
+    → received names (a ++ b) (record { name = name; stands = up; object = object }) ≡ received names b (received names a (record { name = name; stands = up; object = object }))
+received-then names a b name true object =
+    ap (λ (o : EndpointSeen). record { name = name; stands = true; object = o })
+    (ap (λ ps. gained ps object) (pieces-then names a b name) ∙ sym (gained_twice (pieces_for names a name) (pieces_for names b name) object))
+received-then names a b name false object = refl
+
+all_received-then : (names : List (List ℕ)) (a b : List SentSeen) (ends : List NamedEnd) → all_received names (a ++ b) ends ≡ all_received names b (all_received names a ends)
+all_received-then names a b [] = refl
+all_received-then names a b (end ∷ ends) =
+    ap (λ e. e ∷ all_received names (a ++ b) ends) (received-then names a b end.name end.stands end.object)
+    ∙ ap (λ es. received names b (received names a end) ∷ es) (all_received-then names a b ends)
+
+-- one send is one delivery
+one-received : (names : List (List ℕ)) (sent : SentSeen) (ends : List NamedEnd) → all_received names (sent ∷ []) ends ≡ changed_as (name_of names sent.endpoint) (with_piece sent.bytes) ends
+one-received names sent ends =
+    all_received_more names (sent ∷ []) 0 sent ends (lit< tt) ∙ ap (λ es. changed_as (name_of names sent.endpoint) (with_piece sent.bytes) es) (all_received_none names ends)
+
+-- a send that is lost
+pub hand-lost : (names : List (List ℕ)) (sent : SentSeen) (ends ends' : List NamedEnd) (counts counts' : Counts) (name : List ℕ) (why : DeliverFault)
+    → name ≡ name_of names sent.endpoint → why ≡ fault.Unknown → Delivers name sent.bytes (Err why) ends ends'
+    → ((h : Happened) → AreCounts h counts → AreCounts (with_losts (sent.endpoint ∷ []) h) counts') → IsHanded names sent ends ends' counts counts'
+hand-lost names sent ends ends' counts counts' name fault.Failed is unknown delivers counted = cc
+hand-lost names sent ends ends' counts counts' name fault.Unknown is unknown delivers counted =
+    let none : stands (name_of names sent.endpoint) ends ≡ false = ap (λ n. stands n ends) (sym is) ∙ delivers.0 in
+    record {
+      ends_are = delivers.1 ∙ sym (one-received names sent ends ∙ none_stands (name_of names sent.endpoint) (with_piece sent.bytes) ends none);
+      counted = λ h has. subst (λ (b : Bool). AreCounts (with_losts (map (λ (s : SentSeen). s.endpoint) (cond (not b) (sent ∷ []) [])) h) counts') (sym none) (counted h has);
+    }
+
+-- ---- sends that are lost
+
+lost-still : (names : List (List ℕ)) (sends more : List SentSeen) (ends : List NamedEnd) → filter (is_lost names (all_received names sends ends)) more ≡ filter (is_lost names ends) more
+lost-still names sends [] ends = refl
+lost-still names sends (sent ∷ more) ends =
+    ap (λ b. cond (not b) (sent ∷ filter (is_lost names (all_received names sends ends)) more) (filter (is_lost names (all_received names sends ends)) more))
+    (stands_still names sends (name_of names sent.endpoint) ends)
+    ∙ ap (λ xs. cond (is_lost names ends sent) (sent ∷ xs) xs) (lost-still names sends more ends)
+
+abbrev goes : Option ℕ → SentSeen → Bool
+goes capture s = not (is_writer capture s.endpoint)
+
+handed-then : (capture : Option ℕ) (a b : List Sending) → handed capture (a ++ b) ≡ handed capture a ++ handed capture b
+handed-then capture a b =
+    ap (λ xs. filter (goes capture) xs) (map-append (λ (s : Sending). s.sent) a b)
+    ∙ filter-append (goes capture) (map (λ (s : Sending). s.sent) a) (map (λ (s : Sending). s.sent) b)
+
+lost-then : (names : List (List ℕ)) (capture : Option ℕ) (ends : List NamedEnd) (a b : List Sending) (sends : List SentSeen)
+    → lost_of names capture ends (a ++ b) ≡ lost_of names capture ends a ++ lost_of names capture (all_received names sends ends) b
+lost-then names capture ends a b sends =
+    ap (λ xs. map (λ (s : SentSeen). s.endpoint) (filter (is_lost names ends) xs)) (handed-then capture a b)
+    ∙ ap (λ xs. map (λ (s : SentSeen). s.endpoint) xs) (filter-append (is_lost names ends) (handed capture a) (handed capture b))
+    ∙ map-append (λ (s : SentSeen). s.endpoint) (filter (is_lost names ends) (handed capture a)) (filter (is_lost names ends) (handed capture b))
+    ∙ ap (λ xs. lost_of names capture ends a ++ map (λ (s : SentSeen). s.endpoint) xs) (sym (lost-still names sends (handed capture b) ends))
+
+-- ---- sends, one list behind the other
+
+sent-then : (names : List (List ℕ)) (capture : Option ℕ) (a b : List Sending) (e0 e1 e2 : List NamedEnd) (t0 t1 t2 : Option (List ℕ))
+    → AreSent names capture a e0 e1 t0 t1 → AreSent names capture b e1 e2 t1 t2 → AreSent names capture (a ++ b) e0 e2 t0 t2
+sent-then names capture a b e0 e1 e2 t0 t1 t2 p q = record {
+  ends_are = q.ends_are ∙ ap (λ es. all_received names (handed capture b) es) p.ends_are
+      ∙ sym (all_received-then names (handed capture a) (handed capture b) e0)
+      ∙ ap (λ xs. all_received names xs e0) (sym (handed-then capture a b));
+  written = subst (λ (bs : List ℕ). Appends t0 t2 bs) (sym (flat_map-append (λ (s : Sending). cond (is_writer capture s.sent.endpoint) (written_record s.head s.packet) []) a b))
+      (Appends-trans t0 t1 t2 (written_by capture a) (written_by capture b) p.written q.written);
+  frames = All-append (IsFrame capture) a b p.frames q.frames;
+}
+
+nothing-written : (t : Option (List ℕ)) → Appends t t []
+nothing-written None = tt
+nothing-written (Some xs) = sym (append-nil xs)
+
+sent-none : (names : List (List ℕ)) (capture : Option ℕ) (ends : List NamedEnd) (t : Option (List ℕ)) → AreSent names capture [] ends ends t t
+sent-none names capture ends t = record {
+  ends_are = sym (all_received_none names ends);
+  written = nothing-written t;
+  frames = λ k d lt. absurd (omega (arith, lt));
+}
+
+one-all : {X : Type 0} (P : X → Type 0) (x : X) → P x → (k : ℕ) (d : X) → k < length (x ∷ []) → P (get_or (x ∷ []) k d)
+one-all P x p zero d lt = p
+one-all P x p (suc k) d lt = absurd (omega (arith, lt))
+
+-- a record is written
+pub made-put : (names : List (List ℕ)) (capture : Option ℕ) (s : Sending) (x y : Outlets) → is_writer capture s.sent.endpoint ≡ true
+    → IsPut s.head s.packet s.sent.bytes x.told y.told → y.ends ≡ x.ends → y.counts ≡ x.counts → IsMade names capture s x y
+made-put names capture s x y is put ends counts =
+    let none : handed capture (s ∷ []) ≡ [] = ap (λ b. cond (not b) (s.sent ∷ []) []) is in
+    record {
+      sent = record {
+        ends_are = ends ∙ sym (ap (λ xs. all_received names xs x.ends) none ∙ all_received_none names x.ends);
+        written = subst (λ (bs : List ℕ). Appends x.told y.told bs)
+            (sym (ap (λ b. cond b (written_record s.head s.packet) [] ++ []) is ∙ append-nil (written_record s.head s.packet))) put.written;
+        frames = one-all (IsFrame capture) s (λ _. put.frame);
+      };
+      counted = λ h has.
+          let still : AreCounts h y.counts = subst (λ (c : Counts). AreCounts h c) (sym counts) has in
+          subst (λ (l : List ℕ). AreCounts (record h { lost = l }) y.counts)
+          (sym (ap (λ xs. h.lost ++ map (λ (z : SentSeen). z.endpoint) (filter (is_lost names x.ends) xs)) none ∙ append-nil h.lost)) still;
+    }
+
+-- a send is handed on
+pub made-handed : (names : List (List ℕ)) (capture : Option ℕ) (s : Sending) (x y : Outlets) → is_writer capture s.sent.endpoint ≡ false
+    → IsHanded names s.sent x.ends y.ends x.counts y.counts → y.told ≡ x.told → IsMade names capture s x y
+made-handed names capture s x y is hand told =
+    let own : handed capture (s ∷ []) ≡ s.sent ∷ [] = ap (λ b. cond (not b) (s.sent ∷ []) []) is in
+    record {
+      sent = record {
+        ends_are = hand.ends_are ∙ ap (λ xs. all_received names xs x.ends) (sym own);
+        written = subst (λ (t : Option (List ℕ)). Appends x.told t (written_by capture (s ∷ []))) (sym told)
+            (subst (λ (bs : List ℕ). Appends x.told x.told bs) (sym (ap (λ b. cond b (written_record s.head s.packet) [] ++ []) is)) (nothing-written x.told));
+        frames = one-all (IsFrame capture) s (λ yes. absurd (apart (sym yes ∙ is)));
+      };
+      counted = λ h has. subst (λ (xs : List SentSeen). AreCounts (with_losts (map (λ (z : SentSeen). z.endpoint) (filter (is_lost names x.ends) xs)) h) y.counts) (sym own) (hand.counted h has);
+    } where
+      apart : true ≡ false → ⊥
+      apart e = cc
+
+-- ---- what happened, one thing behind the other
+
+abbrev happened_by : List ℕ → List Marked → ℕ → List Sending → List ℕ → Happened
+happened_by o s j x l = record { outcomes = o; steps = s; jobs = j; sends = x; lost = l }
+
+same_happened : (a a' : List ℕ) (b b' : List Marked) (n n' : ℕ) (c c' : List Sending) (d d' : List ℕ) → a ≡ a' → b ≡ b' → n ≡ n' → c ≡ c' → d ≡ d'
+    → happened_by a b n c d ≡ happened_by a' b' n' c' d'
+same_happened a a' b b' n n' c c' d d' p q r s t =
+    ap (λ x. happened_by x b n c d) p ∙ ap (λ x. happened_by a' x n c d) q ∙ ap (λ x. happened_by a' b' x c d) r ∙ ap (λ x. happened_by a' b' n' x d) s ∙ ap (λ x. happened_by a' b' n' c' x) t
+
+joined-assoc : (h : Happened) (o o' : List ℕ) (s s' : List Marked) (j j' : ℕ) (x x' : List Sending) (l l' l'' : List ℕ) → l'' ≡ l ++ l'
+    → joined (joined h (happened_by o s j x l)) (happened_by o' s' j' x' l') ≡ joined h (happened_by (o ++ o') (s ++ s') (j + j') (x ++ x') l'')
+joined-assoc h o o' s s' j j' x x' l l' l'' is =
+    let jobs : (h.jobs + j) + j' ≡ h.jobs + (j + j') = omega arith in
+    let lost : (h.lost ++ l) ++ l' ≡ h.lost ++ l'' = append_assoc h.lost l l' ∙ ap (λ ys. h.lost ++ ys) (sym is) in
+    same_happened _ _ _ _ _ _ _ _ _ _ (append_assoc h.outcomes o o') (append_assoc h.steps s s') jobs (append_assoc h.sends x x') lost
+
+pub done-then : (names : List (List ℕ)) (capture : Option ℕ) (a b : Happened) (x y z : Outlets) → IsDone names capture a x y → IsDone names capture b y z → IsDone names capture (joined a b) x z
+done-then names capture a b x y z p q =
+    let lost : lost_of names capture x.ends (a.sends ++ b.sends) ≡ lost_of names capture x.ends a.sends ++ lost_of names capture y.ends b.sends =
+    lost-then names capture x.ends a.sends b.sends (handed capture a.sends)
+    ∙ ap (λ es. lost_of names capture x.ends a.sends ++ lost_of names capture es b.sends) (sym p.sent.ends_are) in
+    record {
+      sent = sent-then names capture a.sends b.sends x.ends y.ends z.ends x.told y.told z.told p.sent q.sent;
+      counted = λ h is. subst (λ (all : Happened). AreCounts all z.counts)
+          (joined-assoc h a.outcomes b.outcomes a.steps b.steps a.jobs b.jobs a.sends b.sends _ _ _ lost) (q.counted _ (p.counted h is));
+    }
+
+-- the counts look at no sends
+counts-but : (h : Happened) (o : List ℕ) (s : List Marked) (j : ℕ) (x : List Sending) (l : List ℕ) (c : Counts) → o ≡ h.outcomes → s ≡ h.steps → j ≡ h.jobs → l ≡ h.lost → AreCounts h c
+    → AreCounts (record { outcomes = o; steps = s; jobs = j; sends = x; lost = l }) c
+counts-but h o s j x l c p q r t is =
+    subst (λ (ys : List ℕ). AreCounts (record { outcomes = o; steps = s; jobs = j; sends = x; lost = ys }) c) (sym t)
+    (subst (λ (n : ℕ). AreCounts (record { outcomes = o; steps = s; jobs = n; sends = x; lost = h.lost }) c) (sym r)
+    (subst (λ (ms : List Marked). AreCounts (record { outcomes = o; steps = ms; jobs = h.jobs; sends = x; lost = h.lost }) c) (sym q)
+    (subst (λ (ys : List ℕ). AreCounts (record { outcomes = ys; steps = h.steps; jobs = h.jobs; sends = x; lost = h.lost }) c) (sym p)
+    (record {
+      records = is.records;
+      outcomes = is.outcomes;
+      jobs = is.jobs;
+      runs = is.runs;
+      drops = is.drops;
+      sends = is.sends;
+      lost = is.lost;
+      hits = is.hits;
+    }))))
+
+-- nothing
+pub done-nothing : (names : List (List ℕ)) (capture : Option ℕ) (x : Outlets) → IsDone names capture nothing x x
+done-nothing names capture x = record {
+  sent = sent-none names capture x.ends x.told;
+  counted = λ h is. counts-but h _ _ _ _ _ x.counts (append-nil h.outcomes) (append-nil h.steps) (omega arith) (append-nil h.lost) is;
+}
+
+-- nothing is sent, but something is counted
+quiet-sent : (names : List (List ℕ)) (capture : Option ℕ) (x y : Outlets) → y.ends ≡ x.ends → y.told ≡ x.told → AreSent names capture [] x.ends y.ends x.told y.told
+quiet-sent names capture x y ends told =
+    subst (λ (e : List NamedEnd). AreSent names capture [] x.ends e x.told y.told) (sym ends)
+    (subst (λ (t : Option (List ℕ)). AreSent names capture [] x.ends x.ends x.told t) (sym told) (sent-none names capture x.ends x.told))
+
+pub done-outcome : (names : List (List ℕ)) (capture : Option ℕ) (outcome : ℕ) (x y : Outlets) → y.ends ≡ x.ends → y.told ≡ x.told
+    → ((h : Happened) → AreCounts h x.counts → AreCounts (with_outcome outcome h) y.counts) → IsDone names capture (just_outcome outcome) x y
+done-outcome names capture outcome x y ends told counted = record {
+  sent = quiet-sent names capture x y ends told;
+  counted = λ h is. counts-but (with_outcome outcome h) _ _ _ _ _ y.counts refl (append-nil h.steps) (omega arith) (append-nil h.lost) (counted h is);
+}
+
+pub done-job : (names : List (List ℕ)) (capture : Option ℕ) (x y : Outlets) → y.ends ≡ x.ends → y.told ≡ x.told
+    → ((h : Happened) → AreCounts h x.counts → AreCounts (with_job h) y.counts) → IsDone names capture just_job x y
+done-job names capture x y ends told counted = record {
+  sent = quiet-sent names capture x y ends told;
+  counted = λ h is. counts-but (with_job h) _ _ _ _ _ y.counts (append-nil h.outcomes) (append-nil h.steps) refl (append-nil h.lost) (counted h is);
+}
+
+abbrev tagged : Head → Packet → SentSeen → Sending
+tagged head packet s = record { head = head; packet = packet; sent = s }
+
+-- a step that sends
+pub done-send : (names : List (List ℕ)) (capture : Option ℕ) (head : Head) (packet : Packet) (m : Marked) (sent : SentSeen) (x y z : Outlets)
+    → sent_by m.taken ≡ Some sent → ((h : Happened) → AreCounts h x.counts → AreCounts (with_step m h) y.counts) → y.ends ≡ x.ends → y.told ≡ x.told
+    → IsMade names capture (record { head = head; packet = packet; sent = sent }) y z → IsDone names capture (just_steps head packet (m ∷ [])) x z
+done-send names capture head packet m sent x y z is counted ends told made =
+    let one : sendings head packet (m ∷ []) ≡ tagged head packet sent ∷ [] = ap (λ (o : Option SentSeen). map (tagged head packet) (filter_map (λ (p : Option SentSeen). p) (o ∷ []))) is in
+    record {
+      sent = subst (λ (ss : List Sending). AreSent names capture ss x.ends z.ends x.told z.told) (sym one)
+          (subst (λ (e : List NamedEnd). AreSent names capture (tagged head packet sent ∷ []) e z.ends x.told z.told) ends
+          (subst (λ (t : Option (List ℕ)). AreSent names capture (tagged head packet sent ∷ []) y.ends z.ends t z.told) told made.sent));
+      counted = λ h has.
+          counts-but (with_losts (lost_of names capture y.ends (tagged head packet sent ∷ [])) (with_step m h)) _ _ _ _ _ z.counts
+          (append-nil h.outcomes) refl (omega arith) (ap (λ ss. h.lost ++ lost_of names capture x.ends ss) one ∙ ap (λ e. h.lost ++ lost_of names capture e (tagged head packet sent ∷ [])) (sym ends))
+          (made.counted (with_step m h) (counted h has));
+    }
+
+-- a step that sends nothing
+pub done-quiet : (names : List (List ℕ)) (capture : Option ℕ) (head : Head) (packet : Packet) (m : Marked) (x y : Outlets)
+    → sent_by m.taken ≡ None → ((h : Happened) → AreCounts h x.counts → AreCounts (with_step m h) y.counts) → y.ends ≡ x.ends → y.told ≡ x.told
+    → IsDone names capture (just_steps head packet (m ∷ [])) x y
+done-quiet names capture head packet m x y is counted ends told =
+    let none : sendings head packet (m ∷ []) ≡ [] = ap (λ (o : Option SentSeen). map (tagged head packet) (filter_map (λ (p : Option SentSeen). p) (o ∷ []))) is in
+    record {
+      sent = subst (λ (ss : List Sending). AreSent names capture ss x.ends y.ends x.told y.told) (sym none) (quiet-sent names capture x y ends told);
+      counted = λ h has.
+          counts-but (with_step m h) _ _ _ _ _ y.counts
+          (append-nil h.outcomes) refl (omega arith) (ap (λ ss. h.lost ++ lost_of names capture x.ends ss) none ∙ append-nil h.lost) (counted h has);
+    }
+
+pub quiet-send : (s : Step) → ((endpoint : ℕ) (bytes : List ℕ) → s ≡ step.Send endpoint bytes → ⊥) → sent_by s ≡ None
+quiet-send (step.Run event number) send = refl
+quiet-send (step.Result n) send = refl
+quiet-send (step.Send endpoint bytes) send = absurd (send endpoint bytes refl)
+quiet-send (step.Up event) send = refl
+quiet-send (step.Back answer) send = refl
+quiet-send (step.Dropped fault) send = refl
+quiet-send (step.Job event number) send = refl
+
+sendings-then : (head : Head) (packet : Packet) (a b : List Marked) → sendings head packet a ++ sendings head packet b ≡ sendings head packet (a ++ b)
+sendings-then head packet a b =
+    sym (ap (λ ss. map (tagged head packet) ss) (filter_map-append (λ (m : Marked). sent_by m.taken) a b) ∙ map-append (tagged head packet) (sends_in a) (sends_in b))
+
+-- steps behind steps
+pub steps-then : (head : Head) (packet : Packet) (a b : List Marked) → joined (just_steps head packet a) (just_steps head packet b) ≡ just_steps head packet (a ++ b)
+steps-then head packet a b = ap (λ (ss : List Sending). happened_by [] (a ++ b) 0 ss []) (sendings-then head packet a b)
+
+abbrev later_step : Step → Marked
+later_step s = record { first = false; taken = s }
+
+later-more : (steps : List Step) (i : ℕ) (s : Step) → i < length steps → s ≡ get_or steps i s → later_steps (take (i + 1) steps) ≡ later_steps (take i steps) ++ later_step s ∷ []
+later-more steps i s lt is =
+    ap (λ xs. later_steps xs) ((take_at_read steps i s lt).1)
+    ∙ map-append later_step (take i steps) (get_or steps i s ∷ [])
+    ∙ ap (λ r. later_steps (take i steps) ++ later_step r ∷ []) (sym is)
+
+-- one step more of a list is done
+pub steps-more : (names : List (List ℕ)) (capture : Option ℕ) (head : Head) (packet : Packet) (steps : List Step) (i : ℕ) (s : Step) (x y z : Outlets) → i < length steps → s ≡ get_or steps i s
+    → IsDone names capture (just_steps head packet (later_steps (take i steps))) x y → IsDone names capture (just_steps head packet (record { first = false; taken = s } ∷ [])) y z
+    → IsDone names capture (just_steps head packet (later_steps (take (i + 1) steps))) x z
+steps-more names capture head packet steps i s x y z lt is p q =
+    subst (λ (h : Happened). IsDone names capture h x z)
+    (steps-then head packet (later_steps (take i steps)) (later_step s ∷ []) ∙ ap (λ ms. just_steps head packet ms) (sym (later-more steps i s lt is)))
+    (done-then names capture (just_steps head packet (later_steps (take i steps))) (just_steps head packet (later_step s ∷ [])) x y z p q)
+
+-- all steps of a list are done
+pub steps-all : (names : List (List ℕ)) (capture : Option ℕ) (head : Head) (packet : Packet) (steps : List Step) (i : ℕ) (x y : Outlets) → length steps ≤ i
+    → IsDone names capture (just_steps head packet (later_steps (take i steps))) x y → IsDone names capture (just_steps head packet (later_steps steps)) x y
+steps-all names capture head packet steps i x y le p = subst (λ (ss : List Step). IsDone names capture (just_steps head packet (later_steps ss)) x y) (take_all i steps le) p
+
+-- the steps of a job: its first, and then the others
+pub job-steps : (names : List (List ℕ)) (capture : Option ℕ) (head : Head) (packet : Packet) (steps rest : List Step) (s : Step) (x y z : Outlets) → steps ≡ s ∷ rest
+    → IsDone names capture (just_steps head packet (record { first = true; taken = s } ∷ [])) x y → IsDone names capture (just_steps head packet (later_steps rest)) y z
+    → IsDone names capture (just_steps head packet (job_steps steps)) x z
+job-steps names capture head packet steps rest s x y z is p q =
+    subst (λ (ss : List Step). IsDone names capture (just_steps head packet (job_steps ss)) x z) (sym is)
+    (subst (λ (h : Happened). IsDone names capture h x z) (steps-then head packet (record { first = true; taken = s } ∷ []) (later_steps rest))
+    (done-then names capture (just_steps head packet (record { first = true; taken = s } ∷ [])) (just_steps head packet (later_steps rest)) x y z p q))
+
+pub no-job-steps : (names : List (List ℕ)) (capture : Option ℕ) (head : Head) (packet : Packet) (steps : List Step) (x : Outlets) → steps ≡ [] → IsDone names capture (just_steps head packet (job_steps steps)) x x
+no-job-steps names capture head packet steps x is = subst (λ (ss : List Step). IsDone names capture (just_steps head packet (job_steps ss)) x x) (sym is) (done-nothing names capture x)
+
+apart : true ≡ false → ⊥
+apart e = cc
+
+pub no-steps : (steps : List Step) (r : Bool) → r ≡ (length steps == 0) → r ≡ true → steps ≡ []
+no-steps [] r is there = refl
+no-steps (s ∷ steps) r is there = ⊎_elim (λ same. absurd (omega (arith, same.1))) (λ other. absurd (apart (sym there ∙ is ∙ other.0))) (eqb_tells (length (s ∷ steps)) 0)
+
+pub first-steps : (steps : List Step) (s : Step) (r : Bool) → r ≡ (length steps == 0) → r ≡ false → s ≡ get_or steps 0 s → steps ≡ s ∷ take (length steps - 1) (drop 1 steps)
+first-steps [] s r is gone at = absurd (apart (sym is ∙ gone))
+first-steps (x ∷ xs) s r is gone at = ap (λ h. h ∷ xs) (sym at) ∙ ap (λ t. s ∷ t) (sym (take_rest (x ∷ xs) 1))
+
+-- ---- jobs, and a whole record
+
+-- jobs behind jobs
+jobs-then : (head : Head) (packet : Packet) (replies : List Reply) (r : Reply)
+    → joined (happened_in_jobs head packet replies) (joined just_job (just_steps head packet (job_steps (trace_in r)))) ≡ happened_in_jobs head packet (replies ++ r ∷ [])
+jobs-then head packet replies r =
+    let own = λ (x : Reply). job_steps (trace_in x) in
+    let steps : steps_of_jobs replies ++ job_steps (trace_in r) ≡ steps_of_jobs (replies ++ r ∷ []) =
+    sym (flat_map-append own replies (r ∷ []) ∙ ap (λ ms. steps_of_jobs replies ++ ms) (append-nil (own r))) in
+    let jobs : length replies + 1 ≡ length (replies ++ r ∷ []) = sym (length-append replies (r ∷ [])) in
+    let sends : sendings head packet (steps_of_jobs replies) ++ sendings head packet (job_steps (trace_in r)) ≡ sendings head packet (steps_of_jobs (replies ++ r ∷ [])) =
+    sendings-then head packet (steps_of_jobs replies) (job_steps (trace_in r)) ∙ ap (λ ms. sendings head packet ms) steps in
+    same_happened [] [] _ _ _ _ _ _ [] [] refl steps jobs sends refl
+
+-- one job more is done
+pub jobs-more : (names : List (List ℕ)) (capture : Option ℕ) (head : Head) (packet : Packet) (d : SetupData) (s : State) (calls : List JobCall) (i : ℕ) (call : JobCall) (x y z : Outlets)
+    → i < length calls → call ≡ get_or calls i call
+    → (replies : List Reply) × AreJobReplies d s (take i calls) replies × IsDone names capture (happened_in_jobs head packet replies) x y
+    → (reply : Reply) × IsJobReply d s call reply × IsDone names capture (joined just_job (just_steps head packet (job_steps (trace_in reply)))) y z
+    → (replies : List Reply) × AreJobReplies d s (take (i + 1) calls) replies × IsDone names capture (happened_in_jobs head packet replies) x z
+jobs-more names capture head packet d s calls i call x y z lt is (replies, answer, done) (reply, own, did) = (
+  replies ++ reply ∷ [],
+  subst (λ (cs : List JobCall). AreJobReplies d s cs (replies ++ reply ∷ []))
+      (ap (λ c. take i calls ++ c ∷ []) is ∙ sym ((take_at_read calls i call lt).1)) (replies-more d s (take i calls) replies call reply answer own),
+  subst (λ (h : Happened). IsDone names capture h x z) (jobs-then head packet replies reply)
+      (done-then names capture (happened_in_jobs head packet replies) (joined just_job (just_steps head packet (job_steps (trace_in reply)))) x y z done did),
+) where
+  replies-more : (d : SetupData) (s : State) (calls : List JobCall) (replies : List Reply) (call : JobCall) (reply : Reply) → AreJobReplies d s calls replies → IsJobReply d s call reply
+      → AreJobReplies d s (calls ++ call ∷ []) (replies ++ reply ∷ [])
+  replies-more d s [] replies call reply none own = (reply, [], own, ap (λ rs. rs ++ reply ∷ []) none, refl)
+  replies-more d s (c ∷ calls) replies call reply (r, others, first, are, rest) own =
+      (r, others ++ reply ∷ [], first, ap (λ rs. rs ++ reply ∷ []) are, replies-more d s calls others call reply rest own)
+
+pub no-jobs : (names : List (List ℕ)) (capture : Option ℕ) (head : Head) (packet : Packet) (d : SetupData) (s : State) (x : Outlets)
+    → (replies : List Reply) × AreJobReplies d s [] replies × IsDone names capture (happened_in_jobs head packet replies) x x
+no-jobs names capture head packet d s x = ([], refl, done-nothing names capture x)
+
+pub jobs-all : (names : List (List ℕ)) (capture : Option ℕ) (head : Head) (packet : Packet) (d : SetupData) (s : State) (calls : List JobCall) (i : ℕ) (x y : Outlets) → length calls ≤ i
+    → (replies : List Reply) × AreJobReplies d s (take i calls) replies × IsDone names capture (happened_in_jobs head packet replies) x y
+    → (replies : List Reply) × AreJobReplies d s calls replies × IsDone names capture (happened_in_jobs head packet replies) x y
+jobs-all names capture head packet d s calls i x y le (replies, answer, done) = (replies, subst (λ (cs : List JobCall). AreJobReplies d s cs replies) (take_all i calls le) answer, done)
+
+-- a whole record: its outcome, its steps, its jobs
+pub record-done : (names : List (List ℕ)) (capture : Option ℕ) (passed : Passed) (w x y z : Outlets) → IsDone names capture (just_outcome (outcome_of passed.reply)) w x
+    → IsDone names capture (just_steps passed.head passed.packet (later_steps (trace_in passed.reply))) x y → IsDone names capture (happened_in_jobs passed.head passed.packet passed.jobs) y z
+    → IsDone names capture (happened_at passed) w z
+record-done names capture passed w x y z p q r =
+    let head = passed.head in
+    let packet = passed.packet in
+    let later = later_steps (trace_in passed.reply) in
+    subst (λ (h : Happened). IsDone names capture h w z)
+    (same_happened _ _ _ _ (0 + length passed.jobs) (length passed.jobs) _ _ [] [] refl refl (omega arith) (sendings-then head packet later (steps_of_jobs passed.jobs)) refl)
+    (done-then names capture (joined (just_outcome (outcome_of passed.reply)) (just_steps head packet later)) (happened_in_jobs head packet passed.jobs) w y z
+    (done-then names capture (just_outcome (outcome_of passed.reply)) (just_steps head packet later) w x y p q) r)
+
+-- one job
+pub job-one : (names : List (List ℕ)) (capture : Option ℕ) (head : Head) (packet : Packet) (d : SetupData) (s : State) (call : JobCall) (reply : Reply) (steps : List Step) (x y z : Outlets)
+    → IsJobReply d s call reply → steps ≡ trace_in reply → IsDone names capture just_job x y → IsDone names capture (just_steps head packet (job_steps steps)) y z
+    → (r : Reply) × IsJobReply d s call r × IsDone names capture (joined just_job (just_steps head packet (job_steps (trace_in r)))) x z
+job-one names capture head packet d s call reply steps x y z answer is p q = (
+  reply,
+  answer,
+  done-then names capture just_job (just_steps head packet (job_steps (trace_in reply))) x y z p
+      (subst (λ (ss : List Step). IsDone names capture (just_steps head packet (job_steps ss)) y z) is q),
+)
+
+pub record-whole : (names : List (List ℕ)) (capture : Option ℕ) (head : Head) (packet : Packet) (d : SetupData) (s : State) (event : ℕ) (args : List Value) (reply seen : Reply) (outcome : ℕ) (steps : List Step)
+    (calls : List JobCall) (w x y z : Outlets) → args ≡ value.Bytes packet.frame ∷ [] → IsDeedReply d s (deed.Raise event args) reply → seen ≡ reply → outcome ≡ outcome_of seen
+    → steps ≡ trace_in seen → calls ≡ calls_left seen
+    → IsDone names capture (just_outcome outcome) w x → IsDone names capture (just_steps head packet (later_steps steps)) x y
+    → (replies : List Reply) × AreJobReplies d s calls replies × IsDone names capture (happened_in_jobs head packet replies) y z
+    → (passed : Passed) × (passed.head ≡ head) × (passed.packet ≡ packet) × IsPassed d s event passed × IsDone names capture (happened_at passed) w z
+record-whole names capture head packet d s event args reply seen outcome steps calls w x y z told answer view out is left p q (replies, answers, r) =
+    let passed : Passed = record { head = head; packet = packet; reply = reply; jobs = replies } in (
+      passed,
+      refl,
+      refl,
+      record {
+        reply = subst (λ (vs : List Value). IsDeedReply d s (deed.Raise event vs) reply) told answer;
+        jobs = subst (λ (cs : List JobCall). AreJobReplies d s cs replies) (left ∙ ap calls_left view) answers;
+      },
+      record-done names capture passed w x y z
+          (subst (λ (n : ℕ). IsDone names capture (just_outcome n) w x) (out ∙ ap outcome_of view) p)
+          (subst (λ (ss : List Step). IsDone names capture (just_steps head packet (later_steps ss)) x y) (is ∙ ap trace_in view) q) r,
+    )

@@ -1,0 +1,12 @@
+pub mod GiftsTaken
+pub mod ToldFirings
+pub mod FiredAnswers
+pub mod NextFirings
+pub mod AnsweredFirings
+pub mod PlainRaises
+pub mod ReachedBindings
+pub mod DeedReplies
+pub mod FoundEvents
+pub mod NestedLevels
+pub mod OpenTurns
+pub mod DrivenRaises

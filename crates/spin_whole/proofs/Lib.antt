@@ -1,0 +1,9 @@
+pub mod LaneAsks
+pub mod MomentOrder
+pub mod SentCounts
+pub mod JobSteps
+pub mod AnswerSteps
+pub mod WovenSegments
+pub mod SegmentLines
+pub mod SegmentSteps
+pub mod SegmentRuns
