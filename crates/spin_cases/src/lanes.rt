@@ -22,7 +22,7 @@ use spin_outside::OpenGate;
 use spin_report::{Entries, Entry, What};
 use spin_run::{Frames, Kind, Lane, Lanes, run_lanes, run_segment};
 use spin_script::{Line, Lines, Segment};
-use spin_seat::{Hub, Seats, Verdicted};
+use spin_seat::{Hub, Renewal, Seats, Verdicted};
 use spin_values::{NoMemory, Numbers};
 use spin_word::{Work, pack};
 use std::alloc::Global;
@@ -183,7 +183,8 @@ fn play_on<R: Threads + Sync>(rt: &R, alloc: Global) -> Result<Entries, Fail> {
     let Ok(renewal) = hub.renew(alloc, seats) else {
         return Err(NoMemory)?;
     };
-    Ok(entries_over(rt, alloc, &renewal.hub, renewal.seats, &segment)?)
+    let Renewal { hub, seats, .. } = renewal;
+    Ok(entries_over(rt, alloc, &hub, seats, &segment)?)
 }
 
 // The place of an install that was accepted.
