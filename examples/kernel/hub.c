@@ -1,7 +1,7 @@
-/* The one hub, with a seat for each level: events are raised, and extensions bind and unbind, at any level. */
+/* The one hub, with a seat for each level: extensions bind and unbind at any level, and the hub is renewed. */
 #include "kernel.h"
 
-enum { MOST_BOUND = 16, MOST_RUNS = 8, MOST_BYTES = 64, PLACES = 4096, LEAST_ROOM = 32 };
+enum { MOST_BOUND = 16, PLACES = 4096, LEAST_ROOM = 32, STAYS = 300 };
 
 struct bound {
     struct spin_command_words install; /* what would bind it anew */
@@ -9,30 +9,24 @@ struct bound {
     deed *run;
 };
 
-volatile enum level level;
 static struct bound all_bound[MOST_BOUND];
 static struct spin_lane seats[LEVELS];
-static volatile bool is_thread_asking;
 static volatile uint32_t place;
-/* A level begins to ask its seat: maybe in the midst of a call of the thread's. */
-static enum level begin(void) {
-    uint16_t task;
-    __asm__("str %0" : "=r"(task)); /* the other processor has none */
-    const enum level lane = task ? level : OTHER;
-    if (lane == THREAD) is_thread_asking = true;
-    else if (lane != OTHER) counts[CALLS_MET] += is_thread_asking;
-    return lane;
+
+struct spin_lane *seat(enum level lane) { return &seats[lane]; }
+
+void must(uint32_t error) {
+    if (error != SPIN_OK && error != SPIN_REFUSED) stop(spin_error_name(error), 3);
 }
 
-static void end(enum level lane, uint32_t error) {
-    if (lane == THREAD) is_thread_asking = false;
-    if (error != SPIN_OK && error != SPIN_REFUSED) stop(spin_error_name(error), 3);
+static void hand_out_seats(enum level last) {
+    for (enum level lane = THREAD + 1; lane <= last; lane++) must(spin_lane_seat(&seats[THREAD], lane, &seats[lane]));
 }
 
 void open_hub(void) {
     struct spin_answer answer;
-    end(FAULTS, spin_lane_open_hub(&seats[0], LEVELS, script, strlen(script), &answer));
-    for (uint8_t lane = 1; lane < LEVELS; lane++) end(FAULTS, spin_lane_seat(&seats[0], lane, &seats[lane]));
+    must(spin_lane_open_hub(&seats[THREAD], LEVELS, script, strlen(script), &answer));
+    hand_out_seats(OTHER);
 }
 
 /* Gives a command, and answers the place of one that is accepted, else 0. */
@@ -61,13 +55,14 @@ struct bound *bind(const struct spin_command_words *wanted, deed *run) {
     return at->number ? at : NULL;
 }
 
-/* A visitor binds itself, raises the event that it came for, and goes. */
-void visit(void) {
-    struct spin_command_words c = {.op = SPIN_INSTALL, .event = VISIT, .requester = VISITOR, .handler = GIVE};
-    const uint16_t number = (uint16_t)command(c);
-    if (raise(VISIT, (const uint64_t[]){1}, 1) > 1) __atomic_fetch_add(&counts[VISITS_MET], 1, __ATOMIC_RELAXED);
-    c = (struct spin_command_words){.op = SPIN_REMOVE, .event = VISIT, .requester = VISITOR, .target = number};
-    if (!command(c)) stop("a visitor doesn't go", 3);
+static void remove_number(enum event event, enum module requester, uint64_t number) {
+    const struct spin_command_words c = {.op = SPIN_REMOVE, .event = event, .requester = requester, .target = number};
+    if (!command(c)) stop("what is bound doesn't go", 3);
+}
+
+void unbind(struct bound *bound) {
+    remove_number(bound->install.event, bound->install.requester, bound->number);
+    bound->number = 0;
 }
 
 /* Gives what is bound another handler and deed. */
@@ -75,80 +70,87 @@ void rebind(struct bound *bound, enum handler handler, deed *run) {
     bound->install.handler = handler;
     struct spin_command_words c = bound->install;
     c.op = SPIN_REPLACE;
-    c.target = (uint16_t)bound->number;
+    c.target = bound->number;
     if (!command(c)) stop("a binding isn't replaced", 3);
     bound->run = run;
 }
 
-static void do_deed(const struct spin_step *run, const uint64_t *words) {
+/* A visitor binds itself, raises the event that it came for, stays for a moment, and goes. Both processors have some. Of
+ * two lanes that command without a pause one may keep the other's commands from coming first. */
+void visit(void) {
+    const uint64_t number = command(
+        (struct spin_command_words){.op = SPIN_INSTALL, .event = VISIT, .requester = VISITOR, .handler = GIVE});
+    if (raise(VISIT, (const uint64_t[]){1}, 1) > 1) __atomic_fetch_add(&counts[VISITS_MET], 1, __ATOMIC_RELAXED);
+    for (int turn = 0; turn < STAYS; turn++) __asm__ volatile("pause");
+    remove_number(VISIT, VISITOR, number);
+}
+
+/* What the binding of a step is to do; null for nothing. */
+deed *deed_of(const struct spin_step *step) {
     for (const struct bound *at = all_bound; at < all_bound + MOST_BOUND; at++) {
-        if (at->number == run->number && at->install.event == run->event && at->run) at->run(words, run->value);
+        if (at->number == step->number && at->install.event == step->event) return at->run;
     }
-}
-
-/* Notes a reply with its steps; then the handlers that ran do their deeds, in order. Answers how many ran. */
-static size_t follow(enum level lane, const struct spin_answer *answer, const uint64_t *words) {
-    struct spin_step step, runs[MOST_RUNS];
-    char bytes[MOST_BYTES];
-    uint64_t sent = 0;
-    size_t count = 0;
-    NOTE(lane, answer->place, answer->kind, answer->value);
-    for (uint64_t index = 0; index < answer->steps; index++) {
-        end(FAULTS, spin_lane_step(&seats[lane], index, &step));
-        NOTE(lane, step.kind, step.event, step.number, step.answer, step.value, step.length);
-        if (step.kind == SPIN_RUN && count < MOST_RUNS) runs[count++] = step;
-        if (step.kind == SPIN_RESULT) runs[count - 1].value = step.value;
-        if (step.kind == SPIN_SEND) end(FAULTS, spin_lane_step_bytes(&seats[lane], index, bytes, sizeof bytes, &sent));
-    }
-    put(bytes, sent);
-    for (size_t at = 0; at < count; at++) do_deed(&runs[at], words);
-    return count;
-}
-
-/* Raises an event with words, and answers how many handlers ran. */
-size_t raise(enum event event, const uint64_t *words, size_t count) {
-    struct spin_answer answer;
-    const enum level lane = begin();
-    end(lane, spin_lane_raise(&seats[lane], (uint8_t)event, words, count, &answer));
-    NOTE(lane, CALL, RAISED, event, count);
-    note(lane, words, count);
-    return follow(lane, &answer, words);
-}
-
-/* Raises the event of a line with its bytes. */
-void raise_line(const char *line, size_t length) {
-    struct spin_answer answer;
-    const struct spin_arg text = spin_range(0, length);
-    const enum level lane = begin();
-    end(lane, spin_lane_raise_args(&seats[lane], LINE, line, length, &text, 1, &answer));
-    NOTE(lane, CALL, RAISED_LINE, LINE, length);
-    for (size_t at = 0; at < length; at++) NOTE(lane, (uint8_t)line[at]);
-    follow(lane, &answer, NULL);
+    return NULL;
 }
 
 bool has_room(void) { return PLACES - place > LEAST_ROOM; }
 
-/* Where the log has little room left the thread goes on over a new hub, while no other level runs, on either processor:
- * what is bound is bound anew, in the order of its numbers. */
+/* A level leaves its seat, once all is done that its last reply leaves. */
+void leave_seat(enum level lane) {
+    struct spin_answer answer;
+    do_late_jobs(lane);
+    must(spin_lane_return(&seats[lane], &answer));
+}
+
+/* Brings all seats home: with interrupts off, and where the second processor has left its own. */
+static void gather_seats(void) {
+    uint64_t out;
+    do_late_jobs(THREAD);
+    leave_seat(INTERRUPTS);
+    leave_seat(FAULTS);
+    must(spin_lane_gather(&seats[THREAD], &out));
+    if (out) stop("seats are out still", 3);
+}
+
+/* What was bound under another number before a renewal has its new one. Both rise, and no new one is above its old. */
+static void number_anew(void) {
+    uint64_t before;
+    for (place = 0; spin_lane_number_before(&seats[THREAD], place + 1, &before) == SPIN_OK; place++) {
+        NOTE(THREAD, before);
+        for (struct bound *at = all_bound; at < all_bound + MOST_BOUND; at++) {
+            if (at->number == before) at->number = place + 1;
+        }
+    }
+}
+
+/* Where the log has little room left the thread renews the hub, while no other level runs, on either processor. */
 void keep_room(void) {
     if (has_room()) return;
     struct spin_answer answer;
-    uint32_t live = 0;
     call_other();
     const bool were_on = interrupts_off();
-    for (enum level lane = THREAD; lane < LEVELS; lane++) end(FAULTS, spin_lane_close(&seats[lane], &answer));
-    open_hub();
+    gather_seats();
+    must(spin_lane_renew(&seats[THREAD], &answer));
     for (enum level lane = THREAD; lane < LEVELS; lane++) NOTE(lane, CALL, RENEWED);
-    for (uint64_t number = 1; number <= place; number++) {
-        for (struct bound *at = all_bound; at < all_bound + MOST_BOUND; at++) {
-            if (at->number != number) continue;
-            end(FAULTS, spin_lane_command(&seats[0], &at->install, &answer));
-            NOTE(THREAD, number);
-            at->number = ++live;
-        }
-    }
-    place = live;
+    number_anew();
+    hand_out_seats(is_other_done() ? FAULTS : OTHER);
     counts[RENEWALS]++;
     interrupts_back(were_on);
     send_other();
+}
+
+/* Ends the hub, with interrupts off, and notes the rows of its last log. */
+void end_hub(void) {
+    struct spin_answer answer;
+    struct spin_row row;
+    uint64_t rows;
+    gather_seats();
+    must(spin_lane_end(&seats[THREAD], &rows));
+    for (uint64_t at = 0; at < rows; at++) {
+        must(spin_lane_row_at(&seats[THREAD], at, &row));
+        const struct spin_command_words c = spin_row_command(&row);
+        NOTE(THREAD, CALL, ROW, spin_row_lane(&row), c.op, c.event, c.requester, c.handler, c.guard, c.target, c.place,
+             c.mode);
+    }
+    must(spin_lane_close(&seats[THREAD], &answer));
 }

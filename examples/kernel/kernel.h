@@ -15,13 +15,14 @@ enum level { THREAD, INTERRUPTS, FAULTS, OTHER, LEVELS };
 enum event { TICK, KEY, PAGE_NOT_PRESENT, PROTECTION_FAULT, BREAKPOINT, SECOND, LINE, VISIT };
 enum handler { PAGE_IN = 1, PAGE_IN_ELSEWHERE, ALLOW_WRITE, HEAR, ON_TO_SECOND, UPPER_CASE, ECHO, SEND_LINE, GIVE };
 enum guard { NO_GUARD, EACH_FOURTH, IN_REGION, IS_LETTER, EACH_SIXTEENTH };
-enum module { KERNEL, PAGERS, WATCHDOG, CONSOLE, WRITES, VISITOR, STRANGER };
+enum module { KERNEL, PAGERS, WATCHDOG, CONSOLE, WRITES, VISITOR, STRANGER, TRACER };
 extern const char script[];
 
 /* The pages from 0x48000000 on, which fault until a pager maps them. */
 enum { REGION = 0x48000, REGION_PAGES = 512 };
 
-/* What an extension does when a binding of its has run: on the words of the raise and the result of the handler. */
+/* What an extension does when a binding of its has run: on the words of the raise, of which there are two at most, and the
+ * result of the handler. */
 typedef void deed(const uint64_t *words, uint64_t result);
 
 /* How many visitors each processor has. */
@@ -32,8 +33,8 @@ enum { VISITS = 2500 };
 #endif
 
 /* What is counted, and told at the end. */
-enum counter { TICKS, TICKS_HEARD, SECONDS, PAGES_IN, PAGES_ELSEWHERE, WRITES_ALLOWED, LINES, RENEWALS,
-               CALLS_MET, VISITS_MET, COUNTERS };
+enum counter { TICKS, TICKS_HEARD, SECONDS, BREAKPOINTS, PAGES_IN, PAGES_ELSEWHERE, WRITES_ALLOWED, LINES, RENEWALS,
+               JOBS_IDLE, JOBS_LATE, CALLS_MET, VISITS_MET, COUNTERS };
 extern volatile uint64_t counts[COUNTERS];
 
 /* memory.S */
@@ -54,17 +55,33 @@ void map_page(uint64_t page, uint64_t frame, bool is_writable);
 void allow_write(uint64_t page);
 _Noreturn void stop(const char *why, uint8_t status);
 
-/* hub.c: what is bound, whatever number a renewal gives it. */
+/* main.c */
+void do_idle_jobs(void);
+void idle(void);
+
+/* hub.c: the seats, and what is bound, whatever number a renewal gives it. */
 struct bound;
-extern volatile enum level level;
 void open_hub(void);
+void end_hub(void);
 struct bound *bind(const struct spin_command_words *wanted, deed *run);
+void unbind(struct bound *bound);
 void rebind(struct bound *bound, enum handler handler, deed *run);
-size_t raise(enum event event, const uint64_t *words, size_t count);
-void raise_line(const char *line, size_t length);
+deed *deed_of(const struct spin_step *step);
 void visit(void);
 bool has_room(void);
 void keep_room(void);
+void leave_seat(enum level lane);
+struct spin_lane *seat(enum level lane);
+void must(uint32_t error);
+
+/* calls.c: raises, and the jobs that these leave. */
+extern volatile enum level level;
+enum level begin(void);
+void end(enum level lane, uint32_t error);
+size_t raise(enum event event, const uint64_t *words, size_t count);
+void raise_line(const char *line, size_t length);
+size_t do_jobs(enum level lane);
+void do_late_jobs(enum level lane);
 
 /* other.c: the second processor. */
 void start_other(void);
@@ -73,7 +90,7 @@ void send_other(void);
 bool is_other_done(void);
 
 /* report.c: what is noted of a call begins with these two. */
-enum { COMMANDED, RAISED, RAISED_LINE, RENEWED };
+enum { COMMANDED, RAISED, RAISED_LINE, RENEWED, JOB, ROW };
 #define CALL (UINT64_MAX - 1)
 #define NOTE(lane, ...) \
     note(lane, (const uint64_t[]){__VA_ARGS__}, sizeof(const uint64_t[]){__VA_ARGS__} / sizeof(uint64_t))
@@ -89,5 +106,6 @@ void bind_seconds(void);
 void bind_console(void);
 void bind_writes(void);
 void bind_stranger(void);
+void trace_breakpoint(void);
 
 #endif

@@ -1,6 +1,6 @@
 # What the kernel declares: its events and handlers, and the rules by which it, their owner, lets others bind.
 spin 3
-modules 7
+modules 8
 event 0 0 w last
 event 1 0 W:w last
 event 2 0 ww:w last
@@ -26,11 +26,14 @@ guard 2 ww all <= 0x48000 a0 < a0 0x48200
 guard 3 w all <= 97 a0 <= a0 122
 guard 4 w == & a0 15 0
 
-# Of the clock the watchdog gets every fourth tick. Whom no rule names is denied.
+# Of the clock the watchdog gets every fourth tick, and the tracer's handlers are asynchronous whatever it asks. Whom no
+# rule names is denied.
 rule 0 2 2 install any all impose 1 1
 rule 1 3 3 any any own allow
 rule 2 1 1 any any own allow
 rule 3 4 4 any any own allow
+rule 4 7 7 install any all force 0 keep async
+rule 4 7 7 any any own allow
 rule 7 5 5 any any own allow
 
 # event 0 is Clock.Tick
@@ -62,3 +65,4 @@ rule 7 5 5 any any own allow
 # module 4 is Writes
 # module 5 is Visitor
 # module 6 is Stranger
+# module 7 is Tracer

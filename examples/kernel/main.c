@@ -7,15 +7,19 @@ enum { TOUCHED = 3, REPLACED_AT = 2, WAITS_AFTER = 1 };
 enum { TOUCHED = 128, REPLACED_AT = 64, WAITS_AFTER = 8 };
 #endif
 
+/* Of so many visitors here one has a breakpoint behind it. */
+enum { TRACED = 50 };
+
 struct frame {
     uint64_t pushed[15], number, error, at, code, flags, stack, segment;
 };
 
 volatile uint64_t counts[COUNTERS];
 static const char *const counted[COUNTERS] = {
-    "ticks", "of these the watchdog heard", "seconds", "pages of the first pager", "pages of the second",
-    "writes that were allowed", "lines of keys", "renewals",
-    "calls in the midst of one of the thread's", "visitors who met one of the other processor's"};
+    "ticks", "of these the watchdog heard", "seconds", "breakpoints that were traced", "pages of the first pager",
+    "pages of the second", "writes that were allowed", "lines of keys", "renewals", "jobs that the idle thread did",
+    "jobs that were done before a level asked anew", "calls in the midst of one of the thread's",
+    "visitors who met one of the other processor's"};
 
 static void fault(const struct frame *frame) {
     uint64_t address;
@@ -51,6 +55,19 @@ void trap(const struct frame *frame) {
     level = before;
 }
 
+/* Does the jobs of all levels of this processor, with interrupts off, as their seats are other levels' else. */
+void do_idle_jobs(void) {
+    const bool were_on = interrupts_off();
+    for (enum level lane = THREAD; lane <= FAULTS; lane++) counts[JOBS_IDLE] += do_jobs(lane);
+    interrupts_back(were_on);
+}
+
+/* Waits for the next interrupt. */
+void idle(void) {
+    do_idle_jobs();
+    __asm__ volatile("hlt");
+}
+
 /* Reads and writes pages, each of which faults twice; a tick replaces their pager meanwhile. */
 static void touch_pages(void) {
     for (uint64_t page = REGION; page < REGION + TOUCHED; page++) {
@@ -58,7 +75,7 @@ static void touch_pages(void) {
         if (at[0] != page) stop("a page isn't what its pager gave", 5);
         at[1] = page;
         if (at[0] != page || at[1] != page) stop("a page doesn't keep what is written", 5);
-        if (page % WAITS_AFTER == 0) __asm__ volatile("hlt");
+        if (page % WAITS_AFTER == 0) idle();
     }
 }
 
@@ -67,9 +84,14 @@ static void receive_visitors(void) {
     start_other();
     for (int visits = 0; visits < VISITS; visits++) {
         visit();
+        if (visits % TRACED == 0) trace_breakpoint();
+        do_idle_jobs();
         keep_room();
     }
-    while (!is_other_done()) keep_room();
+    while (!is_other_done()) {
+        keep_room();
+        idle();
+    }
 }
 
 void kernel(void) {
@@ -83,11 +105,11 @@ void kernel(void) {
     bind_pager();
     tell("is up, and levels are", LEVELS);
     interrupts_back(true);
-    __asm__ volatile("int3");
     touch_pages();
     receive_visitors();
-    while (counts[LINES] == 0 || counts[TICKS_HEARD] == 0) __asm__ volatile("hlt");
+    while (counts[LINES] == 0 || counts[TICKS_HEARD] == 0 || counts[SECONDS] == 0) idle();
     interrupts_off();
+    end_hub();
     for (enum counter at = 0; at < COUNTERS; at++) tell(counted[at], counts[at]);
     write_notes();
     stop("ends with", 0);

@@ -1,5 +1,5 @@
 /* The second processor, which has a seat of its own and runs beside all levels of the first. It waits for nobody but where
- * the hub is renewed. */
+ * the hub is renewed: then it leaves its seat, and goes on with the one that it is given behind that. */
 #include "kernel.h"
 
 static bool is_called, is_at_work, is_done;
@@ -16,33 +16,35 @@ void start_other(void) {
     set(&is_at_work, true);
     apic[0x310 / 4] = 1 << 24;
     apic[0x300 / 4] = 0x4500;
-    __asm__ volatile("hlt; hlt");
+    idle();
+    idle();
     apic[0x300 / 4] = 0x4608;
 }
 
-/* Waits until it has left its seat alone. */
+/* Waits until it has left its seat, which is the thread's to hand out then. */
 void call_other(void) {
     set(&is_called, true);
     while (get(&is_at_work)) __asm__ volatile("pause");
 }
 
-void send_other(void) { set(&is_called, false); }
+/* It has a seat again, unless it is done. */
+void send_other(void) {
+    set(&is_called, false);
+    set(&is_at_work, !get(&is_done));
+}
 
-/* Goes to work, once nobody calls and there is room. */
-static void go_to_work(void) {
-    set(&is_at_work, true);
-    while (get(&is_called) || !has_room()) {
-        set(&is_at_work, false);
-        while (get(&is_called) || !has_room()) __asm__ volatile("pause");
-        set(&is_at_work, true);
-    }
+static void wait_for_seat(void) {
+    leave_seat(OTHER);
+    set(&is_at_work, false);
+    while (!get(&is_at_work)) __asm__ volatile("pause");
 }
 
 void other_processor(void) {
     for (int visits = 0; visits < VISITS; visits++) {
-        go_to_work();
+        if (get(&is_called) || !has_room()) wait_for_seat();
         visit();
     }
-    set(&is_at_work, false);
+    leave_seat(OTHER);
     set(&is_done, true);
+    set(&is_at_work, false);
 }

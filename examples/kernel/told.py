@@ -2,16 +2,17 @@
 
 Each line of numbers is a call: the level that asked, what kind of call it is, and what it was asked and answered. What a
 level asks is a line of its lane in the script, and what it is answered an entry of the report. The entries stand by their
-places, at one place the accepted command first, then by lane. A log behind a renewal begins with what was bound then:
-the script binds that anew, in the order of its numbers, before a barrier. These have to be just the
-numbers that the kernel tells.
+places, at one place the accepted command first, then by lane; a job stands behind all of them, in the order of those that
+left one. A log behind a renewal begins with what was bound then: the script binds that anew, in the order of its numbers,
+before a barrier. These have to be just the numbers that the kernel tells, and the rows of the last log, which are told
+last, just the commands that were accepted.
 """
 
 import re
 from collections.abc import Iterator, Mapping, Sequence
 from typing import NamedTuple
 
-COMMANDED, RAISED, RAISED_LINE, RENEWED = range(4)
+COMMANDED, RAISED, RAISED_LINE, RENEWED, JOB, ROW = range(6)
 OPS = ["", "install", "remove", "replace"]
 INSTALL, REMOVE, REPLACE = 1, 2, 3
 PLACES, MODES = ["free", "first", "last"], ["plain", "filter", "async"]
@@ -29,8 +30,8 @@ class Wrong(Exception):
 
 
 class Entry(NamedTuple):
-    """A call: its place, whether it is an accepted command, its lane, its line of the script and its text, and the
-    command's numbers."""
+    """A call: its place, whether it is an accepted command, its lane, its line of the script and its text, the command's
+    numbers, and the texts of the jobs that it left, in the order in which they were done."""
 
     place: int
     is_accepted: bool
@@ -38,10 +39,20 @@ class Entry(NamedTuple):
     line: str
     text: str
     command: Sequence[int]
+    jobs: list[str]
 
     def key(self) -> tuple[int, bool, int]:
         """By what the entries of a report stand."""
         return self.place, not self.is_accepted, self.lane
+
+
+class Era(NamedTuple):
+    """The time from one renewal to the next: the numbers that were bound at the first, the entries, each level's in its
+    order, and the rows that are told of the log, each a lane and the numbers of a command."""
+
+    bound: list[int]
+    entries: list[Entry]
+    rows: list[list[int]]
 
 
 class Log(NamedTuple):
@@ -89,7 +100,7 @@ def commanded(lane: int, numbers: Sequence[int]) -> Entry:
     rule = f" {value}" if refusal == DENIED else ""
     verdict = f"refused {refusal} {REFUSALS[refusal]}{rule}" if refusal else "ok"
     words = command_words(command)
-    return Entry(place, not refusal, lane, f"lane {lane} {words}", f"{words.split()[0]} {verdict}", command)
+    return Entry(place, not refusal, lane, f"lane {lane} {words}", f"{words.split()[0]} {verdict}", command, [])
 
 
 def raised(lane: int, kind: int, numbers: Sequence[int]) -> Entry:
@@ -98,7 +109,15 @@ def raised(lane: int, kind: int, numbers: Sequence[int]) -> Entry:
     given, (place, ends, value), steps = numbers[2 : count + 2], numbers[count + 2 : count + 5], numbers[count + 5 :]
     words = [f"x{bytes(given).hex()}"] if kind == RAISED_LINE else list(map(str, given))
     line = " ".join([f"lane {lane} raise {event}", *words])
-    return Entry(place, False, lane, line, f"raise {reply(ends, value, steps)}", [])
+    return Entry(place, False, lane, line, f"raise {reply(ends, value, steps)}", [], [])
+
+
+def add_job(entry: Entry, numbers: Sequence[int]) -> None:
+    """Adds a job to the entry that left it, which is the last of its level."""
+    index, place, ends, value, *steps = numbers
+    if (index, place) != (len(entry.jobs), entry.place):
+        raise Wrong(f"job {index} at {place} isn't the next of the entry at {entry.place}")
+    entry.jobs.append(reply(ends, value, steps))
 
 
 def calls(text: str) -> Iterator[list[int]]:
@@ -108,19 +127,23 @@ def calls(text: str) -> Iterator[list[int]]:
             yield list(map(int, line.split()))
 
 
-def eras(text: str) -> list[tuple[list[Entry], list[int]]]:
-    """The entries from each renewal to the next, each level's in its order, with the numbers that were bound at that
-    renewal."""
-    found: list[tuple[list[Entry], list[int]]] = [([], [])]
-    at = dict[int, int]()
+def eras(text: str) -> list[Era]:
+    """What is told of the time from each renewal to the next."""
+    found = [Era([], [], [])]
+    at, last = dict[int, int](), dict[int, Entry]()
     for lane, kind, *numbers in calls(text):
-        entries = found[at.setdefault(lane, 0)][0]
+        era = found[at.setdefault(lane, 0)]
         if kind == RENEWED:
             at[lane] += 1
             if at[lane] == len(found):
-                found.append(([], numbers))
+                found.append(Era(numbers, [], []))
+        elif kind == ROW:
+            era.rows.append(numbers)
+        elif kind == JOB:
+            add_job(last[lane], numbers)
         else:
-            entries.append(commanded(lane, numbers) if kind == COMMANDED else raised(lane, kind, numbers))
+            last[lane] = commanded(lane, numbers) if kind == COMMANDED else raised(lane, kind, numbers)
+            era.entries.append(last[lane])
     return found
 
 
@@ -153,19 +176,29 @@ def log_of(declared: str, live: Sequence[Sequence[int]], entries: Sequence[Entry
         lines.append(entry.line)
         told.append((entry, len(lines)))
     told.sort(key=lambda it: it[0].key())
+    report += [f"{entry.place} {entry.lane} {line} {entry.text}" for entry, line in told]
     for entry, line in told:
-        report.append(f"{entry.place} {entry.lane} {line} {entry.text}")
-        place = entry.place
+        report += [f"job {entry.place} {entry.lane} {line} {index} {text}" for index, text in enumerate(entry.jobs)]
+    place = max([place, *(entry.place for entry in entries)])
     accepted = sum(entry.is_accepted for entry in entries)
     return Log("\n".join([*lines, ""]), "\n".join([*report, f"end {place}", ""]), len(entries), accepted)
 
 
+def rows_of(entries: Sequence[Entry]) -> list[list[int]]:
+    """The rows of a log with these entries."""
+    accepted = sorted((entry for entry in entries if entry.is_accepted), key=Entry.key)
+    return [[entry.lane, *entry.command] for entry in accepted]
+
+
 def logs(declared: str, text: str) -> Iterator[Log]:
-    """The logs of the hub, one behind the other."""
+    """The logs of the hub, one behind the other. Of the last its rows are told."""
     live: Mapping[int, Sequence[int]] = {}
-    for entries, numbers in eras(text):
-        if numbers != list(live):
-            raise Wrong(f"a renewal tells other numbers than those that are bound: {numbers}")
+    told = eras(text)
+    if told[-1].rows != rows_of(told[-1].entries):
+        raise Wrong("the rows of the last log aren't the commands that were accepted")
+    for bound, entries, _ in told:
+        if bound != list(live):
+            raise Wrong(f"a renewal tells other numbers than those that are bound: {bound}")
         live = dict(enumerate(live.values(), 1))
         yield log_of(declared, list(live.values()), entries)
         live = bound_after(live, entries)
