@@ -9,8 +9,9 @@ from typing import Any
 
 from codzvregi.faults import NoLibrary
 
-# The shared library, whose number is the version of its calls.
-NAME = "libcodzvregi.so.2"
+# The version of the calls, and the shared library, whose number it is.
+VERSION = 2
+NAME = f"libcodzvregi.so.{VERSION}"
 
 
 class Error(IntEnum):
@@ -123,6 +124,8 @@ def load(path: str | PathLike[str] | None) -> ctypes.CDLL:
     file = os.environ.get("CODZVREGI_LIBRARY", usual) if path is None else fspath(path)
     try:
         calls = ctypes.CDLL(file)
+        if calls.spin_version() != VERSION:
+            raise NoLibrary(f"{file} has version {calls.spin_version()} of the calls, and not {VERSION}")
         for name, given in _GIVEN.items():
             call = getattr(calls, name)
             call.argtypes, call.restype = given, _NUMBER

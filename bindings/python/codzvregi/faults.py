@@ -10,7 +10,7 @@ class Fault(Exception):
 
 
 class NoLibrary(Fault):
-    """There is no library, or the one that is named can't be loaded."""
+    """There is no library, or the one that is named can't be loaded or has another version of the calls."""
 
 
 class NoMemory(Fault):
