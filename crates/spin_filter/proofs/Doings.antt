@@ -126,7 +126,7 @@ sent-none names capture ends t = record {
   frames = λ k d lt. absurd (omega (arith, lt));
 }
 
-one-all : {X : Type 0} (P : X → Type 0) (x : X) → P x → (k : ℕ) (d : X) → k < length (x ∷ []) → P (get_or (x ∷ []) k d)
+pub one-all : {X : Type 0} (P : X → Type 0) (x : X) → P x → (k : ℕ) (d : X) → k < length (x ∷ []) → P (get_or (x ∷ []) k d)
 one-all P x p zero d lt = p
 one-all P x p (suc k) d lt = absurd (omega (arith, lt))
 
@@ -181,6 +181,17 @@ joined-assoc h o o' s s' j j' x x' l l' l'' is =
     let jobs : (h.jobs + j) + j' ≡ h.jobs + (j + j') = omega arith in
     let lost : (h.lost ++ l) ++ l' ≡ h.lost ++ l'' = append_assoc h.lost l l' ∙ ap (λ ys. h.lost ++ ys) (sym is) in
     same_happened _ _ _ _ _ _ _ _ _ _ (append_assoc h.outcomes o o') (append_assoc h.steps s s') jobs (append_assoc h.sends x x') lost
+
+pub joined-one : (a b c : Happened) → joined (joined a b) c ≡ joined a (joined b c)
+joined-one a b c = joined-assoc a b.outcomes c.outcomes b.steps c.steps b.jobs c.jobs b.sends c.sends b.lost c.lost (b.lost ++ c.lost) refl
+
+pub joined-none : (h : Happened) → joined nothing h ≡ h
+joined-none h = same_happened h.outcomes h.outcomes h.steps h.steps (0 + h.jobs) h.jobs h.sends h.sends h.lost h.lost refl refl (omega arith) refl refl
+
+pub joined-end : (h : Happened) → joined h nothing ≡ h
+joined-end h =
+    same_happened (h.outcomes ++ []) h.outcomes (h.steps ++ []) h.steps (h.jobs + 0) h.jobs (h.sends ++ []) h.sends (h.lost ++ []) h.lost
+    (append-nil h.outcomes) (append-nil h.steps) (omega arith) (append-nil h.sends) (append-nil h.lost)
 
 pub done-then : (names : List (List ℕ)) (capture : Option ℕ) (a b : Happened) (x y z : Outlets) → IsDone names capture a x y → IsDone names capture b y z → IsDone names capture (joined a b) x z
 done-then names capture a b x y z p q =

@@ -1,3 +1,10 @@
+pub mod CapturesFound
+pub mod CommandsGiven
 pub mod Doings
+pub mod Filterings
+pub mod HeadsRead
+pub mod Passings
+pub mod RecordsRead
+pub mod RoundsMade
 pub mod StepCounts
 pub mod Tallies

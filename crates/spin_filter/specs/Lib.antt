@@ -1,3 +1,9 @@
+pub mod Commands
 pub mod Counting
+pub mod Filters
+pub mod Histories
+pub mod Inner
 pub mod Passing
+pub mod Rounds
 pub mod Sending
+pub mod Stops

@@ -21,16 +21,8 @@ pub const FAULTS: usize = 8;
 /// What came of records, in numbers. Each count stands still at the greatest number of 64 bits.
 #[derive(Debug, Drop)]
 pub struct Counts {
-    /// Whole captures.
-    pub captures: u64,
     /// Whole records.
     pub records: u64,
-    /// Bytes behind the records of captures that are no whole record.
-    pub cut: u64,
-    /// Commands that were accepted.
-    pub accepted: u64,
-    /// Commands that were refused.
-    pub refused: u64,
     /// Raises by their outcome: a value, done, a default, no handler; an unknown event, wrong arguments, spent.
     pub outcomes: Tally,
     /// Jobs that were done.
@@ -89,11 +81,7 @@ impl Counts {
         ensures hits { IfOk result (λ counts. counts.hits.items ≡ []) }
     {
         Ok(Counts {
-            captures: 0,
             records: 0,
-            cut: 0,
-            accepted: 0,
-            refused: 0,
             outcomes: Tally::new(alloc, OUTCOMES)?,
             jobs: 0,
             runs: 0,

@@ -2,6 +2,7 @@
 
 ghost use Rattle.std.specs.Prelude.{◌≡◌};
 ghost use Rattle.spin_filter.specs.declared.stop.Stop.TheVariants as stop;
+ghost use Rattle.spin_filter.specs.Stops.{stop_at};
 
 use spin_pcap::PcapFault;
 use spin_values::NoMemory;
@@ -22,6 +23,14 @@ pub enum Stop {
     NoFrame(u8),
     /// The capture can't be written.
     WriteFault,
+    /// The captures can't be read.
+    Unread,
+    /// There is no capture of that name.
+    Absent,
+    /// The line of that number isn't one of a filter's script: a raise, or a command behind a line that takes packets.
+    InTheWay(u32),
+    /// No line of the script takes packets.
+    NoRecords,
     /// There was no memory.
     NoMemory,
 }
@@ -31,5 +40,18 @@ impl From<NoMemory> for Stop {
 
     fn from(_: NoMemory) -> Stop {
         Stop::NoMemory
+    }
+}
+
+impl Stop {
+    /// What a fault of the record of that number is, counted from 1; 0 is the header.
+    pub fn at(number: u64, fault: PcapFault) -> Stop
+        ensures { result ≡ stop_at number fault }
+    {
+        match fault {
+            PcapFault::ReadFault => Stop::Unread,
+            PcapFault::NoMemory => Stop::NoMemory,
+            fault => Stop::Capture { number, fault },
+        }
     }
 }

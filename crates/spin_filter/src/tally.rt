@@ -28,6 +28,13 @@ pub fn one_more(count: u64) -> u64
     count.saturating_add(1)
 }
 
+/// So many more, up to the greatest number of 64 bits.
+pub fn more_by(count: u64, more: usize) -> u64
+    ensures { (n : ℕ) → count ≡ capped n → result ≡ capped (n + more) }
+{
+    count.saturating_add(more as u64)
+}
+
 impl Tally {
     /// For so many numbers, none of which came up.
     pub fn new(alloc: Global, numbers: usize) -> Result<Tally, NoMemory>
