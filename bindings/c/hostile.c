@@ -1,6 +1,7 @@
 /* hostile [STEPS [SEED]]: calls of every kind in every order, with right and with wrong numbers, over two hubs and
  * eight handles. A small model beside them knows which error must come, and what is told: places, rows, cycles, numbers
- * of bindings, how many seats are out, and how long a reply is kept. */
+ * of bindings, how many seats are out, how long a reply is kept, and what a run hands out. It ends where there is no
+ * memory, of which refusing.c is. */
 #include "spin.h"
 
 #include <stdio.h>
@@ -60,12 +61,24 @@ static _Noreturn void stop(const char *what) {
 }
 
 static void want(const char *what, uint32_t told, uint32_t wanted) {
+    if (told == SPIN_NO_MEMORY) {
+        stop("there is no memory, so nothing is found out");
+    }
     if (told != wanted) {
         printf("hostile: step %u: %s: %s, and not %s\n", (unsigned)step_number, what, spin_error_name(told),
                spin_error_name(wanted));
         exit(1);
     }
     met[told]++;
+}
+
+/* A buffer of the test's own. */
+static char *buffer_of(size_t room) {
+    char *buffer = malloc(room + 1);
+    if (buffer == NULL) {
+        stop("there is no memory, so nothing is found out");
+    }
+    return buffer;
 }
 
 /* That an answer is of zeros, but where it is told with the error. */
@@ -391,7 +404,7 @@ static void call_step(struct handle *it, int of_job) {
     }
     struct spin_step step = {9, 9, 9, 9, 9, 9};
     const struct spin_step none = {0, 0, 0, 0, 0, 0};
-    char *buffer = malloc(room == 0 ? 1 : room);
+    char *buffer = buffer_of(room);
     uint64_t length = 99;
     want("a step", (of_job ? spin_lane_job_step : spin_lane_step)(&it->lane, index, &step), wanted);
     if (wanted != SPIN_OK && memcmp(&step, &none, sizeof step) != 0) {
@@ -591,7 +604,7 @@ static void call_cycle(struct handle *it) {
 static void call_text(struct handle *it) {
     const uint64_t number = some(30);
     const size_t room = some(400);
-    char *buffer = malloc(room + 1);
+    char *buffer = buffer_of(room);
     uint64_t length = 0, again = 0;
     const uint32_t first = spin_tell_cause(number, NULL, 0, &length);
     want("a cause", first, number >= 1 && number <= 24 ? SPIN_TOO_SMALL : SPIN_NO_TEXT);
@@ -607,6 +620,43 @@ static void call_text(struct handle *it) {
     want("null words", spin_lane_raise(&it->lane, 0, NULL, 1, &answer), SPIN_NULL);
     want("a null command", spin_lane_command(&it->lane, NULL, &answer), SPIN_NULL);
     want_answer(&answer, (struct spin_answer){9, 9, 9, 9});
+}
+
+/* A run in buffers of some room, over a script, or what is none, with a capture that is none, or without one. */
+static void call_run(void) {
+    static const char run[] = "spin 1\nevent 0 0 b last\nendpoint 0 out0\nhandler 1 b send 0 0 1\n"
+                              "lane 0 install 0 0 1 0 free plain\nlane 1 raise 0 x0102\nlane 0 later 0 x030405\n";
+    static const char report[] = "report 1\nsegment 0 at 0\n1 0 5 install ok\n1 0 7 later queued\n"
+                                 "1 1 6 raise run 0 1 send 0 1 = done\njob 1 0 7 0 run 0 1 send 0 2 = done\nend 1\n";
+    enum { WHOLE = sizeof report - 1 };
+    char reported[WHOLE + 2], sent[4];
+    struct spin_sending sends[4];
+    const struct spin_buffers buffers = {reported, WHOLE + 1 - some(4), sends, 1 + some(4), sent, 2 + some(3)};
+    const int is_bad = some(8) == 0, has_packets = some(8) == 0;
+    const int fits = buffers.report_room >= WHOLE && buffers.sends_room >= 2 && buffers.bytes_room >= 3;
+    struct spin_ran ran = {9, 9, 9, 9, 9};
+    memset(reported, '-', sizeof reported);
+    const uint32_t told = spin_run(run, is_bad ? 20 : sizeof run - 1, has_packets ? "" : NULL, 0, "echo out0", 9,
+                                   some(16) == 0 ? NULL : &buffers, &ran);
+    if (told == SPIN_NULL) {
+        want("a run into null", told, SPIN_NULL);
+        return;
+    }
+    want("a run", told, is_bad        ? SPIN_BAD_SCRIPT
+                        : has_packets ? SPIN_BAD_CAPTURE
+                        : fits        ? SPIN_OK
+                                      : SPIN_TOO_SMALL);
+    const struct spin_ran sizes = {WHOLE, 2, 3, 0, 0}, bad = {0, 0, 0, 2, 9}, no_capture = {0, 0, 0, 0, 5};
+    if (memcmp(&ran, is_bad ? &bad : has_packets ? &no_capture : &sizes, sizeof ran) != 0) {
+        stop("a run tells something else");
+    }
+    const size_t kept = told == SPIN_OK ? WHOLE : 0;
+    if (memcmp(reported, report, kept) != 0 || reported[kept] != '-' || reported[WHOLE + 1] != '-') {
+        stop("a run hands something else out");
+    }
+    if (told == SPIN_OK && (memcmp(sent, "\2\4\5", 3) != 0 || sends[1].at != 1 || sends[1].length != 2)) {
+        stop("a run sends something else");
+    }
 }
 
 /* Makes a call on some handle. */
@@ -641,6 +691,7 @@ static void make_call(void) {
         case 9: call_gather(it); break;
         case 10: call_no_command(it); break;
         case 11: call_text(it); break;
+        case 12: call_run(); break;
         default: call_command(it); break;
         }
     }
@@ -649,8 +700,8 @@ static void make_call(void) {
 /* That each error came but those of no memory, of reports, and of handles that are being closed by other threads. */
 static void want_all(void) {
     for (uint32_t error = 0; error <= SPIN_WIDE; error++) {
-        const int is_other = error == SPIN_NO_MEMORY || error == SPIN_NO_HISTORY || error == SPIN_BAD_CAPTURE ||
-                             error == SPIN_SHARED || strcmp(spin_error_name(error), "unknown") == 0;
+        const int is_other = error == SPIN_NO_MEMORY || error == SPIN_NO_HISTORY || error == SPIN_SHARED ||
+                             strcmp(spin_error_name(error), "unknown") == 0;
         if (met[error] == 0 && !is_other) {
             printf("hostile: %s never came\n", spin_error_name(error));
             exit(1);

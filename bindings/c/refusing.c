@@ -33,9 +33,15 @@ static int is_refused(void) {
     return is;
 }
 
+/* Notes where the machine itself refuses. */
+static void *note(void *at) {
+    memory.is_refused |= memory.is_watched && at == NULL;
+    return at;
+}
+
 static void *count(void *at) {
     memory.held += memory.is_watched && at != NULL;
-    return at;
+    return note(at);
 }
 
 void *malloc(size_t size) { return is_refused() ? NULL : count(__libc_malloc(size)); }
@@ -46,7 +52,7 @@ void *realloc(void *at, size_t size) {
     if (is_refused()) {
         return NULL;
     }
-    return at == NULL ? count(__libc_realloc(at, size)) : __libc_realloc(at, size);
+    return at == NULL ? count(__libc_realloc(at, size)) : note(__libc_realloc(at, size));
 }
 
 void *aligned_alloc(size_t alignment, size_t size) {
@@ -73,12 +79,18 @@ static const char judged[] =
 static const char report[] =
     "report 1\nsegment 0 at 0\n1 0 4 install ok\n1 0 5 raise run 0 1 result 7 = value 7\nend 1\n";
 
+static const char sending[] = "spin 1\nevent 0 0 b last\nendpoint 0 out0\nhandler 1 b send 0 0 1\n"
+                              "lane 0 install 0 0 1 0 free plain\nlane 1 raise 0 x0102\nlane 0 later 0 x0304\n";
+
 static struct spin_lane lanes[HANDLES];
 
 /* What a call tells: of a call, the parts that it has. */
 struct told {
     struct spin_answer answer;
     struct spin_fault fault;
+    struct spin_ran ran;
+    char report[256];
+    struct spin_sending sends[4];
     struct spin_step step;
     struct spin_row row;
     uint64_t number;
@@ -99,6 +111,21 @@ static uint32_t judge(struct told *told) {
 
 static uint32_t judge_packets(struct told *told) {
     return spin_judge_packets(judged, sizeof judged - 1, "pcap", 4, report, sizeof report - 1, NULL, 0, &told->fault);
+}
+
+static uint32_t run_script(struct told *told) {
+    const struct spin_buffers buffers = {told->report, sizeof told->report, told->sends, 4, told->bytes, 8};
+    return spin_run(sending, sizeof sending - 1, NULL, 0, "out0", 4, &buffers, &told->ran);
+}
+
+static uint32_t run_too_much(struct told *told) {
+    const struct spin_buffers buffers = {told->report, 9, NULL, 0, told->bytes, 8};
+    return spin_run(sending, sizeof sending - 1, NULL, 0, "out0", 4, &buffers, &told->ran);
+}
+
+static uint32_t run_packets(struct told *told) {
+    const struct spin_buffers buffers = {NULL, 0, NULL, 0, NULL, 0};
+    return spin_run(sending, sizeof sending - 1, "pcap", 4, NULL, 0, &buffers, &told->ran);
 }
 
 static uint32_t command(struct told *told, int by, struct spin_command_words words) {
@@ -219,6 +246,9 @@ static const struct call {
 } calls[] = {
     {"judge", judge, SPIN_OK, 1},
     {"judge with packets", judge_packets, SPIN_BAD_CAPTURE, 1},
+    {"run", run_script, SPIN_OK, 1},
+    {"run into too little room", run_too_much, SPIN_TOO_SMALL, 1},
+    {"run with packets", run_packets, SPIN_BAD_CAPTURE, 1},
     {"open no script", open_bad, SPIN_BAD_SCRIPT, 1},
     {"open", open_hub, SPIN_OK, 1},
     {"seat", seat, SPIN_OK, 1},

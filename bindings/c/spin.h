@@ -43,7 +43,7 @@ enum spin_error {
     SPIN_REFUSED = 8,      /* the command is refused: its place, and the number of the refusal, are told */
     SPIN_NO_REPLY = 9,     /* no reply is kept: nothing was raised yet, or a command or a renewal was done since */
     SPIN_NO_STEP = 10,     /* the reply has no step of that index */
-    SPIN_TOO_SMALL = 11,   /* the bytes don't fit the buffer; how many they are is told */
+    SPIN_TOO_SMALL = 11,   /* what is handed out doesn't fit the buffer, or one of several; how long it is is told */
     SPIN_NO_ARGUMENT = 12, /* an argument is neither a word nor a range within the bytes: nothing is done */
     SPIN_NO_LANE = 13,     /* no hub has so many lanes, or the hub no such lane; or this is, or isn't, its opener */
     SPIN_TAKEN = 14,       /* the seat of the lane is out; or some seat is, so the hub is neither renewed nor ended */
@@ -64,6 +64,19 @@ struct spin_fault {
     uint32_t line;  /* the first bad line, counted from 1; 0 where the text is too large. Of a capture that is refused
                        its record, counted from 1; 0 where it is the header */
     uint32_t cause; /* the number of the cause, or of the capture's fault, as docs/FORMATS.md has them */
+};
+
+/* A send of a run: `length` bytes from `at` on of all that are sent, to the endpoint of that number. */
+struct spin_sending {
+    uint64_t endpoint, at, length;
+};
+
+/* How much a run hands out, and why it doesn't run; zeros where nothing is told. */
+struct spin_ran {
+    uint64_t report;      /* how many bytes the report has */
+    uint64_t sends;       /* how many sends there are */
+    uint64_t bytes;       /* how many bytes are sent */
+    uint32_t line, cause; /* as a spin_fault has them */
 };
 
 /* A handle: a seat of a hub over a script; closed where it is {NULL}. A hub has a seat for each lane. Its opener, the
@@ -129,6 +142,10 @@ uint32_t spin_check(const uint8_t *text, size_t text_length, const uint8_t *repo
 uint32_t spin_check_packets(const uint8_t *text, size_t text_length, const uint8_t *packets, size_t packets_length,
                             const uint8_t *report, size_t report_length, const uint8_t *standing,
                             size_t standing_length, struct spin_fault *fault);
+uint32_t spin_run_text(const uint8_t *text, size_t text_length, const uint8_t *packets, size_t packets_length,
+                       const uint8_t *standing, size_t standing_length, uint32_t has_packets, uint8_t *report,
+                       size_t report_room, struct spin_sending *sends, size_t sends_room, uint8_t *bytes,
+                       size_t bytes_room, struct spin_ran *ran);
 
 uint32_t spin_open(const uint8_t *text, size_t text_length, struct spin_lane *lane, struct spin_answer *answer);
 uint32_t spin_open_lanes(const uint8_t *text, size_t text_length, uint8_t lanes, struct spin_lane *lane,
@@ -163,6 +180,9 @@ static inline const uint8_t *spin_bytes(const void *at, size_t length) {
     return at == NULL && length == 0 ? (const uint8_t *)"" : (const uint8_t *)at;
 }
 
+/* What is written to: null stands for a buffer without room, and nothing goes to what stands for it. */
+static inline void *spin_room(void *at, size_t room, void *none) { return at == NULL && room == 0 ? none : at; }
+
 /* Whether a report is that of one legal history of a script, which has no capture. `standing` has the names of the
  * endpoints that stood, with blanks between them. SPIN_OK is yes, and SPIN_NO_HISTORY no. It asks for memory. */
 static inline uint32_t spin_judge(const void *text, size_t text_length, const void *report, size_t report_length,
@@ -187,6 +207,42 @@ static inline uint32_t spin_judge_packets(const void *text, size_t text_length, 
     }
     return spin_check_packets(texts[0], text_length, texts[1], packets_length, texts[2], report_length, texts[3],
                               standing_length, fault);
+}
+
+/* The buffers of a caller for what a run hands out, each with how much it has room for; null where that is 0. */
+struct spin_buffers {
+    void *report;
+    size_t report_room;
+    struct spin_sending *sends;
+    size_t sends_room;
+    void *bytes;
+    size_t bytes_room;
+};
+
+/* Runs a script whole: each segment lane after lane, and the jobs of each deed at once. A capture is handed in as its
+ * bytes; null packets of length 0 are none, and then there is no capture. To the fronts of the buffers go the report of
+ * one legal history of the script, what its endpoints receive in it, those whose names are in `standing`, with blanks
+ * between them, and the bytes of these sends, one behind another; how much each is is told. Where a buffer has too little
+ * room, SPIN_TOO_SMALL tells the same, and all stay as they were: the run is made again then, in larger ones. It asks for
+ * memory, and makes no thread. */
+static inline uint32_t spin_run(const void *text, size_t text_length, const void *packets, size_t packets_length,
+                                const void *standing, size_t standing_length, const struct spin_buffers *buffers,
+                                struct spin_ran *ran) {
+    struct spin_sending no_send[1] = {{0, 0, 0}};
+    uint8_t no_byte[2] = {0, 0};
+    if (buffers == NULL || ran == NULL) {
+        return SPIN_NULL;
+    }
+    const uint8_t *texts[3] = {spin_bytes(text, text_length), spin_bytes(packets, packets_length),
+                               spin_bytes(standing, standing_length)};
+    uint8_t *report = (uint8_t *)spin_room(buffers->report, buffers->report_room, &no_byte[0]);
+    uint8_t *bytes = (uint8_t *)spin_room(buffers->bytes, buffers->bytes_room, &no_byte[1]);
+    struct spin_sending *sends = (struct spin_sending *)spin_room(buffers->sends, buffers->sends_room, no_send);
+    if (texts[0] == NULL || texts[1] == NULL || texts[2] == NULL || report == NULL || sends == NULL || bytes == NULL) {
+        return SPIN_NULL;
+    }
+    return spin_run_text(texts[0], text_length, texts[1], packets_length, texts[2], standing_length, packets != NULL,
+                         report, buffers->report_room, sends, buffers->sends_room, bytes, buffers->bytes_room, ran);
 }
 
 /* Opens a closed handle over a script: what it declares, with nothing bound. It asks for memory. */

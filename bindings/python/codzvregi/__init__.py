@@ -21,9 +21,10 @@ from codzvregi.faults import (
 from codzvregi.lanes import Lane
 from codzvregi.library import Library, proved
 from codzvregi.replies import Job, Kind, Reply, Step, StepKind
+from codzvregi.runs import Run, Sent
 
 __all__ = [
     *("BadCapture", "BadScript", "Closed", "Command", "Ended", "Fault", "Full", "Job", "Kind", "Lane", "Library"),
     *("Mode", "NoBinding", "NoCommand", "NoJob", "NoLane", "NoLibrary", "NoMemory", "NoReply", "NoRow", "NoStep", "Op"),
-    *("Place", "Refusal", "Refused", "Reply", "Row", "Shared", "Step", "StepKind", "Taken", "proved"),
+    *("Place", "Refusal", "Refused", "Reply", "Row", "Run", "Sent", "Shared", "Step", "StepKind", "Taken", "proved"),
 ]

@@ -47,6 +47,21 @@ class SpinFault(ctypes.Structure):
     _fields_ = [("line", ctypes.c_uint32), ("cause", ctypes.c_uint32)]
 
 
+class SpinSending(ctypes.Structure):
+    """As struct spin_sending."""
+
+    _fields_ = [("endpoint", ctypes.c_uint64), ("at", ctypes.c_uint64), ("length", ctypes.c_uint64)]
+
+
+class SpinRan(ctypes.Structure):
+    """As struct spin_ran."""
+
+    _fields_ = [
+        *(("report", ctypes.c_uint64), ("sends", ctypes.c_uint64), ("bytes", ctypes.c_uint64)),
+        *(("line", ctypes.c_uint32), ("cause", ctypes.c_uint32)),
+    ]
+
+
 class SpinAnswer(ctypes.Structure):
     """As struct spin_answer."""
 
@@ -86,12 +101,14 @@ _TEXT: list[Any] = [ctypes.c_char_p, _SIZE]
 _FAULT, _ANSWER, _STEP = ctypes.POINTER(SpinFault), ctypes.POINTER(SpinAnswer), ctypes.POINTER(SpinStep)
 _LANE, _ROW, _LENGTH = ctypes.POINTER(SpinLane), ctypes.POINTER(SpinRow), ctypes.POINTER(_INDEX)
 _WORDS, _ARGS = [ctypes.POINTER(_INDEX), _SIZE], [ctypes.POINTER(SpinArg), _SIZE]
+_SENDS, _RAN = [ctypes.POINTER(SpinSending), _SIZE], ctypes.POINTER(SpinRan)
 
 # What each call is handed. Each answers a number.
 _GIVEN: dict[str, list[Any]] = {
     "spin_version": [],
     "spin_check": [*_TEXT, *_TEXT, *_TEXT, _FAULT],
     "spin_check_packets": [*_TEXT, *_TEXT, *_TEXT, *_TEXT, _FAULT],
+    "spin_run_text": [*_TEXT, *_TEXT, *_TEXT, _NUMBER, *_TEXT, *_SENDS, *_TEXT, _RAN],
     "spin_open_lanes": [*_TEXT, _BYTE, _LANE, _ANSWER],
     "spin_seat": [_LANE, _BYTE, _LANE],
     "spin_raise_words": [_LANE, _BYTE, *_WORDS, _ANSWER],

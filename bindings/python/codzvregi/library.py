@@ -3,7 +3,7 @@
 from collections.abc import Iterable
 from os import PathLike
 
-from codzvregi import faults, scripts
+from codzvregi import faults, runs, scripts
 from codzvregi._calls import load
 from codzvregi.lanes import Lane
 
@@ -50,6 +50,12 @@ class Library:
         bytes of, or without one, `standing` being the names of the endpoints that stood. A name that has a blank is
         that of no endpoint."""
         return scripts.judge(self._calls, script, report, standing, packets)
+
+    def run(self, script: bytes, packets: bytes | None = None, standing: Iterable[str] = ()) -> runs.Run:
+        """Runs the script whole, with the capture that these packets are the bytes of, or without one, `standing` being
+        the names of the endpoints that stand: each segment lane after lane, and the jobs of each deed at once, on no
+        thread. A name that has a blank is that of no endpoint."""
+        return runs.run(self._calls, script, packets, standing)
 
 
 def proved() -> str:

@@ -26,22 +26,31 @@ def fault_text(calls: ctypes.CDLL, fault: int) -> str:
     return _text_of(calls.spin_fault_text, fault)
 
 
+def names_of(standing: Iterable[str]) -> bytes:
+    """The names that may be those of endpoints, with blanks between them."""
+    return " ".join(name for name in standing if not set(name) & set(" \t")).encode()
+
+
+def unread(calls: ctypes.CDLL, number: int, line: int, cause: int) -> faults.Fault:
+    """Why a script or its capture isn't read."""
+    if number == Error.NO_MEMORY:
+        return faults.NoMemory("there was no memory")
+    if number == Error.BAD_SCRIPT:
+        return faults.BadScript(line, cause, cause_text(calls, cause))
+    if number == Error.BAD_CAPTURE:
+        return faults.BadCapture(line, cause, fault_text(calls, cause))
+    return faults.Fault(f"the library answered {number}")
+
+
 def judge(
     calls: ctypes.CDLL, script: bytes, report: bytes, standing: Iterable[str], packets: bytes | None
 ) -> bool:
     """Whether the report is that of one legal history of the script, as Library.judge tells it."""
-    names = " ".join(name for name in standing if not set(name) & set(" \t")).encode()
-    given = [bytes(script), *([] if packets is None else [bytes(packets)]), bytes(report), names]
+    given = [bytes(script), *([] if packets is None else [bytes(packets)]), bytes(report), names_of(standing)]
     texts = [it for text in given for it in (text, len(text))]
     fault = SpinFault()
     check = calls.spin_check if packets is None else calls.spin_check_packets
     number = check(*texts, ctypes.byref(fault))
-    if number == Error.NO_MEMORY:
-        raise faults.NoMemory("there was no memory")
-    if number == Error.BAD_SCRIPT:
-        raise faults.BadScript(fault.line, fault.cause, cause_text(calls, fault.cause))
-    if number == Error.BAD_CAPTURE:
-        raise faults.BadCapture(fault.line, fault.cause, fault_text(calls, fault.cause))
     if number not in (Error.OK, Error.NO_HISTORY):
-        raise faults.Fault(f"the library answered {number}")
+        raise unread(calls, number, fault.line, fault.cause)
     return bool(number == Error.OK)

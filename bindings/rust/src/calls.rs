@@ -36,6 +36,22 @@ unsafe extern "C" {
         standing_length: usize,
         fault: *mut SpinFault,
     ) -> u32;
+    fn spin_run_text(
+        text: *const u8,
+        text_length: usize,
+        packets: *const u8,
+        packets_length: usize,
+        standing: *const u8,
+        standing_length: usize,
+        has_packets: u32,
+        report: *mut u8,
+        report_room: usize,
+        sends: *mut SpinSending,
+        sends_room: usize,
+        bytes: *mut u8,
+        bytes_room: usize,
+        ran: *mut SpinRan,
+    ) -> u32;
     fn spin_open_lanes(
         text: *const u8,
         text_length: usize,
@@ -127,6 +143,89 @@ pub(crate) fn check_packets(text: &[u8], packets: &[u8], report: &[u8], standing
     verdict_of(number, &fault)
 }
 
+/// A send of a run: a range of all bytes that are sent.
+#[repr(C)]
+#[derive(Clone, Copy, Default)]
+pub(crate) struct SpinSending {
+    pub(crate) endpoint: u64,
+    pub(crate) at: u64,
+    pub(crate) length: u64,
+}
+
+/// How much a run hands out, and why it doesn't run.
+#[repr(C)]
+#[derive(Clone, Copy, Default)]
+struct SpinRan {
+    report: u64,
+    sends: u64,
+    bytes: u64,
+    line: u32,
+    cause: u32,
+}
+
+/// What a run hands out.
+pub(crate) struct Output {
+    pub(crate) report: Vec<u8>,
+    pub(crate) sends: Vec<SpinSending>,
+    pub(crate) bytes: Vec<u8>,
+}
+
+impl Output {
+    /// Empty buffers for so much.
+    fn with_room(report: u64, sends: u64, bytes: u64) -> Output {
+        let sends = vec![SpinSending::default(); sends as usize];
+        Output { report: vec![0; report as usize], sends, bytes: vec![0; bytes as usize] }
+    }
+
+    /// Fills these, or answers why they aren't filled.
+    fn fill(&mut self, text: &[u8], packets: Option<&[u8]>, standing: &[u8], ran: &mut SpinRan) -> u32 {
+        let given = packets.unwrap_or_default();
+        // SAFETY: each pointer is that of a slice, with its length, and the last that of a value of the caller's; none of
+        // them is null, nothing else writes to any of them meanwhile, and those that are written to are this value's own.
+        unsafe {
+            spin_run_text(
+                text.as_ptr(),
+                text.len(),
+                given.as_ptr(),
+                given.len(),
+                standing.as_ptr(),
+                standing.len(),
+                u32::from(packets.is_some()),
+                self.report.as_mut_ptr(),
+                self.report.len(),
+                self.sends.as_mut_ptr(),
+                self.sends.len(),
+                self.bytes.as_mut_ptr(),
+                self.bytes.len(),
+                ran,
+            )
+        }
+    }
+
+    /// Keeps so much of each.
+    fn keep(&mut self, ran: &SpinRan) {
+        self.report.truncate(ran.report as usize);
+        self.sends.truncate(ran.sends as usize);
+        self.bytes.truncate(ran.bytes as usize);
+    }
+}
+
+/// The room of a run's first buffers: most runs need no more.
+const ROOM: (u64, u64, u64) = (1 << 16, 1 << 10, 1 << 16);
+
+pub(crate) fn run(text: &[u8], packets: Option<&[u8]>, standing: &[u8]) -> Result<Output, Fault> {
+    let (mut output, mut ran) = (Output::with_room(ROOM.0, ROOM.1, ROOM.2), SpinRan::default());
+    loop {
+        match output.fill(text, packets, standing, &mut ran) {
+            0 => break,
+            11 => output = Output::with_room(ran.report, ran.sends, ran.bytes),
+            number => return Err(unread(number, ran.line, ran.cause)),
+        }
+    }
+    output.keep(&ran);
+    Ok(output)
+}
+
 /// A call that tells the sentence of a number.
 type Tell = unsafe extern "C" fn(u32, *mut u8, usize, *mut u64) -> u32;
 
@@ -153,10 +252,17 @@ fn verdict_of(number: u32, fault: &SpinFault) -> Result<bool, Fault> {
     match number {
         0 => Ok(true),
         3 => Ok(false),
-        1 => Err(Fault::NoMemory),
-        2 => Err(Fault::BadScript { line: fault.line, cause: fault.cause }),
-        16 => Err(Fault::BadCapture { record: fault.line, fault: fault.cause }),
-        other => Err(Fault::Unknown(other)),
+        other => Err(unread(other, fault.line, fault.cause)),
+    }
+}
+
+/// Why a script or its capture isn't read.
+fn unread(number: u32, line: u32, cause: u32) -> Fault {
+    match number {
+        1 => Fault::NoMemory,
+        2 => Fault::BadScript { line, cause },
+        16 => Fault::BadCapture { record: line, fault: cause },
+        other => Fault::Unknown(other),
     }
 }
 

@@ -19,11 +19,13 @@ mod command;
 mod fault;
 mod lane;
 mod reply;
+mod run;
 
 pub use command::{Command, Install, Mode, Op, Place, Reason, Refusal, Row};
 pub use fault::Fault;
 pub use lane::{Arg, Hub, Jobs, Lane};
 pub use reply::{Answer, Job, Reply, Step};
+pub use run::{Run, Sent};
 
 /// A seat of a hub, which is what a lane has.
 pub type Seat = Lane;
@@ -59,6 +61,22 @@ pub fn judge(script: &[u8], report: &[u8], standing: &[&str]) -> Result<bool, Fa
 /// and else as [`judge`].
 pub fn judge_packets(script: &[u8], packets: &[u8], report: &[u8], standing: &[&str]) -> Result<bool, Fault> {
     calls::check_packets(script, packets, report, names_of(standing).as_bytes())
+}
+
+/// Runs the script whole, with a capture that these packets are the bytes of, or without one, `standing` being the names
+/// of the endpoints that stand: each segment lane after lane, and the jobs of each deed at once, on no thread. A name that
+/// is empty or has a blank is that of no endpoint.
+///
+/// ```
+/// let script = b"spin 1\nevent 0 0 b last\nendpoint 0 out0\nhandler 1 b send 0 0 1\n\
+///     lane 0 install 0 0 1 0 free plain\nlane 0 raise 0 x0102\n";
+/// let run = codzvregi::run(script, None, &["out0"])?;
+/// assert!(run.report.starts_with(b"report 1\nsegment 0 at 0\n1 0 5 install ok\n"));
+/// assert_eq!(run.sends, [codzvregi::Sent { endpoint: 0, bytes: vec![2] }]);
+/// # Ok::<(), codzvregi::Fault>(())
+/// ```
+pub fn run(script: &[u8], packets: Option<&[u8]>, standing: &[&str]) -> Result<Run, Fault> {
+    calls::run(script, packets, names_of(standing).as_bytes()).map(Run::of)
 }
 
 /// The names that may be those of endpoints, with blanks between them.

@@ -6,6 +6,7 @@ pub mod Laws
 pub mod LiveNumbers
 pub mod Maybes
 pub mod Opening
+pub mod Ranges
 pub mod RoomLeft
 pub mod Sharing
 pub mod Turning

@@ -1,3 +1,4 @@
+pub mod Cases
 pub mod Crowded
 pub mod Cycles
 pub mod Given
@@ -16,3 +17,4 @@ pub mod Trails
 pub mod Turns
 pub mod Verdicts
 pub mod Waiting
+pub mod Wholes

@@ -1,5 +1,5 @@
 -- Captures as C hands them in, and what reading one whole comes to.
-use Rattle.std.specs.Prelude.{◌≡◌, ℕ, List, Option, Some, None, Ok, ⊤}
+use Rattle.std.specs.Prelude.{◌≡◌, ℕ, List, Option, Some, None, Ok, ⊤, if◌then◌else◌, ◌==◌}
 use Rattle.spin_outside.specs.Sources.{SourceSeen}
 use Rattle.spin_pcap.specs.declared.fault.BadRecord.{BadRecord}
 use Rattle.spin_pcap.specs.declared.fault.BadRecord.TheVariants as bad
@@ -17,6 +17,10 @@ packets_seen bytes = record {
   keep = record { file = 0; files = None; reads = λ _. None; absences = 0; reference = 0 };
   faults = 0;
 }
+
+-- a capture is handed in where the number isn't 0
+abbrev pub given_if : ℕ → List ℕ → Option (List ℕ)
+given_if has packets = if has == 0 then None else Some packets
 
 -- The bytes are a good capture with these records, behind which so many bytes are no record.
 abbrev pub IsWhole : List ℕ → CaptureSeen → Type 0

@@ -105,10 +105,14 @@ pub record TellsStep {A C E : Type 0} {B : A → Type 0} {D : C → Type 0}
   pub number_is : number ≡ code_of told
   pub step_is : step ≡ step_of told
 
+-- a buffer with these at its front, behind which it is as it was
+abbrev pub laid_over : {A : Type 0} → List A → List A → List A
+laid_over items buffer = items ++ drop (length items) buffer
+
 -- Bytes stand at the front of a buffer where it has room for them; else it is as it was, which is told.
 abbrev pub AreCopied : List ℕ → List ℕ → ℕ → List ℕ → Type 0
 AreCopied bytes before number after =
-    ((length bytes ≤ length before) × (number ≡ 0) × (after ≡ bytes ++ drop (length bytes) before))
+    ((length bytes ≤ length before) × (number ≡ 0) × (after ≡ laid_over bytes before))
     ⊎ ((length before < length bytes) × (number ≡ 11) × (after ≡ before))
 
 -- bytes that are handed out are copied, and it is told how many they are; else the buffer is as it was

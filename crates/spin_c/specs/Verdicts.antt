@@ -1,13 +1,12 @@
 -- What a report is judged to be, and by which numbers that is told.
-use Rattle.std.specs.Prelude.{ℕ, Bool, true, false, List, [], Option, Ok, Decides, ⊤}
+use Rattle.std.specs.Prelude.{ℕ, Bool, true, false, List, [], Option, Ok, Decides}
 use Rattle.spin_endpoint.specs.Named.{NamedEnd}
 use Rattle.spin_report.specs.Runs.{CaptureSeen}
 use Rattle.spin_script.specs.Language.{IsScript}
-use Rattle.spin_script.specs.Scripts.{IsBad}
 use Rattle.spin_script.specs.States.{NativeData, ScriptData}
-use Rattle.spin_script.specs.declared.script.ScriptFault.TheVariants as fault
 use Rattle.spin_check.specs.RunTexts.{IsRunText, StandAs}
-use Rattle.spin_c.specs.Packets.{AreCaptured, AreRefused}
+use Rattle.spin_c.specs.Cases.{IsUnread, unread_fault, unread_number}
+use Rattle.spin_c.specs.Packets.{AreCaptured}
 use Rattle.spin_c.specs.declared.told.SpinFault.{SpinFault}
 use Rattle.spin_c.specs.declared.verdict.Verdict.{Verdict}
 use Rattle.spin_c.specs.declared.verdict.Verdict.TheVariants as verdict
@@ -28,30 +27,19 @@ pub record IsJudged (natives : NativeData) (text : List ℕ) (packets : Option (
   pub judged : (ends : List NamedEnd) → StandAs script.endpoints names ends
       → Decides yes (IsRunText script capture ends report)
 
--- The text is that of a script, and the capture is refused at that record by that fault.
-pub record IsUnread (natives : NativeData) (text : List ℕ) (packets : Option (List ℕ)) (at fault : ℕ) : Type 0 where
-  pub script : ScriptData
-  pub read : IsScript natives text (Ok script)
-  pub refused : AreRefused packets at fault
-
--- What a verdict says; want of memory comes at any time.
+-- What a verdict says.
 abbrev pub IsVerdict : NativeData → List ℕ → Option (List ℕ) → List (List ℕ) → List ℕ → Verdict → Type 0
 IsVerdict natives text packets names report verdict.History = IsJudged natives text packets names report true
 IsVerdict natives text packets names report verdict.NoHistory = IsJudged natives text packets names report false
-IsVerdict natives text packets names report (verdict.Bad line cause) = IsBad natives text (fault.Bad line cause)
-IsVerdict natives text packets names report (verdict.BadCapture at fault) = IsUnread natives text packets at fault
-IsVerdict natives text packets names report verdict.NoMemory = ⊤
+IsVerdict natives text packets names report (verdict.Unread why) = IsUnread natives text packets why
 
 -- the number that a verdict is told by
 abbrev pub number_of : Verdict → ℕ
 number_of verdict.History = 0
-number_of verdict.NoMemory = 1
-number_of (verdict.Bad line cause) = 2
 number_of verdict.NoHistory = 3
-number_of (verdict.BadCapture at fault) = 16
+number_of (verdict.Unread why) = unread_number why
 
 -- where the script is bad, or the capture, and why
 abbrev pub fault_of : Verdict → SpinFault
-fault_of (verdict.Bad line cause) = record { line = line; cause = cause }
-fault_of (verdict.BadCapture at fault) = record { line = at; cause = fault }
+fault_of (verdict.Unread why) = unread_fault why
 fault_of other = record { line = 0; cause = 0 }

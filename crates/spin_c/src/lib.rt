@@ -1,6 +1,8 @@
 //! The dispatcher for hosts that aren't Rattle: the calls that `bindings/c/spin.h` declares.
 //!
-//! - [`verdict`] has what a report is judged to be, [`judge`] judges it, and [`packets`] reads a capture beside it;
+//! - [`reading`] reads a script, a capture beside it, by [`packets`], and names; [`verdict`] has what a report is judged
+//!   to be by them, and [`judge`] judges it; [`whole`] has what a run with them comes to, [`running`] runs it, and
+//!   [`filling`] puts what it hands out into buffers;
 //! - [`lane`] is what a handle holds, a seat with its hub, [`handing`] hands the seats of other lanes out and gives them
 //!   home, and [`handle`] is the handle, over [`maybe`] and [`loose`]: pointers that own a box, or may be null;
 //! - [`ask`] is what is asked of a handle and what it comes to, [`turn`] does it, and [`asking`] asks;
@@ -20,12 +22,16 @@ ghost use Rattle.spin_values.specs.First.{numbered};
 ghost use Rattle.spin_c.specs.Texts.{TellsText};
 ghost use Rattle.spin_c.specs.declared.texts.TheConstants.{CAUSES, FAULTS};
 ghost use Rattle.spin_c.specs.Verdicts.{IsVerdict, no_natives, fault_of, number_of};
+ghost use Rattle.spin_c.specs.Packets.{given_if};
+ghost use Rattle.spin_c.specs.Wholes.{RunsTo, TellsWhole};
+ghost use Rattle.spin_c.specs.declared.whole.Whole.{Whole as WholeValue};
 
 mod ask;
 mod asking;
 mod copying;
 mod crowded;
 mod cycles;
+mod filling;
 mod gathering;
 mod given;
 mod handing;
@@ -38,24 +44,31 @@ mod law;
 mod loose;
 mod maybe;
 mod packets;
+mod reading;
 mod renewing;
 mod row;
+mod running;
 mod step;
 mod texts;
 mod told;
 mod trail;
 mod turn;
 mod verdict;
+mod whole;
 
 use ask::{Ask, Outcome};
 use asking::{args_of, ask_bytes, ask_of, ask_row, ask_step, open_of, share_of, tell};
+use filling::tell_whole;
 pub use given::SpinArg;
 use given::given_of;
 pub use handle::SpinLane;
 use judge::judge;
 pub use law::commands_leave_room;
+use packets::given_if;
+pub use reading::Unread;
 pub use row::SpinRow;
 use row::row_from;
+use running::run_whole;
 use spin_objects::Natives;
 use spin_values::NoMemory;
 use std::alloc::Global;
@@ -64,6 +77,7 @@ use texts::{cause_text, fault_text, tell_text};
 pub use told::{SpinAnswer, SpinFault};
 use told::{fault_of, number_of};
 pub use verdict::Verdict;
+pub use whole::{Output, SpinRan, SpinSending, Whole};
 
 /// The version of these calls. It grows by 1 where one of them is changed, and not where one is added.
 #[unsafe(no_mangle)]
@@ -121,6 +135,39 @@ pub extern "C" fn spin_check_packets(
     );
     *fault = fault_of(&verdict);
     number_of(&verdict)
+}
+
+/// Runs a script whole, without threads, with the capture that these bytes are, where `has_packets` isn't 0, and else
+/// without one; of the script's endpoints just those stand whose names are among the words of `standing`. To the fronts
+/// of the buffers go the report of one legal history of the script with the capture, all that its endpoints receive in
+/// it, in order, each as a range of the bytes, and those bytes, one behind another; and it tells how long each is. It
+/// answers 0 where they are there; 11 where one of the buffers is too small, where it tells the same, and all are as
+/// they were; and else it tells 0 thrice, and the buffers are as they were: 1 where there was no memory, 2 where the
+/// text is no script, and 16 where it is one and the bytes are refused as a capture, both with the fault that
+/// [`spin_check_packets`] tells.
+///
+/// Beside the work of the raises its time is linear in what it hands out, the capture, and the script's lines times the
+/// number of its lanes. After 11 the run has to be made again.
+#[unsafe(no_mangle)]
+pub extern "C" fn spin_run_text(
+    alloc: Global,
+    text: &[u8],
+    packets: &[u8],
+    standing: &[u8],
+    has_packets: u32,
+    report: &mut [u8],
+    sends: &mut [SpinSending],
+    bytes: &mut [u8],
+    ran: &mut SpinRan,
+) -> u32
+    ensures { (whole : WholeValue)
+        × RunsTo no_natives text.now (given_if has_packets packets.now) (words standing.now) whole
+        × TellsWhole whole (record { report = report.old; sends = sends.old; bytes = bytes.old })
+        result (record { report = report.new; sends = sends.new; bytes = bytes.new }) ran.new }
+{
+    let given = given_if(has_packets, packets);
+    let whole = run_whole(alloc, Natives::new(alloc), text, given, standing);
+    tell_whole(&whole, report, sends, bytes, ran)
 }
 
 /// Copies the sentence of why a script is refused by a cause of this number to the front of a buffer, and tells how many

@@ -7,7 +7,7 @@ ghost use Rattle.std.specs.Io.KnownBytes.{ReadConsumes};
 ghost use Rattle.spin_check.specs.RunTexts.{capture_of};
 ghost use Rattle.spin_outside.specs.Counts.{FailsByCount};
 ghost use Rattle.spin_outside.specs.Sources.{TakesMore};
-ghost use Rattle.spin_c.specs.Packets.{AreCaptured, IsStopped, packets_seen};
+ghost use Rattle.spin_c.specs.Packets.{AreCaptured, IsStopped, given_if, packets_seen};
 
 use spin_outside::{Failed, Source};
 use spin_pcap::{BadRecord, Captured, read_capture};
@@ -44,6 +44,17 @@ impl Source for Packets<'_> {
         buf[..count].copy_from_slice(piece);
         self.left = rest;
         Ok(count)
+    }
+}
+
+// These bytes, if they are handed in.
+pub(crate) fn given_if(has_packets: u32, packets: &[u8]) -> Option<&[u8]>
+    ensures { option_copied result ≡ given_if has_packets packets.now }
+{
+    if has_packets == 0 {
+        None
+    } else {
+        Some(packets)
     }
 }
 

@@ -2,9 +2,11 @@
 
 ghost use Rattle.std.specs.Prelude.{◌≡◌};
 ghost use Rattle.spin_c.specs.Tellings.{answer_of, code_of, row_of, step_of};
+ghost use Rattle.spin_c.specs.Cases.{unread_fault, unread_number};
 ghost use Rattle.spin_c.specs.Verdicts.{fault_of, number_of};
 
 use crate::ask::Outcome;
+use crate::reading::Unread;
 use crate::row::{SpinRow, row_to};
 use crate::step::SpinStep;
 use crate::trail::blank;
@@ -22,18 +24,39 @@ pub struct SpinFault {
 }
 
 // Where the script is bad, or the capture, and why.
+pub(crate) fn unread_fault(why: &Unread) -> SpinFault
+    ensures { result ≡ unread_fault why.now }
+{
+    match why {
+        Unread::Bad { line, cause } => SpinFault {
+            line: *line,
+            cause: u32::from(*cause),
+        },
+        Unread::BadCapture { number, fault } => SpinFault {
+            line: *number,
+            cause: u32::from(*fault),
+        },
+        Unread::NoMemory => SpinFault { line: 0, cause: 0 },
+    }
+}
+
+// The number by which it is told why something isn't read.
+pub(crate) fn unread_number(why: &Unread) -> u32
+    ensures { result ≡ unread_number why.now }
+{
+    match why {
+        Unread::NoMemory => 1,
+        Unread::Bad { .. } => 2,
+        Unread::BadCapture { .. } => 16,
+    }
+}
+
+// The same of a verdict.
 pub(crate) fn fault_of(verdict: &Verdict) -> SpinFault
     ensures { result ≡ fault_of verdict.now }
 {
     match verdict {
-        Verdict::Bad { line, cause } => SpinFault {
-            line: *line,
-            cause: u32::from(*cause),
-        },
-        Verdict::BadCapture { number, fault } => SpinFault {
-            line: *number,
-            cause: u32::from(*fault),
-        },
+        Verdict::Unread(why) => unread_fault(why),
         _ => SpinFault { line: 0, cause: 0 },
     }
 }
@@ -44,10 +67,8 @@ pub(crate) fn number_of(verdict: &Verdict) -> u32
 {
     match verdict {
         Verdict::History => 0,
-        Verdict::NoMemory => 1,
-        Verdict::Bad { .. } => 2,
         Verdict::NoHistory => 3,
-        Verdict::BadCapture { .. } => 16,
+        Verdict::Unread(why) => unread_number(why),
     }
 }
 

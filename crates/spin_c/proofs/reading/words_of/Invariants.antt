@@ -1,6 +1,6 @@
 use Rattle.std.proofs.Common.{◌≡◌, ◌++◌, length}
 use Rattle.spin_grammar.specs.Words.{words}
-use Rattle.spin_c.proofs.judge.words_of.Given as goal
+use Rattle.spin_c.proofs.reading.words_of.Given as goal
 
 abbrev pub invariant-loop-word : goal.invariant-loop-word
 invariant-loop-word l = l.texts ++ l.left ≡ words l.line
