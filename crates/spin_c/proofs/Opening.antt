@@ -10,7 +10,6 @@ use Rattle.spin_log.proofs.RowLists.{all_cons}
 use Rattle.spin_table.specs.SetupOf.{data_of}
 use Rattle.spin_table.specs.Setups.{SetupData}
 use Rattle.spin_table.specs.States.{State}
-use Rattle.spin_seat.specs.Homes.{IsSeatAt}
 use Rattle.spin_seat.specs.Seats.{AreFrom, SeatValue, AreOfLanes, IsSeatFrom}
 use Rattle.spin_seat.specs.Parties.{IsWellParty}
 use Rattle.spin_seat.specs.RenewedHubs.{AreAllSeats, KnowMore}

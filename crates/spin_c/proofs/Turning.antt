@@ -1,7 +1,7 @@
 -- What is asked of a lane, and isn't to renew its hub or to end it; what is asked of an open handle, and isn't to close it;
 -- and that a lane stays well as its seat does.
 use Rattle.std.proofs.Common.{◌≡◌, ◌∙◌, ◌+◌, ◌*◌, ◌/◌, ◌%◌, ◌^◌, ◌<◌, ℕ, arith, refl, sym}
-use Rattle.std.specs.Prelude.{Option, Some}
+use Rattle.std.specs.Prelude.{Some}
 use Rattle.std.specs.Arc.{arc_value}
 use Rattle.spin_word.specs.declared.row.Row.{Row}
 use Rattle.spin_word.specs.Rows.{lane_of}

@@ -1,6 +1,6 @@
 -- What a call does to what a handle holds, and what it comes to.
 use Rattle.std.specs.Prelude.{◌≡◌, ◌≢◌, ◌<◌, ◌≤◌, ◌⊎◌, ℕ, ◌+◌, ◌*◌, ◌/◌, ◌%◌, ◌^◌, List, [], Option}
-use Rattle.std.specs.Prelude.{None, Some, slice_get, Result, Ok, Err, length, ⊤}
+use Rattle.std.specs.Prelude.{None, Some, slice_get, Result, Ok, Err, ⊤}
 use Rattle.std.specs.Arc.{arc_value}
 use Rattle.spin_word.specs.declared.command.Command.{Command}
 use Rattle.spin_word.specs.declared.command.TheConstants.{MAX_LANES}
@@ -28,7 +28,7 @@ use Rattle.spin_c.specs.declared.ask.Ask.TheVariants as ask
 use Rattle.spin_c.specs.declared.ask.Told.{Told}
 use Rattle.spin_c.specs.declared.ask.Outcome.{Outcome}
 use Rattle.spin_c.specs.declared.ask.Outcome.TheVariants as outcome
-use Rattle.spin_word.specs.Rows.{IsCommand, StandsFor, StandsForNone}
+use Rattle.spin_word.specs.Rows.{StandsFor, StandsForNone}
 use Rattle.spin_c.specs.Renewing.{EndsTo, Gathers, RenewsTo, number_before, row_at}
 use Rattle.spin_c.specs.Waiting.{IsLaneAnd, IsStarted, KeepsHub}
 use Rattle.spin_c.specs.declared.lane.Held.{Held}

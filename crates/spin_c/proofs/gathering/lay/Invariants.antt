@@ -1,4 +1,4 @@
-use Rattle.std.proofs.Common.{◌≡◌, ◌≤◌, ◌+◌, ◌∷◌, ◌++◌, [], length, map, vec_capacity, List}
+use Rattle.std.proofs.Common.{◌≡◌, ◌≤◌, ◌+◌, ◌∷◌, ◌++◌, length, map, vec_capacity, List}
 use Rattle.std.specs.Prelude.{None, Some}
 use Rattle.spin_seat.specs.declared.party.Away.{Away}
 use Rattle.spin_c.proofs.Opening.{seat_of, ticket_of}

@@ -1,4 +1,4 @@
-use Rattle.std.proofs.Common.{◌≡◌, ◌≤◌, ◌+◌, ◌∷◌, ◌++◌, [], drop, length, map, vec_capacity}
+use Rattle.std.proofs.Common.{◌≡◌, ◌≤◌, ◌+◌, ◌∷◌, ◌++◌, drop, length, map, vec_capacity}
 use Rattle.spin_c.specs.Waiting.{present}
 use Rattle.spin_c.proofs.Opening.{seat_of, ticket_of}
 use Rattle.spin_c.proofs.gathering.take_apart.Given as goal

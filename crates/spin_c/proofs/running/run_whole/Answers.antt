@@ -1,5 +1,5 @@
 use Rattle.std.proofs.Common.{List, ℕ, sym, subst}
-use Rattle.std.specs.Prelude.{option_map, IfOk}
+use Rattle.std.specs.Prelude.{option_map}
 use Rattle.spin_check.specs.RunTexts.{StandAs, capture_of}
 use Rattle.spin_script.specs.Scripts.{script_seen}
 use Rattle.spin_whole.specs.Runs.{IsRanAs}
