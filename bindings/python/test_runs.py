@@ -52,8 +52,8 @@ def summed(data):
 
 
 def echo_reply(data):
-    """What the program's endpoint `echo` replies, or None."""
-    if len(data) < 8 or data[:2] != b"\x08\0" or summed(data) != 0xFFFF:
+    """What the program's endpoint `echo` replies, or None, as to a request of over 65,535 bytes."""
+    if not 8 <= len(data) <= 0xFFFF or data[:2] != b"\x08\0" or summed(data) != 0xFFFF:
         return None
     return b"\0\0" + (0xFFFF - summed(data[4:])).to_bytes(2, "big") + data[4:]
 
