@@ -1,14 +1,13 @@
 //! Lanes that a host makes of seats, runs and takes apart again.
 
-ghost use Rattle.std.specs.Prelude.{◌≡◌, ◌<◌, ◌≤◌, map, length, IfOk};
+ghost use Rattle.std.specs.Prelude.{◌≡◌, ◌<◌, map, length, IfOk};
 ghost use Rattle.std.specs.List.{All};
 ghost use Rattle.spin_log.specs.Pens.{new_pens};
 ghost use Rattle.spin_table.specs.SetupOf.{data_of};
 ghost use Rattle.spin_table.specs.States.{State};
 ghost use Rattle.spin_script.specs.States.{deed_count};
-ghost use Rattle.spin_script.specs.Soundness.{IsValidWork, commands_in};
+ghost use Rattle.spin_script.specs.Soundness.{IsValidWork};
 ghost use Rattle.spin_script.specs.Segments.{IsOnLane};
-ghost use Rattle.spin_seat.specs.RenewedHubs.{AreAllSeats};
 ghost use Rattle.spin_seat.specs.Seats.{IsSeatFrom, AreOfLanes};
 ghost use Rattle.spin_run.specs.Lanes.{IsFresh};
 ghost use Rattle.spin_run.specs.Segments.{IsFitSegment};
@@ -19,10 +18,9 @@ use spin_code::Sincere;
 use spin_log::Rows;
 use spin_objects::Catalogue;
 use spin_outside::OpenGate;
-use spin_report::{Entries, Entry, What};
-use spin_run::{Frames, Kind, Lane, Lanes, run_lanes, run_segment};
+use spin_run::{Frames, Kind, Lane, Lanes, run_lanes};
 use spin_script::{Line, Lines, Segment};
-use spin_seat::{Hub, Renewal, Seats, Verdicted};
+use spin_seat::{Hub, Seats};
 use spin_values::{NoMemory, Numbers};
 use spin_word::{Work, pack};
 use std::alloc::Global;
@@ -46,8 +44,7 @@ fn line_of(number: u32, lane: u8) -> Line
 
 // A segment in which each of two lanes installs.
 fn both_install(alloc: Global) -> Result<Segment, NoMemory>
-    ensures fit { IfOk result (λ segment. IsFitSegment 2 segment.lines) }
-    ensures two { IfOk result (λ segment. commands_in segment.lines ≤ 2) }
+    ensures { IfOk result (λ segment. IsFitSegment 2 segment.lines) }
 {
     Ok(Segment {
         retires: Numbers::new(alloc),
@@ -137,71 +134,6 @@ fn play<R: Threads + Sync>(rt: &R, alloc: Global) -> Result<(bool, Rows), Fail> 
     let lanes = run_over(rt, alloc, &hub, seats, &segment)?;
     let have_installed = lanes.len() == 2 && have_installed(&lanes);
     Ok((have_installed, close(alloc, hub, lanes)?))
-}
-
-// All seats of the hub, from its lanes.
-fn all_seats_of(alloc: Global, _hub: &Hub, lanes: Lanes) -> Result<Seats, NoMemory>
-    requires two { (_hub.now.log.lanes ≡ 2) × (length lanes ≡ 2) }
-    requires own { AreOfHub (data_of _hub.now.setup) _hub.now.log.id lanes }
-    requires order { AreOfLanes 0 (map (λ lane. lane.seat) lanes) }
-    ensures { IfOk result (AreAllSeats (data_of _hub.now.setup) _hub.now.log) }
-{
-    seats_of(alloc, lanes)
-}
-
-// The entries that lanes of a hub's seats give to the segment, for which there must be room.
-fn entries_over<R: Threads + Sync>(
-    rt: &R,
-    alloc: Global,
-    hub: &Hub,
-    seats: Seats,
-    segment: &Segment,
-) -> Result<Entries, NoMemory>
-    requires sincere { ⟦<Catalogue as Sincere>⟧.sincere hub.now.setup.catalogue }
-    requires two { hub.now.log.lanes ≡ 2 }
-    requires pens { map (λ seat. seat.pen) seats ≡ new_pens hub.now.log.id hub.now.log.lanes }
-    requires seats { (first : State) × All (IsSeatFrom (data_of hub.now.setup) first) seats }
-    requires lines { IsFitSegment 2 segment.now.lines }
-    requires few { commands_in segment.now.lines ≤ 2 }
-{
-    let mut lanes = Lanes::of_seats(alloc, hub, seats)?;
-    lanes.keep_entries(alloc);
-    if lanes.get(0).seat.room() < 2 {
-        return Err(NoMemory);
-    }
-    let frames = Frames::new(alloc);
-    run_segment(rt, alloc, hub, &mut lanes, segment, &frames, &OpenGate)?;
-    lanes.take_entries(alloc)
-}
-
-// What lanes of a renewed hub answer, on which each of two lanes has installed before.
-fn play_on<R: Threads + Sync>(rt: &R, alloc: Global) -> Result<Entries, Fail> {
-    let segment = both_install(alloc)?;
-    let (hub, seats) = Hub::new(alloc, setup(alloc)?, 2)?;
-    let lanes = run_over(rt, alloc, &hub, seats, &segment)?;
-    let seats = all_seats_of(alloc, &hub, lanes)?;
-    let Ok(renewal) = hub.renew(alloc, seats) else {
-        return Err(NoMemory)?;
-    };
-    let Renewal { hub, seats, .. } = renewal;
-    Ok(entries_over(rt, alloc, &hub, seats, &segment)?)
-}
-
-// The place of an install that was accepted.
-fn place_of(entry: &Entry) -> Option<u16> {
-    match &entry.what {
-        What::Command(_, Verdicted::Accepted) => Some(entry.place),
-        _ => None,
-    }
-}
-
-#[test]
-fn lanes_of_a_renewed_hub_go_on_behind_what_is_bound(rt: HostRuntime) -> Result<(), Fail> {
-    let entries = play_on(&rt, rt.alloc())?;
-    assert_eq!(rt; entries.len(), 2);
-    assert_eq!(rt; place_of(entries.get(0)), Some(3));
-    assert_eq!(rt; place_of(entries.get(1)), Some(4));
-    Ok(())
 }
 
 #[test]
