@@ -1,19 +1,17 @@
 -- Captures that are passed one after another.
-use Rattle.std.proofs.Common.{◌≡◌, ◌<◌, ◌≤◌, ◌+◌, ℕ, List, [], ◌∷◌, ◌++◌, length, take, drop, All, get_or, Option, Some, None, IfSome, refl, sym, ap, subst, ◌∙◌, arith}
-use Rattle.std.specs.List.{flat_map, sum_by}
+use Rattle.std.proofs.Common.{◌≡◌, ◌<◌, ◌≤◌, ◌+◌, ℕ, List, [], ◌∷◌, ◌++◌, length, take, drop, get_or, Option, Some, None, IfSome, refl, sym, ap, subst, ◌∙◌, arith}
+use Rattle.std.specs.List.{sum_by}
 use Rattle.std.proofs.lemmas.List.{append-nil, take_all}
 use Rattle.std.proofs.lemmas.List.Elements.{All-append}
 use Rattle.std.proofs.lemmas.List.Sums.{sum_by-append}
 use Rattle.std.proofs.lemmas.Grind.{flat_map-append, take_at_read}
-use Rattle.std.specs.Prelude.{Ok}
-use Rattle.spin_outside.specs.Files.{File, content, IsWholeFile}
-use Rattle.spin_pcap.specs.Passing.{left_for}
+use Rattle.spin_outside.specs.Files.{File, IsWholeFile}
 use Rattle.spin_pcap.proofs.CaptureRecords.{at_told, told_more}
 use Rattle.spin_frames.specs.declared.head.Head.{Head}
 use Rattle.spin_frames.specs.Heads.{IsHead}
 use Rattle.spin_table.specs.Setups.{SetupData}
 use Rattle.spin_table.specs.States.{State}
-use Rattle.spin_filter.specs.Counting.{capped, joined}
+use Rattle.spin_filter.specs.Counting.{capped}
 use Rattle.spin_filter.specs.Histories.{PassedCapture, IsCaptureOf, IsFound, AreFound, AreRecords, AllPassed, ArePassed, records_of, happened_in}
 use Rattle.spin_filter.specs.Passing.{Passed}
 use Rattle.spin_filter.specs.Sending.{Outlets, IsDone}

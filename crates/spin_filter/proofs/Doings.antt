@@ -1,7 +1,7 @@
 -- What is done, one thing after another.
-use Rattle.std.proofs.Common.{◌≡◌, ◌+◌, ◌<◌, ℕ, zero, suc, Bool, true, false, cond, not, List, [], ◌∷◌, ◌++◌, map, filter, length, All, Option, Some, None, Result, Ok, Err, refl, sym, ap, subst, ◌∙◌, arith, append_assoc, lit<, get_or, take, drop, ◌≤◌, ◌-◌, ◌==◌, ⊎_elim}
+use Rattle.std.proofs.Common.{◌≡◌, ◌+◌, ◌<◌, ℕ, zero, suc, Bool, true, false, cond, not, List, [], ◌∷◌, ◌++◌, map, filter, length, Option, Some, None, Err, refl, sym, ap, subst, ◌∙◌, arith, append_assoc, lit<, get_or, take, drop, ◌≤◌, ◌-◌, ◌==◌, ⊎_elim}
 use Rattle.std.specs.Prelude.{bytes_eq}
-use Rattle.std.specs.List.{flat_map, filter_map}
+use Rattle.std.specs.List.{filter_map}
 use Rattle.std.specs.Option.{option_map}
 use Rattle.std.specs.Io.KnownBytes.{Appends}
 use Rattle.std.proofs.KnownBytes.{Appends-trans}
@@ -32,7 +32,7 @@ use Rattle.spin_frames.specs.Packets.{Packet}
 use Rattle.spin_frames.specs.Written.{written_record}
 use Rattle.spin_filter.specs.declared.counts.Counts.{Counts}
 use Rattle.spin_filter.specs.Counting.{Marked, Happened, Sending, AreCounts, joined, nothing, with_step, with_job, with_outcome, with_losts, just_steps, just_job, just_outcome, sent_by, sends_in, sendings, later_steps, job_steps, steps_of_jobs, happened_in_jobs, happened_at, outcome_of}
-use Rattle.spin_filter.specs.Sending.{is_writer, handed, lost_of, written_by, IsFrame, IsPut, IsHanded, IsMade, AreSent, Outlets, with_lost_of, IsDone}
+use Rattle.spin_filter.specs.Sending.{is_writer, handed, lost_of, written_by, IsFrame, IsPut, IsHanded, IsMade, AreSent, Outlets, IsDone}
 
 -- ---- endpoints
 

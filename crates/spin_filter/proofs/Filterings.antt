@@ -1,12 +1,11 @@
 -- A whole pass of a filter: its beginning, and what it came to.
 use Rattle.std.proofs.Common.{◌≡◌, ◌<◌, ◌≤◌, ◌+◌, ℕ, zero, suc, List, [], ◌∷◌, ◌++◌, length, take, drop, get_or, All, Option, IfSome, refl, sym, ap, subst, ◌∙◌, arith}
-use Rattle.std.specs.List.{flat_map, filter_map, sum_by}
+use Rattle.std.specs.List.{flat_map, sum_by}
 use Rattle.std.proofs.lemmas.List.{append-nil, take_all, take-append-drop}
 use Rattle.std.proofs.lemmas.List.Elements.{filter_map-append, All-head, All-tail, All-cons}
 use Rattle.std.proofs.lemmas.Grind.{flat_map-append, take_at_read}
 use Rattle.spin_outside.specs.Files.{File}
 use Rattle.spin_endpoint.specs.Named.{NamedEnd}
-use Rattle.spin_word.specs.declared.command.TheConstants.{MAX_PLACE}
 use Rattle.spin_word.specs.declared.command.Command.{Command}
 use Rattle.spin_table.specs.Setups.{SetupData}
 use Rattle.spin_table.specs.States.{State, start_of}
@@ -18,13 +17,11 @@ use Rattle.spin_script.specs.States.{ScriptData}
 use Rattle.spin_filter.specs.declared.commands.Commanded.{Commanded}
 use Rattle.spin_filter.specs.declared.counts.Counts.{Counts}
 use Rattle.spin_filter.specs.declared.filter.Begun.{Begun}
-use Rattle.spin_filter.specs.declared.filter.Filtered.{Filtered}
-use Rattle.spin_filter.specs.Commands.{command_of, commands_of, AreGiven, IsGiven, is_refusal}
-use Rattle.spin_filter.specs.Counting.{Happened, AreCounts, capped, joined, nothing}
+use Rattle.spin_filter.specs.Commands.{command_of, commands_of, AreGiven, IsGiven}
+use Rattle.spin_filter.specs.Counting.{Happened, AreCounts, capped, nothing}
 use Rattle.spin_filter.specs.Filters.{IsFiltered}
 use Rattle.spin_filter.specs.Histories.{PassedCapture, AllPassed, AreFound, records_of, happened_in}
 use Rattle.spin_filter.specs.Inner.Beginnings.{IsBegun}
-use Rattle.spin_filter.specs.Rounds.{round_of}
 use Rattle.spin_filter.specs.Sending.{outlets, IsDone, with_lost_of}
 use Rattle.spin_filter.proofs.CommandsGiven.{given-none, given-then, count-then, lines-place}
 use Rattle.spin_filter.proofs.Doings.{joined-none}

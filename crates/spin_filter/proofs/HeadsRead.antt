@@ -1,5 +1,5 @@
 -- The header of a capture that is read off the front of what is left.
-use Rattle.std.proofs.Common.{◌≡◌, ◌≤◌, ◌+◌, ◌==◌, subst, ℕ, List, [], ◌++◌, length, drop, Option, Some, None, IfSome, refl, sym, ap, ◌∙◌, arith, Ok}
+use Rattle.std.proofs.Common.{◌≡◌, ◌≤◌, ◌+◌, ◌==◌, subst, ℕ, List, [], length, drop, Option, Some, None, IfSome, refl, sym, ap, ◌∙◌, arith, Ok}
 use Rattle.std.specs.Io.KnownBytes.{Consumes}
 use Rattle.spin_outside.specs.Sources.{SourceSeen}
 use Rattle.spin_pcap.specs.Captures.{header_of}

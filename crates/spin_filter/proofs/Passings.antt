@@ -1,23 +1,21 @@
 -- Records that are passed one after another.
-use Rattle.std.proofs.Common.{◌≡◌, ◌<◌, ◌≤◌, ◌+◌, ℕ, List, [], ◌∷◌, ◌++◌, length, drop, map, All, get_or, Option, Some, None, IfSome, refl, sym, ap, subst, ◌∙◌, arith, append_assoc, inl, inr}
+use Rattle.std.proofs.Common.{◌≡◌, ◌+◌, ℕ, List, [], ◌∷◌, ◌++◌, length, drop, map, get_or, Option, IfSome, refl, sym, ap, subst, ◌∙◌, arith, inl, inr}
 use Rattle.std.proofs.lemmas.Bool.{cases_lt}
-use Rattle.std.proofs.lemmas.List.{append-nil, length-append, map-append, get_or_append_left}
+use Rattle.std.proofs.lemmas.List.{length-append, map-append, get_or_append_left}
 use Rattle.std.proofs.lemmas.List.Elements.{All-append}
 use Rattle.std.proofs.Math.Seq.{get_or-append_seam}
 use Rattle.std.specs.Prelude.{Ok}
 use Rattle.spin_outside.specs.Sources.{SourceSeen}
-use Rattle.spin_pcap.specs.declared.limits.TheConstants.{MAX_RECORDS}
 use Rattle.spin_pcap.specs.declared.next.Next.TheVariants as next
 use Rattle.spin_pcap.specs.Passing.{Passes, left_for}
 use Rattle.spin_pcap.proofs.CaptureRecords.{told_more}
-use Rattle.spin_frames.specs.declared.order.Order.{Order}
 use Rattle.spin_frames.specs.declared.records.Found.{Found}
 use Rattle.spin_frames.specs.declared.records.Found.TheVariants as found
-use Rattle.spin_frames.specs.Packets.{Packet, Finds, ArePackets}
+use Rattle.spin_frames.specs.Packets.{Packet, Finds}
 use Rattle.spin_table.specs.Setups.{SetupData}
 use Rattle.spin_table.specs.States.{State}
 use Rattle.spin_frames.specs.declared.head.Head.{Head}
-use Rattle.spin_filter.specs.Counting.{Happened, nothing, joined, happened_at}
+use Rattle.spin_filter.specs.Counting.{joined, happened_at}
 use Rattle.spin_filter.specs.Histories.{happened_in, ArePassed, AreRecords}
 use Rattle.spin_filter.specs.Passing.{Passed, IsPassed}
 use Rattle.spin_filter.specs.Rounds.{event_at}

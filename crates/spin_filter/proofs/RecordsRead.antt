@@ -1,16 +1,14 @@
 -- Records that are read off the front of what is left, one after another.
-use Rattle.std.proofs.Common.{◌≡◌, ◌≤◌, ◌<◌, ◌+◌, ◌-◌, ℕ, List, [], ◌∷◌, ◌++◌, length, take, drop, map, Option, Some, None, IfSome, refl, sym, ap, subst, ◌∙◌, arith, append_assoc}
-use Rattle.std.specs.Prelude.{Result, Ok, Err}
+use Rattle.std.proofs.Common.{◌≡◌, ◌≤◌, ◌+◌, ℕ, List, [], ◌∷◌, ◌++◌, length, take, drop, Option, Some, None, IfSome, refl, sym, ap, subst, ◌∙◌, arith, append_assoc}
+use Rattle.std.specs.Prelude.{Result}
 use Rattle.std.specs.Io.KnownBytes.{Consumes, IsAtEnd}
-use Rattle.std.proofs.lemmas.List.{append-nil, length-append, length-take, length-drop, take-append-drop, drop-drop, map-append}
+use Rattle.std.proofs.lemmas.List.{append-nil, length-take, length-drop, take-append-drop, drop-drop}
 use Rattle.spin_outside.specs.Sources.{SourceSeen}
 use Rattle.spin_pcap.specs.declared.limits.TheConstants.{MAX_CAPTURED}
 use Rattle.spin_pcap.specs.declared.fault.PcapFault.{PcapFault}
 use Rattle.spin_pcap.specs.declared.next.Next.{Next}
-use Rattle.spin_pcap.specs.declared.next.Next.TheVariants as next
 use Rattle.spin_pcap.specs.Captures.{captured_length, IsRest}
 use Rattle.spin_pcap.specs.Passing.{Passes, left_for}
-use Rattle.spin_pcap.specs.Whole.{cut_of}
 use Rattle.spin_pcap.proofs.WholeRecords.{number_at-front}
 use Rattle.spin_frames.specs.declared.order.Order.{Order}
 use Rattle.spin_frames.specs.Heads.{way_of}

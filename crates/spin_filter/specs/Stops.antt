@@ -1,6 +1,5 @@
 -- Why records are passed no further, and which count a stop raises.
-use Rattle.std.specs.Prelude.{◌≡◌, ℕ, Result, Ok, Err}
-use Rattle.spin_outside.specs.Counts.{Rose}
+use Rattle.std.specs.Prelude.{ℕ}
 use Rattle.spin_pcap.specs.declared.fault.PcapFault.{PcapFault}
 use Rattle.spin_pcap.specs.declared.fault.PcapFault.TheVariants as fault
 use Rattle.spin_filter.specs.declared.stop.Stop.{Stop}

@@ -1,4 +1,3 @@
-use Rattle.std.proofs.Common.{arith, ◌∙◌, ap}
 use Rattle.spin_script.specs.Scripts.{script_seen}
 use Rattle.spin_filter.proofs.Filterings.{filtered}
 use Rattle.spin_filter.proofs.filter.filter_captures.Goals as goal

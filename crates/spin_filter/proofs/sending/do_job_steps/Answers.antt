@@ -1,4 +1,3 @@
-use Rattle.std.proofs.Common.{refl, arith, ap}
 use Rattle.spin_frames.specs.Packets.{Packet}
 use Rattle.spin_filter.proofs.Doings.{no-job-steps, job-steps, no-steps, first-steps}
 use Rattle.spin_filter.proofs.sending.do_job_steps.Goals as goal

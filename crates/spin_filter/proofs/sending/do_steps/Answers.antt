@@ -1,4 +1,4 @@
-use Rattle.std.proofs.Common.{refl, arith, ap}
+use Rattle.std.proofs.Common.{arith}
 use Rattle.spin_frames.specs.Packets.{Packet}
 use Rattle.spin_filter.proofs.Doings.{done-nothing, steps-more, steps-all}
 use Rattle.spin_filter.proofs.sending.do_steps.Goals as goal

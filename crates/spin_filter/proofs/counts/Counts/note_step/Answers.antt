@@ -1,9 +1,8 @@
-use Rattle.std.proofs.Common.{◌≡◌, ◌+◌, ◌++◌, ◌∷◌, [], ℕ, List, rules, cond, All, Some, refl, sym, ap, subst, ◌∙◌}
+use Rattle.std.proofs.Common.{ℕ, List, rules, Some, refl, sym, ap, ◌∙◌}
 use Rattle.std.specs.Prelude.{count_by}
 use Rattle.std.specs.List.{filter_map}
-use Rattle.spin_headers.specs.Headers.{number_of_fault}
 use Rattle.spin_proto.specs.declared.reply.Step.{Step}
-use Rattle.spin_filter.specs.Counting.{capped, Tells, Marked, IsHit, is_run, is_run_of, is_left_of, dropped_by, sent_to}
+use Rattle.spin_filter.specs.Counting.{Marked, is_run, is_run_of, is_left_of, dropped_by, sent_to}
 use Rattle.spin_filter.proofs.StepCounts.{step-counted, quiet-tells, loud-tells, quiet-hits, quiet-other, quiet-runs, loud-runs}
 use Rattle.spin_filter.proofs.counts.Counts.note_step.Goals as goal
 
