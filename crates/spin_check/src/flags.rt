@@ -12,12 +12,8 @@ ghost use Rattle.spin_check.specs.Inner.Standings.{AreFlags, numbers_of};
 use spin_report::{lost_text, retire_text};
 use spin_values::{NoMemory, Octets};
 
-// Retires the endpoints of these numbers one after another, and appends the line of each.
-pub(crate) fn retire_all(
-    flags: &mut [bool],
-    numbers: &[u16],
-    out: &mut Octets,
-) -> Result<(), NoMemory>
+/// Retires the endpoints of these numbers one after another, and appends the line of each.
+pub fn retire_all(flags: &mut [bool], numbers: &[u16], out: &mut Octets) -> Result<(), NoMemory>
     requires { All (λ number. number < length flags.old) numbers.now }
     ensures { (names : List (List ℕ)) (ends : List NamedEnd) → AreFlags names ends flags.old
         → OnOk result ((out.new ≡ out.old ++ text_of (map retire_line (retirements names numbers.now ends)))

@@ -1,36 +1,16 @@
-//! Endpoints by number: which of them stand, and to which sends are lost.
+//! To which endpoints sends are lost.
 
-ghost use Rattle.std.specs.Prelude.{◌≡◌, ◌<◌, ◌≤◌, ◌++◌, ◌==◌, ℕ, List, All, OnOk, length, map, count_by};
+ghost use Rattle.std.specs.Prelude.{◌≡◌, ◌≤◌, ◌++◌, ◌==◌, ℕ, List, OnOk, length, count_by};
 ghost use Rattle.spin_endpoint.specs.Named.{NamedEnd};
-ghost use Rattle.spin_endpoint.specs.Sends.{all_retired};
 ghost use Rattle.spin_endpoint.specs.declared.ends.TheConstants.{MAX_ENDPOINTS};
 ghost use Rattle.spin_text.specs.Words.{text_of};
-ghost use Rattle.spin_report.specs.Histories.{retire_line, lost_lines};
-ghost use Rattle.spin_report.specs.Runs.{retirements, lost_counts};
+ghost use Rattle.spin_report.specs.Histories.{lost_lines};
+ghost use Rattle.spin_report.specs.Runs.{lost_counts};
 ghost use Rattle.spin_check.specs.Inner.Standings.{AreFlags};
 
 use crate::ran::Sending;
-use spin_report::{lost_text, retire_text};
+use spin_report::lost_text;
 use spin_values::{NoMemory, Octets};
-
-// Retires the endpoints of these numbers one after another, and appends the line of each.
-pub(crate) fn retire_all(
-    flags: &mut [bool],
-    numbers: &[u16],
-    out: &mut Octets,
-) -> Result<(), NoMemory>
-    requires { All (λ number. number < length flags.old) numbers.now }
-    ensures { (names : List (List ℕ)) (ends : List NamedEnd) → AreFlags names ends flags.old
-        → OnOk result ((out.new ≡ out.old ++ text_of (map retire_line (retirements names numbers.now ends)))
-        × AreFlags names (all_retired names numbers.now ends) flags.new) }
-{
-    for number in numbers {
-        let at = *number as usize;
-        retire_text(*number, flags[at], out)?;
-        flags[at] = false;
-    }
-    Ok(())
-}
 
 // How many of the sends go to the endpoint of the number.
 fn count_of(sends: &[Sending], number: u8) -> u64

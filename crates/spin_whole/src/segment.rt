@@ -12,10 +12,11 @@ ghost use Rattle.spin_report.specs.Segments.{wanted_by};
 ghost use Rattle.spin_check.specs.Inner.Standings.{AreFlags};
 ghost use Rattle.spin_whole.specs.Inner.Standings.{IsGood, KeepsRest, RunsOne, TakesPart};
 
-use crate::flags::{lost_all, retire_all};
+use crate::flags::lost_all;
 use crate::part::Part;
 use crate::ran::Sendings;
 use crate::sends::keep_standing;
+use spin_check::retire_all;
 use spin_code::Sincere;
 use spin_objects::Catalogue;
 use spin_report::{segment_text, split_records};

@@ -1,21 +1,15 @@
 //! Whole runs.
 
-ghost use Rattle.std.specs.Prelude.{◌≡◌, ◌<◌, ◌≤◌, ◌+◌, ◌++◌, ℕ, List, IfOk, OnOk, Option, length, bytes_eq};
-ghost use Rattle.std.specs.Prelude.{slice_index_or, false};
+ghost use Rattle.std.specs.Prelude.{◌≡◌, ◌≤◌, ◌+◌, List, IfOk, OnOk, length};
 ghost use Rattle.std.specs.Arc.{arc_value};
 ghost use Rattle.std.specs.Option.{option_map, option_copied};
-ghost use Rattle.std.specs.List.{list_any};
 ghost use Rattle.spin_word.specs.declared.command.TheConstants.{MAX_PLACE};
 ghost use Rattle.spin_endpoint.specs.Named.{NamedEnd};
-ghost use Rattle.spin_endpoint.specs.Sends.{name_of};
 ghost use Rattle.spin_table.specs.SetupOf.{data_of};
 ghost use Rattle.spin_table.specs.Soundness.{IsSound};
-ghost use Rattle.spin_text.specs.Words.{ended, spaced};
 ghost use Rattle.spin_script.specs.Scripts.{script_seen};
 ghost use Rattle.spin_script.specs.Segments.{IsOrderly};
 ghost use Rattle.spin_script.specs.Soundness.{AreValid, command_lines};
-ghost use Rattle.spin_report.specs.Histories.{capture_words, end_line};
-ghost use Rattle.spin_report.specs.Runs.{frames_of, counts_of};
 ghost use Rattle.spin_check.specs.RunTexts.{StandAs, capture_of};
 ghost use Rattle.spin_check.specs.Inner.Standings.{AreFlags};
 ghost use Rattle.spin_whole.specs.Runs.{IsRanAs};
@@ -23,89 +17,15 @@ ghost use Rattle.spin_whole.specs.Inner.Standings.{RunsAll};
 
 use crate::ran::{Ran, Sendings};
 use crate::segment::Standing;
+use spin_check::{flags_of, put_last, records_of};
 use spin_code::Sincere;
 use spin_objects::Catalogue;
 use spin_pcap::Captured;
 use spin_script::Script;
 use spin_table::Version;
-use spin_text::{end_line as put_end, put_number, put_word};
-use spin_values::{NoMemory, Octets, Text, Texts};
+use spin_values::{NoMemory, Octets, Texts};
 use std::alloc::Global;
 use std::sync::Arc;
-
-// Whether the name is among these.
-fn is_among(names: &[Text], name: &Text) -> bool
-    ensures { result ≡ list_any (bytes_eq name.now) names.now }
-{
-    for other in names {
-        if name.as_slice() == other.as_slice() {
-            return true;
-        }
-    }
-    false
-}
-
-// Of each endpoint whether its name is among those that stand.
-fn flags_of(alloc: Global, endpoints: &[Text], names: &[Text]) -> Result<Vec<bool>, NoMemory>
-    ensures all { IfOk result (λ flags. length flags.items ≡ length endpoints.now) }
-    ensures each { IfOk result (λ flags. (n : ℕ) → n < length endpoints.now
-        → slice_index_or flags.items n false ≡ list_any (bytes_eq (name_of endpoints.now n)) names.now) }
-{
-    let mut flags = Vec::new(alloc);
-    for name in endpoints {
-        flags.push(is_among(names, name))?;
-    }
-    Ok(flags)
-}
-
-// The records of the capture, none where there is none.
-fn records_of<'a>(capture: Option<&'a Captured>) -> &'a [Octets]
-    ensures { result.now ≡ frames_of (option_map capture_of (option_copied capture.entry)) }
-{
-    match capture {
-        Some(capture) => capture.frames.as_slice(),
-        None => &[],
-    }
-}
-
-// Appends what the last line tells of a capture of which so many records are left.
-fn put_counts(
-    line: &mut Octets,
-    capture: Option<&Captured>,
-    left: &[Octets],
-) -> Result<(), NoMemory>
-    requires left { length left.now ≤ length (frames_of (option_map capture_of (option_copied capture))) }
-    ensures { let counts = option_map (counts_of left.now) (option_map capture_of (option_copied capture.entry)) in
-        OnOk result (line.new ≡ line.old ++ spaced (capture_words counts)) }
-{
-    let Some(capture) = capture else {
-        return Ok(());
-    };
-    let records = capture.frames.len();
-    put_word(line, b"records")?;
-    put_number(line, records as u64)?;
-    put_word(line, b"used")?;
-    put_number(line, (records - left.len()) as u64)?;
-    put_word(line, b"cut")?;
-    put_number(line, u64::from(capture.cut))
-}
-
-// Appends the last line of a report.
-fn put_last(
-    report: &mut Octets,
-    place: u16,
-    capture: Option<&Captured>,
-    left: &[Octets],
-) -> Result<(), NoMemory>
-    requires left { length left.now ≤ length (frames_of (option_map capture_of (option_copied capture))) }
-    ensures { let counts = option_map (counts_of left.now) (option_map capture_of (option_copied capture.entry)) in
-        OnOk result (report.new ≡ report.old ++ ended (end_line place counts)) }
-{
-    report.extend_from_slice(b"end")?;
-    put_number(report, u64::from(place))?;
-    put_counts(report, capture, left)?;
-    put_end(report)
-}
 
 // Runs the script's segments one after another.
 fn run_segments(alloc: Global, script: &Script, standing: &mut Standing<'_>) -> Result<(), NoMemory>
