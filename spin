@@ -45,10 +45,10 @@ def main(words: list[str]) -> int:
 
         return ending.main(words, quiet)
     if commands.named(name) and not commands.asks_help(words):
-        return importlib.import_module(f"wrapper.{name}").main(words[1:])
-    from wrapper import help
+        return importlib.import_module(f"wrapper.{commands.module_of(name)}").main(words[1:])
+    from wrapper import usage
 
-    return help.answer(name, words)
+    return usage.answer(name, words)
 
 
 if __name__ == "__main__":

@@ -207,7 +207,7 @@ def headers() -> Iterator[Made]:
     yield "prefixes_of_datagrams", *prefixes("udp", "bwww", texts)
 
 
-# ---- the smallest example of each status, cause, fault and refusal, which docs/FORMATS.md shows
+# ---- the smallest example of each status, cause, fault and refusal, which examples/smallest.txt shows
 
 USAGE = "usage: spin run SCRIPT [PACKETS] | spin gen NUMBER | spin check SCRIPT REPORT [PACKETS] | spin join SCRIPT PACKETS | spin vm SCRIPT TRACE\n"
 TWO_EVENTS = ["event 0 0 b last", "event 1 0 bwww last", "handler 1 b layer ipv4 1", INSTALL.strip()]
@@ -291,28 +291,24 @@ def smallest() -> Iterator[Smallest]:
 SHOWN = re.compile(r"^(stop|usage|end|.* refused|.* drop ).*$")
 
 
-def table() -> str:
-    """The smallest examples as docs/FORMATS.md shows them: the line that tells, and the script's lines."""
-    rows = ["| what is written | script, and further words |", "|---|---|"]
+# The page of the smallest examples, and how it begins.
+SMALLEST = Path(__file__).resolve().parent.parent / "examples" / "smallest.txt"
+ABOUT = """\
+The smallest script that comes to each status, cause, fault, refusal and drop: the line that a person meets, further words
+of the command line, and the script, indented. Each is a worked case. `python3 cases/made.py` writes this page.
+"""
+
+
+def page() -> str:
+    """The page of the smallest examples."""
+    parts = [ABOUT]
     for _, lines_, words, stdout in smallest():
         told = [line for line in stdout.splitlines() if SHOWN.match(line)]
-        shown = [line.replace("|", "\\|") for line in told if not line.startswith("end")] or told
-        code = " ".join(f"`{line}`" for line in lines_).replace("|", "\\|").replace("\x01", "\\x01")
-        if len(code) > 400:
-            code = f"{code[:150]} .. `"
-        rows.append(f"| `{shown[0]}` | {code}{' with ' if words else ''}{' '.join(f'`{word}`' for word in words)} |")
-    return "\n".join(rows)
-
-
-FORMATS = Path(__file__).resolve().parent.parent / "docs" / "FORMATS.md"
-MARKS = "<!-- written by cases/made.py -->\n", "\n<!-- to here -->"
-
-
-def shown_table() -> tuple[str, str, str]:
-    """The table that docs/FORMATS.md has, and the text before and behind it."""
-    before, _, rest = FORMATS.read_text().partition(MARKS[0])
-    text, _, behind = rest.partition(MARKS[1])
-    return before, text, behind
+        shown = [line for line in told if not line.startswith("end")] or told
+        script = "".join(f"    {line}\n" for line in lines_).replace("\x01", "\\x01")
+        further = f"  with {' '.join(words)}\n" if words else ""
+        parts.append(f"{shown[0]}\n{further}{script}")
+    return "\n".join(parts)
 
 
 def cases() -> Iterator[Made]:
@@ -402,8 +398,7 @@ def reports() -> Iterator[tuple[str, bytes]]:
 
 
 if __name__ == "__main__":
-    before, _, behind = shown_table()
-    FORMATS.write_text(before + MARKS[0] + table() + MARKS[1] + behind)
+    SMALLEST.write_text(page())
     examples, made = Path(__file__).resolve().parent.parent / "examples", dict(captures())
     for name in ("packets.pcap", "join/fragments.pcap"):
         (examples / name).write_bytes(made[Path(name).name])

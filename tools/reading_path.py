@@ -117,10 +117,10 @@ CONTRACTS = [
     ("Sincere of Natives", "crates/spin_objects/src/natives.rt", "impl Sincere for Natives"),
 ]
 
-TRUSTED = """Whoever believes the definitions believes what the clause says. Besides them these are trusted, and no proof here is of them:
+TRUSTED = """Whoever believes the definitions believes what the clause says. Besides them these are trusted:
 
-- the toolchain and its checker, by which the clause holds of the sources, and the C library;
-- the statements of the standard library and of the kit's crates, whose words the definitions use (`Option`, lists, `map`, sorting): they are left out of this page;
+- the toolchain and its checker, and the C library;
+- the statements of the standard library and of the kit's crates, whose words the definitions use (`Option`, lists, `map`, sorting) and this page leaves out;
 - that files, standard output and files of endpoints do what `FolderShelf`, `StdSink` and `FileEnd` ask of them. The folder doesn't tell its files by name, and the other two tell nothing of what they took, so of these the clause speaks of counts alone;
 - that `main` hands in the working folder, standard output and the five endpoints, which no clause says.
 

@@ -20,7 +20,7 @@ WORD = 0xFFFFFFFF
 # How large a guard's test may be, and how many bindings an event may have in scripts of version 3.
 MOST_NODES, MOST_DEPTH, MOST_BINDINGS = 64, 8, 64
 
-# How many states of the program are looked at before it is given up.
+# How many states of the program are tried before it is given up.
 MOST_STATES = 20_000
 
 

@@ -3,7 +3,7 @@
 With --all the hosts too. The kit says how (kit.py): where it keeps what it proves of a crate by itself, the proofs are the
 gate's own (proofs.py), else the libraries are built, and the programs over them (libraries.py). With --libraries these are
 the libraries that the program stands on and no more: `rt check` goes on from them, for who changes a crate. What was
-proved or built stays: a build that was killed is gone on with by the next. A kit of another logic than the one that
+proved or built stays: the build after one that was killed goes on from there. A kit of another logic than the one that
 proved these sources begins only with --any-logic.
 """
 
@@ -19,7 +19,7 @@ from collections.abc import Iterable, Iterator
 
 from wrapper import jobs, kit, libraries, proofs
 from wrapper.program import CRATE, NOT_RUN, PROGRAM, TOP, Crates, crates_listed, is_built, stands_on, tell
-from wrapper.queue import LOGS
+from wrapper.build_queue import LOGS
 from wrapper.trial import passed
 
 HOSTS = ("host_filter", "host_logger", "host_plugins", "host_renewal", "host_workers")

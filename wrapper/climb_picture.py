@@ -172,7 +172,7 @@ class ClimbPicture:
         y = max((bar.y for bar in self.found), default=top) + HIGH + 22
         if self.listed:
             self.sheet.text(EDGE, y, "bars too narrow for their words, from left to right in each row:", "faint")
-            y = self.list(y + 17)
+            y = self.draw_list(y + 17)
         return self.sheet.write(y, f"{count} packets as they climb")
 
     def bars(self, node: Node, x: float, y: float) -> None:
@@ -204,8 +204,8 @@ class ClimbPicture:
             self.sheet.text(x + room / 2, y + 16, name)
         self.sheet.end()
 
-    def list(self, y: float) -> float:
-        """The list of the narrow bars; answers where it ends."""
+    def draw_list(self, y: float) -> float:
+        """Draws the list of the narrow bars, and answers where it ends."""
         for key, share in enumerate(self.listed, 1):
             for text in wrapped(f"{key}  {share}", WIDTH - 2 * EDGE):
                 self.sheet.text(EDGE, y, text)

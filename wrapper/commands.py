@@ -1,4 +1,4 @@
-"""The one table of the commands of `./spin`: those of the program, and those of the wrapper, each a module of its name.
+"""The one table of the commands of `./spin`: those of the program, and those of the wrapper, each a module.
 
 The help, the man page and the completions are made from it. A command of the wrapper's own is described where its module is.
 """
@@ -53,6 +53,9 @@ WRAPPER = [
     Command("version", "", "tells what this is, and which program would run", "version"),
 ]
 
+# The modules of those commands whose own name Python has for a function.
+MODULES = {"help": "usage"}
+
 # The flags that may stand in the place of a command.
 FLAGS = {"-h": "help", "--help": "help", "--version": "version"}
 
@@ -60,9 +63,14 @@ FLAGS = {"-h": "help", "--help": "help", "--version": "version"}
 QUIET = "--quiet"
 
 
+def module_of(name: str) -> str:
+    """The module of `wrapper` that is this command of the wrapper's own."""
+    return MODULES.get(name, name)
+
+
 def is_there(command: Command) -> bool:
     """Whether the module of a command of the wrapper's own is there."""
-    return (TOP / "wrapper" / f"{command.name}.py").is_file()
+    return (TOP / "wrapper" / f"{module_of(command.name)}.py").is_file()
 
 
 def of_wrapper() -> list[Command]:

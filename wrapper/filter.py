@@ -19,7 +19,7 @@ from collections.abc import Iterator
 from pathlib import Path
 from typing import NoReturn
 
-from wrapper import commands, convert, expression, help, hits, outputs, reasons
+from wrapper import commands, convert, expression, hits, outputs, reasons, usage
 from wrapper.bindings import Bindings
 from wrapper.counts import summary
 from wrapper.keeping import PIECES, Made
@@ -60,8 +60,7 @@ def read_words(words: list[str]) -> argparse.Namespace:
     """What the words ask for."""
     this = commands.named("filter")
     assert this, "its module is here"
-    usage = help.usage(this).rstrip()
-    parser = Words(usage=usage, add_help=False, allow_abbrev=False)
+    parser = Words(usage=usage.usage_line(this).rstrip(), add_help=False, allow_abbrev=False)
     parser.add_argument("--jobs", type=positive, default=len(os.sched_getaffinity(0)))
     parser.add_argument("--out", type=Path, default=Path("filtered"))
     parser.add_argument("--pcap", action="store_true")

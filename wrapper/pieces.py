@@ -21,6 +21,7 @@ BLOCK = 4_194_304
 # The numbers that a capture may begin with, and how many parts of a second its records then count.
 MAGICS = {0xA1B2C3D4: 1_000_000, 0xA1B23C4D: 1_000_000_000}
 
+
 class Refused(Exception):
     """What is asked for can't be done: the exit status, by the program's table, and lines that say why."""
 

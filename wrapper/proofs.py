@@ -10,10 +10,10 @@ import contextlib
 import os
 import shutil
 import tempfile
-from collections.abc import Collection, Iterable, Iterator, Sequence
+from collections.abc import Collection, Iterator, Sequence
 from pathlib import Path
 
-from wrapper import jobs, queue, rooms
+from wrapper import build_queue, build_trees, jobs
 from wrapper.program import TOP, Crates
 
 # What a build doesn't read of a crate's folder.
@@ -30,7 +30,7 @@ class NothingKept(Exception):
     """The kit can't keep what it has proved on this machine."""
 
 
-class Proof(queue.Run):
+class Proof(build_queue.Run):
     """A crate that is being proved; the kit says how many jobs it takes, where it is to have more than one."""
 
     def __init__(self, name: str, count: int, niceness: int, copy: Path) -> None:
@@ -46,7 +46,7 @@ class Proof(queue.Run):
         return super().close()
 
 
-class Programs(queue.Run):
+class Programs(build_queue.Run):
     """The call without a name, which proves what isn't proved yet, builds the programs of the copy, and runs them."""
 
     def __init__(self, name: str, count: int, niceness: int, copy: Path) -> None:
@@ -58,7 +58,7 @@ def copy_to(copy: Path, names: Collection[str]) -> None:
     for name in names:
         crate = TOP / "crates" / name
         shutil.copytree(crate, copy / "crates" / name, ignore=lambda at, _: LEFT_OUT if at == str(crate) else [])
-    rooms.copy_top(copy, names)
+    build_trees.copy_top(copy, names)
     # the gate wants crates.txt at the top of its repository, which is where this is
     (copy / ".git").mkdir()
 
@@ -90,13 +90,13 @@ def prove_all(crates: Crates, last: str, copy: Path) -> bool:
     # rt gives a crate half of the processors, and the other half to its tests, of which none here has any
     most = max(1, jobs.processors_there() // 2)
 
-    def begin(name: str, count: int, niceness: int) -> queue.Run:
+    def begin(name: str, count: int, niceness: int) -> build_queue.Run:
         """Begins the call that proves this crate."""
         kind = Programs if name == last else Proof
         return kind(name, count, niceness, copy)
 
     others = {name: below for name, below in crates.items() if name != last}
-    return queue.build_all({**others, last: [*others]}, begin, most, in_advance=True)
+    return build_queue.build_all({**others, last: [*others]}, begin, most, in_advance=True)
 
 
 def build(crates: Crates, programs: Sequence[str]) -> bool:

@@ -11,7 +11,7 @@ import stat
 import subprocess
 from collections.abc import Callable, Iterable, Sequence
 
-from wrapper import causes, commands, faults, marks, outputs, places, strays
+from wrapper import causes, commands, faults, marks, outputs, places, report_lint
 from wrapper.program import CALLED
 
 WIDTH = 96
@@ -262,7 +262,7 @@ def of_endpoint(status: int, folder: str) -> list[str]:
 
 
 def of_no(command: list[str] | None, words: list[str], status: int) -> list[str]:
-    """A report that is judged none: what can be told of it without judging again."""
+    """A report that is judged none: what can be said of it without judging again."""
     script, report, *packets = words[1:]
     if not os.path.isfile(report) or not os.path.isfile(script):
         return [f"{report} is the report of no run of {script}", meaning(status)]
@@ -278,8 +278,8 @@ def of_no(command: list[str] | None, words: list[str], status: int) -> list[str]
         told.append(f"it ends in `{text.splitlines()[-1]}`: it is that of a run that was stopped")
     elif not re.search(r"^end .*\n\Z", text, re.MULTILINE):
         told.append("its last line is no `end`")
-    elif stray := strays.first(read(script).decode("ascii", "replace"), text):
-        told.append(stray)
+    elif finding := report_lint.first_finding(read(script).decode("ascii", "replace"), text):
+        told.append(finding)
     return [f"{report} is the report of no run of {script}", *(f"    {one}" for one in told), meaning(status)]
 
 

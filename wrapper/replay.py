@@ -281,7 +281,7 @@ class Replay:
         fold, found = self.script.events[event][3:], results[0]
         for result in results[1:]:
             if fold:
-                before, (found, text) = found, Code(fold, [found, result]).expression()
+                found, text = Code(fold, [found, result]).expression()
                 merges.append(f"{text} = {found}")
             else:
                 found = result

@@ -43,7 +43,7 @@ HELP = """a line of a script (docs/FORMATS.md) is added where its section stands
   help            this text
   quit            ends the session; so does the end of the input
 Where lines are typed, the key TAB tells what may stand next: words, and the numbers that are in force."""
-MOST_TOLD = 8    # of so many records of one line it is told what each came to
+MOST_TOLD = 8    # so many records of one line are told one by one
 QUESTION = "what was changed isn't saved; does the session end all the same (y or n)? "
 
 

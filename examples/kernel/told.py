@@ -48,7 +48,7 @@ class Entry(NamedTuple):
 
 class Era(NamedTuple):
     """The time from one renewal to the next: the numbers that were bound at the first, the entries, each level's in its
-    order, and the rows that are told of the log, each a lane and the numbers of a command."""
+    order, and the rows of the log that are told, each a lane and the numbers of a command."""
 
     bound: list[int]
     entries: list[Entry]
@@ -128,7 +128,7 @@ def calls(text: str) -> Iterator[list[int]]:
 
 
 def eras(text: str) -> list[Era]:
-    """What is told of the time from each renewal to the next."""
+    """What was told between one renewal and the next."""
     found = [Era([], [], [])]
     at, last = dict[int, int](), dict[int, Entry]()
     for lane, kind, *numbers in calls(text):

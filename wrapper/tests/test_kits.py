@@ -77,7 +77,7 @@ class Plain(Building):
         child.communicate(timeout=20)
         time.sleep(3)
         self.assertNotIn("end left", self.lines())
-        self.assertTrue((self.top / "out" / "build" / "rooms" / "left").is_dir())
+        self.assertTrue((self.top / "out" / "build" / "trees" / "left").is_dir())
         self.assertEqual((self.build()[0], self.begun().count("low")), (0, 1))
 
     def test_a_program_that_fails_is_named_and_not_built(self) -> None:

@@ -1,4 +1,4 @@
-"""What may stand next in a line that is typed, and what a change is told of."""
+"""Tests of a session: what may stand next in a line that is typed, and what it says after a change."""
 
 import unittest
 
@@ -64,7 +64,7 @@ class Completing(unittest.TestCase):
 
 
 class Changes(unittest.TestCase):
-    """What is told of other lines."""
+    """What is said of other lines."""
 
     def test_many_lines_are_cut(self) -> None:
         before = changes.answers([read_line(f"0 0 {at} raise = nohandler") for at in range(1, 21)])

@@ -15,7 +15,7 @@ OTHERS = re.compile(
 )
 
 
-def why_stray(line: str, deeds: Mapping[int, reading.Deed], last: dict[int, tuple[int, int]]) -> str | None:
+def why_impossible(line: str, deeds: Mapping[int, reading.Deed], last: dict[int, tuple[int, int]]) -> str | None:
     """Why a line can't be in the report; None where this doesn't tell. `last` is each lane's last entry so far."""
     if OTHERS.fullmatch(line):
         return None
@@ -40,12 +40,12 @@ def shortened(line: str) -> str:
     return line if len(line) <= 60 else f"{line[:56]} ..."
 
 
-def first(script: str, report: str) -> str | None:
+def first_finding(script: str, report: str) -> str | None:
     """What is said of the first line of a report that can't be there, or of the first deed without an entry; None else."""
     deeds, lines = reading.read_script(script).deeds, report.splitlines()
     last: dict[int, tuple[int, int]] = {}
     for at, line in enumerate(lines, 1):
-        why = why_stray(line, deeds, last)
+        why = why_impossible(line, deeds, last)
         if why:
             return f"line {at} of it, `{shortened(line)}`: {why}"
     told = {int(found[3]) for found in map(ENTRY.fullmatch, lines) if found}

@@ -5,20 +5,20 @@ import unittest
 from pathlib import Path
 from unittest import mock
 
-from wrapper import rooms
+from wrapper import build_trees
 from wrapper.tests import make_repository
 
 
-class Rooms(unittest.TestCase):
-    """Rooms of a crate that stands on another."""
+class Trees(unittest.TestCase):
+    """Trees of a crate that stands on another."""
 
     def setUp(self) -> None:
         folder = tempfile.TemporaryDirectory()
         self.addCleanup(folder.cleanup)
         self.top = Path(folder.name)
         make_repository(self.top, {"low": [], "high": ["low"]})
-        for name, value in (("TOP", self.top), ("ROOMS", self.top / "out" / "rooms")):
-            patch = mock.patch.object(rooms, name, value)
+        for name, value in (("TOP", self.top), ("TREES", self.top / "out" / "trees")):
+            patch = mock.patch.object(build_trees, name, value)
             patch.start()
             self.addCleanup(patch.stop)
 
@@ -31,30 +31,30 @@ class Rooms(unittest.TestCase):
 
     def test_it_has_the_sources_and_what_was_built_of_the_crates_below(self) -> None:
         self.made("low", "rlib", "stamp")
-        room = rooms.furnish("high", ["low"])
-        self.assertTrue((room / "src" / "lib.rt").is_file())
-        self.assertTrue((room.parent / "low" / "out" / "rlib" / "stamp").is_file())
-        self.assertEqual((room.parent.parent / "crates.txt").read_text(), "low: \nhigh: low\n")
+        tree = build_trees.make("high", ["low"])
+        self.assertTrue((tree / "src" / "lib.rt").is_file())
+        self.assertTrue((tree.parent / "low" / "out" / "rlib" / "stamp").is_file())
+        self.assertEqual((tree.parent.parent / "crates.txt").read_text(), "low: \nhigh: low\n")
 
     def test_what_was_proved_goes_there_and_comes_back(self) -> None:
         kept = self.made("high", "incremental", "function")
-        room = rooms.furnish("high", ["low"])
+        tree = build_trees.make("high", ["low"])
         self.assertFalse(kept.exists())
-        (room / "out" / "high").write_text("a program\n")
-        rooms.clear("high", False)
+        (tree / "out" / "high").write_text("a program\n")
+        build_trees.clear("high", False)
         self.assertEqual((kept.exists(), (kept.parent.parent / "high").exists()), (True, False))
-        self.assertFalse(room.exists())
+        self.assertFalse(tree.exists())
 
     def test_what_was_built_goes_into_the_crates_folder(self) -> None:
-        room = rooms.furnish("high", [])
-        (room / "out" / "high").write_text("a program\n")
-        rooms.clear("high", True)
+        tree = build_trees.make("high", [])
+        (tree / "out" / "high").write_text("a program\n")
+        build_trees.clear("high", True)
         self.assertEqual((self.top / "crates" / "high" / "out" / "high").read_text(), "a program\n")
 
     def test_what_a_killed_build_had_proved_comes_back(self) -> None:
         self.made("high", "incremental", "function")
-        rooms.furnish("high", ["low"])
-        again = rooms.furnish("high", ["low"])
+        build_trees.make("high", ["low"])
+        again = build_trees.make("high", ["low"])
         self.assertTrue((again / "out" / "incremental" / "function").is_file())
 
 

@@ -48,7 +48,7 @@ def whole() -> str:
     )
 
 
-def usage(command: commands.Command) -> str:
+def usage_line(command: commands.Command) -> str:
     """The usage line of a command."""
     return f"usage: {CALLED} {command.name} {command.words}".rstrip() + "\n"
 
@@ -57,7 +57,7 @@ def of_one(command: commands.Command) -> str:
     """The text of one command."""
     known = flags.FLAGS.get(command.name)
     told = f"{columns(known)}\n" if known else ""
-    return f"{usage(command)}\n{command.name}: {command.line}\n\n{told}Example:\n  {CALLED} {command.example}\n"
+    return f"{usage_line(command)}\n{command.name}: {command.line}\n\n{told}Example:\n  {CALLED} {command.example}\n"
 
 
 def nearest(word: str, among: Sequence[str]) -> str | None:

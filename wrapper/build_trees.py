@@ -14,7 +14,7 @@ from pathlib import Path
 
 from wrapper.program import FOLDERS, TOP, Crates
 
-ROOMS = TOP / "out" / "build" / "rooms"
+TREES = TOP / "out" / "build" / "trees"
 
 # What rt keeps of the functions that it has proved, so that a later call goes on from there; it writes into these files.
 STEPS = ("incremental",)
@@ -36,9 +36,9 @@ def copy_top(folder: Path, names: Collection[str]) -> None:
     shutil.copy2(TOP / "HANDLES", folder)
 
 
-def copy_below(name: str, room: Path) -> None:
-    """Copies a crate that the room's crate stands on: its sources, and what was built of it."""
-    crate, copied = TOP / "crates" / name, room / "crates" / name
+def copy_below(name: str, tree: Path) -> None:
+    """Copies a crate that the tree's crate stands on: its sources, and what was built of it."""
+    crate, copied = TOP / "crates" / name, tree / "crates" / name
     for folder in FOLDERS:
         if (crate / folder).is_dir():
             shutil.copytree(crate / folder, copied / folder)
@@ -46,16 +46,16 @@ def copy_below(name: str, room: Path) -> None:
         shutil.copytree(crate / "out" / "rlib", copied / "out" / "rlib", copy_function=link)
 
 
-def furnish(name: str, below: list[str]) -> Path:
-    """Makes the room of a crate that stands on these, and answers the crate's folder in it."""
-    room = ROOMS / name
+def make(name: str, below: list[str]) -> Path:
+    """Makes the tree of a crate that stands on these, and answers the crate's folder in it."""
+    tree = TREES / name
     # that of a build that was killed is there still
     clear(name, False)
-    room.mkdir(parents=True)
-    copy_top(room, (name, *below))
+    tree.mkdir(parents=True)
+    copy_top(tree, (name, *below))
     for other in below:
-        copy_below(other, room)
-    crate, copied = TOP / "crates" / name, room / "crates" / name
+        copy_below(other, tree)
+    crate, copied = TOP / "crates" / name, tree / "crates" / name
     shutil.copytree(crate, copied, ignore=lambda at, _: ["out"] if at == str(crate) else [])
     if (crate / "out" / "rlib").is_dir():
         shutil.copytree(crate / "out" / "rlib", copied / "out" / "rlib", copy_function=link)
@@ -73,9 +73,9 @@ def move(one: Path, other: Path, names: Iterable[str]) -> None:
 
 
 def clear(name: str, is_built: bool) -> None:
-    """Removes the room. What was built in it goes to the crate's own folder, once no call of rt holds that; of a crate
+    """Removes the tree. What was built in it goes to the crate's own folder, once no call of rt holds that; of a crate
     that wasn't built, the functions that are proved already."""
-    crate, copied = TOP / "crates" / name, ROOMS / name / "crates" / name
+    crate, copied = TOP / "crates" / name, TREES / name / "crates" / name
     if (copied / "out").is_dir():
         held = os.open(crate, os.O_RDONLY)
         try:
@@ -84,7 +84,7 @@ def clear(name: str, is_built: bool) -> None:
             move(copied, crate, os.listdir(copied / "out") if is_built else STEPS)
         finally:
             os.close(held)
-    shutil.rmtree(ROOMS / name, ignore_errors=True)
+    shutil.rmtree(TREES / name, ignore_errors=True)
 
 
 def below_all(crates: Crates, name: str) -> list[str]:
