@@ -1,5 +1,5 @@
 """library [--plain] [--out FOLDER]: makes the library as it is installed: libcodzvregi.a, libcodzvregi.so.2, its header
-codzvregi.h, and codzvregi.pc for pkg-config.
+codzvregi.h, codzvregi_host.h for functions of the host, and codzvregi.pc for pkg-config.
 
 It is of the proved library of crates/spin_c where `rt lib` has made that and no source is newer, and else, or with
 --plain, of the plain one: the same sources as ordinary Rust, of which nothing is proved. A line says which, the call
@@ -24,13 +24,17 @@ HEAP = Path("/opt/rattle/c/liblibc_c.a")
 OUT = TOP / "out" / "library"
 
 # The header of the calls, and what an installed one has besides.
-HEADER, MORE = TOP / "bindings" / "c" / "spin.h", TOP / "bindings" / "c" / "installed.h"
+C = TOP / "bindings" / "c"
+HEADER, MORE = C / "spin.h", C / "installed.h"
+
+# What stands on it for functions of the host, and what the shared library has for languages that aren't C.
+ON_IT, TURNS = [C / f"spin_{part}.h" for part in ("names", "table", "bind", "host")], C / "turns.h"
 
 # The release of all that is installed. Its first number is the version of the calls.
 RELEASE = "2.0.0"
 
 ARCHIVE, SHARED, LINK = "libcodzvregi.a", "libcodzvregi.so.2", "libcodzvregi.so"
-FILES = (ARCHIVE, SHARED, "codzvregi.h", "codzvregi.pc", "proved")
+FILES = (ARCHIVE, SHARED, "codzvregi.h", "codzvregi_host.h", "codzvregi.pc", "proved")
 
 NOTHING_PROVED = "the plain library, of which nothing is proved"
 
@@ -69,13 +73,21 @@ def chosen(only_plain: bool) -> tuple[list[Path], str]:
 
 def calls() -> list[str]:
     """The names of the calls that the header declares, and does not define, in its order."""
-    found = re.findall(r"^[a-z][\w ]*[ *](\w+)\([^{;]*\);", f"{HEADER.read_text()}\n{MORE.read_text()}", re.MULTILINE)
+    texts = "\n".join(file.read_text() for file in (HEADER, MORE, TURNS))
+    found = re.findall(r"^[a-z][\w ]*[ *](\w+)\([^{;]*\);", texts, re.MULTILINE)
     return list(dict.fromkeys(found))
 
 
 def header() -> str:
     """The header as it is installed."""
     return f"{HEADER.read_text()}\n{MORE.read_text()}"
+
+
+def header_of_hosts() -> str:
+    """The header for functions of the host, as it is installed: its parts as one, on the installed header."""
+    text = "\n".join(file.read_text() for file in ON_IT)
+    include = re.compile(r'^#include "spin(_\w+)?\.h"$', re.MULTILINE)
+    return include.sub(lambda found: "" if found[1] else "#include <codzvregi.h>", text)
 
 
 def for_pkg_config(prefix: str, libraries: str, headers: str) -> str:
@@ -107,6 +119,7 @@ def call(folder: Path, *words: object) -> str:
 def write_texts(folder: Path, proved: str) -> None:
     """Writes what is text, and the C code of the call that tells what is proved."""
     (folder / "codzvregi.h").write_text(header())
+    (folder / "codzvregi_host.h").write_text(header_of_hosts())
     (folder / "codzvregi.pc").write_text(for_pkg_config("${pcfiledir}", "${prefix}", "${prefix}"))
     (folder / "proved").write_text(f"{proved}\n")
     told = proved.replace("\\", "\\\\").replace('"', '\\"')
@@ -118,11 +131,11 @@ def write_texts(folder: Path, proved: str) -> None:
 def join(folder: Path, archives: Iterable[Path]) -> None:
     """Joins what the interface wants of all archives into one object, whose other names are its own, so that no host
     has one of them twice."""
-    call(folder, "cc", "-std=c11", "-O2", "-fPIC", "-c", "told.c")
+    call(folder, "cc", "-std=c11", "-O2", "-fPIC", f"-I{C}", "-c", "told.c", TURNS.with_suffix(".c"))
     wanted = [f"-Wl,-u,{name}" for name in calls()]
     # a group of sections would be one with a host's of the same name, though its names are no host's any more
     how = ["-r", "-nostdlib", "-Wl,--force-group-allocation", "-o", "all.o"]
-    call(folder, "cc", *how, *wanted, "told.o", *(Path(archive).resolve() for archive in archives))
+    call(folder, "cc", *how, *wanted, "told.o", "turns.o", *(Path(archive).resolve() for archive in archives))
     # what rustc leaves there for its own linking is code of a compiler that others can't read
     call(folder, "objcopy", "--remove-section=.llvmbc", "--remove-section=.llvmcmd", "all.o", "bare.o")
     told = call(folder, "nm", "-g", "--defined-only", "bare.o")

@@ -130,9 +130,11 @@ def host() -> Path:
 
 
 def library_for_c(sanitiser: str | None = None) -> Path:
-    """The static library whose calls are for C, which cargo builds of the sources as Rust; where a sanitiser of rustc's
-    is named, with its code in all but Rust's own library."""
-    target, variables = OUT / "target", dict[str, str]()
+    """The static library whose calls are for C, which cargo builds of the sources as Rust, all as one module, since a
+    call takes a sixth more otherwise; where a sanitiser of rustc's is named, with its code in all but Rust's own
+    library."""
+    target = OUT / "target"
+    variables = {"CARGO_PROFILE_RELEASE_LTO": "fat", "CARGO_PROFILE_RELEASE_CODEGEN_UNITS": "1"}
     if sanitiser:
         target = OUT / f"target_{sanitiser}"
         flags = f"-Zsanitizer={sanitiser} -Cunsafe-allow-abi-mismatch=sanitizer"

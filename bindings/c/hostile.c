@@ -659,6 +659,62 @@ static void call_run(void) {
     }
 }
 
+/* Answers a firing that is due amiss, which changes nothing, and then rightly. */
+static void call_due(struct spin_raising *raising, const struct spin_step *due) {
+    const struct spin_gift change = {SPIN_GIVES_WORD, 0, 1, 0}, none = {4 + some(9), 0, 0, 0}, far = {3, 0, 1, 1};
+    const struct spin_arg args[2] = {spin_range(0, 1), spin_word(1)};
+    struct spin_answer answer;
+    struct spin_step again;
+    want("a change", spin_raising_gave(raising, NULL, 0, &change, 1, &answer), SPIN_GIFT_REFUSED);
+    want_answer(&answer, (struct spin_answer){0, (uint32_t[]){3, 6, 1}[due->answer], 0, 0});
+    want("no gift", spin_raising_gave(raising, NULL, 0, &none, 1, &answer), SPIN_NO_ARGUMENT);
+    want("a gift too far", spin_raising_gave(raising, "x", 1, &far, 1, &answer), SPIN_NO_ARGUMENT);
+    want("a raise downwards", spin_raising_within(raising, 0, "x", 1, args, 2, &answer), SPIN_DOWNWARD);
+    want("a raise of none", spin_raising_within(raising, 2, "x", 1, args, 2, &answer), SPIN_NOT_RAISED);
+    want("it is due still", spin_raising_next(raising, &again), SPIN_OK);
+    if (memcmp(&again, due, sizeof again) != 0) {
+        stop("another firing is due");
+    }
+    const uint64_t how = some(3);
+    const uint32_t error = how == 0   ? spin_raising_do(raising, &answer)
+                           : how == 1 ? spin_raising_gave(raising, NULL, 0, NULL, 0, &answer)
+                                      : spin_raising_declined(raising);
+    want("an answer", error, SPIN_OK);
+    want("a second answer", spin_raising_do(raising, &answer), SPIN_NOT_DUE);
+    want("a second answer", spin_raising_declined(raising), SPIN_NOT_DUE);
+}
+
+/* An open raise on a handle, which is abandoned or ends before anything else is called. */
+static void call_raising(struct handle *it) {
+    static struct spin_raising raising = {NULL};
+    const struct spin_arg arg = spin_word(some(100)), wrong = {2 + some(9), 0, 0};
+    const uint32_t why = why_not(it);
+    struct spin_answer answer;
+    struct spin_step step;
+    want("nothing is next", spin_raising_next(&raising, &step), SPIN_CLOSED);
+    want("nothing is due", spin_raising_do(&raising, &answer), SPIN_CLOSED);
+    want("no argument", spin_lane_begin(&it->lane, &raising, 1, NULL, 0, &wrong, 1, &answer), SPIN_NO_ARGUMENT);
+    want("no event", spin_lane_begin(&it->lane, &raising, 2 + some(200), NULL, 0, &arg, 1, &answer),
+         why == SPIN_OK ? (uint32_t)SPIN_NOT_RAISED : why);
+    want("a begin", spin_lane_begin(&it->lane, &raising, 1, NULL, 0, &arg, 1, &answer), why);
+    if (why == SPIN_OK) {
+        want("a second begin", spin_lane_begin(&it->lane, &raising, 1, NULL, 0, &arg, 1, &answer), SPIN_OPEN);
+        want("not due yet", spin_raising_declined(&raising), SPIN_NOT_DUE);
+        do {
+            want("a turn", spin_raising_next(&raising, &step), SPIN_OK);
+            if (step.kind == SPIN_RUN) {
+                call_due(&raising, &step);
+            }
+        } while (step.kind == SPIN_RUN && some(4) != 0);
+        want("an end", spin_raising_abandon(&raising), step.kind == SPIN_END ? SPIN_CLOSED : SPIN_OK);
+    }
+    if (some(2) == 0) {
+        const uint32_t was = spin_raising_forget(&raising);
+        want("a closed one", spin_raising_forget(&raising), SPIN_CLOSED);
+        want("a close", was, raising.at == NULL && was == SPIN_CLOSED ? SPIN_CLOSED : SPIN_OK);
+    }
+}
+
 /* Makes a call on some handle. */
 static void make_call(void) {
     struct handle *it = &handles[some(HANDLES)];
@@ -692,6 +748,7 @@ static void make_call(void) {
         case 10: call_no_command(it); break;
         case 11: call_text(it); break;
         case 12: call_run(); break;
+        case 13: call_raising(it); break;
         default: call_command(it); break;
         }
     }

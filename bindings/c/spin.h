@@ -49,11 +49,15 @@ enum spin_error {
     SPIN_TAKEN = 14,       /* the seat of the lane is out; or some seat is, so the hub is neither renewed nor ended */
     SPIN_NO_BINDING = 15,  /* the last renewal numbered no such binding, or the last cycle has none */
     SPIN_BAD_CAPTURE = 16, /* the bytes are refused as a capture: the record, and the number of the fault, are told */
-    SPIN_SHARED = 17,      /* a handle whose seat came home is still being closed: the hub may be asked again */
+    SPIN_SHARED = 17,      /* a raise is open on the hub, or a handle whose seat came home is still being closed */
     SPIN_NO_JOB = 18,      /* the reply leaves no job of that index */
     SPIN_HUB_ENDED = 19,   /* the hub was ended: its handle tells rows, and is closed */
     SPIN_NO_ROW = 20,      /* the log has no row of that index, or the hub wasn't ended */
     SPIN_NO_TEXT = 21,     /* there is no cause, or no fault, of that number */
+    SPIN_NOT_RAISED = 22,  /* the raise isn't opened: the place, and as a spin_kind why, are told */
+    SPIN_NOT_DUE = 23,     /* no firing waits for its answer */
+    SPIN_DOWNWARD = 24,    /* only a greater event is raised from within */
+    SPIN_GIFT_REFUSED = 25, /* what the handler gave is refused: the number of the fault is told, a spin_gift_fault */
     SPIN_NULL = 100,       /* a pointer is null that may not be */
     SPIN_SAME = 101,       /* one handle is handed in as two */
     SPIN_WIDE = 102        /* a number has no room in what it is handed to: nothing is asked */
@@ -115,7 +119,9 @@ enum spin_step_kind {
     SPIN_UP = 4,      /* a raise upwards of `event` begins; its steps follow */
     SPIN_BACK = 5,    /* the last raise upwards that hasn't ended ends: `answer` is its spin_kind, `value` its value */
     SPIN_DROPPED = 6, /* the act drops a packet: `number` is that of the fault of its headers */
-    SPIN_JOB = 7      /* the handler of binding `number` of `event` is left to a job */
+    SPIN_JOB = 7,     /* the handler of binding `number` of `event` is left to a job */
+    SPIN_END = 8,     /* of an open raise: the innermost one that the host opened ends, and `number` are open around it */
+    SPIN_SPENT = 9    /* of an open raise: 4096 handlers have started, and one more is next */
 };
 
 /* A step of a reply. What its kind doesn't have is 0. */
@@ -133,6 +139,35 @@ struct spin_arg {
 /* A command as four words, by the table of crates/spin_word/src/row.rt. */
 struct spin_row {
     uint64_t a, b, c, d;
+};
+
+/* An open raise: one whose firings the host is told one by one, and answers. Closed where it is {NULL}; one that has no
+ * raise open may hold room, which the next raise takes over. It is no part of the lane's handle: it has its own share of
+ * the hub and of the bindings at its place, so commands, other raises and the lane's close leave it as it is. A hub is
+ * neither renewed nor ended while a raise is open on it: that is SPIN_SHARED. */
+struct spin_raising {
+    void *at;
+};
+
+/* The kinds of what a host's own handler gives. */
+enum spin_gift_kind {
+    SPIN_GIVES_RESULT = 0, /* the result `at` */
+    SPIN_GIVES_WORD = 1,   /* argument `index` becomes the word `at` */
+    SPIN_GIVES_BYTES = 2,  /* argument `index` becomes `length` bytes from `at` on of those handed in */
+    SPIN_GIVES_SEND = 3    /* endpoint `index` is sent those bytes */
+};
+struct spin_gift {
+    uint64_t kind, index, at, length;
+};
+
+/* Why what a host's own handler gives is refused. Of several the first is told. */
+enum spin_gift_fault {
+    SPIN_GIFT_APART = 1,     /* what runs apart gives the raise nothing */
+    SPIN_GIFT_NO_RESULT = 2, /* the event gives no result */
+    SPIN_GIFT_NO_FILTER = 3, /* only a filter changes arguments */
+    SPIN_GIFT_NO_ARGUMENT = 4, /* there is no argument of that number */
+    SPIN_GIFT_KIND = 5,      /* a word is put in the place of bytes, or the reverse */
+    SPIN_GIFT_FIXED = 6      /* the argument may not be changed */
 };
 
 /* The calls as they are proved. A pointer with a length may not be null, nor may any other. */
@@ -171,6 +206,23 @@ uint32_t spin_before(struct spin_lane *lane, uint64_t index, struct spin_answer 
 uint32_t spin_end(struct spin_lane *lane, struct spin_answer *answer);
 uint32_t spin_row_at(struct spin_lane *lane, uint64_t index, struct spin_row *row);
 uint32_t spin_close(struct spin_lane *lane, struct spin_answer *answer);
+
+uint32_t spin_begin(struct spin_lane *lane, struct spin_raising *raising, const uint8_t *bytes, size_t length,
+                    const struct spin_arg *args, size_t count, uint8_t event, struct spin_answer *answer);
+uint32_t spin_within(struct spin_raising *raising, uint8_t event, const uint8_t *bytes, size_t length,
+                     const struct spin_arg *args, size_t count, struct spin_answer *answer);
+uint32_t spin_next(struct spin_raising *raising, struct spin_step *step);
+uint32_t spin_argument(struct spin_raising *raising, uint64_t index, uint8_t *buffer, size_t room,
+                       struct spin_arg *arg);
+uint32_t spin_do(struct spin_raising *raising, struct spin_answer *answer);
+uint32_t spin_given(struct spin_raising *raising, uint64_t index, struct spin_step *step);
+uint32_t spin_given_bytes(struct spin_raising *raising, uint64_t index, uint8_t *buffer, size_t room,
+                          uint64_t *length);
+uint32_t spin_gave(struct spin_raising *raising, const uint8_t *bytes, size_t length, const struct spin_gift *gifts,
+                   size_t count, struct spin_answer *answer);
+uint32_t spin_declined(struct spin_raising *raising);
+uint32_t spin_abandon(struct spin_raising *raising);
+uint32_t spin_forget(struct spin_raising *raising);
 
 uint32_t spin_cause_text(uint32_t cause, uint8_t *buffer, size_t room, uint64_t *length);
 uint32_t spin_fault_text(uint32_t fault, uint8_t *buffer, size_t room, uint64_t *length);
@@ -449,6 +501,115 @@ static inline uint32_t spin_lane_close(struct spin_lane *lane, struct spin_answe
     return spin_close(lane, answer);
 }
 
+/* Opens a raise of an event with these arguments on the bindings at the end of the log, whose place is told, in a
+ * handle that has none open: SPIN_OPEN says that it has one, and then come SPIN_NO_ARGUMENT, SPIN_CLOSED and
+ * SPIN_HUB_ENDED of the lane, and SPIN_NOT_RAISED. The reply to the lane's last raise is kept. It asks for memory where
+ * the last raise of this handle left too little room. */
+static inline uint32_t spin_lane_begin(struct spin_lane *lane, struct spin_raising *raising, uint64_t event,
+                                       const void *bytes, size_t length, const struct spin_arg *args, size_t count,
+                                       struct spin_answer *answer) {
+    static const struct spin_arg none[1] = {{SPIN_WORD, 0, 0}};
+    const struct spin_arg *given = args == NULL && count == 0 ? none : args;
+    const uint8_t *at = spin_bytes(bytes, length);
+    if (at == NULL || given == NULL || lane == NULL || raising == NULL || answer == NULL) {
+        return SPIN_NULL;
+    }
+    return event > UINT8_MAX ? (uint32_t)SPIN_WIDE
+                             : spin_begin(lane, raising, at, length, given, count, (uint8_t)event, answer);
+}
+
+/* Opens another raise between a firing and its answer, on the same bindings, of a greater event. SPIN_CLOSED,
+ * SPIN_NO_ARGUMENT, SPIN_NOT_DUE, SPIN_NOT_RAISED and SPIN_DOWNWARD say in this order why not, and nothing is changed
+ * then. It asks for memory where there is too little room. */
+static inline uint32_t spin_raising_within(struct spin_raising *raising, uint64_t event, const void *bytes,
+                                           size_t length, const struct spin_arg *args, size_t count,
+                                           struct spin_answer *answer) {
+    static const struct spin_arg none[1] = {{SPIN_WORD, 0, 0}};
+    const struct spin_arg *given = args == NULL && count == 0 ? none : args;
+    const uint8_t *at = spin_bytes(bytes, length);
+    if (at == NULL || given == NULL || raising == NULL || answer == NULL) {
+        return SPIN_NULL;
+    }
+    return event > UINT8_MAX ? (uint32_t)SPIN_WIDE
+                             : spin_within(raising, (uint8_t)event, at, length, given, count, answer);
+}
+
+/* Tells what comes next, as a step: SPIN_RUN, a firing is due, which is told again until it is answered: `value` is its
+ * handler, `answer` its spin_mode; SPIN_UP, a raise upwards that an act asked for begins, and SPIN_BACK, it ended;
+ * SPIN_END, the innermost raise that the host opened ended with that answer, and where `number` is 0 none is open any
+ * more; SPIN_SPENT, it can only be abandoned. It asks for memory for a raise upwards where there is too little room; where
+ * there was none no raise is open any more. */
+static inline uint32_t spin_raising_next(struct spin_raising *raising, struct spin_step *step) {
+    return raising == NULL || step == NULL ? (uint32_t)SPIN_NULL : spin_next(raising, step);
+}
+
+/* Tells an argument of the innermost raise, as it stands: a word as SPIN_WORD, in `at`; bytes as SPIN_BYTES, with their
+ * length, which are copied into the buffer, null standing for one of no bytes. SPIN_NO_ARGUMENT says that there is none
+ * of that index. It asks for memory for bytes where there is too little room. */
+static inline uint32_t spin_raising_argument(struct spin_raising *raising, uint64_t index, void *buffer, size_t room,
+                                             struct spin_arg *arg) {
+    uint8_t none[1] = {0};
+    uint8_t *at = buffer == NULL && room == 0 ? none : (uint8_t *)buffer;
+    if (at == NULL || raising == NULL || arg == NULL) {
+        return SPIN_NULL;
+    }
+    return spin_argument(raising, index, at, room, arg);
+}
+
+/* The declared act of what is due is done, or it is left to a job where it runs apart; how many things that gave is told
+ * as the steps. It asks for memory; where there was none no raise is open any more. */
+static inline uint32_t spin_raising_do(struct spin_raising *raising, struct spin_answer *answer) {
+    return raising == NULL || answer == NULL ? (uint32_t)SPIN_NULL : spin_do(raising, answer);
+}
+
+/* Tells the thing at an index, counted from 0, that the last answer gave, until spin_raising_next: first what ran, or is
+ * left to a job, and then results, sends, raises upwards and dropped packets in order. It asks for no memory. */
+static inline uint32_t spin_raising_given(struct spin_raising *raising, uint64_t index, struct spin_step *step) {
+    return raising == NULL || step == NULL ? (uint32_t)SPIN_NULL : spin_given(raising, index, step);
+}
+
+/* Copies the bytes that such a thing sends into a buffer, null standing for one of no bytes, and tells how many. It asks
+ * for memory where there is too little room. */
+static inline uint32_t spin_raising_given_bytes(struct spin_raising *raising, uint64_t index, void *buffer,
+                                                size_t room, uint64_t *length) {
+    uint8_t none[1] = {0};
+    uint8_t *at = buffer == NULL && room == 0 ? none : (uint8_t *)buffer;
+    if (at == NULL || raising == NULL || length == NULL) {
+        return SPIN_NULL;
+    }
+    return spin_given_bytes(raising, index, at, room, length);
+}
+
+/* The host's own handler ran in the place of what is due, and gave this: results, changes of arguments, and sends. How
+ * many things that gave is told as the steps. SPIN_CLOSED, SPIN_NO_ARGUMENT, SPIN_NOT_DUE and SPIN_GIFT_REFUSED say in
+ * this order why it isn't taken, and nothing is changed then. It asks for memory where there is too little room; where
+ * there was none in the midst of it no raise is open any more. */
+static inline uint32_t spin_raising_gave(struct spin_raising *raising, const void *bytes, size_t length,
+                                         const struct spin_gift *gifts, size_t count, struct spin_answer *answer) {
+    static const struct spin_gift none[1] = {{SPIN_GIVES_RESULT, 0, 0, 0}};
+    const struct spin_gift *given = gifts == NULL && count == 0 ? none : gifts;
+    const uint8_t *at = spin_bytes(bytes, length);
+    if (at == NULL || given == NULL || raising == NULL || answer == NULL) {
+        return SPIN_NULL;
+    }
+    return spin_gave(raising, at, length, given, count, answer);
+}
+
+/* The host's own guard didn't hold: what is due runs no handler. It asks for no memory. */
+static inline uint32_t spin_raising_declined(struct spin_raising *raising) {
+    return raising == NULL ? (uint32_t)SPIN_NULL : spin_declined(raising);
+}
+
+/* Ends what is open, and keeps the room. It asks for no memory. */
+static inline uint32_t spin_raising_abandon(struct spin_raising *raising) {
+    return raising == NULL ? (uint32_t)SPIN_NULL : spin_abandon(raising);
+}
+
+/* Closes a handle, with whatever raise is open, and frees the room. It asks for no memory. */
+static inline uint32_t spin_raising_forget(struct spin_raising *raising) {
+    return raising == NULL ? (uint32_t)SPIN_NULL : spin_forget(raising);
+}
+
 enum spin_op { SPIN_INSTALL = 1, SPIN_REMOVE = 2, SPIN_REPLACE = 3, SPIN_SET_DEFAULT = 4, SPIN_NO_DEFAULT = 5 };
 enum spin_place { SPIN_FREE = 0, SPIN_FIRST = 1, SPIN_LAST = 2 };
 enum spin_mode { SPIN_PLAIN = 0, SPIN_FILTER = 1, SPIN_ASYNC = 2 };
@@ -590,6 +751,10 @@ static inline const char *spin_error_name(uint32_t error) {
     case SPIN_HUB_ENDED: return "the hub was ended";
     case SPIN_NO_ROW: return "no such row";
     case SPIN_NO_TEXT: return "no such text";
+    case SPIN_NOT_RAISED: return "not raised";
+    case SPIN_NOT_DUE: return "no firing is due";
+    case SPIN_DOWNWARD: return "not a greater event";
+    case SPIN_GIFT_REFUSED: return "the gift is refused";
     case SPIN_NULL: return "null";
     case SPIN_SAME: return "one handle twice";
     case SPIN_WIDE: return "a number is too wide";

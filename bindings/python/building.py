@@ -14,17 +14,18 @@ import sysconfig
 import tempfile
 import zipfile
 from pathlib import Path
+from types import ModuleType
 
 HERE = Path(__file__).resolve().parent
 TOP = HERE.parent.parent
 
 
-def get_requires_for_build_wheel(config_settings=None):
+def get_requires_for_build_wheel(config_settings: object = None) -> list[str]:
     """What has to be installed first: nothing."""
     return []
 
 
-def library_module():
+def library_module() -> ModuleType:
     """The module of the repository that makes the library."""
     if not (TOP / "wrapper" / "library.py").is_file():
         sys.exit("codzvregi: the package is built in its repository, and this isn't there; pip does so from 21.3 on")
@@ -35,7 +36,7 @@ def library_module():
     return library
 
 
-def shared_library(library):
+def shared_library(library: ModuleType) -> bytes:
     """The bytes of the shared library."""
     if "CODZVREGI_LIBRARY" in os.environ:
         return Path(os.environ["CODZVREGI_LIBRARY"]).read_bytes()
@@ -49,29 +50,29 @@ def shared_library(library):
         return (Path(folder) / library.SHARED).read_bytes()
 
 
-def metadata(release):
+def metadata(release: str) -> str:
     """What the package says of itself."""
     project = (HERE / "pyproject.toml").read_text()
-    told = lambda name: re.search(rf'^{name} = "(.*)"$', project, re.MULTILINE)[1]
+    told = dict(re.findall(r'^([\w-]+) = "(.*)"$', project, re.MULTILINE))
     return (
-        f"Metadata-Version: 2.1\nName: {told('name')}\nVersion: {release}\nSummary: {told('description')}\n"
-        f"Requires-Python: {told('requires-python')}\n"
+        f"Metadata-Version: 2.1\nName: {told['name']}\nVersion: {release}\nSummary: {told['description']}\n"
+        f"Requires-Python: {told['requires-python']}\n"
     )
 
 
-def platform():
+def platform() -> str:
     """This machine's name in the names of wheels."""
     return re.sub(r"[-.]", "_", sysconfig.get_platform())
 
 
-def described(library):
+def described(library: ModuleType) -> tuple[dict[str, bytes], str]:
     """What is said of the package: the files of its own folder but the record, and the tag of the wheel."""
     tag = f"py3-none-{platform()}"
     wheel = f"Wheel-Version: 1.0\nGenerator: codzvregi\nRoot-Is-Purelib: false\nTag: {tag}\n"
     return {"METADATA": metadata(library.RELEASE).encode(), "WHEEL": wheel.encode()}, tag
 
 
-def prepare_metadata_for_build_wheel(metadata_directory, config_settings=None):
+def prepare_metadata_for_build_wheel(metadata_directory: str, config_settings: object = None) -> str:
     """Writes what is said of the package, for which nothing is built, and answers the folder."""
     library = library_module()
     folder = Path(metadata_directory) / f"codzvregi-{library.RELEASE}.dist-info"
@@ -81,13 +82,13 @@ def prepare_metadata_for_build_wheel(metadata_directory, config_settings=None):
     return folder.name
 
 
-def row(name, content):
+def row(name: str, content: bytes) -> str:
     """A file's row in the record."""
     summed = base64.urlsafe_b64encode(hashlib.sha256(content).digest()).rstrip(b"=").decode()
     return f"{name},sha256={summed},{len(content)}\n"
 
 
-def build_wheel(wheel_directory, config_settings=None, metadata_directory=None):
+def build_wheel(wheel_directory: str, config_settings: object = None, metadata_directory: str | None = None) -> str:
     """Writes the wheel into the folder, and answers its name."""
     library = library_module()
     said, tag = described(library)
@@ -103,6 +104,6 @@ def build_wheel(wheel_directory, config_settings=None, metadata_directory=None):
     return name
 
 
-def build_sdist(sdist_directory, config_settings=None):
+def build_sdist(sdist_directory: str, config_settings: object = None) -> str:
     """Says that there is none: the library is made of the repository, of which the package is a small part."""
     sys.exit("codzvregi: the package has no archive of sources of its own; its repository is that")

@@ -39,6 +39,10 @@ class Error(IntEnum):
     ENDED = 19
     NO_ROW = 20
     NO_TEXT = 21
+    NOT_RAISED = 22
+    NOT_DUE = 23
+    DOWNWARD = 24
+    GIFT_REFUSED = 25
 
 
 class SpinFault(ctypes.Structure):
@@ -92,15 +96,22 @@ class SpinLane(ctypes.Structure):
     _fields_ = [("at", ctypes.c_void_p)]
 
 
+class SpinRaising(ctypes.Structure):
+    """As struct spin_raising."""
+
+    _fields_ = [("at", ctypes.c_void_p)]
+
+
 # A row is four words.
 SpinRow = ctypes.c_uint64 * 4
 
-# The types of what is handed in: a text with its length, a list with its, an index.
+# The types of what is handed in: a text with its length, a list with its, an index; or where a buffer lies.
 _BYTE, _SIZE, _NUMBER, _INDEX = ctypes.c_uint8, ctypes.c_size_t, ctypes.c_uint32, ctypes.c_uint64
 _TEXT: list[Any] = [ctypes.c_char_p, _SIZE]
 _FAULT, _ANSWER, _STEP = ctypes.POINTER(SpinFault), ctypes.POINTER(SpinAnswer), ctypes.POINTER(SpinStep)
 _LANE, _ROW, _LENGTH = ctypes.POINTER(SpinLane), ctypes.POINTER(SpinRow), ctypes.POINTER(_INDEX)
-_WORDS, _ARGS = [ctypes.POINTER(_INDEX), _SIZE], [ctypes.POINTER(SpinArg), _SIZE]
+_RAISING, _PLACE = ctypes.POINTER(SpinRaising), ctypes.c_void_p
+_ARGS = [ctypes.POINTER(SpinArg), _SIZE]
 _SENDS, _RAN = [ctypes.POINTER(SpinSending), _SIZE], ctypes.POINTER(SpinRan)
 
 # What each call is handed. Each answers a number.
@@ -111,7 +122,7 @@ _GIVEN: dict[str, list[Any]] = {
     "spin_run_text": [*_TEXT, *_TEXT, *_TEXT, _NUMBER, *_TEXT, *_SENDS, *_TEXT, _RAN],
     "spin_open_lanes": [*_TEXT, _BYTE, _LANE, _ANSWER],
     "spin_seat": [_LANE, _BYTE, _LANE],
-    "spin_raise_words": [_LANE, _BYTE, *_WORDS, _ANSWER],
+    "spin_raise_words": [_PLACE, _BYTE, _PLACE, _SIZE, _PLACE],
     "spin_raise": [_LANE, _BYTE, *_TEXT, *_ARGS, _ANSWER],
     "spin_later": [_LANE, _BYTE, *_TEXT, *_ARGS, _ANSWER],
     "spin_step": [_LANE, _INDEX, _STEP],
@@ -128,6 +139,21 @@ _GIVEN: dict[str, list[Any]] = {
     "spin_end": [_LANE, _ANSWER],
     "spin_row_at": [_LANE, _INDEX, _ROW],
     "spin_close": [_LANE, _ANSWER],
+    "codzvregi_begin": [_PLACE],
+    "codzvregi_begin_words": [_PLACE],
+    "codzvregi_gave": [_PLACE],
+    "codzvregi_do": [_PLACE],
+    "spin_begin": [_LANE, _RAISING, *_TEXT, _PLACE, _SIZE, _BYTE, _PLACE],
+    "spin_within": [_RAISING, _BYTE, *_TEXT, _PLACE, _SIZE, _PLACE],
+    "spin_next": [_RAISING, _PLACE],
+    "spin_argument": [_RAISING, _INDEX, _PLACE, _SIZE, _PLACE],
+    "spin_do": [_RAISING, _PLACE],
+    "spin_given": [_RAISING, _INDEX, _PLACE],
+    "spin_given_bytes": [_RAISING, _INDEX, _PLACE, _SIZE, _LENGTH],
+    "spin_gave": [_RAISING, *_TEXT, _PLACE, _SIZE, _PLACE],
+    "spin_declined": [_RAISING],
+    "spin_abandon": [_RAISING],
+    "spin_forget": [_RAISING],
     "spin_cause_text": [_NUMBER, *_TEXT, _LENGTH],
     "spin_fault_text": [_NUMBER, *_TEXT, _LENGTH],
 }

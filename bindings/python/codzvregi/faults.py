@@ -93,3 +93,44 @@ class Ended(Fault):
 
 class NoRow(Fault):
     """The log has no row of that index, or the hub wasn't ended."""
+
+
+class NoName(Fault):
+    """Nothing has that name."""
+
+
+class NoArgument(Fault):
+    """An argument is neither a word nor bytes, or there is none of that index, or there are more than any event has."""
+
+
+class NotDue(Fault):
+    """No firing waits for its answer: no function is called."""
+
+
+class Downward(Fault):
+    """From within a raise only an event with a greater number is raised. Nothing is changed."""
+
+
+class Spent(Fault):
+    """4,096 handlers have started in the raise, and one more would: it was abandoned."""
+
+
+class Abandoned(Fault):
+    """The raise was abandoned, by what was raised or closed within it."""
+
+
+# Why what a function gives is refused, by numbers from 1 on.
+_GIFTS = (
+    *("what runs apart gives the raise nothing", "the event gives no result", "only a filter changes arguments"),
+    *("there is no argument of that number", "an argument is of the wrong kind"),
+    "an argument is changed that may not be",
+)
+
+
+class GiftRefused(Fault):
+    """What the function of a binding gives is refused, and the raise was abandoned: the number of why, and that of the
+    binding."""
+
+    def __init__(self, why: int, binding: int) -> None:
+        super().__init__(f"binding {binding}: {_GIFTS[why - 1]}")
+        self.why, self.binding = why, binding

@@ -2,13 +2,16 @@
 
 import ctypes
 from collections.abc import Callable, Iterable, Iterator, Sequence
+from struct import Struct
+from struct import error as NoRoom
 from types import TracebackType
 from typing import Any
 
 from codzvregi import faults
 from codzvregi._calls import Error, SpinAnswer, SpinArg, SpinLane, SpinRow, SpinStep
+from codzvregi._raising import Told
 from codzvregi.commands import Command, Mode, Op, Place, Refusal, Row
-from codzvregi.replies import KINDS, Job, Reply, Step, StepKind, value_of
+from codzvregi.replies import KINDS, Job, Reply, Step, StepKind, make_tuple, value_of
 from codzvregi.scripts import cause_text
 
 # What the numbers say that tell nothing more.
@@ -26,7 +29,14 @@ _FAULTS: dict[int, tuple[type[faults.Fault], str]] = {
     Error.NO_JOB: (faults.NoJob, "the reply has no such job"),
     Error.ENDED: (faults.Ended, "the hub was ended"),
     Error.NO_ROW: (faults.NoRow, "the log has no such row"),
+    Error.NO_ARGUMENT: (faults.NoArgument, "there is no such argument"),
+    Error.NOT_DUE: (faults.NotDue, "no firing waits for its answer"),
+    Error.DOWNWARD: (faults.Downward, "only a greater event is raised from within"),
 }
+
+
+# Put so many words where the library reads them; NoRoom says that not all are words.
+_WORDS = [Struct(f"={count}Q").pack_into for count in range(9)]
 
 
 def fault_of(number: int, answer: SpinAnswer) -> faults.Fault:
@@ -50,21 +60,19 @@ def _given(args: Sequence[int | bytes]) -> "tuple[bytes, ctypes.Array[SpinArg]]"
     return bytes(data), (SpinArg * len(given))(*given)
 
 
-def _words_of(event: int, args: Sequence[int | bytes]) -> list[int]:
-    """The arguments that are words. A number that has no room is a ValueError."""
-    words = [arg for arg in args if isinstance(arg, int)]
-    if not 0 <= event < 2**8 or not all(0 <= word < 2**64 for word in words):
+def _want_room(event: int, args: Sequence[int | bytes]) -> None:
+    """Raises a ValueError where a number has no room."""
+    if not 0 <= event < 2**8 or not all(0 <= arg < 2**64 for arg in args if isinstance(arg, int)):
         raise ValueError("an event is a number below 256, and a word one below 2**64")
-    return words
 
 
 def _reply_of(told: SpinAnswer) -> Reply:
     """The reply that is told."""
     kind = KINDS[told.kind]
-    return Reply(told.place, kind, value_of(kind, told.value), told.steps)
+    return make_tuple(Reply, (told.place, kind, value_of(kind, told.value), told.steps))
 
 
-def _step_of(told: SpinStep, data: bytes) -> Step:
+def step_of(told: SpinStep | Told, data: bytes) -> Step:
     """The step that is told, which sends these bytes."""
     kind = StepKind(told.kind)
     answer = KINDS[told.answer] if kind is StepKind.BACK else None
@@ -85,6 +93,9 @@ class Lane:
     def __init__(self, calls: ctypes.CDLL, number: int = 0) -> None:
         self._calls, self._lane, self.number, self._rows = calls, SpinLane(None), number, 0
         self._at = ctypes.byref(self._lane)
+        # what a raise of words is handed and tells, and where both and the handle lie, which is handed in for less
+        self._words, self._told = (ctypes.c_uint64 * 8)(), SpinAnswer()
+        self._places = tuple(map(ctypes.addressof, (self._lane, self._words, self._told)))
 
     @classmethod
     def open(cls, calls: ctypes.CDLL, script: bytes, lanes: int) -> "Lane":
@@ -140,17 +151,28 @@ class Lane:
 
     def raise_event(self, event: int, *args: int | bytes) -> Reply:
         """Raises the event with these arguments, words from 0 to 2**64 - 1 and bytes."""
-        words, count = _words_of(event, args), len(args)
-        if len(words) == count:
-            told = self._ask(self._calls.spin_raise_words, self._at, event, (ctypes.c_uint64 * count)(*words), count)
-        else:
-            data, given = _given(args)
-            told = self._ask(self._calls.spin_raise, self._at, event, data, len(data), given, count)
-        return _reply_of(told)
+        count = len(args)
+        try:
+            if not 0 <= event < 2**8:
+                raise NoRoom
+            _WORDS[count](self._words, 0, *args)
+        except (NoRoom, IndexError):  # not all are words, or they are many
+            return self._raise_any(event, args)
+        lane, words, told = self._places
+        number = self._calls.spin_raise_words(lane, event, words, count, told)
+        if number:
+            raise self._fault(number, self._told)
+        return _reply_of(self._told)
+
+    def _raise_any(self, event: int, args: Sequence[int | bytes]) -> Reply:
+        """Raises the event with these arguments."""
+        _want_room(event, args)
+        data, given = _given(args)
+        return _reply_of(self._ask(self._calls.spin_raise, self._at, event, data, len(data), given, len(args)))
 
     def later(self, event: int, *args: int | bytes) -> Reply:
         """Leaves a raise of the event with these arguments to a job, which is the one job of its reply."""
-        _words_of(event, args)
+        _want_room(event, args)
         data, given = _given(args)
         return _reply_of(self._ask(self._calls.spin_later, self._at, event, data, len(data), given, len(args)))
 
@@ -162,7 +184,7 @@ class Lane:
             buffer, length = ctypes.create_string_buffer(told.length), ctypes.c_uint64()
             self._tell(send(self._at, index, buffer, told.length, ctypes.byref(length)))
             data = buffer.raw
-        return _step_of(told, data)
+        return step_of(told, data)
 
     def step(self, index: int) -> Step:
         """The step at an index, counted from 0, of the reply to the last raise, which is kept until the next raise,

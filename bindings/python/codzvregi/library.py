@@ -5,7 +5,8 @@ from os import PathLike
 
 from codzvregi import faults, runs, scripts
 from codzvregi._calls import load
-from codzvregi.lanes import Lane
+from codzvregi.host import Host
+from codzvregi.names import Declared
 
 
 class Library:
@@ -14,14 +15,15 @@ class Library:
     def __init__(self, path: str | PathLike[str] | None = None) -> None:
         self._calls = load(path)
 
-    def open(self, script: bytes, lanes: int = 1) -> Lane:
-        """The opener of a hub of 1 to 8 lanes over the script: what it declares, with nothing bound. Its lane lines
-        aren't done. It has the seat of lane 0, and `Lane.seat` hands the others out."""
+    def open(self, script: Declared, lanes: int = 1) -> Host:
+        """The opener of a hub of 1 to 8 lanes over the script, which is a text or declared by names: what it declares,
+        with nothing bound. Its lane lines aren't done. It has the seat of lane 0, and `Host.seat` hands the others
+        out."""
         if not 0 <= lanes < 2**8:
             raise faults.NoLane("there is no such lane")
-        return Lane.open(self._calls, script, lanes)
+        return Host.open_declared(self._calls, script, lanes)
 
-    def open_lanes(self, script: bytes, lanes: int) -> list[Lane]:
+    def open_lanes(self, script: Declared, lanes: int) -> list[Host]:
         """All seats of a hub of 1 to 8 lanes over the script, the k-th being that of lane k."""
         first = self.open(script, lanes)
         return [first, *(first.seat(number) for number in range(1, lanes))]

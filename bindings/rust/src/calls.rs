@@ -1,4 +1,4 @@
-//! The proved calls, and what stands for them in Rust. All unsafe code of this crate stands here.
+//! The proved calls, and what stands for them in Rust. With `opened` it has all unsafe code of this crate.
 
 use crate::command::Refusal;
 use crate::fault::Fault;
@@ -280,9 +280,9 @@ pub(crate) struct SpinAnswer {
 #[repr(C)]
 #[derive(Clone, Copy)]
 pub(crate) struct SpinArg {
-    kind: u64,
-    at: u64,
-    length: u64,
+    pub(crate) kind: u64,
+    pub(crate) at: u64,
+    pub(crate) length: u64,
 }
 
 impl SpinArg {
@@ -309,13 +309,13 @@ pub(crate) struct SpinStep {
 
 /// A handle; closed where it is null.
 #[repr(C)]
-struct SpinLane {
+pub(crate) struct SpinLane {
     at: *mut c_void,
 }
 
 /// A handle.
 pub(crate) struct Held {
-    lane: SpinLane,
+    pub(crate) lane: SpinLane,
 }
 
 // SAFETY: what a handle holds may be used from any thread, one call at a time, which `&mut` sees to: that is proved of
@@ -326,7 +326,7 @@ unsafe impl Send for Held {}
 unsafe impl Sync for Held {}
 
 /// What a number tells.
-fn tell(number: u32, answer: SpinAnswer) -> Result<SpinAnswer, Fault> {
+pub(crate) fn tell(number: u32, answer: SpinAnswer) -> Result<SpinAnswer, Fault> {
     Err(match number {
         0 => return Ok(answer),
         1 => Fault::NoMemory,
@@ -342,6 +342,10 @@ fn tell(number: u32, answer: SpinAnswer) -> Result<SpinAnswer, Fault> {
         17 => Fault::Shared,
         18 => Fault::NoJob,
         19 => Fault::Ended,
+        22 => Fault::NotRaised { place: answer.place, kind: answer.kind },
+        23 => Fault::NotDue,
+        24 => Fault::Downward,
+        25 => Fault::Gift(answer.kind),
         other => Fault::Unknown(other),
     })
 }

@@ -43,6 +43,12 @@ pub enum Fault {
     Shared,
     /// The hub was ended.
     Ended,
+    /// Nothing has that name.
+    NoName(String),
+    /// The raise was abandoned by what was raised within it.
+    Abandoned,
+    /// 4,096 handlers have started in the raise, and one more would: it was abandoned.
+    Spent,
     /// The bytes are refused as a capture.
     BadCapture {
         /// The record, counted from 1; 0 where it is the header.
@@ -50,6 +56,20 @@ pub enum Fault {
         /// The number of the fault, whose sentence [`fault_text`](crate::fault_text) has.
         fault: u32,
     },
+    /// The raise isn't opened, whose host answers its firings.
+    NotRaised {
+        /// The place of the bindings.
+        place: u32,
+        /// The number of why: 5 where there is no such event, 6 where the arguments don't fit it.
+        kind: u32,
+    },
+    /// No firing waits for its answer.
+    NotDue,
+    /// Only a greater event is raised from within.
+    Downward,
+    /// What the host's own handler gave is refused, by the number of the fault: 1 it runs apart, 2 the event gives no
+    /// result, 3 it is no filter, 4 no such argument, 5 one of the other kind, 6 one that may not be changed.
+    Gift(u32),
     /// The library answered a number that this crate doesn't know.
     Unknown(u32),
 }
@@ -73,10 +93,23 @@ impl Display for Fault {
             Fault::NoBinding => write!(out, "no such binding was renewed"),
             Fault::Shared => write!(out, "the hub is shared"),
             Fault::Ended => write!(out, "the hub was ended"),
+            Fault::NoName(name) => write!(out, "there is no {name}"),
+            Fault::Abandoned => write!(out, "the raise was abandoned"),
+            Fault::Spent => write!(out, "no more handlers may start"),
             Fault::NoJob => write!(out, "the reply has no such job"),
             Fault::BadCapture { record, fault } => {
                 write!(out, "record {record} is bad: fault {fault}, {}", fault_text(*fault).unwrap_or_default())
             }
+            Fault::NotRaised { kind: 5, .. } => write!(out, "there is no such event"),
+            Fault::NotRaised { .. } => write!(out, "the arguments aren't those of the event"),
+            Fault::NotDue => write!(out, "no firing is due"),
+            Fault::Downward => write!(out, "only a greater event is raised from within"),
+            Fault::Gift(1) => write!(out, "what runs apart gives the raise nothing"),
+            Fault::Gift(2) => write!(out, "the event gives no result"),
+            Fault::Gift(3) => write!(out, "only a filter changes arguments"),
+            Fault::Gift(4) => write!(out, "there is no argument of that number"),
+            Fault::Gift(5) => write!(out, "an argument is of the wrong kind"),
+            Fault::Gift(_) => write!(out, "an argument is changed that may not be"),
             Fault::Unknown(number) => write!(out, "the library answered {number}"),
         }
     }

@@ -15,18 +15,23 @@ pub enum Arg<'a> {
 }
 
 /// Arguments as they are handed in: all bytes, and what each argument is.
-fn given(args: &[Arg<'_>]) -> (Vec<u8>, Vec<SpinArg>) {
-    let (mut bytes, mut given) = (Vec::new(), Vec::with_capacity(args.len()));
-    for arg in args {
-        given.push(match *arg {
-            Arg::Word(word) => SpinArg::word(word),
-            Arg::Bytes(more) => {
-                bytes.extend_from_slice(more);
-                SpinArg::range(bytes.len() - more.len(), more.len())
-            }
-        });
-    }
-    (bytes, given)
+pub(crate) fn given(args: &[Arg<'_>]) -> (Vec<u8>, Vec<SpinArg>) {
+    let (mut bytes, mut laid) = (Vec::new(), Vec::with_capacity(args.len()));
+    lay(args, &mut bytes, &mut laid);
+    (bytes, laid)
+}
+
+/// The same in lists whose room is used again.
+pub(crate) fn lay(args: &[Arg<'_>], bytes: &mut Vec<u8>, laid: &mut Vec<SpinArg>) {
+    bytes.clear();
+    laid.clear();
+    laid.extend(args.iter().map(|arg| match *arg {
+        Arg::Word(word) => SpinArg::word(word),
+        Arg::Bytes(more) => {
+            bytes.extend_from_slice(more);
+            SpinArg::range(bytes.len() - more.len(), more.len())
+        }
+    }));
 }
 
 /// A seat of a hub over a script: what the script declares, and the bindings that commands of all its seats made. It

@@ -14,18 +14,25 @@
 //! ```
 #![warn(missing_docs)]
 
+mod bind;
 mod calls;
 mod command;
 mod fault;
+mod host;
 mod lane;
+mod opened;
 mod reply;
 mod run;
+mod script;
 
+pub use bind::{Bind, Call, Given, Outcome};
 pub use command::{Command, Install, Mode, Op, Place, Reason, Refusal, Row};
 pub use fault::Fault;
+pub use host::{Firing, Host};
 pub use lane::{Arg, Hub, Jobs, Lane};
 pub use reply::{Answer, Job, Reply, Step};
 pub use run::{Run, Sent};
+pub use script::{Event, Script, Which};
 
 /// A seat of a hub, which is what a lane has.
 pub type Seat = Lane;

@@ -80,7 +80,7 @@ pub enum Step {
 
 impl Answer {
     /// The answer of this kind.
-    fn of(kind: u32, value: u64) -> Result<Answer, Fault> {
+    pub(crate) fn of(kind: u32, value: u64) -> Result<Answer, Fault> {
         Ok(match kind {
             0 => Answer::NoHandler,
             1 => Answer::Done,

@@ -134,7 +134,7 @@ module _ (A B C : RattleType) (a : Ghosts A.Denot) (b : Ghosts B.Denot) (c : Gho
         recorded_sync (Party.the_field A B C a b c).row _ _ (Party.the_type A B C a b c).to_one
         (struct_sync (shape (Party.the_type A B C a b c)) (hub_sync, (search (homes.the_field_sync, seat_send, crosses, sendable) depth 60 fits 20000, tt)))
 
-    party_send : IsSend (Party.the_row A B C a b c)
+    pub party_send : IsSend (Party.the_row A B C a b c)
     party_send =
         recorded_send (Party.the_field A B C a b c).row _ _ (Party.the_type A B C a b c).to_one
         (struct_send (shape (Party.the_type A B C a b c)) (hub_send, (search (homes.the_field_send, seat_send, crosses, sendable) depth 60 fits 20000, tt)))

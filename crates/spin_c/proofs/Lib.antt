@@ -5,7 +5,13 @@ pub mod Lanes
 pub mod Laws
 pub mod LiveNumbers
 pub mod Maybes
+pub mod Openers
+pub mod OpenAnswers
+pub mod OpenMoves
 pub mod Opening
+pub mod RaiseOpening
+pub mod Raisers
+pub mod RaisingCrossing
 pub mod Ranges
 pub mod RoomLeft
 pub mod Sharing

@@ -1,15 +1,20 @@
 //! What C holds: a pointer that owns a lane, or null.
 
 ghost use Rattle.std.specs.Prelude.{◌≡◌, None, Option};
+ghost use Rattle.spin_c.specs.Beginnings.{Begins};
 ghost use Rattle.spin_c.specs.Lanes.{HeldAt, kept_coded, handle_owns};
 ghost use Rattle.spin_c.specs.Shares.{Shares};
 ghost use Rattle.spin_c.specs.Turns.{Turns};
 ghost use Rattle.spin_c.specs.Verdicts.{no_natives};
 
 use crate::ask::{Call, Outcome, Pick};
+use crate::beginning::begin_maybe;
 use crate::handing::hand_out_maybe;
 use crate::lane::Held;
 use crate::maybe::Maybe;
+use crate::moves::{Begin, Upshot};
+use crate::raiser::SpinRaising;
+use crate::raising::Raising;
 use crate::turn::turn_maybe;
 use spin_objects::Natives;
 use std::alloc::Global;
@@ -96,6 +101,38 @@ impl SpinLane {
                 alloc: its,
             },
             outcome,
+        )
+    }
+
+    // Opens a raise on what the handle holds.
+    pub(crate) fn begin(self, other: SpinRaising, begin: Begin) -> (SpinLane, SpinRaising, Upshot)
+        ensures { Begins self.kept other.kept begin.event begin.args result.0.kept result.1.kept result.2 }
+    {
+        let SpinLane { at, alloc } = self;
+        let SpinRaising { at: to, alloc: its } = other;
+        let (maybe, raising, told) = begin_maybe(
+            Maybe {
+                at: at as *mut Held,
+                alloc,
+            },
+            Maybe {
+                at: to as *mut Raising,
+                alloc: its,
+            },
+            begin,
+        );
+        let Maybe { at, alloc } = maybe;
+        let Maybe { at: to, alloc: its } = raising;
+        (
+            SpinLane {
+                at: at as *mut u8,
+                alloc,
+            },
+            SpinRaising {
+                at: to as *mut u8,
+                alloc: its,
+            },
+            told,
         )
     }
 }

@@ -8,6 +8,9 @@
 //! - [`ask`] is what is asked of a handle and what it comes to, [`turn`] does it, and [`asking`] asks;
 //! - [`gathering`] takes in the seats that are at home, and [`renewing`] renews the hub of a lane, or ends it;
 //! - [`row`] is a command as it is handed in, or a row of the log, and [`given`] the arguments of a raise;
+//! - [`raising`] is what the handle of an open raise holds, and [`raiser`] the handle; [`moves`] is what is asked of it and
+//!   what that comes to, [`raised`] and [`answering`] do it, [`beginning`] opens a raise on a lane, and [`moving`] asks;
+//!   [`gifts`] is what a host's handler gives, [`uttered`] tells all that in numbers, and [`opened`] has the calls;
 //! - [`trail`] tells a reply in numbers, and its steps one by one as a [`step`]; [`told`] tells whatever else a call
 //!   comes to, and [`copying`] copies bytes into a buffer.
 #![tactic(auto)]
@@ -26,13 +29,16 @@ ghost use Rattle.spin_c.specs.Packets.{given_if};
 ghost use Rattle.spin_c.specs.Wholes.{RunsTo, TellsWhole};
 ghost use Rattle.spin_c.specs.declared.whole.Whole.{Whole as WholeValue};
 
+mod answering;
 mod ask;
 mod asking;
+mod beginning;
 mod copying;
 mod crowded;
 mod cycles;
 mod filling;
 mod gathering;
+mod gifts;
 mod given;
 mod handing;
 mod handle;
@@ -43,7 +49,13 @@ mod lane;
 mod law;
 mod loose;
 mod maybe;
+mod moves;
+mod moving;
+mod opened;
 mod packets;
+mod raised;
+mod raiser;
+mod raising;
 mod reading;
 mod renewing;
 mod row;
@@ -53,18 +65,21 @@ mod texts;
 mod told;
 mod trail;
 mod turn;
+mod uttered;
 mod verdict;
 mod whole;
 
 use ask::{Ask, Outcome};
 use asking::{args_of, ask_bytes, ask_of, ask_row, ask_step, open_of, share_of, tell};
 use filling::tell_whole;
+pub use gifts::SpinGift;
 pub use given::SpinArg;
 use given::given_of;
 pub use handle::SpinLane;
 use judge::judge;
 pub use law::commands_leave_room;
 use packets::given_if;
+pub use raiser::SpinRaising;
 pub use reading::Unread;
 pub use row::SpinRow;
 use row::row_from;

@@ -49,7 +49,7 @@ pub(crate) fn reply_told(reply: &Reply) -> Told
 }
 
 // The number of a fault of headers.
-fn fault_number(fault: HeaderFault) -> u32
+pub(crate) fn fault_number(fault: HeaderFault) -> u32
     ensures { result ≡ fault_number fault }
 {
     match fault {
@@ -78,7 +78,7 @@ pub(crate) fn blank(kind: u32) -> SpinStep
 }
 
 // A step of this kind at a binding of an event.
-fn at_binding(kind: u32, event: u8, number: u16) -> SpinStep
+pub(crate) fn at_binding(kind: u32, event: u8, number: u16) -> SpinStep
     ensures { result ≡ record (blank kind) { event = event; number = number } }
 {
     SpinStep {

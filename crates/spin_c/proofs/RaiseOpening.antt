@@ -1,0 +1,116 @@
+-- What is handed in to open a raise on a lane, and a pin of the lane's seat.
+use Rattle.std.proofs.Common.{◌≡◌, ℕ, List, Option, Some, None, Result, Ok, Err, refl, sym, subst, inl, inr}
+use Rattle.std.specs.Arc.{arc_value}
+use Rattle.std.specs.Prelude.{All, IfOk, MatchOption, MatchResult, OnErr, OnOk, map, ◌⊎◌}
+use Rattle.spin_values.specs.declared.values.Value.{Value}
+use Rattle.spin_word.specs.declared.work.Deed.{Deed}
+use Rattle.spin_proto.specs.declared.reply.Reply.{Reply}
+use Rattle.spin_host.specs.declared.fault.RaiseFault.{RaiseFault}
+use Rattle.spin_host.specs.Levels.{IsBegun}
+use Rattle.spin_host.specs.Opening.{begin_fault}
+use Rattle.spin_table.specs.SetupOf.{data_of}
+use Rattle.spin_table.specs.Setups.{SetupData}
+use Rattle.spin_seat.specs.Calls.{GivesFrom, reply_answer}
+use Rattle.spin_seat.specs.Replay.{IsReplayFrom}
+use Rattle.spin_seat.specs.Seats.{SeatValue}
+use Rattle.spin_c.specs.declared.given.SpinArg.{SpinArg}
+use Rattle.spin_c.specs.declared.lane.Held.{Held}
+use Rattle.spin_c.specs.declared.moves.Move.TheVariants as move
+use Rattle.spin_c.specs.declared.moves.Upshot.{Upshot}
+use Rattle.spin_c.specs.declared.moves.Upshot.TheVariants as upshot
+use Rattle.spin_c.specs.declared.lane.Lane.{Lane}
+use Rattle.spin_c.specs.declared.raising.Opened.{Opened}
+use Rattle.spin_c.specs.declared.raising.Raising.{Raising}
+use Rattle.spin_c.specs.declared.raising.Raising.TheVariants as raising
+use Rattle.spin_c.specs.Beginnings.{Begins, BeginsIn, BeginsOn, IsOpened, IsPinned}
+use Rattle.spin_c.specs.Given.{IsGiven, value_of}
+use Rattle.spin_c.specs.Moves.{Moves}
+use Rattle.spin_c.specs.OpenTellings.{BeginsWith, IsUnfit}
+use Rattle.spin_c.specs.Raisings.{IsIdle, IsRaising, IsShut}
+use Rattle.spin_c.specs.Uttered.{refusal_told}
+use Rattle.spin_c.specs.Waiting.{KeepsHub}
+use Rattle.spin_c.proofs.OpenMoves.{lends_idle}
+
+-- whatever was asked, the seat has a pin at the end of the log then
+pub pinned : (d : SetupData) (seat after : SeatValue) (lane place : ℕ) (asked : Deed) (reply : Reply)
+    → GivesFrom d seat.first seat.pen (reply_answer lane asked place reply) after.pen → IsReplayFrom d seat.first after.pen.front after.state → IsPinned d seat after place
+pinned d seat after lane place asked reply gives replay =
+    record { reads = (gives.more, gives.pen, gives.others); replay = replay; place_is = gives.place }
+
+-- what is so of an answer, and what of none
+pub answered_or : {N : Type 0} {A P : ℕ → Type 0} {W : Type 0} (Q : Type 0) (r : Result ℕ N) → IfOk r A → OnOk r W → OnErr r Q → ((n : ℕ) → A n → W → P n) → MatchResult r P (λ _. Q)
+answered_or Q (Ok n) a w q p = p n a w
+answered_or Q (Err why) a w q p = q
+
+module _ {A C E : Type 0} {B : A → Type 0} {D : C → Type 0} {F : E → Type 0} (l after : Lane A C E B D F) (place event : ℕ) (args : List Value)
+    (keeps : KeepsHub l after × (after.reply ≡ l.reply)) (pin : IsPinned (data_of (arc_value l.party).hub.setup) l.away.seat after.away.seat place) where
+  -- there was no memory once the lane was pinned
+  pub begun_without : (raised : Raising A C E B D F) → IsIdle raised → BeginsOn l event args after raised upshot.NoMemory
+  begun_without raised idle = (keeps.0, keeps.1, inr (inr pin.reads, idle, refl))
+
+  -- the raise isn't opened
+  pub begun_not : (raised : Raising A C E B D F) (why : RaiseFault) → IsIdle raised → begin_fault (data_of (arc_value l.party).hub.setup) event args ≡ Some why
+      → BeginsOn l event args after raised (refusal_told place why)
+  begun_not raised why idle is = (
+    keeps.0,
+    keeps.1,
+    inl record {
+      place = place;
+      pinned = pin;
+      begun = subst (λ (f : Option RaiseFault). MatchOption f (IsOpened after event args raised × (refusal_told place why ≡ upshot.Begun place))
+          (λ other. IsIdle raised × (refusal_told place why ≡ refusal_told place other))) (sym is) (idle, refl);
+    },
+  )
+
+  -- it is
+  pub begun_so : (o : Opened A C E B D F) → arc_value o.party ≡ arc_value after.party → IsBegun after.away.seat.state event args o.raise
+      → begin_fault (data_of (arc_value l.party).hub.setup) event args ≡ None → BeginsOn l event args after (raising.Open o) (upshot.Begun place)
+  begun_so o shared begun none = (
+    keeps.0,
+    keeps.1,
+    inl record {
+      place = place;
+      pinned = pin;
+      begun = subst (λ (f : Option RaiseFault). MatchOption f (IsOpened after event args (raising.Open o) × (upshot.Begun place ≡ upshot.Begun place))
+          (λ other. IsIdle (raising.Open o) × (upshot.Begun place ≡ refusal_told place other))) (sym none) ((shared, begun), refl);
+    },
+  )
+
+module _ {A C E : Type 0} {B : A → Type 0} {D : C → Type 0} {F : E → Type 0} (h after : Held A C E B D F) (event : ℕ) (args : List Value) where
+  -- what a handle holds is what it held, or room where it was closed
+  pub begun_in : (other : Option (Raising A C E B D F)) (r raised : Raising A C E B D F) (told : Upshot) → (other ≡ Some r) ⊎ ((other ≡ None) × IsIdle r)
+      → BeginsIn h r event args after raised told → Begins (Some h) other event args (Some after) (Some raised) told
+  begun_in other r raised told (inl is) begins =
+      subst (λ (o : Option (Raising A C E B D F)). Begins (Some h) o event args (Some after) (Some raised) told) (sym is) begins
+  begun_in other (raising.Open o) raised told (inr none) begins = absurd none.1
+  begun_in other (raising.Idle room) raised told (inr none) begins =
+      subst (λ (o : Option (Raising A C E B D F)). Begins (Some h) o event args (Some after) (Some raised) told) (sym none.0) begins
+
+module _ {A C E : Type 0} {B : A → Type 0} {D : C → Type 0} {F : E → Type 0} (kept : Option (Held A C E B D F)) (other : Option (Raising A C E B D F)) (event : ℕ) (bytes : List ℕ)
+    (given : List SpinArg) where
+  pub unlent_begin : (raised : Option (Raising A C E B D F)) (told : Upshot) → Moves other move.LendIdle raised told → ((room : Unit {0}) → told ≡ upshot.Lent room → ⊥)
+      → BeginsWith kept other event bytes given kept raised told
+  unlent_begin raised told m never = go (lends_idle other raised told m)
+    where
+      go : (raised ≡ other) × ((IsShut other × (told ≡ upshot.Lent tt)) ⊎ (IsRaising other × (told ≡ upshot.Open))) → BeginsWith kept other event bytes given kept raised told
+      go (same, inl lent) = absurd (never tt lent.1)
+      go (same, inr shuts) = record { begins = inl (shuts.0, refl, same, shuts.1) }
+
+  pub unfit_begin : (raised : Option (Raising A C E B D F)) (why : Upshot) → IsUnfit (All (IsGiven bytes) given) why → IsShut other → raised ≡ other
+      → BeginsWith kept other event bytes given kept raised why
+  unfit_begin raised upshot.NoArgument is shut same = record { begins = inr (shut, inl (is, refl, same, refl)) }
+  unfit_begin raised upshot.NoMemory is shut same = record { begins = inr (shut, inr (inl (is, refl, same, refl))) }
+  unfit_begin raised rest is shut same = absurd is
+
+  pub fit_begin : (lent raised : Option (Raising A C E B D F)) (after : Option (Held A C E B D F)) (args : List Value) (told : Upshot) → All (IsGiven bytes) given → IsShut other
+      → lent ≡ other → args ≡ map (value_of bytes) given → Begins kept lent event args after raised told → BeginsWith kept other event bytes given after raised told
+  fit_begin lent raised after args told fit shut same are b = record {
+    begins = inr (
+      shut,
+      inr (inr (
+        fit,
+        subst (λ (xs : List Value). Begins kept other event xs after raised told) are
+            (subst (λ (r : Option (Raising A C E B D F)). Begins kept r event args after raised told) same b),
+      )),
+    );
+  }
