@@ -1,7 +1,7 @@
 -- What lines ask of one lane.
 use Rattle.std.proofs.Common.{◌≡◌, ◌≢◌, ◌==◌, ℕ, suc, ◌+◌, ◌<◌, ◌≤◌, Bool, true, false, cond, List, [], ◌∷◌, ◌++◌, map, length, take, drop, get_or, sum_by, refl, sym, ap, ◌∙◌, arith, eq-eqb, ne_eqb}
 use Rattle.std.specs.List.{enumerate_from}
-use Rattle.std.proofs.lemmas.List.{length-take, take_more}
+use Rattle.std.proofs.lemmas.List.{length-take, take_more, take-append-drop}
 use Rattle.std.proofs.lemmas.List.Elements.{filter-append}
 use Rattle.std.proofs.Math.Seq.{drop-cons}
 use Rattle.spin_word.specs.declared.work.Work.{Work}
@@ -84,6 +84,27 @@ packets_more lane line event i part records record' lt is number =
     ap (asked_packets lane line event 1) (take_more records i record' lt)
     ∙ packets-push lane line event 1 (take i records) (get_or records i record')
     ∙ (λ j. asked_packets lane line event 1 (take i records) ++ asked_alone lane line (long j) (raise_with event (sym is j)))
+
+packets-append : (lane line event from : ℕ) (xs ys : List (List ℕ)) → asked_packets lane line event from (xs ++ ys) ≡ asked_packets lane line event from xs ++ asked_packets lane line event (from + length xs) ys
+packets-append lane line event from [] ys = ap (λ n. asked_packets lane line event n ys) (omega arith)
+packets-append lane line event from (x ∷ xs) ys =
+    ap (λ l. asked_alone lane line from (raise_with event x) ++ l)
+    (packets-append lane line event (from + 1) xs ys ∙ ap (λ n. asked_packets lane line event (from + 1) xs ++ asked_packets lane line event n ys) (omega arith))
+
+-- what is asked behind the first records, of which the next one is the first
+abbrev pub packets_behind : ℕ → ℕ → ℕ → ℕ → List (List ℕ) → List Numbered
+packets_behind lane line event i records = asked_packets lane line event (i + 1 + 1) (drop (i + 1) records)
+
+-- the first records, the next one, and those behind it
+pub packets_parts : (lane line event i : ℕ) (records : List (List ℕ)) (record' : List ℕ) → i < length records
+    → asked_packets lane line event 1 records ≡ asked_packets lane line event 1 (take i records)
+    ++ (asked_alone lane line (i + 1) (raise_with event (get_or records i record')) ++ packets_behind lane line event i records)
+packets_parts lane line event i records record' lt =
+    let next : suc i ≡ i + 1 = omega arith in
+    let long : 1 + length (take i records) ≡ i + 1 = omega (arith, length-take i records, lt) in
+    let parts : drop i records ≡ get_or records i record' ∷ drop (i + 1) records = drop-cons records i record' lt ∙ (λ j. get_or records i record' ∷ drop (next j) records) in
+    sym (ap (asked_packets lane line event 1) (take-append-drop i records)) ∙ packets-append lane line event 1 (take i records) (drop i records)
+    ∙ (λ j. asked_packets lane line event 1 (take i records) ++ asked_packets lane line event (long j) (parts j))
 
 pub packets_count : (lane line event from : ℕ) (records : List (List ℕ)) → length (asked_packets lane line event from records) ≡ length records
 packets_count lane line event from [] = refl

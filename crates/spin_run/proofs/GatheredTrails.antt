@@ -2,7 +2,7 @@
 use Rattle.std.proofs.Common.{◌≡◌, ℕ, ◌+◌, ◌<◌, ◌≤◌, List, [], ◌∷◌, ◌++◌, map, length, take, drop, set, get_or, sym, ap, ◌∙◌, subst, arith}
 use Rattle.std.specs.Prelude.{All}
 use Rattle.std.specs.List.{flat_map}
-use Rattle.std.proofs.lemmas.List.{drop-set-lt, take_more, take_more_set, drop-drop, length-set, take_all, append-nil, get_or-map, length-map, map-append, get_or-drop, map-set, set-get_or}
+use Rattle.std.proofs.lemmas.List.{drop-set-lt, drop_all, take_more, take_more_set, drop-drop, length-set, take_all, append-nil, get_or-map, length-map, map-append, get_or-drop, map-set, set-get_or}
 use Rattle.std.proofs.lemmas.List.Elements.{All-push}
 use Rattle.std.proofs.lemmas.List.Concat.{flat_map-append}
 use Rattle.spin_proto.specs.declared.deed.Job.{Job}
@@ -67,3 +67,14 @@ gathers before now i trails ts marks ms jobs js lane rest here g none trail_adde
 
 pub all_emptied : (before now : List Lane) (i : ℕ) (trails : List Trail) (marks : List Mark) (jobs : List Job) → length before ≤ i → Gathered before now i trails marks jobs → All IsEmptied now
 all_emptied before now i trails marks jobs le g = subst (All IsEmptied) (take_all i now (omega (arith, le, g.count))) g.emptied
+
+-- where it ends in the middle, the stops are as before
+pub cut_stops : (before items now : List Lane) (len i : ℕ) (lane y : Lane) → items ≡ before → len ≡ length items → length now ≡ length before
+    → map (λ (l : Lane). l.stop) now ≡ map (λ (l : Lane). l.stop) before → i < length before → y.stop ≡ (get_or now i lane).stop
+    → map (λ (l : Lane). l.stop) (take len (set now i y ++ drop (length (set now i y)) items)) ≡ map (λ (l : Lane). l.stop) before
+cut_stops before items now len i lane y same whole long stops lt is =
+    let after = set now i y in
+    let count : length after ≡ length items = omega (arith, length-set now i y, long, ap length same) in
+    let none : drop (length after) items ≡ [] = drop_all (length after) items (omega (arith, count)) in
+    let all : take len (after ++ drop (length after) items) ≡ after = ap (λ (l : List Lane). take len (after ++ l)) none ∙ ap (take len) (append-nil after) ∙ take_all len after (omega (arith, whole, count)) in
+    ap (map (λ (l : Lane). l.stop)) all ∙ kept_map (λ (l : Lane). l.stop) now i lane y (omega (arith, lt, long)) is ∙ stops

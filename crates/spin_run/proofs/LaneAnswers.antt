@@ -1,23 +1,27 @@
 -- A lane's answers, call by call.
-use Rattle.std.proofs.Common.{◌≡◌, ◌+◌, ◌≤◌, List, [], ◌∷◌, ◌++◌, map, length, take, refl, sym, ap, ◌∙◌, subst, arith, length-append, append_assoc, take_all}
+use Rattle.std.proofs.Common.{◌≡◌, ℕ, ◌+◌, ◌≤◌, List, [], ◌∷◌, ◌++◌, map, length, take, refl, sym, ap, ◌∙◌, subst, arith, inl, inr, length-append, append_assoc, take_all}
 use Rattle.std.specs.Prelude.{Option, None, Some, Result, Ok, Err, IsErrAnd}
 use Rattle.spin_seat.specs.declared.answer.SeatFault.{SeatFault}
 use Rattle.spin_seat.specs.declared.answer.SeatFault.TheVariants as fault
 use Rattle.std.specs.Arc.{arc_value}
 use Rattle.std.proofs.lemmas.List.{append-nil, map-append, length-map}
 use Rattle.std.proofs.lemmas.List.Elements.{All-nil}
+use Rattle.spin_word.specs.declared.command.Command.{Command}
 use Rattle.spin_word.specs.declared.row.Row.{Row}
+use Rattle.spin_word.specs.declared.work.Work.{Work}
+use Rattle.spin_word.specs.declared.work.Work.TheVariants as work
 use Rattle.spin_log.specs.Rows.{IsPrefix}
 use Rattle.spin_log.specs.Pens.{PenValue}
 use Rattle.spin_table.specs.Setups.{SetupData}
 use Rattle.spin_table.specs.States.{State}
 use Rattle.spin_table.specs.Soundness.{IsSound}
+use Rattle.spin_table.specs.declared.refusal.Verdicted.{Verdicted}
 use Rattle.spin_proto.specs.declared.deed.Job.{Job}
 use Rattle.spin_proto.specs.Replies.{BelongsTo}
 use Rattle.spin_seat.specs.Replay.{IsReplayFrom}
 use Rattle.spin_seat.specs.Places.{rows_past}
 use Rattle.spin_seat.specs.Seats.{IsSeatFrom}
-use Rattle.spin_seat.specs.Calls.{ReadsOn, GivesFrom, IsFaultAt}
+use Rattle.spin_seat.specs.Calls.{ReadsOn, GivesFrom, IsFaultAt, IsUnrefused, verdict_answer}
 use Rattle.spin_seat.specs.Runs.{RanFrom, GainsPinsPast}
 use Rattle.spin_seat.proofs.PastPlaces.{place_past_is, rows_past_is}
 use Rattle.spin_seat.proofs.SeatInvariants.{whole_applied}
@@ -26,10 +30,10 @@ use Rattle.spin_report.specs.declared.entry.Entry.{Entry}
 use Rattle.spin_report.specs.Jobs.{answer_calls}
 use Rattle.spin_report.specs.Asked.{Numbered, asked_of}
 use Rattle.spin_run.specs.declared.lane.Lane.{Lane}
-use Rattle.spin_run.specs.Lanes.{seat_answer, jobs_from, AreJobsOf, BeginsWithCommand, kept_with}
+use Rattle.spin_run.specs.Lanes.{seat_answer, jobs_from, AreJobsOf, BeginsWithCommand, LacksFor, kept_with}
 use Rattle.spin_run.specs.declared.trail.Trail.{Trail}
 use Rattle.spin_run.specs.Trails.{IsNew, IsTrailOf, AddsTo}
-use Rattle.spin_run.specs.Inner.Answering.{HasAnswered, Answers, EndsFull, Comes, AddsJobs, IsLeftBy}
+use Rattle.spin_run.specs.Inner.Answering.{HasAnswered, Answers, EndsFull, EndsShort, Comes, AddsJobs, IsLeftBy, asked_alone}
 use Rattle.spin_run.proofs.EntryJobs.{jobs_stay, jobs_more}
 use Rattle.spin_run.proofs.KeptMarks.{new_trail}
 
@@ -171,6 +175,20 @@ ends_then d first second more old middle new a e = record {
   next = begins_more e.left more e.next;
 }
 
+-- it ends for want of memory in the middle of what is asked
+pub short_then : (d : SetupData) (first second more : List Numbered) (old middle new : Lane) → Answers d first old middle → EndsShort d second middle new → EndsShort d (first ++ (second ++ more)) old new
+short_then d first second more old middle new a e = record {
+  first = first ++ e.first;
+  middle = e.middle;
+  answers = answers_then d first e.first old middle e.middle a e.answers;
+  next = e.next;
+  left = e.left ++ more;
+  parts =
+      ap (λ l. first ++ (l ++ more)) e.parts ∙ ap (λ l. first ++ l) (append_assoc e.first (e.next ∷ e.left) more)
+      ∙ sym (append_assoc first e.first (e.next ∷ (e.left ++ more)));
+  lacks = subst (λ (s : State). LacksFor d s e.middle.seat.pen e.next.asked new.seat) a.first e.lacks;
+}
+
 -- how many entries there are
 pub answers_count : (d : SetupData) (asked : List Numbered) (old new : Lane) → Answers d asked old new → length new.trail.marks ≡ length old.trail.marks + length asked
 answers_count d asked old new a = omega (arith, a.count, ap length a.asked_are, length-map a.added asked_of)
@@ -192,12 +210,32 @@ nothing_answered d lane trail jobs = record {
       calls = All-nil (λ (j : Job). BelongsTo (arc_value j.version) j.call);
     }
 
+-- there is no memory for the one thing that is asked
+pub short_alone : (d : SetupData) (old new : Lane) (lane line : ℕ) (asked : Work) → LacksFor d old.seat.first old.seat.pen asked new.seat → EndsShort d (asked_alone lane line 0 asked) old new
+short_alone d old new lane line asked lacks = record {
+  first = [];
+  middle = old;
+  answers = answers_nothing d old;
+  next = record { lane = lane; line = line; part = 0; asked = asked };
+  left = [];
+  parts = refl;
+  lacks = lacks;
+}
+
 -- why a command has no verdict
-pub command_ends : (d : SetupData) (old new : Lane) (asked : List Numbered) (f : SeatFault) → new.trail ≡ old.trail → new.jobs ≡ old.jobs
+pub command_ends : (d : SetupData) (old new : Lane) (line : ℕ) (c : Command) (f : SeatFault) → new.trail ≡ old.trail → new.jobs ≡ old.jobs
     → ReadsOn old.seat.pen new.seat.pen → new.seat.first ≡ old.seat.first → new.entries ≡ old.entries
-    → IsFaultAt old.seat.first.place (length new.seat.pen.front) f → BeginsWithCommand asked → Comes d asked old (Err f) new
-command_ends d old new asked fault.Full trail jobs reads first kept full next = ends_full d old new asked trail jobs reads first kept full next
-command_ends d old new asked fault.NoMemory trail jobs reads first kept full next = tt
+    → IsFaultAt old.seat.first.place (length new.seat.pen.front) f → IsUnrefused d new.seat c f
+    → Comes d (asked_alone old.seat.pen.lane line 0 (work.Command c)) old (Err f) new
+command_ends d old new line c fault.Full trail jobs reads first kept full unrefused =
+    ends_full d old new (asked_alone old.seat.pen.lane line 0 (work.Command c)) trail jobs reads first kept full refl
+command_ends d old new line c fault.NoMemory trail jobs reads first kept full unrefused = short_alone d old new old.seat.pen.lane line (work.Command c) (inr (reads, unrefused))
+
+-- a verdict that couldn't be kept
+pub verdict_lost : (d : SetupData) (old new : Lane) (line : ℕ) (c : Command) (place : ℕ) (verdict : Verdicted)
+    → GivesFrom d old.seat.first old.seat.pen (verdict_answer old.seat.pen.lane c place verdict) new.seat.pen
+    → EndsShort d (asked_alone old.seat.pen.lane line 0 (work.Command c)) old new
+verdict_lost d old new line c place verdict gives = short_alone d old new old.seat.pen.lane line (work.Command c) (inl (place, verdict, gives))
 
 -- a fault that was passed on
 pub err_is : (r : Result (Unit {0}) SeatFault) (f : SeatFault) → IsErrAnd r (λ e. e ≡ f) → r ≡ Err f

@@ -1,9 +1,12 @@
 -- A lane that goes from line to line.
-use Rattle.std.proofs.Common.{◌≡◌, ◌≢◌, ℕ, ◌+◌, ◌<◌, ◌≤◌, List, [], ◌++◌, map, length, take, drop, get_or, sum_by, refl, sym, ap, ◌∙◌, subst, arith, length-append, append_assoc}
-use Rattle.std.specs.Prelude.{Result, Ok, Err}
+use Rattle.std.proofs.Common.{◌≡◌, ◌≢◌, ℕ, ◌+◌, ◌<◌, ◌≤◌, List, [], ◌∷◌, ◌++◌, map, length, take, drop, get_or, sum_by, refl, sym, ap, ◌∙◌, subst, arith, length-append, append_assoc}
+use Rattle.std.specs.Prelude.{Some, Result, Ok, Err, OnErr}
 use Rattle.std.specs.Result.{result_err}
 use Rattle.std.proofs.lemmas.List.{append-nil}
 use Rattle.std.proofs.lemmas.Option.{none-some}
+use Rattle.spin_word.specs.declared.work.Deed.{Deed}
+use Rattle.spin_word.specs.declared.work.Work.{Work}
+use Rattle.spin_word.specs.declared.work.Work.TheVariants as work
 use Rattle.spin_table.specs.Setups.{SetupData}
 use Rattle.spin_seat.specs.Seats.{IsSeat}
 use Rattle.spin_seat.specs.declared.answer.SeatFault.{SeatFault}
@@ -11,18 +14,45 @@ use Rattle.spin_seat.specs.declared.answer.SeatFault.TheVariants as fault
 use Rattle.spin_script.specs.declared.script.Line.{Line}
 use Rattle.spin_script.specs.States.{deed_count}
 use Rattle.spin_report.specs.Asked.{Numbered, asked_of}
-use Rattle.spin_report.specs.Segments.{records_wanted, asked_at, asked_in, asked_of_lane}
+use Rattle.spin_report.specs.Segments.{records_wanted, raise_with, parts_of, asked_at, asked_in, asked_of_lane}
 use Rattle.spin_report.specs.declared.entry.Entry.{Entry}
 use Rattle.spin_run.specs.declared.lane.Lane.{Lane}
 use Rattle.spin_run.specs.declared.trail.Trail.{Trail}
 use Rattle.spin_run.specs.Trails.{IsNew, IsTrailOf}
-use Rattle.spin_run.specs.Lanes.{RanLane, HadMemory, HasRunLane, kept_with}
-use Rattle.spin_run.specs.Inner.Answering.{HasAnswered, Answers, EndsFull, Comes, Stays}
-use Rattle.spin_run.proofs.AskedOfLane.{own_line, other_line, asked_next, own_few}
-use Rattle.spin_run.proofs.LaneAnswers.{answers_nothing, answers_then, ends_then, answers_count, nothing_answered}
+use Rattle.spin_run.specs.Lanes.{RanLane, RanShort, HadMemory, HasRunLane, kept_with}
+use Rattle.spin_run.specs.Inner.Answering.{HasAnswered, Answers, EndsFull, EndsShort, Comes, Stays, asked_packets}
+use Rattle.spin_run.proofs.AskedOfLane.{own_line, other_line, asked_next, own_few, packets_behind, packets_parts}
+use Rattle.spin_run.proofs.LaneAnswers.{answers_nothing, answers_then, ends_then, short_alone, short_then, answers_count, nothing_answered}
 
 pub stays_then : (d : SetupData) (old middle new : Lane) → Stays d old middle → Stays d middle new → Stays d old new
 stays_then d old middle new a b = ((b.0.0, b.0.1 ∙ a.0.1), (b.1.0 ∙ a.1.0, b.1.1 ∙ a.1.1, b.1.2 ∙ a.1.2))
+
+-- there is no memory for the raise with a record
+pub packets_short : {T E : Type 0} (d : SetupData) (lane line event i : ℕ) (records : List (List ℕ)) (record' : List ℕ) (old now new : Lane) (r : Result T E) → i < length records
+    → Answers d (asked_packets lane line event 1 (take i records)) old now → OnErr r (EndsShort d (asked_packets lane line event 1 records) old new)
+packets_short d lane line event i records record' old now new (Ok done) lt a = tt
+packets_short d lane line event i records record' old now new (Err e) lt a = record {
+  first = asked_packets lane line event 1 (take i records);
+  middle = now;
+  answers = a;
+  next = record { lane = lane; line = line; part = i + 1; asked = raise_with event (get_or records i record') };
+  left = packets_behind lane line event i records;
+  parts = packets_parts lane line event i records record' lt;
+  lacks = tt;
+}
+
+-- there is no memory for the deed of a line
+pub deed_short : (d : SetupData) (line : Line) (records : List (List ℕ)) (deed : Deed) (old new : Lane) → line.work ≡ work.Deed deed → EndsShort d (asked_at line records) old new
+deed_short d line records deed old new is =
+    subst (λ (w : Work). EndsShort d (map (λ (part : ℕ × Work). record { lane = line.lane; line = line.number; part = part.0; asked = part.1 }) (parts_of w records)) old new) (sym is)
+    (short_alone d old new line.lane line.number (work.Deed deed) tt)
+
+-- and for the raises of a line of packets
+pub line_short : (d : SetupData) (line : Line) (records : List (List ℕ)) (lane event count : ℕ) (old new : Lane) → line.work ≡ work.Packet event count → line.lane ≡ lane
+    → EndsShort d (asked_packets lane line.number event 1 records) old new → EndsShort d (asked_at line records) old new
+line_short d line records lane event count old new is own e =
+    subst (λ (w : Work). EndsShort d (map (λ (part : ℕ × Work). record { lane = line.lane; line = line.number; part = part.0; asked = part.1 }) (parts_of w records)) old new) (sym is)
+    (subst (λ (k : ℕ). EndsShort d (asked_packets k line.number event 1 records) old new) (sym own) e)
 
 -- Of what it is asked the lane has answered the first part, and this is left.
 pub record Progress (d : SetupData) (own rest : List Numbered) (old now : Lane) : Type 0 where
@@ -81,7 +111,11 @@ goes_on d k i lines line left own old now new lt is same p a s =
 pub ends : (d : SetupData) (k i : ℕ) (lines : List Line) (line : Line) (left : List (List ℕ)) (own : List Numbered) (old now new : Lane) (f : SeatFault)
     → i < length lines → line ≡ get_or lines i line → line.lane ≡ k
     → Progress d own (rest_at k i lines left) old now → Comes d (asked_at line (take (records_wanted line.work) left)) now (Err f) new → Comes d own old (Err f) new
-ends d k i lines line left own old now new fault.NoMemory lt is same p e = tt
+ends d k i lines line left own old now new fault.NoMemory lt is same p e =
+    let here = asked_at line (take (records_wanted line.work) left) in
+    let rest = rest_at k (i + 1) lines (drop (records_wanted line.work) left) in
+    let parts : own ≡ p.first ++ (here ++ rest) = p.parts ∙ ap (λ l. p.first ++ l) (own_parts k i lines line left lt is same) in
+    subst (λ l. EndsShort d l old new) (sym parts) (short_then d p.first here rest old now new p.answers e)
 ends d k i lines line left own old now new fault.Full lt is same p e =
     let here = asked_at line (take (records_wanted line.work) left) in
     let rest = rest_at k (i + 1) lines (drop (records_wanted line.work) left) in
@@ -114,7 +148,14 @@ has_run d asked old now new r trail jobs stays comes seat trail' jobs' stop entr
     let run = ran r comes in (
       run.0,
       subst (λ (l : Lane). HasRunLane d asked old l run.0) same
-          (record { seat = stays.0; same = stays.1; ran = λ memory. (run.1 memory).0; told = λ memory. (run.1 memory).1.0; kept = λ memory. (run.1 memory).1.1 }),
+          (record {
+            seat = stays.0;
+            same = stays.1;
+            ran = λ memory. (run.1.0 memory).0;
+            told = λ memory. (run.1.0 memory).1.0;
+            kept = λ memory. (run.1.0 memory).1.1;
+            short = run.1.1;
+          }),
     )
   where
     own : List Numbered
@@ -128,38 +169,60 @@ has_run d asked old now new r trail jobs stays comes seat trail' jobs' stop entr
 
     ran : (o : Result (Unit {0}) SeatFault) → Comes d own old o now
         → (given : List Entry)
-        × (HadMemory (result_err o) → RanLane d old.seat.first own old.seat.pen now.seat.pen given now.jobs (result_err o)
+        × ((HadMemory (result_err o) → RanLane d old.seat.first own old.seat.pen now.seat.pen given now.jobs (result_err o)
         × (IsTrailOf given now.trail × (now.entries ≡ kept_with old.entries given)))
+        × (result_err o ≡ Some fault.NoMemory → RanShort d old.seat.first own old.seat.pen now.seat given))
     ran (Ok done) a =
         let h = a.goes_on old.seat.pen [] before in (
           a.added,
-          λ memory. (
-            record {
-              ran = h.ran;
-              pins = h.pins;
-              left = [];
-              deeds_are = sym (append-nil (map asked_of a.added) ∙ a.asked_are);
-              whole = λ none. refl;
-              full = λ e. absurd (none-some fault.Full e);
-              jobs_are = h.jobs_are;
-            },
-            (h.told, a.kept),
+          (
+            λ memory. (
+              record {
+                ran = h.ran;
+                pins = h.pins;
+                left = [];
+                deeds_are = sym (append-nil (map asked_of a.added) ∙ a.asked_are);
+                whole = λ none. refl;
+                full = λ e. absurd (none-some fault.Full e);
+                jobs_are = h.jobs_are;
+              },
+              (h.told, a.kept),
+            ),
+            λ short. absurd (none-some fault.NoMemory short),
           ),
         )
     ran (Err fault.Full) e =
         let h = e.answers.goes_on old.seat.pen [] before in (
           e.answers.added,
-          λ memory. (
-            record {
-              ran = h.ran;
-              pins = h.pins;
-              left = e.left;
-              deeds_are = e.parts ∙ ap (λ l. l ++ e.left) (sym e.answers.asked_are);
-              whole = λ none. absurd (none-some fault.Full (sym none));
-              full = λ full. (e.full, e.next);
-              jobs_are = h.jobs_are;
-            },
-            (h.told, e.answers.kept),
+          (
+            λ memory. (
+              record {
+                ran = h.ran;
+                pins = h.pins;
+                left = e.left;
+                deeds_are = e.parts ∙ ap (λ l. l ++ e.left) (sym e.answers.asked_are);
+                whole = λ none. absurd (none-some fault.Full (sym none));
+                full = λ full. (e.full, e.next);
+                jobs_are = h.jobs_are;
+              },
+              (h.told, e.answers.kept),
+            ),
+            λ short. absurd (cc short),
           ),
         )
-    ran (Err fault.NoMemory) e = ([], λ memory. absurd (memory refl))
+    ran (Err fault.NoMemory) e =
+        let h = e.answers.goes_on old.seat.pen [] before in (
+          e.answers.added,
+          (
+            λ memory. absurd (memory refl),
+            λ short. record {
+              pen = e.middle.seat.pen;
+              ran = h.ran;
+              pins = h.pins;
+              next = e.next;
+              left = e.left;
+              deeds_are = e.parts ∙ ap (λ l. l ++ e.next ∷ e.left) (sym e.answers.asked_are);
+              lacks = e.lacks;
+            },
+          ),
+        )

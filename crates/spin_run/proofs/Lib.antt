@@ -15,6 +15,7 @@ pub mod GatheredTrails
 pub mod JobCounts
 pub mod SegmentLemmas
 pub mod GivenEntries
+pub mod ShortRuns
 pub mod AskedOfLane
 pub mod EntryJobs
 pub mod LaneAnswers

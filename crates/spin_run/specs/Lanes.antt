@@ -1,12 +1,15 @@
 -- What one lane does in a segment.
-use Rattle.std.specs.Prelude.{◌≡◌, ◌≢◌, ◌+◌, ℕ, true, List, [], ◌∷◌, ◌++◌, map, length, take, All, Option, Some, None}
+use Rattle.std.specs.Prelude.{◌≡◌, ◌≢◌, ◌⊎◌, ◌+◌, ℕ, ⊤, true, List, [], ◌∷◌, ◌++◌, map, length, take, All, Option, Some, None}
 use Rattle.std.specs.List.{flat_map, filter_map}
 use Rattle.std.specs.Arc.{arc_value}
 use Rattle.spin_word.specs.declared.row.Row.{Row}
+use Rattle.spin_word.specs.declared.work.Work.{Work}
+use Rattle.spin_word.specs.declared.work.Work.TheVariants as work
 use Rattle.spin_log.specs.Pens.{PenValue, IsSamePen}
 use Rattle.spin_table.specs.Setups.{SetupData}
 use Rattle.spin_table.specs.States.{State}
 use Rattle.spin_table.specs.Soundness.{IsSound}
+use Rattle.spin_table.specs.declared.refusal.Verdicted.{Verdicted}
 use Rattle.spin_proto.specs.declared.deed.JobCall.{JobCall}
 use Rattle.spin_proto.specs.declared.deed.Job.{Job}
 use Rattle.spin_proto.specs.Replies.{BelongsTo}
@@ -14,8 +17,8 @@ use Rattle.spin_seat.specs.declared.answer.SeatFault.{SeatFault}
 use Rattle.spin_seat.specs.declared.answer.SeatFault.TheVariants as fault
 use Rattle.spin_seat.specs.Replay.{IsReplayFrom}
 use Rattle.spin_seat.specs.Places.{rows_past}
-use Rattle.spin_seat.specs.Seats.{IsSeatFrom}
-use Rattle.spin_seat.specs.Calls.{IsFaultAt}
+use Rattle.spin_seat.specs.Seats.{SeatValue, IsSeatFrom}
+use Rattle.spin_seat.specs.Calls.{ReadsOn, GivesFrom, IsFaultAt, IsUnrefused, verdict_answer}
 use Rattle.spin_seat.specs.Answers as seat
 use Rattle.spin_seat.specs.Runs.{RanFrom, GainsPinsPast}
 use Rattle.spin_script.specs.Soundness.{is_command_work}
@@ -118,14 +121,42 @@ pub record RanLane (d : SetupData) (first : State) (deeds : List Numbered) (befo
 abbrev pub HadMemory : Option SeatFault → Type 0
 HadMemory stop = stop ≢ Some fault.NoMemory
 
+-- There was no memory for what is asked of a seat, whose pen had that value, in a log that follows on that state, and
+-- which came to this one. A command has its verdict, and there was no memory for the entry; or it has none, and want of
+-- memory is no refusal of it.
+abbrev pub LacksFor : SetupData → State → PenValue → Work → SeatValue → Type 0
+LacksFor d first pen (work.Command c) after =
+    ((place : ℕ) × (verdict : Verdicted) × GivesFrom d first pen (verdict_answer pen.lane c place verdict) after.pen)
+    ⊎ (ReadsOn pen after.pen × IsUnrefused d after c fault.NoMemory)
+LacksFor d first pen (work.Deed deed) after = ⊤
+LacksFor d first pen (work.Packet event count) after = ⊤
+
+-- A lane that is asked these deeds in a segment ended for want of memory: while the pen of its seat, whose log follows on
+-- that state, came from the first value to another, it gave these entries, which answer a front of the deeds; and there was
+-- none for the next one, at which the seat came to the second value.
+pub record RanShort (d : SetupData) (first : State) (deeds : List Numbered) (before : PenValue) (after : SeatValue)
+    (entries : List Entry) : Type 0 where
+  pub pen : PenValue
+  pub ran : RanFrom d first before (map seat_answer entries) pen
+  pub pins : GainsPinsPast first.place before (map seat_answer entries) pen
+  pub next : Numbered
+  pub left : List Numbered
+  pub deeds_are : deeds ≡ map asked_of entries ++ next ∷ left
+  pub lacks : LacksFor d first pen next.asked after
+
+-- so it is of a lane in a segment in which all lanes are asked these
+abbrev pub HasRunShort : SetupData → List Numbered → Lane → Lane → List Entry → Type 0
+HasRunShort d asked before after entries =
+    RanShort d before.seat.first (asked_of_lane before.seat.pen.lane asked) before.seat.pen after.seat entries
+
 -- The entries that a lane keeps once it has given these, too: none where it keeps none.
 abbrev pub kept_with : Option (List Entry) → List Entry → Option (List Entry)
 kept_with None given = None
 kept_with (Some kept) given = Some (kept ++ given)
 
 -- How a lane stands after a segment in which all lanes are asked these, beside how it stood before, where it has given
--- these entries: its seat is still that of its lane, and where it had memory it has done its own, its trail is that of
--- the entries, and it keeps them if it keeps entries.
+-- these entries: its seat is still that of its lane; where it had memory it has done its own, its trail is that of the
+-- entries, and it keeps them if it keeps entries; and where it had none, it has done a front of them.
 pub record HasRunLane (d : SetupData) (asked : List Numbered) (before after : Lane) (entries : List Entry)
     : Type 0 where
   pub seat : IsSeatFrom d before.seat.first after.seat
@@ -135,3 +166,4 @@ pub record HasRunLane (d : SetupData) (asked : List Numbered) (before after : La
       before.seat.pen after.seat.pen entries after.jobs after.stop
   pub told : HadMemory after.stop → IsTrailOf entries after.trail
   pub kept : HadMemory after.stop → after.entries ≡ kept_with before.entries entries
+  pub short : after.stop ≡ Some fault.NoMemory → HasRunShort d asked before after entries

@@ -1,6 +1,6 @@
 -- All lanes of a segment: how they must stand, and how they stand afterwards.
 use Rattle.std.specs.Prelude.{◌≡◌, ℕ, ◌<◌, ◌≤◌, List, [], ◌∷◌, ◌++◌, map, length}
-use Rattle.std.specs.Prelude.{All, AllPairs, Option, None, sum_by, zip, slice_index_or}
+use Rattle.std.specs.Prelude.{All, AllPairs, Option, None, Some, sum_by, zip, slice_index_or}
 use Rattle.atomic_table.specs.Seated.{TableId}
 use Rattle.spin_word.specs.declared.row.Row.{Row}
 use Rattle.spin_log.specs.Pens.{IsPen}
@@ -8,6 +8,7 @@ use Rattle.spin_table.specs.Setups.{SetupData}
 use Rattle.spin_table.specs.States.{State, start_of}
 use Rattle.spin_proto.specs.declared.deed.Job.{Job}
 use Rattle.spin_proto.specs.declared.reply.Reply.{Reply}
+use Rattle.spin_seat.specs.declared.answer.SeatFault.TheVariants as fault
 use Rattle.spin_seat.specs.Places.{place_past}
 use Rattle.spin_seat.specs.Seats.{IsSeatFrom, AreOfLanes}
 use Rattle.spin_script.specs.declared.script.Line.{Line}
@@ -21,7 +22,7 @@ use Rattle.spin_report.specs.declared.entry.Entry.{Entry}
 use Rattle.spin_report.specs.Segments.{IsWoven, of_lane}
 use Rattle.spin_run.specs.declared.lane.Lane.{Lane}
 use Rattle.spin_run.specs.declared.segment.Woven.{Woven}
-use Rattle.spin_run.specs.Lanes.{HasRunLane, AreJobsOf, rows_in, kept_with}
+use Rattle.spin_run.specs.Lanes.{HasRunLane, HasRunShort, AreJobsOf, rows_in, kept_with}
 use Rattle.spin_run.specs.Trails.{IsNew, AreMarksOf, trail_of, unmarked_trail}
 use Rattle.spin_seat.specs.Replay.{IsReplayFrom}
 
@@ -97,6 +98,12 @@ pub record HaveRun (d : SetupData) (asked : List Numbered) (before after : List 
   pub given_count : length given ≡ length before
   pub each : (k : ℕ) (lane : Lane) → k < length before
       → HasRunLane d asked (slice_index_or before k lane) (slice_index_or after k lane) (slice_index_or given k [])
+
+-- each of these lanes that ended for want of memory has run so far
+abbrev pub HaveRunShort : SetupData → List Numbered → List Lane → List Lane → Type 0
+HaveRunShort d asked before after =
+    (k : ℕ) (lane : Lane) → k < length before → (slice_index_or after k lane).stop ≡ Some fault.NoMemory
+    → (entries : List Entry) × HasRunShort d asked (slice_index_or before k lane) (slice_index_or after k lane) entries
 
 -- jobs with their replies, as a report tells them
 abbrev pub jobs_seen : List Job → List Reply → List JobSeen

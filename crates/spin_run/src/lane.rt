@@ -1,6 +1,6 @@
 //! One lane of a segment.
 
-ghost use Rattle.std.specs.Prelude.{◌≡◌, ◌+◌, ◌<◌, ◌≤◌, List, [], ◌∷◌, length, IsTrue, IfOk, OnOk, None};
+ghost use Rattle.std.specs.Prelude.{◌≡◌, ◌+◌, ◌<◌, ◌≤◌, List, [], ◌∷◌, length, IsTrue, IfOk, OnOk, OnErr, None};
 ghost use Rattle.spin_word.specs.Commands.{is_command};
 ghost use Rattle.spin_values.specs.declared.values.Value.TheVariants as value;
 ghost use Rattle.spin_word.specs.declared.work.Work.TheVariants as work;
@@ -15,7 +15,7 @@ ghost use Rattle.spin_report.specs.declared.entry.Entry.{Entry};
 ghost use Rattle.spin_report.specs.declared.entry.What.TheVariants as what;
 ghost use Rattle.spin_run.specs.Lanes.{HasRunLane, IsFresh};
 ghost use Rattle.spin_run.specs.Segments.{IsAtRest, IsFitSegment};
-ghost use Rattle.spin_run.specs.Inner.Answering.{Answers, Comes, Stays, asked_alone, asked_packets};
+ghost use Rattle.spin_run.specs.Inner.Answering.{Answers, Comes, EndsShort, Stays, asked_alone, asked_packets};
 
 use crate::copying::keep;
 use crate::jobs_left::leave_jobs;
@@ -94,9 +94,13 @@ impl Lane {
     /// The frames are the records that the segment's packet lines take, in the order of the text and whatever the
     /// lane: this lane skips those of the others' lines. Nothing is known of the other lanes; where this one had
     /// memory, its trail and its jobs are those of the entries that answer its own deeds, which it keeps, too, if it keeps
-    /// entries. It waits for nobody. Each line is made as soon as its deed is answered. No deed is copied but for its
-    /// arguments, which handlers may change, and for an entry that is kept; a frame's bytes are copied before that into
-    /// the argument of its raise.
+    /// entries. Where it had none, its seat has answered the deeds before the one at which it ended. If that is a command,
+    /// it has its verdict, and there was no memory for the entry; or it has none, and then none but a conflict would refuse
+    /// it where the seat has applied all that it read.
+    ///
+    /// It waits for nobody. Each line is made as soon as its deed is answered. No deed is copied but for its arguments,
+    /// which handlers may change, and for an entry that is kept; a frame's bytes are copied before that into the argument
+    /// of its raise.
     pub fn run<G: Gate>(
         &mut self,
         alloc: Global,
@@ -241,6 +245,9 @@ impl Lane {
         ensures ok { let d = data_of hub.now.setup in
             let asked = asked_packets self.old.seat.pen.lane line event 1 records.now in
             OnOk result (Answers d asked self.old self.new) }
+        ensures err { let d = data_of hub.now.setup in
+            let asked = asked_packets self.old.seat.pen.lane line event 1 records.now in
+            OnErr result (EndsShort d asked self.old self.new) }
     {
         let mut part = 0;
         let mut room = Args::new(alloc);

@@ -1,12 +1,12 @@
 //! One segment: its lanes side by side, then one history of them all, then its jobs.
 
-ghost use Rattle.std.specs.Prelude.{◌≡◌, ◌+◌, ◌≤◌, false, length, All, Any, IsTrue, Some, IfOk, OnOk};
+ghost use Rattle.std.specs.Prelude.{◌≡◌, ◌+◌, ◌≤◌, false, length, All, Any, IsTrue, Some, IfOk, OnOk, OnErr};
 ghost use Rattle.spin_word.specs.declared.command.TheConstants.{MAX_PLACE};
 ghost use Rattle.spin_table.specs.SetupOf.{data_of};
 ghost use Rattle.spin_seat.specs.declared.answer.SeatFault.TheVariants as fault;
 ghost use Rattle.spin_report.specs.Segments.{asked_in};
 ghost use Rattle.spin_run.specs.Lanes.{HadMemory};
-ghost use Rattle.spin_run.specs.Segments.{AreAtRest, AreReady, IsFitSegment, HasWoven, place_of};
+ghost use Rattle.spin_run.specs.Segments.{AreAtRest, AreReady, IsFitSegment, HasWoven, HaveRunShort, place_of};
 ghost use Rattle.spin_script.specs.Soundness.{commands_in};
 
 use crate::lanes::{Lanes, run_lanes};
@@ -51,7 +51,7 @@ pub struct Woven {
 ///
 /// A seat that keeps a row applies it before its first answer. The frames are the records that the segment's packet
 /// lines take, in the order of the text. The log has room for the segment's commands. After want of memory the lanes
-/// are of no further use.
+/// are of no further use; of each whose stop it is [`Lane::run`](crate::Lane::run) says how it ended.
 pub fn run_segment<R: Threads + Sync, G: Gate>(
     rt: &R,
     alloc: Global,
@@ -76,6 +76,9 @@ pub fn run_segment<R: Threads + Sync, G: Gate>(
     ensures taken { let d = data_of hub.now.setup in
         let most = place_of d lanes.old + commands_in segment.now.lines in
         OnOk result (place_of d lanes.new ≤ most) }
+    ensures short { let d = data_of hub.now.setup in
+        let asked = asked_in segment.now.lines frames.now in
+        OnErr result (HaveRunShort d asked lanes.old lanes.new) }
 {
     run_lanes(rt, alloc, hub, lanes, segment, frames, gate);
     if lanes.lacked_memory() {

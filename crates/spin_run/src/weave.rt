@@ -32,7 +32,7 @@ impl Lanes {
         ensures jobs_order { IfOk result (λ woven. AreJobsInOrder woven.2) }
         ensures emptied { OnOk result (All IsEmptied self.new) }
         ensures seats { OnOk result (map (λ lane. lane.seat) self.new ≡ map (λ lane. lane.seat) self.old) }
-        ensures stops { OnOk result (map (λ lane. lane.stop) self.new ≡ map (λ lane. lane.stop) self.old) }
+        ensures stops { map (λ lane. lane.stop) self.new ≡ map (λ lane. lane.stop) self.old }
         ensures kept { OnOk result (map (λ lane. lane.entries) self.new ≡ map (λ lane. lane.entries) self.old) }
     {
         let (trails, marks, jobs) = self.gather(alloc)?;
@@ -50,7 +50,7 @@ impl Lanes {
         ensures jobs { IfOk result (λ all. all.2 ≡ flat_map (λ jobs. jobs) (jobs_by_lane self.old)) }
         ensures emptied { OnOk result (All IsEmptied self.new) }
         ensures seats { OnOk result (map (λ lane. lane.seat) self.new ≡ map (λ lane. lane.seat) self.old) }
-        ensures stops { OnOk result (map (λ lane. lane.stop) self.new ≡ map (λ lane. lane.stop) self.old) }
+        ensures stops { map (λ lane. lane.stop) self.new ≡ map (λ lane. lane.stop) self.old }
         ensures kept { OnOk result (map (λ lane. lane.entries) self.new ≡ map (λ lane. lane.entries) self.old) }
     {
         let mut trails = Trails::new(alloc);

@@ -1,5 +1,5 @@
 -- What the steps of a lane's run say.
-use Rattle.std.specs.Prelude.{◌≡◌, ◌+◌, ℕ, List, [], ◌∷◌, ◌++◌, map, length, All, Result, Ok, Err, ⊤}
+use Rattle.std.specs.Prelude.{◌≡◌, ◌+◌, ℕ, List, [], ◌∷◌, ◌++◌, map, length, All, Result, Ok, Err}
 use Rattle.std.specs.List.{enumerate_from}
 use Rattle.std.specs.Arc.{arc_value}
 use Rattle.spin_log.specs.Pens.{PenValue, IsSamePen}
@@ -19,7 +19,7 @@ use Rattle.spin_report.specs.Asked.{Numbered, asked_of}
 use Rattle.spin_report.specs.Segments.{raise_with}
 use Rattle.spin_run.specs.declared.lane.Lane.{Lane}
 use Rattle.spin_run.specs.Trails.{IsTrailOf}
-use Rattle.spin_run.specs.Lanes.{seat_answer, job_asked, jobs_from, AreJobsOf, BeginsWithCommand, IsFresh, kept_with}
+use Rattle.spin_run.specs.Lanes.{seat_answer, job_asked, jobs_from, AreJobsOf, BeginsWithCommand, IsFresh, LacksFor, kept_with}
 
 -- Since its pen had that value, the lane, whose log follows on the first state, has given these entries and left their
 -- jobs.
@@ -49,11 +49,21 @@ pub record EndsFull (d : SetupData) (asked : List Numbered) (old new : Lane) : T
   pub full : IsFaultAt old.seat.first.place (length new.seat.pen.front) fault.Full
   pub next : BeginsWithCommand left
 
--- what becomes of a lane that is asked these. Of one that has no memory nothing is said
+-- The lane answers the first of these, and then there is no memory for the next one.
+pub record EndsShort (d : SetupData) (asked : List Numbered) (old new : Lane) : Type 0 where
+  pub first : List Numbered
+  pub middle : Lane
+  pub answers : Answers d first old middle
+  pub next : Numbered
+  pub left : List Numbered
+  pub parts : asked ≡ first ++ next ∷ left
+  pub lacks : LacksFor d old.seat.first middle.seat.pen next.asked new.seat
+
+-- what becomes of a lane that is asked these
 abbrev pub Comes : SetupData → List Numbered → Lane → Result (Unit {0}) SeatFault → Lane → Type 0
 Comes d asked old (Ok done) new = Answers d asked old new
 Comes d asked old (Err fault.Full) new = EndsFull d asked old new
-Comes d asked old (Err fault.NoMemory) new = ⊤
+Comes d asked old (Err fault.NoMemory) new = EndsShort d asked old new
 
 -- the lane's seat is still that of its lane
 abbrev pub Stays : SetupData → Lane → Lane → Type 0

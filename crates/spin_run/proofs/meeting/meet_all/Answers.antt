@@ -10,7 +10,7 @@ settle_first-requires g c = record { sincere = c.requires.sincere; some = c.requ
 pub meet_each-requires : goal.meet_each-requires
 meet_each-requires g c =
     let some = c.requires.some in
-    let settled = c.in_ok-settle_first.ensures in
+    let settled = c.in_ok-settle_first.ensures.settled in
     record {
       sincere = c.requires.sincere;
       some = omega (arith, some, settled.len);
@@ -23,8 +23,8 @@ meet_each-requires-2 g c =
     let d = data_of c.args.hub.now.setup in
     let log = c.args.hub.now.log.id in
     let some = c.requires.some in
-    let settled = c.in_ok-settle_first.ensures in
-    let round = c.in_ok-meet_each.ensures in
+    let settled = c.in_ok-settle_first.ensures.settled in
+    let round = c.in_ok-meet_each.ensures.round in
     record {
       sincere = c.requires.sincere;
       some = omega (arith, some, settled.len, round.len);
@@ -32,10 +32,10 @@ meet_each-requires-2 g c =
       first = λ l. round.settled 0 l (omega (arith, some, settled.len));
     }
 
-pub returns : goal.returns
-returns g c =
+pub returns-clause-met : goal.returns-clause-met
+returns-clause-met g c =
     let d = data_of c.args.hub.now.setup in
     on_ok_weaker c.meet_each-2.result
     (have_met d c.args.hub.now.log.id c.args.lanes.now c.settle_first.new.lanes c.meet_each.new.lanes
-    c.meet_each-2.new.lanes c.requires.some c.requires.seats c.in_ok-settle_first.ensures c.in_ok-meet_each.ensures)
-    c.meet_each-2.ensures
+    c.meet_each-2.new.lanes c.requires.some c.requires.seats c.in_ok-settle_first.ensures.settled c.in_ok-meet_each.ensures.round)
+    c.meet_each-2.ensures.round

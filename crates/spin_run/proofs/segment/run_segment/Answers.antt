@@ -17,6 +17,7 @@ use Rattle.spin_run.specs.Lanes.{AreJobsOf, kept_with}
 use Rattle.spin_run.specs.Segments.{front_of, first_of, place_of, jobs_seen, kept_at}
 use Rattle.spin_run.proofs.SegmentLemmas.{Facts, Wove, wove, lifted, marks_under, trails_told, met_count, some_lane, known, marks_lanes, marks_order, jobs_lanes, jobs_order, few_jobs, jobs_can_run}
 use Rattle.spin_run.proofs.SegmentLemmas.{still_of_hub, woven_made, first, replay_first, jobs_left, front_told, front_after, base_after, place_after, kept_after, state_after, ready_again, room_taken}
+use Rattle.spin_run.proofs.ShortRuns.{none_short, on_err}
 use Rattle.spin_run.proofs.segment.run_segment.Goals as goal
 use Rattle.spin_script.specs.Soundness.{commands_in}
 
@@ -28,7 +29,7 @@ weave-requires g c =
     let facts : Facts (data_of c.args.hub.now.setup) c.args.hub.now.log.id c.args.hub.now.log.lanes c.args.segment.now.lines c.args.frames.now c.args.lanes.now c.run_lanes.new.lanes
     c.meet.new.self c.run_lanes.ensures.0
     (some_lane c.args.lanes.now c.requires.ready.some) =
-    known _ _ _ _ _ _ _ _ _ c.requires.ready c.requires.lines c.requires.room c.run_lanes.ensures.1 (c.lacked_memory.ensures.had c.if-lacked_memory.false) c.in_ok-meet.ensures in
+    known _ _ _ _ _ _ _ _ _ c.requires.ready c.requires.lines c.requires.room c.run_lanes.ensures.1 (c.lacked_memory.ensures.had c.if-lacked_memory.false) c.in_ok-meet.ensures.met in
     record {
       marks = marks_lanes _ _ _ _ _ _ _ _ _ _ facts;
       marks_order = marks_order _ _ _ _ _ _ _ _ _ _ facts;
@@ -44,7 +45,7 @@ run_all-requires-clause-few g c κs within =
     let facts : Facts (data_of c.args.hub.now.setup) c.args.hub.now.log.id c.args.hub.now.log.lanes c.args.segment.now.lines c.args.frames.now c.args.lanes.now c.run_lanes.new.lanes
     c.meet.new.self c.run_lanes.ensures.0
     (some_lane c.args.lanes.now c.requires.ready.some) =
-    known _ _ _ _ _ _ _ _ _ c.requires.ready c.requires.lines c.requires.room c.run_lanes.ensures.1 (c.lacked_memory.ensures.had c.if-lacked_memory.false) c.in_ok-meet.ensures in
+    known _ _ _ _ _ _ _ _ _ c.requires.ready c.requires.lines c.requires.room c.run_lanes.ensures.1 (c.lacked_memory.ensures.had c.if-lacked_memory.false) c.in_ok-meet.ensures.met in
     let woven = c.in_ok-trails.ensures in
     let told = lifted _ _ _ _ _ _ _ _ _ _ facts c.in_ok-trails.marks woven.marks in
     let wove : Wove _ _ _ _ _ _ _ _ _ _ facts told.all c.in_ok-trails.jobs =
@@ -57,7 +58,7 @@ run_all-requires-clause-jobs g c κs within =
     let facts : Facts (data_of c.args.hub.now.setup) c.args.hub.now.log.id c.args.hub.now.log.lanes c.args.segment.now.lines c.args.frames.now c.args.lanes.now c.run_lanes.new.lanes
     c.meet.new.self c.run_lanes.ensures.0
     (some_lane c.args.lanes.now c.requires.ready.some) =
-    known _ _ _ _ _ _ _ _ _ c.requires.ready c.requires.lines c.requires.room c.run_lanes.ensures.1 (c.lacked_memory.ensures.had c.if-lacked_memory.false) c.in_ok-meet.ensures in
+    known _ _ _ _ _ _ _ _ _ c.requires.ready c.requires.lines c.requires.room c.run_lanes.ensures.1 (c.lacked_memory.ensures.had c.if-lacked_memory.false) c.in_ok-meet.ensures.met in
     let woven = c.in_ok-trails.ensures in
     let told = lifted _ _ _ _ _ _ _ _ _ _ facts c.in_ok-trails.marks woven.marks in
     let wove : Wove _ _ _ _ _ _ _ _ _ _ facts told.all c.in_ok-trails.jobs =
@@ -65,12 +66,27 @@ run_all-requires-clause-jobs g c κs within =
     woven.marks_order woven.jobs woven.jobs_order in
     subst (λ (d : SetupData). All (CanRun d) c.in_ok-trails.jobs) (ap (λ setup. data_of setup) (sym c.setup.ensures)) (jobs_can_run _ _ _ _ _ _ _ _ _ _ facts _ _ wove)
 
+pub returns-in_err-meet-clause-short : goal.returns-in_err-meet-clause-short
+returns-in_err-meet-clause-short g c =
+    on_err c.from_residual.result (none_short (data_of c.args.hub.now.setup) (asked_in c.args.segment.now.lines c.args.frames.now) c.args.lanes.now c.run_lanes.new.lanes c.meet.new.self
+    c.run_lanes.ensures.1.count c.meet.ensures.stops (c.lacked_memory.ensures.had c.if-lacked_memory.false))
+
+pub returns-in_err-trails-clause-short : goal.returns-in_err-trails-clause-short
+returns-in_err-trails-clause-short g c =
+    on_err c.from_residual-in_err-trails.result (none_short (data_of c.args.hub.now.setup) (asked_in c.args.segment.now.lines c.args.frames.now) c.args.lanes.now c.run_lanes.new.lanes c.weave.new.self
+    c.run_lanes.ensures.1.count (c.weave.ensures.stops ∙ c.meet.ensures.stops) (c.lacked_memory.ensures.had c.if-lacked_memory.false))
+
+pub returns-in_err-replies-clause-short : goal.returns-in_err-replies-clause-short
+returns-in_err-replies-clause-short g c =
+    on_err c.from_residual-in_err-replies.result (none_short (data_of c.args.hub.now.setup) (asked_in c.args.segment.now.lines c.args.frames.now) c.args.lanes.now c.run_lanes.new.lanes c.weave.new.self
+    c.run_lanes.ensures.1.count (c.weave.ensures.stops ∙ c.meet.ensures.stops) (c.lacked_memory.ensures.had c.if-lacked_memory.false))
+
 pub returns : goal.returns
 returns g c =
     let facts : Facts (data_of c.args.hub.now.setup) c.args.hub.now.log.id c.args.hub.now.log.lanes c.args.segment.now.lines c.args.frames.now c.args.lanes.now c.run_lanes.new.lanes
     c.meet.new.self c.run_lanes.ensures.0
     (some_lane c.args.lanes.now c.requires.ready.some) =
-    known _ _ _ _ _ _ _ _ _ c.requires.ready c.requires.lines c.requires.room c.run_lanes.ensures.1 (c.lacked_memory.ensures.had c.if-lacked_memory.false) c.in_ok-meet.ensures in
+    known _ _ _ _ _ _ _ _ _ c.requires.ready c.requires.lines c.requires.room c.run_lanes.ensures.1 (c.lacked_memory.ensures.had c.if-lacked_memory.false) c.in_ok-meet.ensures.met in
     let woven = c.in_ok-trails.ensures in
     let told = lifted _ _ _ _ _ _ _ _ _ _ facts c.in_ok-trails.marks woven.marks in
     let wove : Wove _ _ _ _ _ _ _ _ _ _ facts told.all c.in_ok-trails.jobs =
@@ -101,4 +117,5 @@ returns g c =
       ready = ready_again _ _ _ _ _ _ _ _ _ _ facts c.weave.new.self c.in_ok-trails.ensures.seats c.in_ok-trails.ensures.stops c.in_ok-trails.ensures.emptied;
       taken = subst (λ (place : ℕ). place ≤ place_of (data_of c.args.hub.now.setup) c.args.lanes.now + commands_in c.args.segment.now.lines)
           (sym (place_after _ _ _ _ _ _ _ _ _ _ facts c.weave.new.self c.in_ok-trails.ensures.seats c.in_ok-trails.ensures.stops)) (room_taken _ _ _ _ _ _ _ _ _ _ facts);
+      short = tt;
     }

@@ -8,7 +8,7 @@ use Rattle.spin_report.specs.Segments.{raise_with}
 use Rattle.spin_run.specs.Inner.Answering.{Answers, asked_alone, asked_packets}
 use Rattle.spin_run.proofs.AskedOfLane.{packets_more, packets_count}
 use Rattle.spin_run.proofs.LaneAnswers.{answers_nothing, answers_then, answers_count}
-use Rattle.spin_run.proofs.LaneProgress.{stays_then}
+use Rattle.spin_run.proofs.LaneProgress.{stays_then, packets_short}
 use Rattle.spin_run.proofs.lane.Lane.answer_packets.Goals as goal
 
 pub answer_raise-requires-clause-few : goal.answer_raise-requires-clause-few
@@ -46,3 +46,13 @@ loop-frame-preserved g c =
       stays_then d old now new c.loop-frame.invariant.1 c.answer_raise.ensures.stays,
       omega (arith, number),
     )
+
+pub returns-in_err-args-clause-err : goal.returns-in_err-args-clause-err
+returns-in_err-args-clause-err g c =
+    packets_short (data_of c.args.hub.now.setup) c.args.self.now.seat.pen.lane c.args.line c.args.event c.loop-frame.frame-index c.args.records.now c.frame-item.result
+    c.args.self.now c.loop-frame.self c.loop-frame.self c.from_residual.result c.loop-frame-test.true c.loop-frame.invariant.0
+
+pub returns-in_err-room-clause-err : goal.returns-in_err-room-clause-err
+returns-in_err-room-clause-err g c =
+    packets_short (data_of c.args.hub.now.setup) c.args.self.now.seat.pen.lane c.args.line c.args.event c.loop-frame.frame-index c.args.records.now c.frame-item.result
+    c.args.self.now c.loop-frame.self c.answer_raise.new.self c.from_residual-in_err-room.result c.loop-frame-test.true c.loop-frame.invariant.0
