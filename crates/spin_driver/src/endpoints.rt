@@ -6,13 +6,17 @@
 //!   answered in one call, twice: the number of the endpoint that failed, or how many sends to each are lost; and then
 //!   which of three retirements, of the second, the first and the second, found it;
 //! - `add COUNT NUMBER`: endpoints are added, that of this number is retired at once, and at last one is added under
-//!   the name of the first: the answer to the retirement, the refusals, and how many were added.
+//!   the name of the first: the answer to the retirement, the refusals, and how many were added;
+//! - `named LENGTH`: an endpoint has a name of so many bytes, and a file in memory, too: the answer to a piece, whether the
+//!   endpoint stands, the answer to its retirement, whether it still stands, and what a read of the file's three bytes is
+//!   answered.
 
 use crate::fault::Fault;
 use crate::told::tell;
 use crate::words::Words;
 use spin_endpoint::{Endpoint, Ends, KeepEnd, Lost, Sent};
-use spin_values::{NoMemory, Text};
+use spin_outside::{MemShelf, Shelf};
+use spin_values::{NoMemory, Octets, Text};
 use std::alloc::Global;
 
 // What is done.
@@ -21,12 +25,14 @@ enum Kind {
     Keep,
     Sends,
     Add,
+    Named,
 }
 
-const KINDS: [(&str, Kind); 3] = [
+const KINDS: [(&str, Kind); 4] = [
     ("keep", Kind::Keep),
     ("sends", Kind::Sends),
     ("add", Kind::Add),
+    ("named", Kind::Named),
 ];
 
 pub(crate) fn answer(alloc: Global, words: &mut Words, out: &mut String) -> Result<(), Fault> {
@@ -34,6 +40,7 @@ pub(crate) fn answer(alloc: Global, words: &mut Words, out: &mut String) -> Resu
         Kind::Keep => keep(alloc, words, out),
         Kind::Sends => sends(alloc, words.u32()?, out),
         Kind::Add => add_each(alloc, words, out),
+        Kind::Named => tell_named(alloc, &long_name(alloc, words.u16()?)?, out),
     }
 }
 
@@ -124,4 +131,36 @@ fn add_each(alloc: Global, words: &mut Words, out: &mut String) -> Result<(), Fa
         }
     }
     tell(out, &added)
+}
+
+// A name of so many bytes.
+fn long_name(alloc: Global, len: u16) -> Result<Text, Fault> {
+    let mut name = Text::new(alloc);
+    for _ in 0..len {
+        name.push(b'n')?;
+    }
+    Ok(name)
+}
+
+fn tell_named(alloc: Global, name: &Text, out: &mut String) -> Result<(), Fault> {
+    let mut ends = Ends::new(alloc);
+    let end: Box<dyn Endpoint> = Box::new(alloc, KeepEnd::new(alloc, 1, 3)?)?;
+    if ends.add(name.copy()?, end).is_err() {
+        return Err(Fault::Wrong("an endpoint isn't added"));
+    }
+    tell(out, &ends.deliver(name, b"abc"))?;
+    tell(out, &ends.stands(name))?;
+    tell(out, &ends.retire(name))?;
+    tell(out, &ends.stands(name))?;
+    tell_file(alloc, name, out)
+}
+
+fn tell_file(alloc: Global, name: &Text, out: &mut String) -> Result<(), Fault> {
+    let mut shelf = MemShelf::new(alloc);
+    shelf.put(name.copy()?, Octets::from_bytes(alloc, b"abc")?)?;
+    let mut buf = [0u8; 4];
+    match shelf.find(name) {
+        Ok(file) => tell(out, &shelf.read(file, &mut buf)),
+        Err(fault) => tell(out, &fault),
+    }
 }

@@ -8,6 +8,7 @@
 //! - of plain data: [`values`], [`commands`], [`expressions`], [`headers`], and [`plans`] of bindings;
 //! - of scripts and reports: [`setups`], [`reports`], [`generated`];
 //! - of one raise of one event: [`raises`];
+//! - of hubs: [`hubs`];
 //! - of the outside: [`captures`], [`reassembly`], [`endpoints`].
 #![tactic(auto)]
 
@@ -18,6 +19,7 @@ mod expressions;
 mod fault;
 mod generated;
 mod headers;
+mod hubs;
 mod plans;
 mod raises;
 mod reassembly;
@@ -41,6 +43,7 @@ enum Subject {
     Expressions,
     Generated,
     Headers,
+    Hubs,
     Plans,
     Raises,
     Reassembly,
@@ -50,13 +53,14 @@ enum Subject {
 }
 
 // The first words of rows.
-const SUBJECTS: [(&str, Subject); 12] = [
+const SUBJECTS: [(&str, Subject); 13] = [
     ("captures", Subject::Captures),
     ("commands", Subject::Commands),
     ("endpoints", Subject::Endpoints),
     ("expressions", Subject::Expressions),
     ("generated", Subject::Generated),
     ("headers", Subject::Headers),
+    ("hubs", Subject::Hubs),
     ("plans", Subject::Plans),
     ("raises", Subject::Raises),
     ("reassembly", Subject::Reassembly),
@@ -74,6 +78,7 @@ fn answer(alloc: Global, words: &mut Words, out: &mut String) -> Result<(), Faul
         Subject::Expressions => expressions::answer(alloc, words, out),
         Subject::Generated => generated::answer(alloc, words, out),
         Subject::Headers => headers::answer(alloc, words, out),
+        Subject::Hubs => hubs::answer(alloc, words, out),
         Subject::Plans => plans::answer(alloc, words, out),
         Subject::Raises => raises::answer(alloc, words, out),
         Subject::Reassembly => reassembly::answer(alloc, words, out),

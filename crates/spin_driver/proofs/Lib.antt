@@ -1,0 +1,2 @@
+-- Lemmas of rows.
+mod HubSeats
