@@ -39,14 +39,20 @@ pub(crate) fn answer(alloc: Global, words: &mut Words, out: &mut String) -> Resu
     if lanes == 0 || lanes > MAX_LANES || count > MAX_PLACE {
         return Err(Fault::BadRow);
     }
-    let (hub, mut seats) = open(alloc, lanes, Natives::new(alloc))?;
-    let round = play(alloc, &hub, seats.as_mut_slice(), lanes, op, count)?;
-    tell_round(&round, out)?;
-    let (hub, mut seats) = renew(alloc, hub, seats, out)?;
-    let count = u16::from(lanes);
-    let round = play(alloc, &hub, seats.as_mut_slice(), lanes, Op::Default, count)?;
-    tell_round(&round, out)?;
+    let (hub, seats) = open(alloc, lanes, Natives::new(alloc))?;
+    let seats = play_round(alloc, &hub, seats, Asked { lanes, op, count }, out)?;
+    let (hub, seats) = renew(alloc, hub, seats, out)?;
+    let (op, count) = (Op::Default, u16::from(lanes));
+    let seats = play_round(alloc, &hub, seats, Asked { lanes, op, count }, out)?;
     close(alloc, hub, seats, out)
+}
+
+// What is asked in a round: so many commands with this op, by so many lanes in turn.
+#[derive(Clone, Copy)]
+struct Asked {
+    lanes: u8,
+    op: Op,
+    count: u16,
 }
 
 // What comes of a round of commands: how many were accepted, what all lanes know, the raise and one more install.
@@ -152,25 +158,18 @@ fn ask_lane(
     ask(alloc, hub, &mut seats[lane], op, event)
 }
 
-// How many commands with this op are accepted, of so many for which these lanes ask in turn.
-fn ask_in_turn(
-    alloc: Global,
-    hub: &Hub,
-    seats: &mut [Seat],
-    lanes: u8,
-    op: Op,
-    count: u16,
-) -> Result<u16, Fault>
+// How many of the commands that are asked are accepted.
+fn ask_in_turn(alloc: Global, hub: &Hub, seats: &mut [Seat], asked: Asked) -> Result<u16, Fault>
     requires sincere { ⟦<Catalogue as Sincere>⟧.sincere hub.now.setup.catalogue }
     requires all { AreAllSeats (data_of hub.now.setup) hub.now.log seats.old }
-    requires some { 0 < lanes }
+    requires some { 0 < asked.lanes }
     ensures { AreAllSeats (data_of hub.now.setup) hub.now.log seats.new }
 {
     let mut accepted = 0u16;
-    for turn in 0..count {
-        let lane = usize::from(turn % u16::from(lanes));
+    for turn in 0..asked.count {
+        let lane = usize::from(turn % u16::from(asked.lanes));
         let event = u8::try_from(turn / IN_A_ROW).or(Err(Fault::BadRow))?;
-        let answer = ask_lane(alloc, hub, seats, lane, op, event)?;
+        let answer = ask_lane(alloc, hub, seats, lane, asked.op, event)?;
         if let Some(
             Judged {
                 verdict: Verdicted::Accepted,
@@ -262,23 +261,15 @@ fn raise_lane(
     raise(alloc, hub, &mut seats[lane])
 }
 
-// A round of so many commands. All lanes meet: at first the first lane learns what each knows, and then it tells that to
-// each.
-fn play(
-    alloc: Global,
-    hub: &Hub,
-    seats: &mut [Seat],
-    lanes: u8,
-    op: Op,
-    count: u16,
-) -> Result<Round, Fault>
+// A round. All lanes meet: at first the first lane learns what each knows, and then it tells that to each.
+fn play(alloc: Global, hub: &Hub, seats: &mut [Seat], asked: Asked) -> Result<Round, Fault>
     requires sincere { ⟦<Catalogue as Sincere>⟧.sincere hub.now.setup.catalogue }
     requires all { AreAllSeats (data_of hub.now.setup) hub.now.log seats.old }
-    requires some { 0 < lanes }
+    requires some { 0 < asked.lanes }
     ensures { AreAllSeats (data_of hub.now.setup) hub.now.log seats.new }
 {
-    let last = usize::from(lanes) - 1;
-    let accepted = ask_in_turn(alloc, hub, seats, lanes, op, count)?;
+    let last = usize::from(asked.lanes) - 1;
+    let accepted = ask_in_turn(alloc, hub, seats, asked)?;
     meet_each(alloc, hub, seats)?;
     meet_each(alloc, hub, seats)?;
     let met = fronts(alloc, seats)?;
@@ -290,6 +281,25 @@ fn play(
         raised,
         more,
     })
+}
+
+// Plays a round, tells it, and gives the seats back.
+fn play_round(
+    alloc: Global,
+    hub: &Hub,
+    seats: Vec<Seat>,
+    asked: Asked,
+    out: &mut String,
+) -> Result<Vec<Seat>, Fault>
+    requires sincere { ⟦<Catalogue as Sincere>⟧.sincere hub.now.setup.catalogue }
+    requires all { AreAllSeats (data_of hub.now.setup) hub.now.log seats.items }
+    requires some { 0 < asked.lanes }
+    ensures { IfOk result (λ seats. AreAllSeats (data_of hub.now.setup) hub.now.log seats.items) }
+{
+    let mut seats = seats;
+    let round = play(alloc, hub, seats.as_mut_slice(), asked)?;
+    tell_round(&round, out)?;
+    Ok(seats)
 }
 
 fn tell_renewal(rows: usize, live: usize, out: &mut String) -> Result<(), Fault> {
