@@ -14,7 +14,7 @@ use Rattle.spin_table.specs.States.{State}
 use Rattle.spin_filter.specs.Counting.{capped}
 use Rattle.spin_filter.specs.Histories.{PassedCapture, IsCaptureOf, IsFound, AreFound, AreRecords, AllPassed, ArePassed, records_of, happened_in}
 use Rattle.spin_filter.specs.Passing.{Passed}
-use Rattle.spin_filter.specs.Sending.{Outlets, IsDone}
+use Rattle.spin_filter.specs.Sending.{OutletsAt, IsDone}
 use Rattle.spin_filter.proofs.Doings.{done-nothing, done-then, one-all}
 use Rattle.spin_filter.proofs.Passings.{happened-then, PassesAll}
 
@@ -29,14 +29,14 @@ found-more files (n ∷ names) seen name c (first, others, is, are, rest) own = 
 
 -- What captures came to that were passed.
 pub record HasFound (d : SetupData) (s : State) (round : List ℕ) (files : Option (List File)) (names : List (List ℕ)) (sends : List (List ℕ)) (capture : Option ℕ)
-    (cut : ℕ) (before after : Outlets) : Type 0 where
+    (cut : ℕ) (before after : OutletsAt) : Type 0 where
   pub seen : List PassedCapture
   pub passed : AllPassed d s round seen
   pub found : IfSome files (λ fs. AreFound fs names seen)
   pub cut_is : cut ≡ capped (sum_by (λ c. c.cut) seen)
   pub done : IsDone sends capture (happened_in (records_of seen)) before after
 
-pub captures-none : (d : SetupData) (s : State) (round : List ℕ) (files : Option (List File)) (sends : List (List ℕ)) (capture : Option ℕ) (x : Outlets) → HasFound d s round files [] sends capture 0 x x
+pub captures-none : (d : SetupData) (s : State) (round : List ℕ) (files : Option (List File)) (sends : List (List ℕ)) (capture : Option ℕ) (x : OutletsAt) → HasFound d s round files [] sends capture 0 x x
 captures-none d s round files sends capture x = record {
   seen = [];
   passed = λ k c lt. absurd (omega (arith, lt));
@@ -50,7 +50,7 @@ captures-none d s round files sends capture x = record {
 
 -- one capture more
 pub captures-more : (d : SetupData) (s : State) (round : List ℕ) (files files' : Option (List File)) (names : List (List ℕ)) (sends : List (List ℕ)) (capture : Option ℕ) (i : ℕ) (name : List ℕ)
-    (cut more cut' : ℕ) (x y z : Outlets) → i < length names → name ≡ get_or names i name → files' ≡ files → HasFound d s round files (take i names) sends capture cut x y → ((n : ℕ) → cut ≡ capped n → cut' ≡ capped (n + more))
+    (cut more cut' : ℕ) (x y z : OutletsAt) → i < length names → name ≡ get_or names i name → files' ≡ files → HasFound d s round files (take i names) sends capture cut x y → ((n : ℕ) → cut ≡ capped n → cut' ≡ capped (n + more))
     → (c : PassedCapture) × (c.cut ≡ more) × ArePassed d s round c.head c.passed × IfSome files' (λ fs. IsFound fs name c) × IsDone sends capture (happened_in c.passed) y z
     → HasFound d s round files (take (i + 1) names) sends capture cut' x z
 captures-more d s round files files' names sends capture i name cut more cut' x y z lt is same h next (c, own, passed, found, done) =
@@ -75,11 +75,11 @@ captures-more d s round files files' names sends capture i name cut more cut' x 
 -- ---- one capture
 
 -- What passing a capture gives, behind whose records so many bytes are left.
-abbrev pub PassesCapture : SetupData → State → List ℕ → List (List ℕ) → Option ℕ → Option (List ℕ) → ℕ → Outlets → Outlets → Type 0
+abbrev pub PassesCapture : SetupData → State → List ℕ → List (List ℕ) → Option ℕ → Option (List ℕ) → ℕ → OutletsAt → OutletsAt → Type 0
 PassesCapture d s round names capture whole cut x y =
     (seen : PassedCapture) × (seen.cut ≡ cut) × ArePassed d s round seen.head seen.passed × IfSome whole (λ file. IsCaptureOf file seen) × IsDone names capture (happened_in seen.passed) x y
 
-pub capture-whole : (d : SetupData) (s : State) (round : List ℕ) (names : List (List ℕ)) (capture : Option ℕ) (whole left : Option (List ℕ)) (head : Head) (cut : ℕ) (x y : Outlets)
+pub capture-whole : (d : SetupData) (s : State) (round : List ℕ) (names : List (List ℕ)) (capture : Option ℕ) (whole left : Option (List ℕ)) (head : Head) (cut : ℕ) (x y : OutletsAt)
     → IfSome whole (λ file. IsHead file head × (left ≡ Some (drop 24 file))) → PassesAll d s round head names capture left cut x y → PassesCapture d s round names capture whole cut x y
 capture-whole d s round names capture whole left head cut x y header (passed, are, records, done) = (
   record { head = head; passed = passed; cut = cut },
@@ -97,13 +97,13 @@ named : (files : Option (List File)) (name : List ℕ) (left : Option (List ℕ)
 named None name left c whole is = tt
 named (Some files) name left c (bytes, found, told) is = (bytes, found, at_told (λ file. IsCaptureOf file c) left bytes told is)
 
-pub named-whole : (d : SetupData) (s : State) (round : List ℕ) (names : List (List ℕ)) (capture : Option ℕ) (files : Option (List File)) (name : List ℕ) (left : Option (List ℕ)) (cut : ℕ) (x y : Outlets)
+pub named-whole : (d : SetupData) (s : State) (round : List ℕ) (names : List (List ℕ)) (capture : Option ℕ) (files : Option (List File)) (name : List ℕ) (left : Option (List ℕ)) (cut : ℕ) (x y : OutletsAt)
     → IsWholeFile files name left → PassesCapture d s round names capture left cut x y
     → (seen : PassedCapture) × (seen.cut ≡ cut) × ArePassed d s round seen.head seen.passed × IfSome files (λ fs. IsFound fs name seen) × IsDone names capture (happened_in seen.passed) x y
 named-whole d s round names capture files name left cut x y whole (seen, own, are, found, done) = (seen, own, are, named files name left seen whole found, done)
 
 -- all captures
-pub captures-all : (d : SetupData) (s : State) (round : List ℕ) (files : Option (List File)) (names sends : List (List ℕ)) (capture : Option ℕ) (i cut : ℕ) (x y : Outlets) → length names ≤ i
+pub captures-all : (d : SetupData) (s : State) (round : List ℕ) (files : Option (List File)) (names sends : List (List ℕ)) (capture : Option ℕ) (i cut : ℕ) (x y : OutletsAt) → length names ≤ i
     → HasFound d s round files (take i names) sends capture cut x y
     → (seen : List PassedCapture) × AllPassed d s round seen × IfSome files (λ fs. AreFound fs names seen) × (cut ≡ capped (sum_by (λ c. c.cut) seen)) × IsDone sends capture (happened_in (records_of seen)) x y
 captures-all d s round files names sends capture i cut x y le h = (

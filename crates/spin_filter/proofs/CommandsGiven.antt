@@ -12,13 +12,14 @@ use Rattle.spin_table.specs.declared.refusal.Refusal.{Refusal}
 use Rattle.spin_table.specs.declared.refusal.Verdicted.{Verdicted}
 use Rattle.spin_table.specs.declared.refusal.Verdicted.TheVariants as verdicted
 use Rattle.spin_table.specs.Setups.{SetupData}
-use Rattle.spin_table.specs.States.{State}
+use Rattle.spin_table.specs.States.{State, start_of}
 use Rattle.spin_table.specs.Refusals.{refusal_of}
 use Rattle.spin_table.specs.Steps.{ChangesTo, IsStep}
 use Rattle.spin_script.specs.declared.script.Line.{Line}
 use Rattle.spin_script.specs.Soundness.{is_command_work, commands_in}
 use Rattle.spin_filter.specs.declared.commands.Commanded.{Commanded}
-use Rattle.spin_filter.specs.Commands.{command_of, commands_of, AreGiven, IsGiven, is_refusal}
+use Rattle.spin_filter.specs.Commands.{command_of, commands_of, AreGiven, is_refusal}
+use Rattle.spin_filter.specs.Inner.Giving.{IsGiven, IsCommanded}
 use Rattle.spin_filter.specs.Counting.{capped}
 use Rattle.spin_filter.proofs.Tallies.{count-more}
 
@@ -125,3 +126,11 @@ line-room lines i line lt is =
     let next = ap (λ ls. commands_in ls) (lines-more lines i line lt is) ∙ count-then (take i lines) (line ∷ []) in
     let whole = sym (count-then (take (i + 1) lines) (drop (i + 1) lines)) ∙ ap (λ ls. commands_in ls) (take-append-drop (i + 1) lines) in
     omega (arith, next, whole)
+
+-- commands that are given from the start on
+pub commanded : (d : SetupData) (commands : List Command) (start now : Commanded) → start.version ≡ start_of d → start.refused ≡ 0 → IsGiven d commands start now → IsCommanded d commands now
+commanded d commands start now from none g = record {
+  verdicts = g.verdicts;
+  given = subst (λ (s : State). AreGiven d s commands g.verdicts now.version) from g.given;
+  refused = g.counted [] (none ∙ refl);
+}

@@ -18,21 +18,23 @@ use Rattle.spin_proto.specs.Replies.{IsDeedReply, IsJobReply, calls_left}
 use Rattle.spin_values.specs.declared.values.Value.{Value}
 use Rattle.spin_values.specs.declared.values.Value.TheVariants as value
 use Rattle.spin_word.specs.declared.work.Deed.TheVariants as deed
-use Rattle.spin_filter.specs.Passing.{Passed, AreJobReplies, IsPassed}
+use Rattle.spin_filter.specs.Passing.{TakenSeen, Passed, AreJobReplies, IsPassed}
 use Rattle.spin_proto.specs.declared.reply.Step.{Step}
 use Rattle.spin_proto.specs.declared.reply.Step.TheVariants as step
 use Rattle.spin_endpoint.specs.declared.faults.DeliverFault.{DeliverFault}
 use Rattle.spin_endpoint.specs.declared.faults.DeliverFault.TheVariants as fault
 use Rattle.spin_endpoint.specs.Endpoints.{EndpointSeen, gained}
-use Rattle.spin_endpoint.specs.Named.{NamedEnd, Delivers, changed_as, with_piece, stands}
+use Rattle.spin_outside.specs.Counts.{Rose}
+use Rattle.spin_endpoint.specs.Named.{NamedEnd, Delivers, FailsAt, changed_as, with_piece, stands}
 use Rattle.spin_endpoint.specs.Sends.{SentSeen, name_of, pieces_for, received, all_received, is_lost}
 use Rattle.spin_endpoint.proofs.ReceivedSends.{all_received_none, all_received_more, stands_still, none_stands}
-use Rattle.spin_frames.specs.declared.head.Head.{Head}
-use Rattle.spin_frames.specs.Packets.{Packet}
 use Rattle.spin_frames.specs.Written.{written_record}
 use Rattle.spin_filter.specs.declared.counts.Counts.{Counts}
-use Rattle.spin_filter.specs.Counting.{Marked, Happened, Sending, AreCounts, joined, nothing, with_step, with_job, with_outcome, with_losts, just_steps, just_job, just_outcome, sent_by, sends_in, sendings, later_steps, job_steps, steps_of_jobs, happened_in_jobs, happened_at, outcome_of}
-use Rattle.spin_filter.specs.Sending.{is_writer, handed, lost_of, written_by, IsFrame, IsPut, IsHanded, IsMade, AreSent, Outlets, IsDone}
+use Rattle.spin_filter.specs.Counting.{BindingAt, Marked, Happened, Sending, AreCounts, joined, nothing, with_step, with_job, with_outcome, with_losts, just_steps, just_job, just_outcome, sent_by, sends_in, sendings, later_steps, job_steps, steps_of_jobs, happened_in_jobs, happened_at, outcome_of}
+use Rattle.spin_filter.specs.Inner.Sends.{IsPut, StopsPut, IsHanded, StopsHanding, IsMade}
+use Rattle.spin_filter.specs.Sending.{is_writer, handed, lost_of, written_by, IsFrame, AreSent, OutletsAt, IsDone, StopsSending}
+use Rattle.spin_filter.specs.declared.stop.Stop.{Stop}
+use Rattle.spin_filter.specs.declared.stop.Stop.TheVariants as stop
 
 -- ---- endpoints
 
@@ -68,13 +70,13 @@ one-received names sent ends =
 -- a send that is lost
 pub hand-lost : (names : List (List ℕ)) (sent : SentSeen) (ends ends' : List NamedEnd) (counts counts' : Counts) (name : List ℕ) (why : DeliverFault)
     → name ≡ name_of names sent.endpoint → why ≡ fault.Unknown → Delivers name sent.bytes (Err why) ends ends'
-    → ((h : Happened) → AreCounts h counts → AreCounts (with_losts (sent.endpoint ∷ []) h) counts') → IsHanded names sent ends ends' counts counts'
+    → ((listed : List BindingAt) (h : Happened) → AreCounts listed h counts → AreCounts listed (with_losts (sent.endpoint ∷ []) h) counts') → IsHanded names sent ends ends' counts counts'
 hand-lost names sent ends ends' counts counts' name fault.Failed is unknown delivers counted = cc
 hand-lost names sent ends ends' counts counts' name fault.Unknown is unknown delivers counted =
     let none : stands (name_of names sent.endpoint) ends ≡ false = ap (λ n. stands n ends) (sym is) ∙ delivers.0 in
     record {
       ends_are = delivers.1 ∙ sym (one-received names sent ends ∙ none_stands (name_of names sent.endpoint) (with_piece sent.bytes) ends none);
-      counted = λ h has. subst (λ (b : Bool). AreCounts (with_losts (map (λ (s : SentSeen). s.endpoint) (cond (not b) (sent ∷ []) [])) h) counts') (sym none) (counted h has);
+      counted = λ listed h has. subst (λ (b : Bool). AreCounts listed (with_losts (map (λ (s : SentSeen). s.endpoint) (cond (not b) (sent ∷ []) [])) h) counts') (sym none) (counted listed h has);
     }
 
 -- ---- sends that are lost
@@ -110,7 +112,7 @@ sent-then names capture a b e0 e1 e2 t0 t1 t2 p q = record {
   ends_are = q.ends_are ∙ ap (λ es. all_received names (handed capture b) es) p.ends_are
       ∙ sym (all_received-then names (handed capture a) (handed capture b) e0)
       ∙ ap (λ xs. all_received names xs e0) (sym (handed-then capture a b));
-  written = subst (λ (bs : List ℕ). Appends t0 t2 bs) (sym (flat_map-append (λ (s : Sending). cond (is_writer capture s.sent.endpoint) (written_record s.head s.packet) []) a b))
+  written = subst (λ (bs : List ℕ). Appends t0 t2 bs) (sym (flat_map-append (λ (s : Sending). cond (is_writer capture s.sent.endpoint) (written_record s.taken.head s.taken.packet) []) a b))
       (Appends-trans t0 t1 t2 (written_by capture a) (written_by capture b) p.written q.written);
   frames = All-append (IsFrame capture) a b p.frames q.frames;
 }
@@ -131,36 +133,38 @@ one-all P x p zero d lt = p
 one-all P x p (suc k) d lt = absurd (omega (arith, lt))
 
 -- a record is written
-pub made-put : (names : List (List ℕ)) (capture : Option ℕ) (s : Sending) (x y : Outlets) → is_writer capture s.sent.endpoint ≡ true
-    → IsPut s.head s.packet s.sent.bytes x.told y.told → y.ends ≡ x.ends → y.counts ≡ x.counts → IsMade names capture s x y
+pub made-put : (names : List (List ℕ)) (capture : Option ℕ) (s : Sending) (x y : OutletsAt) → is_writer capture s.sent.endpoint ≡ true
+    → IsPut s.taken s.sent.bytes x.sink y.sink → y.ends ≡ x.ends → y.counts ≡ x.counts → IsMade names capture s x y
 made-put names capture s x y is put ends counts =
     let none : handed capture (s ∷ []) ≡ [] = ap (λ b. cond (not b) (s.sent ∷ []) []) is in
     record {
       sent = record {
         ends_are = ends ∙ sym (ap (λ xs. all_received names xs x.ends) none ∙ all_received_none names x.ends);
-        written = subst (λ (bs : List ℕ). Appends x.told y.told bs)
-            (sym (ap (λ b. cond b (written_record s.head s.packet) [] ++ []) is ∙ append-nil (written_record s.head s.packet))) put.written;
+        written = subst (λ (bs : List ℕ). Appends x.sink.told y.sink.told bs)
+            (sym (ap (λ b. cond b (written_record s.taken.head s.taken.packet) [] ++ []) is ∙ append-nil (written_record s.taken.head s.taken.packet))) put.written;
         frames = one-all (IsFrame capture) s (λ _. put.frame);
       };
-      counted = λ h has.
-          let still : AreCounts h y.counts = subst (λ (c : Counts). AreCounts h c) (sym counts) has in
-          subst (λ (l : List ℕ). AreCounts (record h { lost = l }) y.counts)
+      still = put.still;
+      counted = λ listed h has.
+          let still : AreCounts listed h y.counts = subst (λ (c : Counts). AreCounts listed h c) (sym counts) has in
+          subst (λ (l : List ℕ). AreCounts listed (record h { lost = l }) y.counts)
           (sym (ap (λ xs. h.lost ++ map (λ (z : SentSeen). z.endpoint) (filter (is_lost names x.ends) xs)) none ∙ append-nil h.lost)) still;
     }
 
 -- a send is handed on
-pub made-handed : (names : List (List ℕ)) (capture : Option ℕ) (s : Sending) (x y : Outlets) → is_writer capture s.sent.endpoint ≡ false
-    → IsHanded names s.sent x.ends y.ends x.counts y.counts → y.told ≡ x.told → IsMade names capture s x y
-made-handed names capture s x y is hand told =
+pub made-handed : (names : List (List ℕ)) (capture : Option ℕ) (s : Sending) (x y : OutletsAt) → is_writer capture s.sent.endpoint ≡ false
+    → IsHanded names s.sent x.ends y.ends x.counts y.counts → y.sink ≡ x.sink → IsMade names capture s x y
+made-handed names capture s x y is hand sink =
     let own : handed capture (s ∷ []) ≡ s.sent ∷ [] = ap (λ b. cond (not b) (s.sent ∷ []) []) is in
     record {
       sent = record {
         ends_are = hand.ends_are ∙ ap (λ xs. all_received names xs x.ends) (sym own);
-        written = subst (λ (t : Option (List ℕ)). Appends x.told t (written_by capture (s ∷ []))) (sym told)
-            (subst (λ (bs : List ℕ). Appends x.told x.told bs) (sym (ap (λ b. cond b (written_record s.head s.packet) [] ++ []) is)) (nothing-written x.told));
+        written = subst (λ (t : Option (List ℕ)). Appends x.sink.told t (written_by capture (s ∷ []))) (sym (ap (λ k. k.told) sink))
+            (subst (λ (bs : List ℕ). Appends x.sink.told x.sink.told bs) (sym (ap (λ b. cond b (written_record s.taken.head s.taken.packet) [] ++ []) is)) (nothing-written x.sink.told));
         frames = one-all (IsFrame capture) s (λ yes. absurd (apart (sym yes ∙ is)));
       };
-      counted = λ h has. subst (λ (xs : List SentSeen). AreCounts (with_losts (map (λ (z : SentSeen). z.endpoint) (filter (is_lost names x.ends) xs)) h) y.counts) (sym own) (hand.counted h has);
+      still = ap (λ k. k.faults) sink;
+      counted = λ listed h has. subst (λ (xs : List SentSeen). AreCounts listed (with_losts (map (λ (z : SentSeen). z.endpoint) (filter (is_lost names x.ends) xs)) h) y.counts) (sym own) (hand.counted listed h has);
     } where
       apart : true ≡ false → ⊥
       apart e = cc
@@ -193,25 +197,26 @@ joined-end h =
     same_happened (h.outcomes ++ []) h.outcomes (h.steps ++ []) h.steps (h.jobs + 0) h.jobs (h.sends ++ []) h.sends (h.lost ++ []) h.lost
     (append-nil h.outcomes) (append-nil h.steps) (omega arith) (append-nil h.sends) (append-nil h.lost)
 
-pub done-then : (names : List (List ℕ)) (capture : Option ℕ) (a b : Happened) (x y z : Outlets) → IsDone names capture a x y → IsDone names capture b y z → IsDone names capture (joined a b) x z
+pub done-then : (names : List (List ℕ)) (capture : Option ℕ) (a b : Happened) (x y z : OutletsAt) → IsDone names capture a x y → IsDone names capture b y z → IsDone names capture (joined a b) x z
 done-then names capture a b x y z p q =
     let lost : lost_of names capture x.ends (a.sends ++ b.sends) ≡ lost_of names capture x.ends a.sends ++ lost_of names capture y.ends b.sends =
     lost-then names capture x.ends a.sends b.sends (handed capture a.sends)
     ∙ ap (λ es. lost_of names capture x.ends a.sends ++ lost_of names capture es b.sends) (sym p.sent.ends_are) in
     record {
-      sent = sent-then names capture a.sends b.sends x.ends y.ends z.ends x.told y.told z.told p.sent q.sent;
-      counted = λ h is. subst (λ (all : Happened). AreCounts all z.counts)
-          (joined-assoc h a.outcomes b.outcomes a.steps b.steps a.jobs b.jobs a.sends b.sends _ _ _ lost) (q.counted _ (p.counted h is));
+      sent = sent-then names capture a.sends b.sends x.ends y.ends z.ends x.sink.told y.sink.told z.sink.told p.sent q.sent;
+      still = q.still ∙ p.still;
+      counted = λ listed h is. subst (λ (all : Happened). AreCounts listed all z.counts)
+          (joined-assoc h a.outcomes b.outcomes a.steps b.steps a.jobs b.jobs a.sends b.sends _ _ _ lost) (q.counted listed _ (p.counted listed h is));
     }
 
 -- the counts look at no sends
-counts-but : (h : Happened) (o : List ℕ) (s : List Marked) (j : ℕ) (x : List Sending) (l : List ℕ) (c : Counts) → o ≡ h.outcomes → s ≡ h.steps → j ≡ h.jobs → l ≡ h.lost → AreCounts h c
-    → AreCounts (record { outcomes = o; steps = s; jobs = j; sends = x; lost = l }) c
-counts-but h o s j x l c p q r t is =
-    subst (λ (ys : List ℕ). AreCounts (record { outcomes = o; steps = s; jobs = j; sends = x; lost = ys }) c) (sym t)
-    (subst (λ (n : ℕ). AreCounts (record { outcomes = o; steps = s; jobs = n; sends = x; lost = h.lost }) c) (sym r)
-    (subst (λ (ms : List Marked). AreCounts (record { outcomes = o; steps = ms; jobs = h.jobs; sends = x; lost = h.lost }) c) (sym q)
-    (subst (λ (ys : List ℕ). AreCounts (record { outcomes = ys; steps = h.steps; jobs = h.jobs; sends = x; lost = h.lost }) c) (sym p)
+counts-but : (listed : List BindingAt) (h : Happened) (o : List ℕ) (s : List Marked) (j : ℕ) (x : List Sending) (l : List ℕ) (c : Counts) → o ≡ h.outcomes → s ≡ h.steps → j ≡ h.jobs → l ≡ h.lost → AreCounts listed h c
+    → AreCounts listed (record { outcomes = o; steps = s; jobs = j; sends = x; lost = l }) c
+counts-but listed h o s j x l c p q r t is =
+    subst (λ (ys : List ℕ). AreCounts listed (record { outcomes = o; steps = s; jobs = j; sends = x; lost = ys }) c) (sym t)
+    (subst (λ (n : ℕ). AreCounts listed (record { outcomes = o; steps = s; jobs = n; sends = x; lost = h.lost }) c) (sym r)
+    (subst (λ (ms : List Marked). AreCounts listed (record { outcomes = o; steps = ms; jobs = h.jobs; sends = x; lost = h.lost }) c) (sym q)
+    (subst (λ (ys : List ℕ). AreCounts listed (record { outcomes = ys; steps = h.steps; jobs = h.jobs; sends = x; lost = h.lost }) c) (sym p)
     (record {
       records = is.records;
       outcomes = is.outcomes;
@@ -221,65 +226,71 @@ counts-but h o s j x l c p q r t is =
       sends = is.sends;
       lost = is.lost;
       hits = is.hits;
+      listed_are = is.listed_are;
     }))))
 
 -- nothing
-pub done-nothing : (names : List (List ℕ)) (capture : Option ℕ) (x : Outlets) → IsDone names capture nothing x x
+pub done-nothing : (names : List (List ℕ)) (capture : Option ℕ) (x : OutletsAt) → IsDone names capture nothing x x
 done-nothing names capture x = record {
-  sent = sent-none names capture x.ends x.told;
-  counted = λ h is. counts-but h _ _ _ _ _ x.counts (append-nil h.outcomes) (append-nil h.steps) (omega arith) (append-nil h.lost) is;
+  sent = sent-none names capture x.ends x.sink.told;
+  still = refl;
+  counted = λ listed h is. counts-but listed h _ _ _ _ _ x.counts (append-nil h.outcomes) (append-nil h.steps) (omega arith) (append-nil h.lost) is;
 }
 
 -- nothing is sent, but something is counted
-quiet-sent : (names : List (List ℕ)) (capture : Option ℕ) (x y : Outlets) → y.ends ≡ x.ends → y.told ≡ x.told → AreSent names capture [] x.ends y.ends x.told y.told
-quiet-sent names capture x y ends told =
-    subst (λ (e : List NamedEnd). AreSent names capture [] x.ends e x.told y.told) (sym ends)
-    (subst (λ (t : Option (List ℕ)). AreSent names capture [] x.ends x.ends x.told t) (sym told) (sent-none names capture x.ends x.told))
+quiet-sent : (names : List (List ℕ)) (capture : Option ℕ) (x y : OutletsAt) → y.ends ≡ x.ends → y.sink ≡ x.sink → AreSent names capture [] x.ends y.ends x.sink.told y.sink.told
+quiet-sent names capture x y ends sink =
+    subst (λ (e : List NamedEnd). AreSent names capture [] x.ends e x.sink.told y.sink.told) (sym ends)
+    (subst (λ (t : Option (List ℕ)). AreSent names capture [] x.ends x.ends x.sink.told t) (sym (ap (λ k. k.told) sink)) (sent-none names capture x.ends x.sink.told))
 
-pub done-outcome : (names : List (List ℕ)) (capture : Option ℕ) (outcome : ℕ) (x y : Outlets) → y.ends ≡ x.ends → y.told ≡ x.told
-    → ((h : Happened) → AreCounts h x.counts → AreCounts (with_outcome outcome h) y.counts) → IsDone names capture (just_outcome outcome) x y
-done-outcome names capture outcome x y ends told counted = record {
-  sent = quiet-sent names capture x y ends told;
-  counted = λ h is. counts-but (with_outcome outcome h) _ _ _ _ _ y.counts refl (append-nil h.steps) (omega arith) (append-nil h.lost) (counted h is);
+pub done-outcome : (names : List (List ℕ)) (capture : Option ℕ) (outcome : ℕ) (x y : OutletsAt) → y.ends ≡ x.ends → y.sink ≡ x.sink
+    → ((listed : List BindingAt) (h : Happened) → AreCounts listed h x.counts → AreCounts listed (with_outcome outcome h) y.counts) → IsDone names capture (just_outcome outcome) x y
+done-outcome names capture outcome x y ends sink counted = record {
+  sent = quiet-sent names capture x y ends sink;
+  still = ap (λ k. k.faults) sink;
+  counted = λ listed h is. counts-but listed (with_outcome outcome h) _ _ _ _ _ y.counts refl (append-nil h.steps) (omega arith) (append-nil h.lost) (counted listed h is);
 }
 
-pub done-job : (names : List (List ℕ)) (capture : Option ℕ) (x y : Outlets) → y.ends ≡ x.ends → y.told ≡ x.told
-    → ((h : Happened) → AreCounts h x.counts → AreCounts (with_job h) y.counts) → IsDone names capture just_job x y
-done-job names capture x y ends told counted = record {
-  sent = quiet-sent names capture x y ends told;
-  counted = λ h is. counts-but (with_job h) _ _ _ _ _ y.counts (append-nil h.outcomes) (append-nil h.steps) refl (append-nil h.lost) (counted h is);
+pub done-job : (names : List (List ℕ)) (capture : Option ℕ) (x y : OutletsAt) → y.ends ≡ x.ends → y.sink ≡ x.sink
+    → ((listed : List BindingAt) (h : Happened) → AreCounts listed h x.counts → AreCounts listed (with_job h) y.counts) → IsDone names capture just_job x y
+done-job names capture x y ends sink counted = record {
+  sent = quiet-sent names capture x y ends sink;
+  still = ap (λ k. k.faults) sink;
+  counted = λ listed h is. counts-but listed (with_job h) _ _ _ _ _ y.counts (append-nil h.outcomes) (append-nil h.steps) refl (append-nil h.lost) (counted listed h is);
 }
 
-abbrev tagged : Head → Packet → SentSeen → Sending
-tagged head packet s = record { head = head; packet = packet; sent = s }
+abbrev tagged : TakenSeen → SentSeen → Sending
+tagged taken s = record { taken = taken; sent = s }
 
 -- a step that sends
-pub done-send : (names : List (List ℕ)) (capture : Option ℕ) (head : Head) (packet : Packet) (m : Marked) (sent : SentSeen) (x y z : Outlets)
-    → sent_by m.taken ≡ Some sent → ((h : Happened) → AreCounts h x.counts → AreCounts (with_step m h) y.counts) → y.ends ≡ x.ends → y.told ≡ x.told
-    → IsMade names capture (record { head = head; packet = packet; sent = sent }) y z → IsDone names capture (just_steps head packet (m ∷ [])) x z
-done-send names capture head packet m sent x y z is counted ends told made =
-    let one : sendings head packet (m ∷ []) ≡ tagged head packet sent ∷ [] = ap (λ (o : Option SentSeen). map (tagged head packet) (filter_map (λ (p : Option SentSeen). p) (o ∷ []))) is in
+pub done-send : (names : List (List ℕ)) (capture : Option ℕ) (taken : TakenSeen) (m : Marked) (sent : SentSeen) (x y z : OutletsAt)
+    → sent_by m.taken ≡ Some sent → ((listed : List BindingAt) (h : Happened) → AreCounts listed h x.counts → AreCounts listed (with_step m h) y.counts) → y.ends ≡ x.ends → y.sink ≡ x.sink
+    → IsMade names capture (record { taken = taken; sent = sent }) y z → IsDone names capture (just_steps taken (m ∷ [])) x z
+done-send names capture taken m sent x y z is counted ends sink made =
+    let one : sendings taken (m ∷ []) ≡ tagged taken sent ∷ [] = ap (λ (o : Option SentSeen). map (tagged taken) (filter_map (λ (p : Option SentSeen). p) (o ∷ []))) is in
     record {
-      sent = subst (λ (ss : List Sending). AreSent names capture ss x.ends z.ends x.told z.told) (sym one)
-          (subst (λ (e : List NamedEnd). AreSent names capture (tagged head packet sent ∷ []) e z.ends x.told z.told) ends
-          (subst (λ (t : Option (List ℕ)). AreSent names capture (tagged head packet sent ∷ []) y.ends z.ends t z.told) told made.sent));
-      counted = λ h has.
-          counts-but (with_losts (lost_of names capture y.ends (tagged head packet sent ∷ [])) (with_step m h)) _ _ _ _ _ z.counts
-          (append-nil h.outcomes) refl (omega arith) (ap (λ ss. h.lost ++ lost_of names capture x.ends ss) one ∙ ap (λ e. h.lost ++ lost_of names capture e (tagged head packet sent ∷ [])) (sym ends))
-          (made.counted (with_step m h) (counted h has));
+      sent = subst (λ (ss : List Sending). AreSent names capture ss x.ends z.ends x.sink.told z.sink.told) (sym one)
+          (subst (λ (e : List NamedEnd). AreSent names capture (tagged taken sent ∷ []) e z.ends x.sink.told z.sink.told) ends
+          (subst (λ (t : Option (List ℕ)). AreSent names capture (tagged taken sent ∷ []) y.ends z.ends t z.sink.told) (ap (λ k. k.told) sink) made.sent));
+      still = made.still ∙ ap (λ k. k.faults) sink;
+      counted = λ listed h has.
+          counts-but listed (with_losts (lost_of names capture y.ends (tagged taken sent ∷ [])) (with_step m h)) _ _ _ _ _ z.counts
+          (append-nil h.outcomes) refl (omega arith) (ap (λ ss. h.lost ++ lost_of names capture x.ends ss) one ∙ ap (λ e. h.lost ++ lost_of names capture e (tagged taken sent ∷ [])) (sym ends))
+          (made.counted listed (with_step m h) (counted listed h has));
     }
 
 -- a step that sends nothing
-pub done-quiet : (names : List (List ℕ)) (capture : Option ℕ) (head : Head) (packet : Packet) (m : Marked) (x y : Outlets)
-    → sent_by m.taken ≡ None → ((h : Happened) → AreCounts h x.counts → AreCounts (with_step m h) y.counts) → y.ends ≡ x.ends → y.told ≡ x.told
-    → IsDone names capture (just_steps head packet (m ∷ [])) x y
-done-quiet names capture head packet m x y is counted ends told =
-    let none : sendings head packet (m ∷ []) ≡ [] = ap (λ (o : Option SentSeen). map (tagged head packet) (filter_map (λ (p : Option SentSeen). p) (o ∷ []))) is in
+pub done-quiet : (names : List (List ℕ)) (capture : Option ℕ) (taken : TakenSeen) (m : Marked) (x y : OutletsAt)
+    → sent_by m.taken ≡ None → ((listed : List BindingAt) (h : Happened) → AreCounts listed h x.counts → AreCounts listed (with_step m h) y.counts) → y.ends ≡ x.ends → y.sink ≡ x.sink
+    → IsDone names capture (just_steps taken (m ∷ [])) x y
+done-quiet names capture taken m x y is counted ends sink =
+    let none : sendings taken (m ∷ []) ≡ [] = ap (λ (o : Option SentSeen). map (tagged taken) (filter_map (λ (p : Option SentSeen). p) (o ∷ []))) is in
     record {
-      sent = subst (λ (ss : List Sending). AreSent names capture ss x.ends y.ends x.told y.told) (sym none) (quiet-sent names capture x y ends told);
-      counted = λ h has.
-          counts-but (with_step m h) _ _ _ _ _ y.counts
-          (append-nil h.outcomes) refl (omega arith) (ap (λ ss. h.lost ++ lost_of names capture x.ends ss) none ∙ append-nil h.lost) (counted h has);
+      sent = subst (λ (ss : List Sending). AreSent names capture ss x.ends y.ends x.sink.told y.sink.told) (sym none) (quiet-sent names capture x y ends sink);
+      still = ap (λ k. k.faults) sink;
+      counted = λ listed h has.
+          counts-but listed (with_step m h) _ _ _ _ _ y.counts
+          (append-nil h.outcomes) refl (omega arith) (ap (λ ss. h.lost ++ lost_of names capture x.ends ss) none ∙ append-nil h.lost) (counted listed h has);
     }
 
 pub quiet-send : (s : Step) → ((endpoint : ℕ) (bytes : List ℕ) → s ≡ step.Send endpoint bytes → ⊥) → sent_by s ≡ None
@@ -291,13 +302,13 @@ quiet-send (step.Back answer) send = refl
 quiet-send (step.Dropped fault) send = refl
 quiet-send (step.Job event number) send = refl
 
-sendings-then : (head : Head) (packet : Packet) (a b : List Marked) → sendings head packet a ++ sendings head packet b ≡ sendings head packet (a ++ b)
-sendings-then head packet a b =
-    sym (ap (λ ss. map (tagged head packet) ss) (filter_map-append (λ (m : Marked). sent_by m.taken) a b) ∙ map-append (tagged head packet) (sends_in a) (sends_in b))
+sendings-then : (taken : TakenSeen) (a b : List Marked) → sendings taken a ++ sendings taken b ≡ sendings taken (a ++ b)
+sendings-then taken a b =
+    sym (ap (λ ss. map (tagged taken) ss) (filter_map-append (λ (m : Marked). sent_by m.taken) a b) ∙ map-append (tagged taken) (sends_in a) (sends_in b))
 
 -- steps behind steps
-pub steps-then : (head : Head) (packet : Packet) (a b : List Marked) → joined (just_steps head packet a) (just_steps head packet b) ≡ just_steps head packet (a ++ b)
-steps-then head packet a b = ap (λ (ss : List Sending). happened_by [] (a ++ b) 0 ss []) (sendings-then head packet a b)
+pub steps-then : (taken : TakenSeen) (a b : List Marked) → joined (just_steps taken a) (just_steps taken b) ≡ just_steps taken (a ++ b)
+steps-then taken a b = ap (λ (ss : List Sending). happened_by [] (a ++ b) 0 ss []) (sendings-then taken a b)
 
 abbrev later_step : Step → Marked
 later_step s = record { first = false; taken = s }
@@ -309,30 +320,30 @@ later-more steps i s lt is =
     ∙ ap (λ r. later_steps (take i steps) ++ later_step r ∷ []) (sym is)
 
 -- one step more of a list is done
-pub steps-more : (names : List (List ℕ)) (capture : Option ℕ) (head : Head) (packet : Packet) (steps : List Step) (i : ℕ) (s : Step) (x y z : Outlets) → i < length steps → s ≡ get_or steps i s
-    → IsDone names capture (just_steps head packet (later_steps (take i steps))) x y → IsDone names capture (just_steps head packet (record { first = false; taken = s } ∷ [])) y z
-    → IsDone names capture (just_steps head packet (later_steps (take (i + 1) steps))) x z
-steps-more names capture head packet steps i s x y z lt is p q =
+pub steps-more : (names : List (List ℕ)) (capture : Option ℕ) (taken : TakenSeen) (steps : List Step) (i : ℕ) (s : Step) (x y z : OutletsAt) → i < length steps → s ≡ get_or steps i s
+    → IsDone names capture (just_steps taken (later_steps (take i steps))) x y → IsDone names capture (just_steps taken (record { first = false; taken = s } ∷ [])) y z
+    → IsDone names capture (just_steps taken (later_steps (take (i + 1) steps))) x z
+steps-more names capture taken steps i s x y z lt is p q =
     subst (λ (h : Happened). IsDone names capture h x z)
-    (steps-then head packet (later_steps (take i steps)) (later_step s ∷ []) ∙ ap (λ ms. just_steps head packet ms) (sym (later-more steps i s lt is)))
-    (done-then names capture (just_steps head packet (later_steps (take i steps))) (just_steps head packet (later_step s ∷ [])) x y z p q)
+    (steps-then taken (later_steps (take i steps)) (later_step s ∷ []) ∙ ap (λ ms. just_steps taken ms) (sym (later-more steps i s lt is)))
+    (done-then names capture (just_steps taken (later_steps (take i steps))) (just_steps taken (later_step s ∷ [])) x y z p q)
 
 -- all steps of a list are done
-pub steps-all : (names : List (List ℕ)) (capture : Option ℕ) (head : Head) (packet : Packet) (steps : List Step) (i : ℕ) (x y : Outlets) → length steps ≤ i
-    → IsDone names capture (just_steps head packet (later_steps (take i steps))) x y → IsDone names capture (just_steps head packet (later_steps steps)) x y
-steps-all names capture head packet steps i x y le p = subst (λ (ss : List Step). IsDone names capture (just_steps head packet (later_steps ss)) x y) (take_all i steps le) p
+pub steps-all : (names : List (List ℕ)) (capture : Option ℕ) (taken : TakenSeen) (steps : List Step) (i : ℕ) (x y : OutletsAt) → length steps ≤ i
+    → IsDone names capture (just_steps taken (later_steps (take i steps))) x y → IsDone names capture (just_steps taken (later_steps steps)) x y
+steps-all names capture taken steps i x y le p = subst (λ (ss : List Step). IsDone names capture (just_steps taken (later_steps ss)) x y) (take_all i steps le) p
 
 -- the steps of a job: its first, and then the others
-pub job-steps : (names : List (List ℕ)) (capture : Option ℕ) (head : Head) (packet : Packet) (steps rest : List Step) (s : Step) (x y z : Outlets) → steps ≡ s ∷ rest
-    → IsDone names capture (just_steps head packet (record { first = true; taken = s } ∷ [])) x y → IsDone names capture (just_steps head packet (later_steps rest)) y z
-    → IsDone names capture (just_steps head packet (job_steps steps)) x z
-job-steps names capture head packet steps rest s x y z is p q =
-    subst (λ (ss : List Step). IsDone names capture (just_steps head packet (job_steps ss)) x z) (sym is)
-    (subst (λ (h : Happened). IsDone names capture h x z) (steps-then head packet (record { first = true; taken = s } ∷ []) (later_steps rest))
-    (done-then names capture (just_steps head packet (record { first = true; taken = s } ∷ [])) (just_steps head packet (later_steps rest)) x y z p q))
+pub job-steps : (names : List (List ℕ)) (capture : Option ℕ) (taken : TakenSeen) (steps rest : List Step) (s : Step) (x y z : OutletsAt) → steps ≡ s ∷ rest
+    → IsDone names capture (just_steps taken (record { first = true; taken = s } ∷ [])) x y → IsDone names capture (just_steps taken (later_steps rest)) y z
+    → IsDone names capture (just_steps taken (job_steps steps)) x z
+job-steps names capture taken steps rest s x y z is p q =
+    subst (λ (ss : List Step). IsDone names capture (just_steps taken (job_steps ss)) x z) (sym is)
+    (subst (λ (h : Happened). IsDone names capture h x z) (steps-then taken (record { first = true; taken = s } ∷ []) (later_steps rest))
+    (done-then names capture (just_steps taken (record { first = true; taken = s } ∷ [])) (just_steps taken (later_steps rest)) x y z p q))
 
-pub no-job-steps : (names : List (List ℕ)) (capture : Option ℕ) (head : Head) (packet : Packet) (steps : List Step) (x : Outlets) → steps ≡ [] → IsDone names capture (just_steps head packet (job_steps steps)) x x
-no-job-steps names capture head packet steps x is = subst (λ (ss : List Step). IsDone names capture (just_steps head packet (job_steps ss)) x x) (sym is) (done-nothing names capture x)
+pub no-job-steps : (names : List (List ℕ)) (capture : Option ℕ) (taken : TakenSeen) (steps : List Step) (x : OutletsAt) → steps ≡ [] → IsDone names capture (just_steps taken (job_steps steps)) x x
+no-job-steps names capture taken steps x is = subst (λ (ss : List Step). IsDone names capture (just_steps taken (job_steps ss)) x x) (sym is) (done-nothing names capture x)
 
 apart : true ≡ false → ⊥
 apart e = cc
@@ -348,29 +359,29 @@ first-steps (x ∷ xs) s r is gone at = ap (λ h. h ∷ xs) (sym at) ∙ ap (λ 
 -- ---- jobs, and a whole record
 
 -- jobs behind jobs
-jobs-then : (head : Head) (packet : Packet) (replies : List Reply) (r : Reply)
-    → joined (happened_in_jobs head packet replies) (joined just_job (just_steps head packet (job_steps (trace_in r)))) ≡ happened_in_jobs head packet (replies ++ r ∷ [])
-jobs-then head packet replies r =
+jobs-then : (taken : TakenSeen) (replies : List Reply) (r : Reply)
+    → joined (happened_in_jobs taken replies) (joined just_job (just_steps taken (job_steps (trace_in r)))) ≡ happened_in_jobs taken (replies ++ r ∷ [])
+jobs-then taken replies r =
     let own = λ (x : Reply). job_steps (trace_in x) in
     let steps : steps_of_jobs replies ++ job_steps (trace_in r) ≡ steps_of_jobs (replies ++ r ∷ []) =
     sym (flat_map-append own replies (r ∷ []) ∙ ap (λ ms. steps_of_jobs replies ++ ms) (append-nil (own r))) in
     let jobs : length replies + 1 ≡ length (replies ++ r ∷ []) = sym (length-append replies (r ∷ [])) in
-    let sends : sendings head packet (steps_of_jobs replies) ++ sendings head packet (job_steps (trace_in r)) ≡ sendings head packet (steps_of_jobs (replies ++ r ∷ [])) =
-    sendings-then head packet (steps_of_jobs replies) (job_steps (trace_in r)) ∙ ap (λ ms. sendings head packet ms) steps in
+    let sends : sendings taken (steps_of_jobs replies) ++ sendings taken (job_steps (trace_in r)) ≡ sendings taken (steps_of_jobs (replies ++ r ∷ [])) =
+    sendings-then taken (steps_of_jobs replies) (job_steps (trace_in r)) ∙ ap (λ ms. sendings taken ms) steps in
     same_happened [] [] _ _ _ _ _ _ [] [] refl steps jobs sends refl
 
 -- one job more is done
-pub jobs-more : (names : List (List ℕ)) (capture : Option ℕ) (head : Head) (packet : Packet) (d : SetupData) (s : State) (calls : List JobCall) (i : ℕ) (call : JobCall) (x y z : Outlets)
+pub jobs-more : (names : List (List ℕ)) (capture : Option ℕ) (taken : TakenSeen) (d : SetupData) (s : State) (calls : List JobCall) (i : ℕ) (call : JobCall) (x y z : OutletsAt)
     → i < length calls → call ≡ get_or calls i call
-    → (replies : List Reply) × AreJobReplies d s (take i calls) replies × IsDone names capture (happened_in_jobs head packet replies) x y
-    → (reply : Reply) × IsJobReply d s call reply × IsDone names capture (joined just_job (just_steps head packet (job_steps (trace_in reply)))) y z
-    → (replies : List Reply) × AreJobReplies d s (take (i + 1) calls) replies × IsDone names capture (happened_in_jobs head packet replies) x z
-jobs-more names capture head packet d s calls i call x y z lt is (replies, answer, done) (reply, own, did) = (
+    → (replies : List Reply) × AreJobReplies d s (take i calls) replies × IsDone names capture (happened_in_jobs taken replies) x y
+    → (reply : Reply) × IsJobReply d s call reply × IsDone names capture (joined just_job (just_steps taken (job_steps (trace_in reply)))) y z
+    → (replies : List Reply) × AreJobReplies d s (take (i + 1) calls) replies × IsDone names capture (happened_in_jobs taken replies) x z
+jobs-more names capture taken d s calls i call x y z lt is (replies, answer, done) (reply, own, did) = (
   replies ++ reply ∷ [],
   subst (λ (cs : List JobCall). AreJobReplies d s cs (replies ++ reply ∷ []))
       (ap (λ c. take i calls ++ c ∷ []) is ∙ sym ((take_at_read calls i call lt).1)) (replies-more d s (take i calls) replies call reply answer own),
-  subst (λ (h : Happened). IsDone names capture h x z) (jobs-then head packet replies reply)
-      (done-then names capture (happened_in_jobs head packet replies) (joined just_job (just_steps head packet (job_steps (trace_in reply)))) x y z done did),
+  subst (λ (h : Happened). IsDone names capture h x z) (jobs-then taken replies reply)
+      (done-then names capture (happened_in_jobs taken replies) (joined just_job (just_steps taken (job_steps (trace_in reply)))) x y z done did),
 ) where
   replies-more : (d : SetupData) (s : State) (calls : List JobCall) (replies : List Reply) (call : JobCall) (reply : Reply) → AreJobReplies d s calls replies → IsJobReply d s call reply
       → AreJobReplies d s (calls ++ call ∷ []) (replies ++ reply ∷ [])
@@ -378,49 +389,47 @@ jobs-more names capture head packet d s calls i call x y z lt is (replies, answe
   replies-more d s (c ∷ calls) replies call reply (r, others, first, are, rest) own =
       (r, others ++ reply ∷ [], first, ap (λ rs. rs ++ reply ∷ []) are, replies-more d s calls others call reply rest own)
 
-pub no-jobs : (names : List (List ℕ)) (capture : Option ℕ) (head : Head) (packet : Packet) (d : SetupData) (s : State) (x : Outlets)
-    → (replies : List Reply) × AreJobReplies d s [] replies × IsDone names capture (happened_in_jobs head packet replies) x x
-no-jobs names capture head packet d s x = ([], refl, done-nothing names capture x)
+pub no-jobs : (names : List (List ℕ)) (capture : Option ℕ) (taken : TakenSeen) (d : SetupData) (s : State) (x : OutletsAt)
+    → (replies : List Reply) × AreJobReplies d s [] replies × IsDone names capture (happened_in_jobs taken replies) x x
+no-jobs names capture taken d s x = ([], refl, done-nothing names capture x)
 
-pub jobs-all : (names : List (List ℕ)) (capture : Option ℕ) (head : Head) (packet : Packet) (d : SetupData) (s : State) (calls : List JobCall) (i : ℕ) (x y : Outlets) → length calls ≤ i
-    → (replies : List Reply) × AreJobReplies d s (take i calls) replies × IsDone names capture (happened_in_jobs head packet replies) x y
-    → (replies : List Reply) × AreJobReplies d s calls replies × IsDone names capture (happened_in_jobs head packet replies) x y
-jobs-all names capture head packet d s calls i x y le (replies, answer, done) = (replies, subst (λ (cs : List JobCall). AreJobReplies d s cs replies) (take_all i calls le) answer, done)
+pub jobs-all : (names : List (List ℕ)) (capture : Option ℕ) (taken : TakenSeen) (d : SetupData) (s : State) (calls : List JobCall) (i : ℕ) (x y : OutletsAt) → length calls ≤ i
+    → (replies : List Reply) × AreJobReplies d s (take i calls) replies × IsDone names capture (happened_in_jobs taken replies) x y
+    → (replies : List Reply) × AreJobReplies d s calls replies × IsDone names capture (happened_in_jobs taken replies) x y
+jobs-all names capture taken d s calls i x y le (replies, answer, done) = (replies, subst (λ (cs : List JobCall). AreJobReplies d s cs replies) (take_all i calls le) answer, done)
 
 -- a whole record: its outcome, its steps, its jobs
-pub record-done : (names : List (List ℕ)) (capture : Option ℕ) (passed : Passed) (w x y z : Outlets) → IsDone names capture (just_outcome (outcome_of passed.reply)) w x
-    → IsDone names capture (just_steps passed.head passed.packet (later_steps (trace_in passed.reply))) x y → IsDone names capture (happened_in_jobs passed.head passed.packet passed.jobs) y z
+pub record-done : (names : List (List ℕ)) (capture : Option ℕ) (passed : Passed) (w x y z : OutletsAt) → IsDone names capture (just_outcome (outcome_of passed.reply)) w x
+    → IsDone names capture (just_steps passed.taken (later_steps (trace_in passed.reply))) x y → IsDone names capture (happened_in_jobs passed.taken passed.jobs) y z
     → IsDone names capture (happened_at passed) w z
 record-done names capture passed w x y z p q r =
-    let head = passed.head in
-    let packet = passed.packet in
+    let taken = passed.taken in
     let later = later_steps (trace_in passed.reply) in
     subst (λ (h : Happened). IsDone names capture h w z)
-    (same_happened _ _ _ _ (0 + length passed.jobs) (length passed.jobs) _ _ [] [] refl refl (omega arith) (sendings-then head packet later (steps_of_jobs passed.jobs)) refl)
-    (done-then names capture (joined (just_outcome (outcome_of passed.reply)) (just_steps head packet later)) (happened_in_jobs head packet passed.jobs) w y z
-    (done-then names capture (just_outcome (outcome_of passed.reply)) (just_steps head packet later) w x y p q) r)
+    (same_happened _ _ _ _ (0 + length passed.jobs) (length passed.jobs) _ _ [] [] refl refl (omega arith) (sendings-then taken later (steps_of_jobs passed.jobs)) refl)
+    (done-then names capture (joined (just_outcome (outcome_of passed.reply)) (just_steps taken later)) (happened_in_jobs taken passed.jobs) w y z
+    (done-then names capture (just_outcome (outcome_of passed.reply)) (just_steps taken later) w x y p q) r)
 
 -- one job
-pub job-one : (names : List (List ℕ)) (capture : Option ℕ) (head : Head) (packet : Packet) (d : SetupData) (s : State) (call : JobCall) (reply : Reply) (steps : List Step) (x y z : Outlets)
-    → IsJobReply d s call reply → steps ≡ trace_in reply → IsDone names capture just_job x y → IsDone names capture (just_steps head packet (job_steps steps)) y z
-    → (r : Reply) × IsJobReply d s call r × IsDone names capture (joined just_job (just_steps head packet (job_steps (trace_in r)))) x z
-job-one names capture head packet d s call reply steps x y z answer is p q = (
+pub job-one : (names : List (List ℕ)) (capture : Option ℕ) (taken : TakenSeen) (d : SetupData) (s : State) (call : JobCall) (reply : Reply) (steps : List Step) (x y z : OutletsAt)
+    → IsJobReply d s call reply → steps ≡ trace_in reply → IsDone names capture just_job x y → IsDone names capture (just_steps taken (job_steps steps)) y z
+    → (r : Reply) × IsJobReply d s call r × IsDone names capture (joined just_job (just_steps taken (job_steps (trace_in r)))) x z
+job-one names capture taken d s call reply steps x y z answer is p q = (
   reply,
   answer,
-  done-then names capture just_job (just_steps head packet (job_steps (trace_in reply))) x y z p
-      (subst (λ (ss : List Step). IsDone names capture (just_steps head packet (job_steps ss)) y z) is q),
+  done-then names capture just_job (just_steps taken (job_steps (trace_in reply))) x y z p
+      (subst (λ (ss : List Step). IsDone names capture (just_steps taken (job_steps ss)) y z) is q),
 )
 
-pub record-whole : (names : List (List ℕ)) (capture : Option ℕ) (head : Head) (packet : Packet) (d : SetupData) (s : State) (event : ℕ) (args : List Value) (reply seen : Reply) (outcome : ℕ) (steps : List Step)
-    (calls : List JobCall) (w x y z : Outlets) → args ≡ value.Bytes packet.frame ∷ [] → IsDeedReply d s (deed.Raise event args) reply → seen ≡ reply → outcome ≡ outcome_of seen
+pub record-whole : (names : List (List ℕ)) (capture : Option ℕ) (taken : TakenSeen) (d : SetupData) (s : State) (event : ℕ) (args : List Value) (reply seen : Reply) (outcome : ℕ) (steps : List Step)
+    (calls : List JobCall) (w x y z : OutletsAt) → args ≡ value.Bytes taken.packet.frame ∷ [] → IsDeedReply d s (deed.Raise event args) reply → seen ≡ reply → outcome ≡ outcome_of seen
     → steps ≡ trace_in seen → calls ≡ calls_left seen
-    → IsDone names capture (just_outcome outcome) w x → IsDone names capture (just_steps head packet (later_steps steps)) x y
-    → (replies : List Reply) × AreJobReplies d s calls replies × IsDone names capture (happened_in_jobs head packet replies) y z
-    → (passed : Passed) × (passed.head ≡ head) × (passed.packet ≡ packet) × IsPassed d s event passed × IsDone names capture (happened_at passed) w z
-record-whole names capture head packet d s event args reply seen outcome steps calls w x y z told answer view out is left p q (replies, answers, r) =
-    let passed : Passed = record { head = head; packet = packet; reply = reply; jobs = replies } in (
+    → IsDone names capture (just_outcome outcome) w x → IsDone names capture (just_steps taken (later_steps steps)) x y
+    → (replies : List Reply) × AreJobReplies d s calls replies × IsDone names capture (happened_in_jobs taken replies) y z
+    → (passed : Passed) × (passed.taken ≡ taken) × IsPassed d s event passed × IsDone names capture (happened_at passed) w z
+record-whole names capture taken d s event args reply seen outcome steps calls w x y z told answer view out is left p q (replies, answers, r) =
+    let passed : Passed = record { taken = taken; reply = reply; jobs = replies } in (
       passed,
-      refl,
       refl,
       record {
         reply = subst (λ (vs : List Value). IsDeedReply d s (deed.Raise event vs) reply) told answer;
@@ -428,5 +437,62 @@ record-whole names capture head packet d s event args reply seen outcome steps c
       },
       record-done names capture passed w x y z
           (subst (λ (n : ℕ). IsDone names capture (just_outcome n) w x) (out ∙ ap outcome_of view) p)
-          (subst (λ (ss : List Step). IsDone names capture (just_steps head packet (later_steps ss)) x y) (is ∙ ap trace_in view) q) r,
+          (subst (λ (ss : List Step). IsDone names capture (just_steps taken (later_steps ss)) x y) (is ∙ ap trace_in view) q) r,
     )
+
+-- ---- stops
+
+-- behind what was done a stop has the same cause
+pub stop-behind : (names : List (List ℕ)) (capture : Option ℕ) (more : Happened) (x y z : OutletsAt) (why : Stop) → IsDone names capture more x y → StopsSending names capture y z why → StopsSending names capture x z why
+stop-behind names capture more x y z (stop.Endpoint number) done why = record {
+  sends = handed capture more.sends ++ why.sends;
+  standing = sym (stands_still names (handed capture more.sends) (name_of names number) x.ends) ∙ ap (λ es. stands (name_of names number) es) (sym done.sent.ends_are) ∙ why.standing;
+  fails = subst (λ (es : List NamedEnd). FailsAt (name_of names number) es z.ends)
+      (ap (λ es. all_received names why.sends es) done.sent.ends_are ∙ sym (all_received-then names (handed capture more.sends) why.sends x.ends)) why.fails;
+}
+stop-behind names capture more x y z (stop.NoFrame number) done why = why
+stop-behind names capture more x y z stop.WriteFault done why = subst (λ n. Rose n z.sink.faults) done.still why
+stop-behind names capture more x y z stop.NoMemory done why = tt
+stop-behind names capture more x y z (stop.Capture number wrong) done why = why
+stop-behind names capture more x y z stop.Unread done why = why
+stop-behind names capture more x y z stop.Absent done why = why
+stop-behind names capture more x y z stop.Retires done why = why
+stop-behind names capture more x y z stop.Segments done why = why
+stop-behind names capture more x y z (stop.Lane number) done why = why
+stop-behind names capture more x y z (stop.InTheWay number) done why = why
+stop-behind names capture more x y z stop.NoRecords done why = why
+
+-- a send that isn't written
+pub stop-put : (names : List (List ℕ)) (capture : Option ℕ) (endpoint : ℕ) (x y : OutletsAt) (why : Stop) → is_writer capture endpoint ≡ true → StopsPut endpoint x.sink y.sink why → StopsSending names capture x y why
+stop-put names capture endpoint x y (stop.NoFrame number) is put = ap (λ n. is_writer capture n) put ∙ is
+stop-put names capture endpoint x y stop.WriteFault is put = put
+stop-put names capture endpoint x y stop.NoMemory is put = tt
+stop-put names capture endpoint x y (stop.Endpoint number) is put = absurd put
+stop-put names capture endpoint x y (stop.Capture number wrong) is put = absurd put
+stop-put names capture endpoint x y stop.Unread is put = absurd put
+stop-put names capture endpoint x y stop.Absent is put = absurd put
+stop-put names capture endpoint x y stop.Retires is put = absurd put
+stop-put names capture endpoint x y stop.Segments is put = absurd put
+stop-put names capture endpoint x y (stop.Lane number) is put = absurd put
+stop-put names capture endpoint x y (stop.InTheWay number) is put = absurd put
+stop-put names capture endpoint x y stop.NoRecords is put = absurd put
+
+-- a send that isn't handed on
+pub stop-hand : (names : List (List ℕ)) (capture : Option ℕ) (endpoint : ℕ) (x y : OutletsAt) (why : Stop) → StopsHanding names endpoint x.ends y.ends why → StopsSending names capture x y why
+stop-hand names capture endpoint x y (stop.Endpoint number) (same, standing, fails) = record {
+  sends = [];
+  standing = ap (λ n. stands (name_of names n) x.ends) same ∙ standing;
+  fails = subst (λ (n : ℕ). FailsAt (name_of names n) (all_received names [] x.ends) y.ends) (sym same)
+      (subst (λ (es : List NamedEnd). FailsAt (name_of names endpoint) es y.ends) (sym (all_received_none names x.ends)) fails);
+}
+stop-hand names capture endpoint x y (stop.NoFrame number) hand = absurd hand
+stop-hand names capture endpoint x y stop.WriteFault hand = absurd hand
+stop-hand names capture endpoint x y stop.NoMemory hand = tt
+stop-hand names capture endpoint x y (stop.Capture number wrong) hand = absurd hand
+stop-hand names capture endpoint x y stop.Unread hand = absurd hand
+stop-hand names capture endpoint x y stop.Absent hand = absurd hand
+stop-hand names capture endpoint x y stop.Retires hand = absurd hand
+stop-hand names capture endpoint x y stop.Segments hand = absurd hand
+stop-hand names capture endpoint x y (stop.Lane number) hand = absurd hand
+stop-hand names capture endpoint x y (stop.InTheWay number) hand = absurd hand
+stop-hand names capture endpoint x y stop.NoRecords hand = absurd hand

@@ -2,9 +2,11 @@ pub mod CapturesFound
 pub mod CommandsGiven
 pub mod Doings
 pub mod Filterings
+pub mod FreshHits
 pub mod HeadsRead
 pub mod Passings
 pub mod RecordsRead
 pub mod RoundsMade
 pub mod StepCounts
+pub mod Stopped
 pub mod Tallies

@@ -1,5 +1,5 @@
 -- The counts of what happened, with one step more.
-use Rattle.std.proofs.Common.{◌≡◌, ◌+◌, ℕ, Bool, true, false, cond, not, ◌&&◌, ◌||◌, List, [], ◌∷◌, ◌++◌, All, Option, Some, None, refl, sym, ap, subst, ◌∙◌, arith}
+use Rattle.std.proofs.Common.{◌≡◌, ◌+◌, ℕ, Bool, true, false, cond, not, ◌&&◌, ◌||◌, List, [], ◌∷◌, ◌++◌, All, map, Option, Some, None, refl, sym, ap, subst, ◌∙◌, arith}
 use Rattle.std.specs.Prelude.{count_by}
 use Rattle.std.specs.List.{filter_map}
 use Rattle.std.specs.Option.{option_to_list}
@@ -9,7 +9,7 @@ use Rattle.spin_proto.specs.declared.reply.Step.{Step}
 use Rattle.spin_proto.specs.declared.reply.Step.TheVariants as step
 use Rattle.spin_filter.specs.declared.hits.Hit.{Hit}
 use Rattle.spin_filter.specs.declared.counts.Counts.{Counts}
-use Rattle.spin_filter.specs.Counting.{capped, Tells, Marked, Happened, IsHit, AreCounts, with_step, is_run, is_run_of, is_left_of, dropped_by, sent_to, runs_in, lets_in}
+use Rattle.spin_filter.specs.Counting.{BindingAt, binding_of, capped, Tells, Marked, Happened, IsHit, AreCounts, with_step, is_run, is_run_of, is_left_of, dropped_by, sent_to, runs_in, lets_in}
 use Rattle.spin_filter.proofs.Tallies.{count-more}
 
 pub quiet-runs : (n : ℕ) (b : Bool) → b ≡ false → capped n ≡ capped (n + cond b 1 0)
@@ -53,12 +53,12 @@ pub quiet-hits : (steps : List Marked) (m : Marked) (hits : List Hit) → ((even
     → ((event number : ℕ) → is_left_of event number m.taken ≡ false) → All (IsHit steps) hits → All (IsHit (steps ++ m ∷ [])) hits
 quiet-hits steps m hits run left all k d lt = quiet-hit steps m _ (run _ _) (left _ _) (all k d lt)
 
-pub step-counted : (h : Happened) (m : Marked) (c c' : Counts) → AreCounts h c → c'.records ≡ c.records → c'.outcomes ≡ c.outcomes → c'.jobs ≡ c.jobs → c'.lost ≡ c.lost
+pub step-counted : (listed : List BindingAt) (h : Happened) (m : Marked) (c c' : Counts) → AreCounts listed h c → c'.records ≡ c.records → c'.outcomes ≡ c.outcomes → c'.jobs ≡ c.jobs → c'.lost ≡ c.lost
     → c'.runs ≡ capped (count_by (λ (s : Marked). is_run s.taken) h.steps + cond (is_run m.taken) 1 0)
     → Tells (filter_map (λ (s : Marked). dropped_by s.taken) h.steps ++ option_to_list (dropped_by m.taken)) c'.drops
     → Tells (filter_map (λ (s : Marked). sent_to s.taken) h.steps ++ option_to_list (sent_to m.taken)) c'.sends
-    → All (IsHit (h.steps ++ m ∷ [])) c'.hits.items → AreCounts (with_step m h) c'
-step-counted h m c c' is records outcomes jobs lost runs drops sends hits = record {
+    → All (IsHit (h.steps ++ m ∷ [])) c'.hits.items → map binding_of c'.hits.items ≡ map binding_of c.hits.items → AreCounts listed (with_step m h) c'
+step-counted listed h m c c' is records outcomes jobs lost runs drops sends hits same = record {
   records = records ∙ is.records;
   outcomes = subst (λ (t : List ℕ). Tells h.outcomes t) (sym outcomes) is.outcomes;
   jobs = jobs ∙ is.jobs;
@@ -67,6 +67,7 @@ step-counted h m c c' is records outcomes jobs lost runs drops sends hits = reco
   sends = subst (λ (ns : List ℕ). Tells ns c'.sends) (sym (more_of (λ (s : Marked). sent_to s.taken) h.steps m)) sends;
   lost = subst (λ (t : List ℕ). Tells h.lost t) (sym lost) is.lost;
   hits = hits;
+  listed_are = same ∙ is.listed_are;
 }
 
 -- ---- a step that is not counted
@@ -87,3 +88,9 @@ quiet-other (step.Up event) run send drop job = record { run = refl; drop = refl
 quiet-other (step.Back answer) run send drop job = record { run = refl; drop = refl; send = refl; run_of = λ _ _. refl; left_of = λ _ _. refl }
 quiet-other (step.Dropped fault) run send drop job = absurd (drop fault refl)
 quiet-other (step.Job event number) run send drop job = absurd (job event number refl)
+
+-- hits of the same binding
+pub same-binding : (a b : Hit) → a.event ≡ b.event → a.number ≡ b.number → binding_of a ≡ binding_of b
+same-binding a b event number =
+    let at : ℕ → ℕ → BindingAt = λ e n. record { event = e; number = n } in
+    ap (λ e. at e a.number) event ∙ ap (λ n. at b.event n) number

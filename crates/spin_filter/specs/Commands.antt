@@ -1,5 +1,5 @@
 -- The commands of a script, given one after another.
-use Rattle.std.specs.Prelude.{◌≡◌, Bool, true, false, List, [], ◌∷◌, ◌++◌, Option, Some, None, count_by}
+use Rattle.std.specs.Prelude.{◌≡◌, Bool, true, false, List, [], ◌∷◌, Option, Some, None}
 use Rattle.std.specs.List.{filter_map}
 use Rattle.spin_word.specs.declared.command.Command.{Command}
 use Rattle.spin_word.specs.declared.work.Work.{Work}
@@ -10,8 +10,6 @@ use Rattle.spin_table.specs.Steps.{IsStep}
 use Rattle.spin_table.specs.declared.refusal.Verdicted.{Verdicted}
 use Rattle.spin_table.specs.declared.refusal.Verdicted.TheVariants as verdicted
 use Rattle.spin_script.specs.declared.script.Line.{Line}
-use Rattle.spin_filter.specs.declared.commands.Commanded.{Commanded}
-use Rattle.spin_filter.specs.Counting.{capped}
 
 -- the command for which a line asks, if it asks for one
 abbrev pub command_of : Work → Option Command
@@ -33,10 +31,3 @@ AreGiven d s (command ∷ commands) verdicts last =
 abbrev pub is_refusal : Verdicted → Bool
 is_refusal verdicted.Accepted = false
 is_refusal (verdicted.Refused r) = true
-
--- The commands are given where the one stands, and lead to the other; the refusals among their verdicts are counted.
-pub record IsGiven (d : SetupData) (commands : List Command) (before now : Commanded) : Type 0 where
-  pub verdicts : List Verdicted
-  pub given : AreGiven d before.version commands verdicts now.version
-  pub counted : (earlier : List Verdicted) → before.refused ≡ capped (count_by is_refusal earlier)
-      → now.refused ≡ capped (count_by is_refusal (earlier ++ verdicts))

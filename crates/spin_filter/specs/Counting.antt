@@ -13,9 +13,7 @@ use Rattle.spin_proto.specs.Parts.{trace_in}
 use Rattle.spin_filter.specs.declared.hits.Hit.{Hit}
 use Rattle.spin_filter.specs.declared.counts.Counts.{Counts}
 use Rattle.spin_endpoint.specs.Sends.{SentSeen}
-use Rattle.spin_frames.specs.declared.head.Head.{Head}
-use Rattle.spin_frames.specs.Packets.{Packet}
-use Rattle.spin_filter.specs.Passing.{Passed}
+use Rattle.spin_filter.specs.Passing.{TakenSeen, Passed}
 
 -- a count stands still at the greatest number of 64 bits
 abbrev pub capped : ℕ → ℕ
@@ -74,6 +72,15 @@ abbrev pub lets_in : ℕ → ℕ → List Marked → ℕ
 lets_in event number steps =
     count_by (λ m. (not m.first && is_run_of event number m.taken) || is_left_of event number m.taken) steps
 
+-- a binding: its event, and its number, 0 being the event's default
+pub record BindingAt : Type 0 where
+  pub event : ℕ
+  pub number : ℕ
+
+-- the binding of which a hit tells
+abbrev pub binding_of : Hit → BindingAt
+binding_of hit = record { event = hit.event; number = hit.number }
+
 -- The hit tells these of its binding.
 pub record IsHit (steps : List Marked) (hit : Hit) : Type 0 where
   pub runs : hit.runs ≡ capped (runs_in hit.event hit.number steps)
@@ -97,8 +104,7 @@ outcome_of reply.Spent = 6
 
 -- what a step sent, and at which record of which capture
 pub record Sending : Type 0 where
-  pub head : Head
-  pub packet : Packet
+  pub taken : TakenSeen
   pub sent : SentSeen
 
 -- what a step sends, if it sends something
@@ -111,8 +117,8 @@ abbrev pub sends_in : List Marked → List SentSeen
 sends_in steps = filter_map (λ m. sent_by m.taken) steps
 
 -- the same as the sends of a record
-abbrev pub sendings : Head → Packet → List Marked → List Sending
-sendings head packet steps = map (λ s. record { head = head; packet = packet; sent = s }) (sends_in steps)
+abbrev pub sendings : TakenSeen → List Marked → List Sending
+sendings taken steps = map (λ s. record { taken = taken; sent = s }) (sends_in steps)
 
 -- what happened: the outcomes of raises, the steps of these and of jobs, how many jobs were done, the sends of the steps,
 -- and the numbers of the endpoints to which sends were lost
@@ -144,9 +150,9 @@ with_losts endpoints h = record h { lost = h.lost ++ endpoints }
 abbrev pub just_outcome : ℕ → Happened
 just_outcome outcome = record { outcomes = outcome ∷ []; steps = []; jobs = 0; sends = []; lost = [] }
 
-abbrev pub just_steps : Head → Packet → List Marked → Happened
-just_steps head packet steps =
-    record { outcomes = []; steps = steps; jobs = 0; sends = sendings head packet steps; lost = [] }
+abbrev pub just_steps : TakenSeen → List Marked → Happened
+just_steps taken steps =
+    record { outcomes = []; steps = steps; jobs = 0; sends = sendings taken steps; lost = [] }
 
 abbrev pub just_job : Happened
 just_job = record { outcomes = []; steps = []; jobs = 1; sends = []; lost = [] }
@@ -161,8 +167,8 @@ joined a b = record {
   lost = a.lost ++ b.lost;
 }
 
--- The counts are those of what happened.
-pub record AreCounts (h : Happened) (c : Counts) : Type 0 where
+-- The counts are those of what happened, and of each binding that is listed.
+pub record AreCounts (listed : List BindingAt) (h : Happened) (c : Counts) : Type 0 where
   pub records : c.records ≡ capped (length h.outcomes)
   pub outcomes : Tells h.outcomes c.outcomes
   pub jobs : c.jobs ≡ capped h.jobs
@@ -171,18 +177,19 @@ pub record AreCounts (h : Happened) (c : Counts) : Type 0 where
   pub sends : Tells (filter_map (λ m. sent_to m.taken) h.steps) c.sends
   pub lost : Tells h.lost c.lost
   pub hits : All (IsHit h.steps) c.hits.items
+  pub listed_are : map binding_of c.hits.items ≡ listed
 
 -- the steps of jobs with these replies
 abbrev pub steps_of_jobs : List Reply → List Marked
 steps_of_jobs replies = flat_map (λ r. job_steps (trace_in r)) replies
 
 -- what happened as jobs with these replies were done
-abbrev pub happened_in_jobs : Head → Packet → List Reply → Happened
-happened_in_jobs head packet replies = record {
+abbrev pub happened_in_jobs : TakenSeen → List Reply → Happened
+happened_in_jobs taken replies = record {
   outcomes = [];
   steps = steps_of_jobs replies;
   jobs = length replies;
-  sends = sendings head packet (steps_of_jobs replies);
+  sends = sendings taken (steps_of_jobs replies);
   lost = [];
 }
 
@@ -192,6 +199,6 @@ happened_at passed = record {
   outcomes = outcome_of passed.reply ∷ [];
   steps = later_steps (trace_in passed.reply) ++ steps_of_jobs passed.jobs;
   jobs = length passed.jobs;
-  sends = sendings passed.head passed.packet (later_steps (trace_in passed.reply) ++ steps_of_jobs passed.jobs);
+  sends = sendings passed.taken (later_steps (trace_in passed.reply) ++ steps_of_jobs passed.jobs);
   lost = [];
 }

@@ -20,13 +20,13 @@ happened_in (passed ∷ others) = joined (happened_at passed) (happened_in other
 
 -- The records of a capture whose header says this were passed at the state, each as the event whose turn it is.
 pub record ArePassed (d : SetupData) (s : State) (round : List ℕ) (head : Head) (passed : List Passed) : Type 0 where
-  pub heads : All (λ p. p.head ≡ head) passed
+  pub heads : All (λ p. p.taken.head ≡ head) passed
   pub turns : (n : ℕ) (p : Passed) → n < length passed → IsPassed d s (event_at round n) (slice_index_or passed n p)
 
 -- The bytes are just these records, and then so many that are no whole record.
 abbrev pub AreRecords : Order → List ℕ → List Passed → ℕ → Type 0
 AreRecords order bytes passed cut =
-    (last : Next) × ArePackets order bytes (map (λ p. p.packet) passed) (Ok last) × (cut ≡ cut_of last)
+    (last : Next) × ArePackets order bytes (map (λ p. p.taken.packet) passed) (Ok last) × (cut ≡ cut_of last)
 
 -- a capture that was passed: what its header says, its records, and how many bytes behind them are no whole record
 pub record PassedCapture : Type 0 where
@@ -37,7 +37,7 @@ pub record PassedCapture : Type 0 where
 -- The file is a capture of just these records.
 abbrev pub IsCaptureOf : List ℕ → PassedCapture → Type 0
 IsCaptureOf file seen =
-    (last : Next) × IsLongCapture file seen.head (map (λ p. p.packet) seen.passed) (Ok last) × (seen.cut ≡ cut_of last)
+    (last : Next) × IsLongCapture file seen.head (map (λ p. p.taken.packet) seen.passed) (Ok last) × (seen.cut ≡ cut_of last)
 
 -- The file of that name is this capture.
 abbrev pub IsFound : List File → List ℕ → PassedCapture → Type 0

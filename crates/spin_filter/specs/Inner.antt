@@ -1,2 +1,5 @@
 -- What the contracts of private functions cite alone.
-pub mod Beginnings
+pub mod Fresh
+pub mod Giving
+pub mod Sends
+pub mod Stopping

@@ -3,7 +3,9 @@ pub mod Counting
 pub mod Filters
 pub mod Histories
 pub mod Inner
+pub mod Listing
 pub mod Passing
 pub mod Rounds
 pub mod Sending
 pub mod Stops
+pub mod Unsuited

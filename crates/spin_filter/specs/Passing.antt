@@ -11,11 +11,14 @@ use Rattle.spin_proto.specs.Replies.{IsDeedReply, IsJobReply, calls_left}
 use Rattle.spin_frames.specs.declared.head.Head.{Head}
 use Rattle.spin_frames.specs.Packets.{Packet}
 
--- a record that was passed: what its capture's header says, what it is, the reply to its raise, and those to the jobs
--- that this left, in order
-pub record Passed : Type 0 where
+-- a record where it stands: what its capture's header says, and what it is
+pub record TakenSeen : Type 0 where
   pub head : Head
   pub packet : Packet
+
+-- a record that was passed: the reply to its raise, and those to the jobs that this left, in order
+pub record Passed : Type 0 where
+  pub taken : TakenSeen
   pub reply : Reply
   pub jobs : List Reply
 
@@ -32,5 +35,5 @@ AreJobReplies d s (call ∷ calls) replies =
 
 -- The record was raised as this event at the state, and its jobs were done there.
 pub record IsPassed (d : SetupData) (s : State) (event : ℕ) (passed : Passed) : Type 0 where
-  pub reply : IsDeedReply d s (raise_with event passed.packet.frame) passed.reply
+  pub reply : IsDeedReply d s (raise_with event passed.taken.packet.frame) passed.reply
   pub jobs : AreJobReplies d s (calls_left passed.reply) passed.jobs

@@ -6,7 +6,8 @@ ghost use Rattle.spin_word.specs.declared.command.TheConstants.{MAX_PLACE};
 ghost use Rattle.spin_table.specs.SetupOf.{data_of};
 ghost use Rattle.spin_table.specs.Soundness.{IsSound};
 ghost use Rattle.spin_script.specs.Soundness.{IsValidWork, commands_in};
-ghost use Rattle.spin_filter.specs.Commands.{commands_of, IsGiven};
+ghost use Rattle.spin_filter.specs.Commands.{commands_of};
+ghost use Rattle.spin_filter.specs.Inner.Giving.{IsGiven, IsCommanded};
 
 use crate::tally::one_more;
 use spin_code::Sincere;
@@ -17,13 +18,13 @@ use spin_values::NoMemory;
 use spin_word::{Command, Work};
 use std::alloc::Global;
 
-/// What commands came to.
+// What commands came to.
 #[derive(Drop)]
-pub struct Commanded {
-    /// The version that they left.
-    pub version: Version,
-    /// How many were refused, up to the greatest number of 64 bits.
-    pub refused: u64,
+pub(crate) struct Commanded {
+    // The version that they left.
+    pub(crate) version: Version,
+    // How many were refused, up to the greatest number of 64 bits.
+    pub(crate) refused: u64,
 }
 
 // Gives one command.
@@ -74,8 +75,8 @@ fn give_line(
     }
 }
 
-/// Gives the commands among these lines, in order.
-pub fn give_commands(
+// Gives the commands among these lines, in order.
+fn give_commands(
     alloc: Global,
     setup: &Setup,
     so_far: Commanded,
@@ -93,4 +94,20 @@ pub fn give_commands(
         now = give_line(alloc, setup, now, line)?;
     }
     Ok(now)
+}
+
+// Gives the commands among these lines, in order, where none was given yet.
+pub(crate) fn give_all(alloc: Global, setup: &Setup, lines: &[Line]) -> Result<Commanded, NoMemory>
+    requires sincere { ⟦<Catalogue as Sincere>⟧.sincere setup.now.catalogue }
+    requires valid { All (λ line. IsValidWork line.work) lines.now }
+    requires few { commands_in lines.now ≤ MAX_PLACE }
+    ensures given { IfOk result (IsCommanded (data_of setup.now) (commands_of lines.now)) }
+    ensures sound { IfOk result (λ now. IsSound (data_of setup.now) now.version) }
+{
+    let version = Version::start(alloc, setup)?;
+    let start = Commanded {
+        version,
+        refused: 0,
+    };
+    give_commands(alloc, setup, start, lines)
 }

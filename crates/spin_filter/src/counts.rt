@@ -1,14 +1,19 @@
 //! What came of records, in numbers.
 
-ghost use Rattle.std.specs.Prelude.{◌≡◌, ◌+◌, ◌++◌, ◌∷◌, [], ℕ, List, All, IfOk};
+ghost use Rattle.std.specs.Prelude.{◌≡◌, ◌+◌, ◌++◌, ◌∷◌, [], ℕ, List, All, map, IfOk};
+ghost use Rattle.spin_table.specs.SetupOf.{data_of};
+ghost use Rattle.spin_table.specs.Soundness.{IsSound};
 ghost use Rattle.spin_filter.specs.Counting as specs;
-ghost use Rattle.spin_filter.specs.Counting.{Happened, Marked, IsHit, AreCounts, nothing, with_step, with_outcome, with_job, with_losts};
+ghost use Rattle.spin_filter.specs.Counting.{Happened, Marked, BindingAt, IsHit, AreCounts, nothing, binding_of, with_step, with_outcome, with_job, with_losts};
+ghost use Rattle.spin_filter.specs.Listing.{bindings_at};
 
 use crate::hits::Hit;
+use crate::listing::list_hits;
 use crate::tally::{Tally, one_more};
 use spin_endpoint::MAX_ENDPOINTS;
 use spin_proto::{LentReply, Reply, ReplyView, Step};
 use spin_raise::Answer;
+use spin_table::{Setup, Version};
 use spin_values::NoMemory;
 use std::alloc::Global;
 
@@ -75,10 +80,10 @@ pub fn outcome_of(reply: &ReplyView) -> usize
 }
 
 impl Counts {
-    /// Nothing came of anything yet.
-    pub fn new(alloc: Global) -> Result<Counts, NoMemory>
-        ensures counts { IfOk result (λ counts. AreCounts nothing counts) }
-        ensures hits { IfOk result (λ counts. counts.hits.items ≡ []) }
+    // Nothing came of anything yet, and these are the hits.
+    fn with_hits(alloc: Global, hits: Vec<Hit>) -> Result<Counts, NoMemory>
+        requires { All (IsHit []) hits.items }
+        ensures { IfOk result (λ counts. AreCounts (map binding_of hits.items) nothing counts) }
     {
         Ok(Counts {
             records: 0,
@@ -88,13 +93,29 @@ impl Counts {
             drops: Tally::new(alloc, FAULTS)?,
             sends: Tally::new(alloc, MAX_ENDPOINTS)?,
             lost: Tally::new(alloc, MAX_ENDPOINTS)?,
-            hits: Vec::new(alloc),
+            hits,
         })
+    }
+
+    /// Nothing came of anything yet, and no binding is listed.
+    pub fn new(alloc: Global) -> Result<Counts, NoMemory>
+        ensures { IfOk result (λ counts. AreCounts [] nothing counts) }
+    {
+        Counts::with_hits(alloc, Vec::new(alloc))
+    }
+
+    /// Nothing came of anything yet; listed is each binding that is live at the version, and each event's default.
+    pub fn of(alloc: Global, setup: &Setup, version: &Version) -> Result<Counts, NoMemory>
+        requires { IsSound (data_of setup.now) version.now }
+        ensures { IfOk result (λ counts. AreCounts (bindings_at version.now) nothing counts) }
+    {
+        let hits = list_hits(alloc, setup, version)?;
+        Counts::with_hits(alloc, hits)
     }
 
     /// Counts the outcome of a raise.
     pub fn note_outcome(&mut self, outcome: usize)
-        ensures { (h : Happened) → AreCounts h self.old → AreCounts (with_outcome outcome h) self.new }
+        ensures { (listed : List BindingAt) (h : Happened) → AreCounts listed h self.old → AreCounts listed (with_outcome outcome h) self.new }
     {
         self.records = one_more(self.records);
         self.outcomes.add(outcome);
@@ -102,14 +123,14 @@ impl Counts {
 
     /// Counts a job.
     pub fn note_job(&mut self)
-        ensures { (h : Happened) → AreCounts h self.old → AreCounts (with_job h) self.new }
+        ensures { (listed : List BindingAt) (h : Happened) → AreCounts listed h self.old → AreCounts listed (with_job h) self.new }
     {
         self.jobs = one_more(self.jobs);
     }
 
     /// Counts a send that is lost to the endpoint of that number.
     pub fn note_lost(&mut self, endpoint: u8)
-        ensures { (h : Happened) → AreCounts h self.old → AreCounts (with_losts (endpoint ∷ []) h) self.new }
+        ensures { (listed : List BindingAt) (h : Happened) → AreCounts listed h self.old → AreCounts listed (with_losts (endpoint ∷ []) h) self.new }
     {
         self.lost.add(endpoint as usize);
     }
@@ -117,7 +138,7 @@ impl Counts {
     /// Counts a step, which may be the first of a job.
     pub fn note_step(&mut self, step: &Step, is_first: bool)
         ensures { let marked : Marked = record { first = is_first; taken = step.now } in
-            (h : Happened) → AreCounts h self.old → AreCounts (with_step marked h) self.new }
+            (listed : List BindingAt) (h : Happened) → AreCounts listed h self.old → AreCounts listed (with_step marked h) self.new }
     {
         match step {
             Step::Run { .. } => {
@@ -134,7 +155,8 @@ impl Counts {
 
 // Counts a step at each binding.
 fn note_hits(hits: &mut Vec<Hit>, step: &Step, is_first: bool)
-    ensures { let marked : Marked = record { first = is_first; taken = step.now } in
+    ensures listed { map binding_of hits.new.items ≡ map binding_of hits.old.items }
+    ensures noted { let marked : Marked = record { first = is_first; taken = step.now } in
         (steps : List Marked) → All (IsHit steps) hits.old.items → All (IsHit (steps ++ marked ∷ [])) hits.new.items }
 {
     for hit in hits.iter_mut() {

@@ -1,43 +1,31 @@
 //! A whole pass of a filter: the commands of a script, and then the records of captures.
 
-ghost use Rattle.std.specs.Prelude.{◌≡◌, ◌≤◌, IfOk};
+ghost use Rattle.std.specs.Prelude.{◌≡◌, ◌≤◌, MatchResult};
 ghost use Rattle.spin_word.specs.declared.command.TheConstants.{MAX_PLACE};
-ghost use Rattle.spin_table.specs.SetupOf.{data_of};
-ghost use Rattle.spin_table.specs.Soundness.{IsSound};
-ghost use Rattle.spin_table.specs.States.{start_of};
 ghost use Rattle.spin_script.specs.Scripts.{script_seen};
 ghost use Rattle.spin_script.specs.Segments.{IsOrderly};
 ghost use Rattle.spin_script.specs.Soundness.{AreValid, command_lines};
 ghost use Rattle.spin_frames.specs.Written.{with_waiting};
-ghost use Rattle.spin_filter.specs.Filters.{IsFiltered};
-ghost use Rattle.spin_filter.specs.Inner.Beginnings.{IsBegun};
+ghost use Rattle.spin_filter.specs.Filters.{IsFiltered, StopsFilter};
+ghost use Rattle.spin_filter.specs.Sending.{outlets_at};
 
 use crate::captures::pass_captures;
-use crate::commands::{Commanded, give_commands};
+use crate::commands::{Commanded, give_all};
 use crate::counts::Counts;
-use crate::rounds::add_lines;
+use crate::outlets::Outlets;
+use crate::passing::Passing;
+use crate::rounds::{lines_of, make_round};
 use crate::stop::Stop;
 use spin_code::Sincere;
 use spin_endpoint::{Ends, EndsSeen};
-use spin_frames::FrameFile;
 use spin_objects::Catalogue;
 use spin_outside::{Shelf, Sink};
 use spin_script::Script;
-use spin_table::Version;
 use spin_values::Text;
 use std::alloc::Global;
 
-/// What a script asks of a filter, its commands given.
-#[derive(Drop)]
-pub struct Begun {
-    /// The events of a round, one for each of its records.
-    pub round: Vec<u8>,
-    /// What the commands came to.
-    pub commanded: Commanded,
-}
-
-/// What a filter came to.
-#[derive(Drop)]
+/// What a filter came to, beside its counts.
+#[derive(Clone, Copy, Debug)]
 pub struct Filtered {
     /// How many commands were accepted.
     pub accepted: u16,
@@ -45,54 +33,20 @@ pub struct Filtered {
     pub refused: u64,
     /// How many bytes stand behind the records of captures that are no whole record, up to the greatest number of 64 bits.
     pub cut: u64,
-    /// What came of the records.
-    pub counts: Counts,
-}
-
-// Gives the commands of the script, where none was given yet, and makes a round of the lines that take packets.
-fn give_segments(alloc: Global, script: &Script, start: Commanded) -> Result<Begun, Stop>
-    requires sincere { ⟦<Catalogue as Sincere>⟧.sincere script.now.setup.catalogue }
-    requires valid { AreValid script.now.segments }
-    requires commands { command_lines script.now.segments ≤ MAX_PLACE }
-    requires first { start.version ≡ start_of (data_of script.now.setup) }
-    requires none { start.refused ≡ 0 }
-    requires sound { IsSound (data_of script.now.setup) start.version }
-    ensures begun { IfOk result (IsBegun (script_seen script.now)) }
-    ensures sound { IfOk result (λ begun. IsSound (data_of script.now.setup) begun.commanded.version) }
-{
-    let mut round = Vec::new(alloc);
-    let mut commanded = start;
-    for number in 0..script.segments.len() {
-        let segment = script.segments.get(number);
-        let lines = segment.lines.as_slice();
-        add_lines(&mut round, lines)?;
-        commanded = give_commands(alloc, &script.setup, commanded, lines)?;
-    }
-    Ok(Begun { round, commanded })
-}
-
-// Gives the commands of the script, and makes a round of the lines that take packets.
-fn begin(alloc: Global, script: &Script) -> Result<Begun, Stop>
-    requires sincere { ⟦<Catalogue as Sincere>⟧.sincere script.now.setup.catalogue }
-    requires valid { AreValid script.now.segments }
-    requires commands { command_lines script.now.segments ≤ MAX_PLACE }
-    ensures begun { IfOk result (IsBegun (script_seen script.now)) }
-    ensures sound { IfOk result (λ begun. IsSound (data_of script.now.setup) begun.commanded.version) }
-{
-    let version = Version::start(alloc, &script.setup)?;
-    let start = Commanded {
-        version,
-        refused: 0,
-    };
-    give_segments(alloc, script, start)
 }
 
 /// Gives the commands of the script in the order of its text, and then passes the records of the captures of these
 /// names, one capture after another. Within a capture the lines that take packets are gone through round after round.
-/// Where `capture` is the number of an endpoint, what is sent to it is written to the file as records of a capture.
+/// Where `capture` is the number of an endpoint, what is sent to it is written to the file as records of a capture. The
+/// counts of the outlets are then those of this pass: of each binding that is live behind the commands, and of each
+/// event's default, they tell how often it ran.
 ///
-/// Whatever the captures' length it holds one window, what waits for the file, and what one record needs. After a
-/// failure some sends may have been made.
+/// The script has one segment, whose lines are of one lane: commands first, then lines that take packets. It is refused
+/// before anything is done by [`Stop::Retires`], [`Stop::Segments`], [`Stop::Lane`], [`Stop::InTheWay`] or
+/// [`Stop::NoRecords`], the first of these that applies, and of lines the first. [`Stop::Unread`] comes only where the
+/// shelf's count of faults rose, [`Stop::Absent`] where its count of absences rose, [`Stop::Endpoint`] where that
+/// endpoint's, [`Stop::WriteFault`] where the sink's. Whatever the captures' length it holds one window, what waits for
+/// the file, and what one record needs. After a stop in the pass some sends may have been made.
 ///
 /// The script is one that [`read_script`](spin_script::read_script) gives, and the catalogue's objects do what they
 /// were handed in with.
@@ -102,40 +56,40 @@ pub fn filter_captures<F: Shelf, W: Sink + Drop>(
     captures: &[Text],
     capture: Option<u8>,
     shelf: &mut F,
-    ends: &mut Ends,
-    file: &mut FrameFile<W>,
+    outlets: &mut Outlets<W>,
 ) -> Result<Filtered, Stop>
     requires sincere { ⟦<Catalogue as Sincere>⟧.sincere script.now.setup.catalogue }
     requires valid { AreValid script.now.segments }
     requires commands { command_lines script.now.segments ≤ MAX_PLACE }
     requires orderly { IsOrderly (script_seen script.now) }
-    ensures { let told = (with_waiting (W.seen file.old.sink) file.old.waiting).told in
-        let told' = (with_waiting (W.seen file.new.sink) file.new.waiting).told in
-        IfOk result (IsFiltered (script_seen script.now) capture (F.seen shelf.old).files captures.now
-        (⟦<Ends as EndsSeen>⟧.all ends.old) (⟦<Ends as EndsSeen>⟧.all ends.new) told told') }
+    ensures filtered { let before = outlets_at (⟦<Ends as EndsSeen>⟧.all outlets.old.ends)
+        (with_waiting (W.seen outlets.old.file.sink) outlets.old.file.waiting) outlets.old.counts in
+        let after = outlets_at (⟦<Ends as EndsSeen>⟧.all outlets.new.ends)
+        (with_waiting (W.seen outlets.new.file.sink) outlets.new.file.waiting) outlets.new.counts in
+        MatchResult result
+        (IsFiltered (script_seen script.now) capture (F.seen shelf.old).files captures.now
+        before after)
+        (StopsFilter (script_seen script.now) capture captures.now
+        (F.seen shelf.old) (F.seen shelf.new)
+        before after) }
+    ensures files { (F.seen shelf.new).files ≡ (F.seen shelf.old).files }
 {
-    let Begun { round, commanded } = begin(alloc, script)?;
-    if round.is_empty() {
-        return Err(Stop::NoRecords);
-    }
-    let mut counts = Counts::new(alloc)?;
-    let cut = pass_captures(
+    let lines = lines_of(script)?;
+    let round = make_round(alloc, lines)?;
+    let Commanded { version, refused } = give_all(alloc, &script.setup, lines)?;
+    outlets.counts = Counts::of(alloc, &script.setup, &version)?;
+    let passing = Passing {
         alloc,
-        &script.setup,
-        &commanded.version,
-        script.endpoints.as_slice(),
+        setup: &script.setup,
+        version: &version,
+        names: script.endpoints.as_slice(),
         capture,
-        round.as_slice(),
-        captures,
-        shelf,
-        ends,
-        file,
-        &mut counts,
-    )?;
+        round: round.as_slice(),
+    };
+    let cut = pass_captures(&passing, captures, shelf, outlets)?;
     Ok(Filtered {
-        accepted: commanded.version.place(),
-        refused: commanded.refused,
+        accepted: version.place(),
+        refused,
         cut,
-        counts,
     })
 }

@@ -1,6 +1,6 @@
-//! One record.
+//! A record, passed: its raise, its jobs, and their sends.
 
-ghost use Rattle.std.specs.Prelude.{◌≡◌, ◌≤◌, ◌∷◌, [], List, length, All, IfOk, OnOk};
+ghost use Rattle.std.specs.Prelude.{◌≡◌, ◌≤◌, ◌∷◌, [], List, length, All, IfOk, MatchResult};
 ghost use Rattle.spin_values.specs.declared.values.Value.TheVariants as value;
 ghost use Rattle.spin_endpoint.specs.declared.ends.TheConstants.{MAX_ENDPOINTS};
 ghost use Rattle.spin_table.specs.SetupOf.{data_of};
@@ -8,24 +8,56 @@ ghost use Rattle.spin_table.specs.Soundness.{IsSound};
 ghost use Rattle.spin_proto.specs.declared.reply.Reply.{Reply};
 ghost use Rattle.spin_proto.specs.Parts.{trace_in};
 ghost use Rattle.spin_proto.specs.Replies.{BelongsTo, IsJobReply};
-ghost use Rattle.spin_frames.specs.Packets.{Packet};
 ghost use Rattle.spin_frames.specs.Written.{with_waiting};
 ghost use Rattle.spin_filter.specs.Counting.{joined, just_job, just_steps, job_steps, happened_in_jobs, happened_at};
 ghost use Rattle.spin_filter.specs.Passing.{Passed, AreJobReplies, IsPassed};
-ghost use Rattle.spin_filter.specs.Sending.{outlets, IsDone};
+ghost use Rattle.spin_filter.specs.Sending.{outlets_at, IsDone, StopsSending};
 
-use crate::counts::{Counts, outcome_of};
+use crate::counts::outcome_of;
+use crate::outlets::Outlets;
 use crate::sending::{do_job_steps, do_steps};
 use crate::stop::Stop;
+use crate::taken::Taken;
 use spin_code::Sincere;
 use spin_endpoint::{Ends, EndsSeen};
-use spin_frames::{FrameFile, Head};
 use spin_objects::Catalogue;
 use spin_outside::Sink;
 use spin_proto::{Deed, JobCall, ReplyBuffer, job_path, path_into};
 use spin_table::{Setup, Version};
 use spin_values::{Args, NoMemory, Octets, Text, Value};
 use std::alloc::Global;
+use std::mem;
+
+// What records are passed by: the script, and the state that its commands left.
+#[derive(Drop)]
+pub(crate) struct Passing<'a> {
+    pub(crate) alloc: Global,
+    pub(crate) setup: &'a Setup,
+    pub(crate) version: &'a Version,
+    // The names of the script's endpoints, by number.
+    pub(crate) names: &'a [Text],
+    // The number of the endpoint that writes a capture, if one does.
+    pub(crate) capture: Option<u8>,
+    // The events of a round, one for each of its records.
+    pub(crate) round: &'a [u8],
+}
+
+// The room of one raise after another.
+#[derive(Drop)]
+pub(crate) struct Room {
+    args: Args,
+    buffer: ReplyBuffer,
+}
+
+impl Room {
+    // Room that grows as it is needed.
+    pub(crate) fn new(alloc: Global) -> Room {
+        Room {
+            args: Args::new(alloc),
+            buffer: ReplyBuffer::new(alloc),
+        }
+    }
+}
 
 // The arguments of a raise with these bytes, in the room of those of the last one.
 fn refilled(alloc: Global, args: Args, frame: &[u8]) -> Result<Args, NoMemory>
@@ -45,128 +77,102 @@ fn refilled(alloc: Global, args: Args, frame: &[u8]) -> Result<Args, NoMemory>
 
 // Does a job of a raise.
 fn do_job<W: Sink + Drop>(
-    alloc: Global,
-    setup: &Setup,
-    version: &Version,
-    names: &[Text],
-    capture: Option<u8>,
-    head: Head,
-    header: &[u8],
-    frame: &[u8],
+    passing: &Passing<'_>,
+    taken: &Taken<'_>,
     call: &JobCall,
-    ends: &mut Ends,
-    file: &mut FrameFile<W>,
-    counts: &mut Counts,
+    outlets: &mut Outlets<W>,
 ) -> Result<(), Stop>
-    requires sincere { ⟦<Catalogue as Sincere>⟧.sincere setup.now.catalogue }
-    requires sound { IsSound (data_of setup.now) version.now }
-    requires belongs { BelongsTo version.now call.now }
-    requires few { length names.now ≤ MAX_ENDPOINTS }
-    requires size { 16 ≤ length header.now }
-    ensures { let packet : Packet = record { header = header.now; frame = frame.now } in
-        let before = outlets (⟦<Ends as EndsSeen>⟧.all ends.old)
-        (with_waiting (W.seen file.old.sink) file.old.waiting).told counts.old in
-        let after = outlets (⟦<Ends as EndsSeen>⟧.all ends.new)
-        (with_waiting (W.seen file.new.sink) file.new.waiting).told counts.new in
-        OnOk result ((reply : Reply) × IsJobReply (data_of setup.now) version.now call.now reply
-        × IsDone names.now capture (joined just_job (just_steps head packet (job_steps (trace_in reply)))) before after) }
+    requires sincere { ⟦<Catalogue as Sincere>⟧.sincere passing.now.setup.now.catalogue }
+    requires sound { IsSound (data_of passing.now.setup.now) passing.now.version.now }
+    requires belongs { BelongsTo passing.now.version.now call.now }
+    requires few { length passing.now.names.now ≤ MAX_ENDPOINTS }
+    ensures { let before = outlets_at (⟦<Ends as EndsSeen>⟧.all outlets.old.ends)
+        (with_waiting (W.seen outlets.old.file.sink) outlets.old.file.waiting) outlets.old.counts in
+        let after = outlets_at (⟦<Ends as EndsSeen>⟧.all outlets.new.ends)
+        (with_waiting (W.seen outlets.new.file.sink) outlets.new.file.waiting) outlets.new.counts in
+        MatchResult result
+        (λ _. (reply : Reply) × IsJobReply (data_of passing.now.setup.now) passing.now.version.now call.now reply
+        × IsDone passing.now.names.now passing.now.capture
+        (joined just_job (just_steps taken.now (job_steps (trace_in reply))))
+        before after)
+        (StopsSending passing.now.names.now passing.now.capture
+        before after) }
 {
-    let reply = job_path(alloc, version, setup, call)?;
-    counts.note_job();
-    do_job_steps(
-        alloc,
-        names,
-        capture,
-        head,
-        header,
-        frame,
-        reply.trace(),
-        ends,
-        file,
-        counts,
-    )?;
+    let reply = job_path(passing.alloc, passing.version, passing.setup, call)?;
+    outlets.counts.note_job();
+    do_job_steps(passing, taken, reply.trace(), outlets)?;
     Ok(())
 }
 
 // Does the jobs of a raise, one after another.
 fn do_jobs<W: Sink + Drop>(
-    alloc: Global,
-    setup: &Setup,
-    version: &Version,
-    names: &[Text],
-    capture: Option<u8>,
-    head: Head,
-    header: &[u8],
-    frame: &[u8],
+    passing: &Passing<'_>,
+    taken: &Taken<'_>,
     calls: &[JobCall],
-    ends: &mut Ends,
-    file: &mut FrameFile<W>,
-    counts: &mut Counts,
+    outlets: &mut Outlets<W>,
 ) -> Result<(), Stop>
-    requires sincere { ⟦<Catalogue as Sincere>⟧.sincere setup.now.catalogue }
-    requires sound { IsSound (data_of setup.now) version.now }
-    requires belong { All (BelongsTo version.now) calls.now }
-    requires few { length names.now ≤ MAX_ENDPOINTS }
-    requires size { 16 ≤ length header.now }
-    ensures { let packet : Packet = record { header = header.now; frame = frame.now } in
-        let before = outlets (⟦<Ends as EndsSeen>⟧.all ends.old)
-        (with_waiting (W.seen file.old.sink) file.old.waiting).told counts.old in
-        let after = outlets (⟦<Ends as EndsSeen>⟧.all ends.new)
-        (with_waiting (W.seen file.new.sink) file.new.waiting).told counts.new in
-        OnOk result ((replies : List Reply) × AreJobReplies (data_of setup.now) version.now calls.now replies
-        × IsDone names.now capture (happened_in_jobs head packet replies) before after) }
+    requires sincere { ⟦<Catalogue as Sincere>⟧.sincere passing.now.setup.now.catalogue }
+    requires sound { IsSound (data_of passing.now.setup.now) passing.now.version.now }
+    requires belong { All (BelongsTo passing.now.version.now) calls.now }
+    requires few { length passing.now.names.now ≤ MAX_ENDPOINTS }
+    ensures { let before = outlets_at (⟦<Ends as EndsSeen>⟧.all outlets.old.ends)
+        (with_waiting (W.seen outlets.old.file.sink) outlets.old.file.waiting) outlets.old.counts in
+        let after = outlets_at (⟦<Ends as EndsSeen>⟧.all outlets.new.ends)
+        (with_waiting (W.seen outlets.new.file.sink) outlets.new.file.waiting) outlets.new.counts in
+        MatchResult result
+        (λ _. (replies : List Reply)
+        × AreJobReplies (data_of passing.now.setup.now) passing.now.version.now calls.now replies
+        × IsDone passing.now.names.now passing.now.capture (happened_in_jobs taken.now replies)
+        before after)
+        (StopsSending passing.now.names.now passing.now.capture
+        before after) }
 {
     for call in calls {
-        do_job(
-            alloc, setup, version, names, capture, head, header, frame, call, ends, file, counts,
-        )?;
+        do_job(passing, taken, call, outlets)?;
     }
     Ok(())
 }
 
-/// Raises the event with the record's frame, does the jobs that it leaves, and gives back the room of its arguments.
-pub fn pass_record<W: Sink + Drop>(
-    alloc: Global,
-    setup: &Setup,
-    version: &Version,
-    names: &[Text],
-    capture: Option<u8>,
-    head: Head,
-    header: &[u8],
-    frame: &[u8],
+// Raises the event with the record's frame, and does the jobs that this leaves.
+pub(crate) fn pass_record<W: Sink + Drop>(
+    passing: &Passing<'_>,
+    taken: &Taken<'_>,
     event: u8,
-    room: Args,
-    buffer: &mut ReplyBuffer,
-    ends: &mut Ends,
-    file: &mut FrameFile<W>,
-    counts: &mut Counts,
-) -> Result<Args, Stop>
-    requires sincere { ⟦<Catalogue as Sincere>⟧.sincere setup.now.catalogue }
-    requires sound { IsSound (data_of setup.now) version.now }
-    requires few { length names.now ≤ MAX_ENDPOINTS }
-    requires size { 16 ≤ length header.now }
-    ensures { let packet : Packet = record { header = header.now; frame = frame.now } in
-        let before = outlets (⟦<Ends as EndsSeen>⟧.all ends.old)
-        (with_waiting (W.seen file.old.sink) file.old.waiting).told counts.old in
-        let after = outlets (⟦<Ends as EndsSeen>⟧.all ends.new)
-        (with_waiting (W.seen file.new.sink) file.new.waiting).told counts.new in
-        OnOk result ((passed : Passed) × (passed.head ≡ head) × (passed.packet ≡ packet)
-        × IsPassed (data_of setup.now) version.now event passed
-        × IsDone names.now capture (happened_at passed) before after) }
+    room: &mut Room,
+    outlets: &mut Outlets<W>,
+) -> Result<(), Stop>
+    requires sincere { ⟦<Catalogue as Sincere>⟧.sincere passing.now.setup.now.catalogue }
+    requires sound { IsSound (data_of passing.now.setup.now) passing.now.version.now }
+    requires few { length passing.now.names.now ≤ MAX_ENDPOINTS }
+    ensures { let before = outlets_at (⟦<Ends as EndsSeen>⟧.all outlets.old.ends)
+        (with_waiting (W.seen outlets.old.file.sink) outlets.old.file.waiting) outlets.old.counts in
+        let after = outlets_at (⟦<Ends as EndsSeen>⟧.all outlets.new.ends)
+        (with_waiting (W.seen outlets.new.file.sink) outlets.new.file.waiting) outlets.new.counts in
+        MatchResult result
+        (λ _. (passed : Passed) × (passed.taken ≡ taken.now)
+        × IsPassed (data_of passing.now.setup.now) passing.now.version.now event passed
+        × IsDone passing.now.names.now passing.now.capture (happened_at passed)
+        before after)
+        (StopsSending passing.now.names.now passing.now.capture
+        before after) }
 {
-    let args = refilled(alloc, room, frame)?;
+    let args = mem::replace(&mut room.args, Args::new(passing.alloc));
+    let args = refilled(passing.alloc, args, taken.frame())?;
     let deed = Deed::Raise { event, args };
-    path_into(alloc, version, setup, &deed, buffer)?;
-    let view = buffer.view();
-    counts.note_outcome(outcome_of(&view));
+    path_into(
+        passing.alloc,
+        passing.version,
+        passing.setup,
+        &deed,
+        &mut room.buffer,
+    )?;
+    let view = room.buffer.view();
+    outlets.counts.note_outcome(outcome_of(&view));
     let (steps, calls) = (view.trace(), view.calls());
-    do_steps(
-        alloc, names, capture, head, header, frame, steps, ends, file, counts,
-    )?;
-    do_jobs(
-        alloc, setup, version, names, capture, head, header, frame, calls, ends, file, counts,
-    )?;
+    do_steps(passing, taken, steps, outlets)?;
+    do_jobs(passing, taken, calls, outlets)?;
     match deed {
-        Deed::Raise { args, .. } | Deed::Later { args, .. } => Ok(args),
+        Deed::Raise { args, .. } | Deed::Later { args, .. } => room.args = args,
     }
+    Ok(())
 }

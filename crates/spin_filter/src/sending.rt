@@ -1,21 +1,23 @@
 //! The sends of steps, as they come.
 
-ghost use Rattle.std.specs.Prelude.{◌≡◌, ◌≤◌, ◌⊎◌, ◌∷◌, [], true, length, OnOk};
+ghost use Rattle.std.specs.Prelude.{◌≡◌, ◌≤◌, ◌⊎◌, ◌∷◌, [], true, length, IfErr, MatchResult, OnOk};
 ghost use Rattle.spin_endpoint.specs.declared.ends.TheConstants.{MAX_ENDPOINTS};
 ghost use Rattle.spin_endpoint.specs.Sends.{SentSeen, name_of};
-ghost use Rattle.spin_frames.specs.Packets.{Packet};
 ghost use Rattle.spin_frames.specs.Written.{with_waiting};
 ghost use Rattle.spin_filter.specs.Counting.{Marked, Sending, just_steps, later_steps, job_steps};
-ghost use Rattle.spin_filter.specs.Sending.{is_writer, IsPut, IsHanded, IsMade, outlets, IsDone};
+ghost use Rattle.spin_filter.specs.Inner.Sends.{IsPut, StopsPut, IsHanded, StopsHanding, IsMade};
+ghost use Rattle.spin_filter.specs.Sending.{is_writer, outlets_at, IsDone, StopsSending};
 
 use crate::counts::Counts;
+use crate::outlets::Outlets;
+use crate::passing::Passing;
 use crate::stop::Stop;
+use crate::taken::Taken;
 use spin_endpoint::{DeliverFault, Ends, EndsSeen};
-use spin_frames::{FrameFile, Head, put_record};
+use spin_frames::{FrameFile, put_record};
 use spin_outside::Sink;
 use spin_proto::Step;
 use spin_values::Text;
-use std::alloc::Global;
 
 // Whether bytes that are sent stand for the frame: they are it, or none.
 fn is_frame(bytes: &[u8], frame: &[u8]) -> bool
@@ -30,22 +32,21 @@ fn is_frame(bytes: &[u8], frame: &[u8]) -> bool
 // Writes the record, where the bytes are its frame, or none.
 fn put_frame<W: Sink + Drop>(
     file: &mut FrameFile<W>,
-    head: Head,
-    header: &[u8],
-    frame: &[u8],
+    taken: &Taken<'_>,
     endpoint: u8,
     bytes: &[u8],
 ) -> Result<(), Stop>
-    requires { 16 ≤ length header.now }
-    ensures { let packet : Packet = record { header = header.now; frame = frame.now } in
-        OnOk result (IsPut head packet bytes.now
-        (with_waiting (W.seen file.old.sink) file.old.waiting).told
-        (with_waiting (W.seen file.new.sink) file.new.waiting).told) }
+    ensures put { OnOk result (IsPut taken.now bytes.now
+        (with_waiting (W.seen file.old.sink) file.old.waiting)
+        (with_waiting (W.seen file.new.sink) file.new.waiting)) }
+    ensures stop { IfErr result (StopsPut endpoint
+        (with_waiting (W.seen file.old.sink) file.old.waiting)
+        (with_waiting (W.seen file.new.sink) file.new.waiting)) }
 {
-    if !is_frame(bytes, frame) {
+    if !is_frame(bytes, taken.frame()) {
         return Err(Stop::NoFrame(endpoint));
     }
-    match put_record(file, head, header, frame) {
+    match put_record(file, taken.head(), taken.header(), taken.frame()) {
         Ok(()) => Ok(()),
         Err(_) => Err(Stop::WriteFault),
     }
@@ -64,20 +65,21 @@ fn name_at<'a>(names: &'a [Text], number: u8, none: &'a Text) -> &'a Text
 
 // Hands the bytes to the endpoint that stands under the name of the number, or counts them as lost.
 fn hand(
-    alloc: Global,
-    names: &[Text],
+    passing: &Passing<'_>,
     endpoint: u8,
     bytes: &[u8],
     ends: &mut Ends,
     counts: &mut Counts,
 ) -> Result<(), Stop>
-    requires { length names.now ≤ MAX_ENDPOINTS }
-    ensures { let sent : SentSeen = record { endpoint = endpoint; bytes = bytes.now } in
-        OnOk result (IsHanded names.now sent (⟦<Ends as EndsSeen>⟧.all ends.old) (⟦<Ends as EndsSeen>⟧.all ends.new)
-        counts.old counts.new) }
+    requires { length passing.now.names.now ≤ MAX_ENDPOINTS }
+    ensures handed { let sent : SentSeen = record { endpoint = endpoint; bytes = bytes.now } in
+        OnOk result (IsHanded passing.now.names.now sent
+        (⟦<Ends as EndsSeen>⟧.all ends.old) (⟦<Ends as EndsSeen>⟧.all ends.new) counts.old counts.new) }
+    ensures stop { IfErr result (StopsHanding passing.now.names.now endpoint
+        (⟦<Ends as EndsSeen>⟧.all ends.old) (⟦<Ends as EndsSeen>⟧.all ends.new)) }
 {
-    let none = Text::new(alloc);
-    match ends.deliver(name_at(names, endpoint, &none), bytes) {
+    let none = Text::new(passing.alloc);
+    match ends.deliver(name_at(passing.names, endpoint, &none), bytes) {
         Ok(()) => Ok(()),
         Err(DeliverFault::Unknown) => {
             counts.note_lost(endpoint);
@@ -99,149 +101,112 @@ fn is_writer(capture: Option<u8>, endpoint: u8) -> bool
 
 // Makes a send.
 fn send<W: Sink + Drop>(
-    alloc: Global,
-    names: &[Text],
-    capture: Option<u8>,
-    head: Head,
-    header: &[u8],
-    frame: &[u8],
+    passing: &Passing<'_>,
+    taken: &Taken<'_>,
     endpoint: u8,
     bytes: &[u8],
-    ends: &mut Ends,
-    file: &mut FrameFile<W>,
-    counts: &mut Counts,
+    outlets: &mut Outlets<W>,
 ) -> Result<(), Stop>
-    requires few { length names.now ≤ MAX_ENDPOINTS }
-    requires size { 16 ≤ length header.now }
-    ensures { let sent : SentSeen = record { endpoint = endpoint; bytes = bytes.now } in
-        let packet : Packet = record { header = header.now; frame = frame.now } in
-        let sending : Sending = record { head = head; packet = packet; sent = sent } in
-        let before = outlets (⟦<Ends as EndsSeen>⟧.all ends.old)
-        (with_waiting (W.seen file.old.sink) file.old.waiting).told counts.old in
-        let after = outlets (⟦<Ends as EndsSeen>⟧.all ends.new)
-        (with_waiting (W.seen file.new.sink) file.new.waiting).told counts.new in
-        OnOk result (IsMade names.now capture sending before after) }
+    requires few { length passing.now.names.now ≤ MAX_ENDPOINTS }
+    ensures { let before = outlets_at (⟦<Ends as EndsSeen>⟧.all outlets.old.ends)
+        (with_waiting (W.seen outlets.old.file.sink) outlets.old.file.waiting) outlets.old.counts in
+        let after = outlets_at (⟦<Ends as EndsSeen>⟧.all outlets.new.ends)
+        (with_waiting (W.seen outlets.new.file.sink) outlets.new.file.waiting) outlets.new.counts in
+        let sent : SentSeen = record { endpoint = endpoint; bytes = bytes.now } in
+        let sending : Sending = record { taken = taken.now; sent = sent } in
+        MatchResult result
+        (λ _. IsMade passing.now.names.now passing.now.capture sending
+        before after)
+        (StopsSending passing.now.names.now passing.now.capture
+        before after) }
 {
-    if is_writer(capture, endpoint) {
-        put_frame(file, head, header, frame, endpoint, bytes)?;
+    if is_writer(passing.capture, endpoint) {
+        put_frame(&mut outlets.file, taken, endpoint, bytes)?;
         return Ok(());
     }
-    hand(alloc, names, endpoint, bytes, ends, counts)?;
+    hand(
+        passing,
+        endpoint,
+        bytes,
+        &mut outlets.ends,
+        &mut outlets.counts,
+    )?;
     Ok(())
 }
 
-/// Counts a step, which may be the first of a job, and makes its send, if it sends.
-pub fn do_step<W: Sink + Drop>(
-    alloc: Global,
-    names: &[Text],
-    capture: Option<u8>,
-    head: Head,
-    header: &[u8],
-    frame: &[u8],
+// Counts a step, which may be the first of a job, and makes its send, if it sends.
+pub(crate) fn do_step<W: Sink + Drop>(
+    passing: &Passing<'_>,
+    taken: &Taken<'_>,
     step: &Step,
     is_first: bool,
-    ends: &mut Ends,
-    file: &mut FrameFile<W>,
-    counts: &mut Counts,
+    outlets: &mut Outlets<W>,
 ) -> Result<(), Stop>
-    requires few { length names.now ≤ MAX_ENDPOINTS }
-    requires size { 16 ≤ length header.now }
-    ensures { let marked : Marked = record { first = is_first; taken = step.now } in
-        let packet : Packet = record { header = header.now; frame = frame.now } in
-        let before = outlets (⟦<Ends as EndsSeen>⟧.all ends.old)
-        (with_waiting (W.seen file.old.sink) file.old.waiting).told counts.old in
-        let after = outlets (⟦<Ends as EndsSeen>⟧.all ends.new)
-        (with_waiting (W.seen file.new.sink) file.new.waiting).told counts.new in
-        OnOk result (IsDone names.now capture (just_steps head packet (marked ∷ [])) before after) }
+    requires few { length passing.now.names.now ≤ MAX_ENDPOINTS }
+    ensures { let before = outlets_at (⟦<Ends as EndsSeen>⟧.all outlets.old.ends)
+        (with_waiting (W.seen outlets.old.file.sink) outlets.old.file.waiting) outlets.old.counts in
+        let after = outlets_at (⟦<Ends as EndsSeen>⟧.all outlets.new.ends)
+        (with_waiting (W.seen outlets.new.file.sink) outlets.new.file.waiting) outlets.new.counts in
+        let marked : Marked = record { first = is_first; taken = step.now } in
+        MatchResult result
+        (λ _. IsDone passing.now.names.now passing.now.capture (just_steps taken.now (marked ∷ []))
+        before after)
+        (StopsSending passing.now.names.now passing.now.capture
+        before after) }
 {
-    counts.note_step(step, is_first);
+    outlets.counts.note_step(step, is_first);
     if let Step::Send { endpoint, bytes } = step {
-        send(
-            alloc,
-            names,
-            capture,
-            head,
-            header,
-            frame,
-            *endpoint,
-            bytes.as_slice(),
-            ends,
-            file,
-            counts,
-        )?;
+        send(passing, taken, *endpoint, bytes.as_slice(), outlets)?;
     }
     Ok(())
 }
 
-/// Counts the steps of a job, of which the first runs its handler, and makes their sends.
-pub fn do_job_steps<W: Sink + Drop>(
-    alloc: Global,
-    names: &[Text],
-    capture: Option<u8>,
-    head: Head,
-    header: &[u8],
-    frame: &[u8],
+// Counts the steps of a job, of which the first runs its handler, and makes their sends.
+pub(crate) fn do_job_steps<W: Sink + Drop>(
+    passing: &Passing<'_>,
+    taken: &Taken<'_>,
     steps: &[Step],
-    ends: &mut Ends,
-    file: &mut FrameFile<W>,
-    counts: &mut Counts,
+    outlets: &mut Outlets<W>,
 ) -> Result<(), Stop>
-    requires few { length names.now ≤ MAX_ENDPOINTS }
-    requires size { 16 ≤ length header.now }
-    ensures { let packet : Packet = record { header = header.now; frame = frame.now } in
-        let before = outlets (⟦<Ends as EndsSeen>⟧.all ends.old)
-        (with_waiting (W.seen file.old.sink) file.old.waiting).told counts.old in
-        let after = outlets (⟦<Ends as EndsSeen>⟧.all ends.new)
-        (with_waiting (W.seen file.new.sink) file.new.waiting).told counts.new in
-        OnOk result (IsDone names.now capture (just_steps head packet (job_steps steps.now)) before after) }
+    requires few { length passing.now.names.now ≤ MAX_ENDPOINTS }
+    ensures { let before = outlets_at (⟦<Ends as EndsSeen>⟧.all outlets.old.ends)
+        (with_waiting (W.seen outlets.old.file.sink) outlets.old.file.waiting) outlets.old.counts in
+        let after = outlets_at (⟦<Ends as EndsSeen>⟧.all outlets.new.ends)
+        (with_waiting (W.seen outlets.new.file.sink) outlets.new.file.waiting) outlets.new.counts in
+        MatchResult result
+        (λ _. IsDone passing.now.names.now passing.now.capture (just_steps taken.now (job_steps steps.now))
+        before after)
+        (StopsSending passing.now.names.now passing.now.capture
+        before after) }
 {
     if steps.is_empty() {
         return Ok(());
     }
-    do_step(
-        alloc, names, capture, head, header, frame, &steps[0], true, ends, file, counts,
-    )?;
-    do_steps(
-        alloc,
-        names,
-        capture,
-        head,
-        header,
-        frame,
-        &steps[1..],
-        ends,
-        file,
-        counts,
-    )?;
+    do_step(passing, taken, &steps[0], true, outlets)?;
+    do_steps(passing, taken, &steps[1..], outlets)?;
     Ok(())
 }
 
-/// Counts steps of which none is the first of a job, and makes their sends.
-pub fn do_steps<W: Sink + Drop>(
-    alloc: Global,
-    names: &[Text],
-    capture: Option<u8>,
-    head: Head,
-    header: &[u8],
-    frame: &[u8],
+// Counts steps of which none is the first of a job, and makes their sends.
+pub(crate) fn do_steps<W: Sink + Drop>(
+    passing: &Passing<'_>,
+    taken: &Taken<'_>,
     steps: &[Step],
-    ends: &mut Ends,
-    file: &mut FrameFile<W>,
-    counts: &mut Counts,
+    outlets: &mut Outlets<W>,
 ) -> Result<(), Stop>
-    requires few { length names.now ≤ MAX_ENDPOINTS }
-    requires size { 16 ≤ length header.now }
-    ensures { let packet : Packet = record { header = header.now; frame = frame.now } in
-        let before = outlets (⟦<Ends as EndsSeen>⟧.all ends.old)
-        (with_waiting (W.seen file.old.sink) file.old.waiting).told counts.old in
-        let after = outlets (⟦<Ends as EndsSeen>⟧.all ends.new)
-        (with_waiting (W.seen file.new.sink) file.new.waiting).told counts.new in
-        OnOk result (IsDone names.now capture (just_steps head packet (later_steps steps.now)) before after) }
+    requires few { length passing.now.names.now ≤ MAX_ENDPOINTS }
+    ensures { let before = outlets_at (⟦<Ends as EndsSeen>⟧.all outlets.old.ends)
+        (with_waiting (W.seen outlets.old.file.sink) outlets.old.file.waiting) outlets.old.counts in
+        let after = outlets_at (⟦<Ends as EndsSeen>⟧.all outlets.new.ends)
+        (with_waiting (W.seen outlets.new.file.sink) outlets.new.file.waiting) outlets.new.counts in
+        MatchResult result
+        (λ _. IsDone passing.now.names.now passing.now.capture (just_steps taken.now (later_steps steps.now))
+        before after)
+        (StopsSending passing.now.names.now passing.now.capture
+        before after) }
 {
     for step in steps {
-        do_step(
-            alloc, names, capture, head, header, frame, step, false, ends, file, counts,
-        )?;
+        do_step(passing, taken, step, false, outlets)?;
     }
     Ok(())
 }

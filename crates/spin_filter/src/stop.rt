@@ -27,6 +27,12 @@ pub enum Stop {
     Unread,
     /// There is no capture of that name.
     Absent,
+    /// The script retires an endpoint.
+    Retires,
+    /// The script has another number of segments than one.
+    Segments,
+    /// The line of that number is of another lane than the first.
+    Lane(u32),
     /// The line of that number isn't one of a filter's script: a raise, or a command behind a line that takes packets.
     InTheWay(u32),
     /// No line of the script takes packets.

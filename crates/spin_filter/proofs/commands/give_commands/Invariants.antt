@@ -1,7 +1,8 @@
 use Rattle.std.proofs.Common.{take}
 use Rattle.spin_table.specs.SetupOf.{data_of}
 use Rattle.spin_table.specs.Soundness.{IsSound}
-use Rattle.spin_filter.specs.Commands.{commands_of, IsGiven}
+use Rattle.spin_filter.specs.Commands.{commands_of}
+use Rattle.spin_filter.specs.Inner.Giving.{IsGiven}
 use Rattle.spin_filter.proofs.commands.give_commands.Given as goal
 
 abbrev pub invariant-loop-line : goal.invariant-loop-line

@@ -1,7 +1,8 @@
 use Rattle.std.proofs.lemmas.Result.{IfOk-weaker}
 use Rattle.spin_table.specs.SetupOf.{data_of}
 use Rattle.spin_filter.specs.declared.commands.Commanded.{Commanded}
-use Rattle.spin_filter.specs.Commands.{commands_of, IsGiven}
+use Rattle.spin_filter.specs.Commands.{commands_of}
+use Rattle.spin_filter.specs.Inner.Giving.{IsGiven}
 use Rattle.std.proofs.Common.{◌∷◌, [], rules}
 use Rattle.spin_filter.proofs.CommandsGiven.{line-command, line-other}
 use Rattle.spin_filter.proofs.commands.give_line.Goals as goal

@@ -1,21 +1,28 @@
+use Rattle.std.proofs.Common.{map}
+use Rattle.spin_endpoint.specs.Inner.View.{view_of}
+use Rattle.spin_frames.specs.Written.{with_waiting}
+use Rattle.spin_filter.specs.Sending.{outlets_at}
 use Rattle.std.proofs.Common.{arith}
 use Rattle.spin_table.specs.SetupOf.{data_of}
-use Rattle.spin_frames.specs.Packets.{Packet}
-use Rattle.spin_filter.proofs.Doings.{no-jobs, jobs-more, jobs-all}
+use Rattle.spin_filter.proofs.Stopped.{err-out}
+use Rattle.spin_filter.proofs.Doings.{stop-behind, no-jobs, jobs-more, jobs-all}
 use Rattle.spin_filter.proofs.passing.do_jobs.Goals as goal
 
 pub loop-call-init : goal.loop-call-init
-loop-call-init g c =
-    let packet : Packet = record { header = c.args.header.now; frame = c.args.frame.now } in
-    no-jobs c.args.names.now c.args.capture c.args.head packet (data_of c.args.setup.now) c.args.version.now _
+loop-call-init g c = no-jobs c.args.passing.now.names.now c.args.passing.now.capture c.args.taken.now (data_of c.args.passing.now.setup.now) c.args.passing.now.version.now _
 
 pub loop-call-preserved : goal.loop-call-preserved
 loop-call-preserved g c =
-    let packet : Packet = record { header = c.args.header.now; frame = c.args.frame.now } in
-    jobs-more c.args.names.now c.args.capture c.args.head packet (data_of c.args.setup.now) c.args.version.now c.args.calls.now c.loop-call.call-index c.call-item.result _ _ _
+    jobs-more c.args.passing.now.names.now c.args.passing.now.capture c.args.taken.now (data_of c.args.passing.now.setup.now) c.args.passing.now.version.now c.args.calls.now c.loop-call.call-index c.call-item.result _ _ _
     (omega arith) c.call-item.is c.loop-call.invariant c.in_ok-do_job.ensures
 
 pub returns : goal.returns
 returns g c =
-    let packet : Packet = record { header = c.args.header.now; frame = c.args.frame.now } in
-    jobs-all c.args.names.now c.args.capture c.args.head packet (data_of c.args.setup.now) c.args.version.now c.args.calls.now c.loop-call.call-index _ _ (omega arith) c.loop-call.invariant
+    jobs-all c.args.passing.now.names.now c.args.passing.now.capture c.args.taken.now (data_of c.args.passing.now.setup.now) c.args.passing.now.version.now c.args.calls.now c.loop-call.call-index _ _ (omega arith) c.loop-call.invariant
+
+pub returns-in_err-do_job : goal.returns-in_err-do_job
+returns-in_err-do_job g c =
+    let at = λ (o : _). outlets_at (map (view_of (λ e. (goal.Endpoint-dyn g (e.object.vtable, e.object.value)).seen e.object.value)) o.ends.ends.items)
+    (with_waiting (g.W.Sink.seen o.file.sink) o.file.waiting) o.counts in
+    err-out c.from_residual.result c.in_err-do_job.field-0.0 _ _ c.from_residual.ensures.1
+    (stop-behind c.args.passing.now.names.now c.args.passing.now.capture _ _ _ (at c.do_job.new.outlets) c.in_err-do_job.field-0.0 c.loop-call.invariant.2 c.in_err-do_job.ensures)

@@ -1,13 +1,34 @@
-use Rattle.std.proofs.Common.{refl}
+use Rattle.std.proofs.Common.{map}
+use Rattle.spin_endpoint.specs.Inner.View.{view_of}
+use Rattle.spin_frames.specs.Written.{with_waiting}
+use Rattle.spin_filter.specs.Sending.{outlets_at}
+use Rattle.std.proofs.Common.{refl, ◌∙◌, ◌∷◌, [], ap}
+use Rattle.spin_values.specs.declared.values.Value.TheVariants as value
 use Rattle.spin_table.specs.SetupOf.{data_of}
-use Rattle.spin_frames.specs.Packets.{Packet}
-use Rattle.spin_filter.proofs.Doings.{done-outcome, record-whole}
+use Rattle.spin_filter.proofs.Stopped.{err-out}
+use Rattle.spin_filter.proofs.Doings.{stop-behind, done-outcome, record-whole}
 use Rattle.spin_filter.proofs.passing.pass_record.Goals as goal
 
 pub returns : goal.returns
 returns g c =
-    let packet : Packet = record { header = c.args.header.now; frame = c.args.frame.now } in
-    record-whole c.args.names.now c.args.capture c.args.head packet (data_of c.args.setup.now) c.args.version.now c.args.event c.in_ok-args.args c.path_into.new.buffer c.view-view.result
-    c.outcome_of.result c.trace-steps.result.now c.calls-calls.result.now _ _ _ _ c.in_ok-args.ensures c.in_ok-path_into.ensures.reply c.view-view.ensures c.outcome_of.ensures
-    c.trace-steps.ensures c.calls-calls.ensures (done-outcome c.args.names.now c.args.capture c.outcome_of.result _ _ refl refl c.note_outcome.ensures)
+    record-whole c.args.passing.now.names.now c.args.passing.now.capture c.args.taken.now (data_of c.args.passing.now.setup.now) c.args.passing.now.version.now c.args.event c.in_ok-args.args c.path_into.new.buffer c.view-view.result
+    c.outcome_of.result c.trace-steps.result.now c.calls-calls.result.now _ _ _ _ (c.in_ok-args.ensures ∙ ap (λ f. value.Bytes f ∷ []) c.frame.ensures) c.in_ok-path_into.ensures.reply c.view-view.ensures c.outcome_of.ensures
+    c.trace-steps.ensures c.calls-calls.ensures (done-outcome c.args.passing.now.names.now c.args.passing.now.capture c.outcome_of.result _ _ refl refl c.note_outcome.ensures)
     c.in_ok-do_steps.ensures c.in_ok-do_jobs.ensures
+
+pub returns-in_err-do_steps : goal.returns-in_err-do_steps
+returns-in_err-do_steps g c =
+    let at = λ (o : _). outlets_at (map (view_of (λ e. (goal.Endpoint-dyn g (e.object.vtable, e.object.value)).seen e.object.value)) o.ends.ends.items)
+    (with_waiting (g.W.Sink.seen o.file.sink) o.file.waiting) o.counts in
+    err-out c.from_residual-in_err-do_steps.result c.in_err-do_steps.field-0.0 _ _ c.from_residual-in_err-do_steps.ensures.1
+    (stop-behind c.args.passing.now.names.now c.args.passing.now.capture _ _ _ (at c.do_steps.new.outlets) c.in_err-do_steps.field-0.0
+    (done-outcome c.args.passing.now.names.now c.args.passing.now.capture c.outcome_of.result (at c.args.outlets.now) (at (record c.args.outlets.now { counts = c.note_outcome.new.self })) refl refl c.note_outcome.ensures) c.in_err-do_steps.ensures)
+
+pub returns-in_err-do_jobs : goal.returns-in_err-do_jobs
+returns-in_err-do_jobs g c =
+    let at = λ (o : _). outlets_at (map (view_of (λ e. (goal.Endpoint-dyn g (e.object.vtable, e.object.value)).seen e.object.value)) o.ends.ends.items)
+    (with_waiting (g.W.Sink.seen o.file.sink) o.file.waiting) o.counts in
+    err-out c.from_residual-in_err-do_jobs.result c.in_err-do_jobs.field-0.0 _ _ c.from_residual-in_err-do_jobs.ensures.1
+    (stop-behind c.args.passing.now.names.now c.args.passing.now.capture _ _ _ (at c.do_jobs.new.outlets) c.in_err-do_jobs.field-0.0
+    (done-outcome c.args.passing.now.names.now c.args.passing.now.capture c.outcome_of.result (at c.args.outlets.now) (at (record c.args.outlets.now { counts = c.note_outcome.new.self })) refl refl c.note_outcome.ensures)
+    (stop-behind c.args.passing.now.names.now c.args.passing.now.capture _ _ _ (at c.do_jobs.new.outlets) c.in_err-do_jobs.field-0.0 c.in_ok-do_steps.ensures c.in_err-do_jobs.ensures))

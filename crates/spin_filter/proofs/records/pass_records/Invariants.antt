@@ -3,17 +3,18 @@ use Rattle.spin_endpoint.specs.Inner.View.{view_of}
 use Rattle.spin_table.specs.SetupOf.{data_of}
 use Rattle.spin_pcap.specs.Passing.{left_for}
 use Rattle.spin_frames.specs.Written.{with_waiting}
-use Rattle.spin_filter.specs.Sending.{outlets}
+use Rattle.spin_filter.specs.Sending.{outlets_at}
 use Rattle.spin_filter.proofs.Passings.{HasPassed}
 use Rattle.spin_filter.proofs.records.pass_records.Given as goal
 
 abbrev pub invariant-loop-number : goal.invariant-loop-number
 invariant-loop-number g l =
-    let all = λ (ends : _). map (view_of (λ e. (goal.Endpoint-dyn g (e.object.vtable, e.object.value)).seen e.object.value)) ends in
+    let at = λ (o : _). outlets_at (map (view_of (λ e. (goal.Endpoint-dyn g (e.object.vtable, e.object.value)).seen e.object.value)) o.ends.ends.items)
+    (with_waiting (g.W.Sink.seen o.file.sink) o.file.waiting) o.counts in
     let seen = g.S.Source.seen in
     record {
-      passed : HasPassed (data_of l.setup) l.version l.round l.head l.names l.capture l.number (left_for l.fn.window (seen l.fn.source).left) (left_for l.window (seen l.source).left)
-          (outlets (all l.fn.ends.ends.items) (with_waiting (g.W.Sink.seen l.fn.file.sink) l.fn.file.waiting).told l.fn.counts)
-          (outlets (all l.ends.ends.items) (with_waiting (g.W.Sink.seen l.file.sink) l.file.waiting).told l.counts);
+      passed : HasPassed (data_of l.passing.setup.now) l.passing.version.now l.passing.round.now l.head l.passing.names.now l.passing.capture l.number
+          (left_for l.fn.window (seen l.fn.source).left) (left_for l.window (seen l.source).left) (at l.fn.outlets) (at l.outlets);
+      faults : (seen l.source).faults ≡ (seen l.fn.source).faults;
       keep : (seen l.source).keep ≡ (seen l.fn.source).keep;
     }

@@ -1,0 +1,49 @@
+-- Why one capture is passed no further.
+use Rattle.std.specs.Prelude.{◌≡◌, ℕ, List, Option, IfSome, Err, ⊤}
+use Rattle.spin_outside.specs.Counts.{Rose}
+use Rattle.spin_outside.specs.Files.{IsLacking}
+use Rattle.spin_outside.specs.Seen.{ShelfSeen}
+use Rattle.spin_pcap.specs.Captures.{header_of}
+use Rattle.spin_frames.specs.declared.order.Order.{Order}
+use Rattle.spin_filter.specs.declared.stop.Stop.{Stop}
+use Rattle.spin_filter.specs.declared.stop.Stop.TheVariants as stop
+use Rattle.spin_filter.specs.Sending.{OutletsAt, StopsSending}
+use Rattle.spin_filter.specs.Stops.{IsBadRecord, IsBadCapture, IsBadNamed}
+
+-- why the header of a capture isn't read
+abbrev pub StopsHeader : Option (List ℕ) → ℕ → ℕ → Stop → Type 0
+StopsHeader file faults faults' stop.Unread = Rose faults faults'
+StopsHeader file faults faults' (stop.Capture number wrong) =
+    (number ≡ 0) × IfSome file (λ bytes. header_of bytes ≡ Err wrong)
+StopsHeader file faults faults' stop.NoMemory = ⊤
+StopsHeader file faults faults' other = ⊥
+
+-- why the records that are left are passed no further
+abbrev pub StopsRecords : List (List ℕ) → Option ℕ → Order → Option (List ℕ) → ℕ → ℕ → OutletsAt → OutletsAt
+    → Stop → Type 0
+StopsRecords names capture order left faults faults' before after stop.Unread = Rose faults faults'
+StopsRecords names capture order left faults faults' before after (stop.Capture number wrong) =
+    IfSome left (λ bytes. IsBadRecord order bytes number wrong)
+StopsRecords names capture order left faults faults' before after other = StopsSending names capture before after other
+
+-- why a capture is passed no further
+abbrev pub StopsCapture : List (List ℕ) → Option ℕ → Option (List ℕ) → ℕ → ℕ → OutletsAt → OutletsAt → Stop → Type 0
+StopsCapture names capture file faults faults' before after stop.Unread = Rose faults faults'
+StopsCapture names capture file faults faults' before after (stop.Capture number wrong) =
+    IfSome file (λ bytes. IsBadCapture bytes number wrong)
+StopsCapture names capture file faults faults' before after other = StopsSending names capture before after other
+
+-- why the capture of that name is passed no further
+abbrev pub StopsNamed : List (List ℕ) → Option ℕ → List ℕ → ShelfSeen → ShelfSeen → OutletsAt → OutletsAt → Stop
+    → Type 0
+StopsNamed names capture name shelf shelf' before after stop.Unread = Rose shelf.faults shelf'.faults
+StopsNamed names capture name shelf shelf' before after stop.Absent =
+    Rose shelf.absences shelf'.absences × IsLacking shelf.files name
+StopsNamed names capture name shelf shelf' before after (stop.Capture number wrong) =
+    IsBadNamed shelf.files number wrong name
+StopsNamed names capture name shelf shelf' before after other = StopsSending names capture before after other
+
+-- the shelf's counts stand still
+pub record StandsStill (shelf shelf' : ShelfSeen) : Type 0 where
+  pub faults : shelf'.faults ≡ shelf.faults
+  pub absences : shelf'.absences ≡ shelf.absences
