@@ -15,7 +15,7 @@ class Apart(NamedTuple):
     says: str
 
 
-CALL, SOURCE = "pub fn spin<", "crates/spin_top/src/top.rt"
+CALL, SOURCE = "pub fn spin<", "crates/spin_cli/src/top.rt"
 # The clauses that the headline is: its condition, and what status 0 means.
 CLAUSES = ["sincere", "headline"]
 # The clauses that say the same of another command, and what they rest on beside.
@@ -45,14 +45,14 @@ HEADLINE = (
 # Each part of the headline, what it means, and the definitions that say it.
 WORDS = [
     ("For every script", "the text that was read under the script's name says that script, line by line, and no line of it "
-     "is refused", ["spin_top:WasRunWhole", "spin_stages:SaysScript", "spin_script:IsScript"]),
+     "is refused", ["spin_cli:WasRunWhole", "spin_inputs:SaysScript", "spin_script:IsScript"]),
     ("capture", "the records are those of the capture's file, up to a rest that is empty or cut; none where no capture is named",
-     ["spin_stages:IsNamedCapture", "spin_stages:HasFileHeader", "spin_stages:HoldsRecords"]),
+     ["spin_inputs:IsNamedCapture", "spin_inputs:HasFileHeader", "spin_inputs:HoldsRecords"]),
     ("and interleaving of the lanes", "the clause has no premise on the order of the lanes' steps",
-     ["spin_top:Headline"]),
+     ["spin_cli:Headline"]),
     ("what the program writes", "the bytes appended to the sink are the report's text, where shelf and sink tell what they hold; "
      "standard output tells nothing, and a folder doesn't tell its files by name",
-     ["spin_top:WasRunWhole", "spin_report:report_text"]),
+     ["spin_cli:WasRunWhole", "spin_report:report_text"]),
     ("is one legal history of the plain dispatcher", "the entries, segment after segment, are legal from the start",
      ["spin_report:IsRun", "spin_report:IsLegal"]),
     ("each deed of each lane stands in it once, in its lane's order and within its segment", "a packet line has as many deeds as "
@@ -67,7 +67,7 @@ WORDS = [
      ["spin_report:IsSegmentRun", "spin_endpoint:all_received", "spin_endpoint:all_retired"]),
     ("where the status is 0 under `run`", "the words are `run NAME` or `run NAME PACKETS`, and the shelf tells its files; "
      "of `join NAME PACKETS` the clause *headline_joined* says the same, over the joined capture",
-     ["spin_top:Headline", "spin_top:HeadlineJoined"]),
+     ["spin_cli:Headline", "spin_cli:HeadlineJoined"]),
     ("and the natives do what they were handed in with", "the call's one condition", ["spin_objects:IsSincere"]),
     ("with one lane", "a law beside the clause: there is one such history, but for the cycle that a conflict tells, that of the"
      " plain dispatcher as a function of script, capture and endpoints", ["spin_plain:OneLaneIsPlain", "spin_plain:plain_history"]),
@@ -76,7 +76,7 @@ WORDS = [
 # The first hour: its parts in reading order, each with what it begins with.
 PARTS = [
     ("From the clause to a run", "What status 0 means under `run`, and what is seen before and after the call.",
-     ["spin_top:Headline"]),
+     ["spin_cli:Headline"]),
     ("Run", "Which histories are those of a script: segment after segment, with what is retired, sent and lost.",
      ["spin_report:HistorySeen", "spin_report:RunPoint", "spin_report:IsRun"]),
     ("Legal", "Which entries and jobs answer what a segment asks of its lanes.", ["spin_report:IsWoven"]),
@@ -84,8 +84,8 @@ PARTS = [
     ("Reply", "What a raise, or the call of a job, comes to at a state.", ["spin_proto:IsDeedReply", "spin_proto:IsJobReply"]),
     ("Report", "The lines of a history's report.", ["spin_report:report_text"]),
     ("Script", "What the text under the script's name says, and what natives it may name.",
-     ["spin_stages:SaysScript", "spin_script:ScriptData", "spin_script:natives_seen", "spin_script:NativeData"]),
-    ("Capture", "The records of the capture that is named.", ["spin_stages:IsNamedCapture"]),
+     ["spin_inputs:SaysScript", "spin_script:ScriptData", "spin_script:natives_seen", "spin_script:NativeData"]),
+    ("Capture", "The records of the capture that is named.", ["spin_inputs:IsNamedCapture"]),
 ]
 
 # Where the first hour stops: these, and what only they cite, come behind it.
@@ -94,12 +94,12 @@ DEEPER = [
     "spin_place:IsTheOrder", "spin_table:bindings_after",
     "spin_proto:raised", "spin_proto:raised_after", "spin_proto:job_of", "spin_proto:reply_of", "spin_proto:are_fit",
     "spin_report:entry_line", "spin_report:job_line",
-    "spin_stages:script_with", "spin_grammar:LineMeaning", "spin_stages:IsSignature",
+    "spin_inputs:script_with", "spin_grammar:LineMeaning", "spin_inputs:IsSignature",
     "spin_grammar:number", "spin_grammar:hex_bytes", "spin_outside:Keep",
     "spin_objects:HandlerUnit", "spin_objects:GuardUnit",
 ]
 # The definitions that the page shows with their texts.
-SHOWN = ["spin_top:Headline", "spin_top:WasRunWhole"]
+SHOWN = ["spin_cli:Headline", "spin_cli:WasRunWhole"]
 # Types of the sources that come behind the first hour, too: long lists of cases, and what acts and policies are made of.
 LATER_TYPES = ["Command", "Refusal", "JobCall", "End", "RunEnd", "Test", "Rule", "Act", "EventType"]
 

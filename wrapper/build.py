@@ -1,8 +1,8 @@
-"""build [--all|--libraries] [--any-logic]: proves the crates that the program stands on and builds it.
+"""build [--all|--libraries] [--any-logic]: proves the crates that the programs stand on and builds these.
 
 With --all the hosts too. The kit says how (kit.py): where it keeps what it proves of a crate by itself, the proofs are the
 gate's own (proofs.py), else the libraries are built, and the programs over them (libraries.py). With --libraries these are
-the libraries that the program stands on and no more: `rt check` goes on from them, for who changes a crate. What was
+the libraries that the programs stand on and no more: `rt check` goes on from them, for who changes a crate. What was
 proved or built stays: the build after one that was killed goes on from there. A kit of another logic than the one that
 proved these sources begins only with --any-logic.
 """
@@ -18,7 +18,7 @@ import time
 from collections.abc import Iterable, Iterator
 
 from wrapper import jobs, kit, libraries, proofs
-from wrapper.program import CRATE, NOT_RUN, PROGRAM, TOP, Crates, crates_listed, is_built, stands_on, tell
+from wrapper.program import CRATE, NOT_RUN, PROGRAMS, TOP, Crates, crates_listed, is_built, place_of, stands_on, tell
 from wrapper.build_queue import LOGS
 from wrapper.trial import passed
 
@@ -74,7 +74,7 @@ def prove(way: kit.Way, crates: Crates, programs: tuple[str, ...]) -> bool:
         try:
             return proofs.build(crates, programs)
         except proofs.NothingKept:
-            tell("the kit can't keep what it proves here, so rt lib builds the libraries, and rt run the program")
+            tell("the kit can't keep what it proves here, so rt lib builds the libraries, and rt run the programs")
     return libraries.build(crates, programs)
 
 
@@ -86,15 +86,17 @@ def build_programs(its: kit.Kit, tops: tuple[str, ...]) -> bool:
     if not prove(its.way, crates, tops):
         return False
     # a source that was written since is newer than what was built of it
-    os.utime(PROGRAM, (began, began))
-    tell(f"built: {PROGRAM.relative_to(TOP)}, {passed(since)}")
+    for name in tops:
+        os.utime(place_of(name), (began, began))
+    tell(f"built: {', '.join(str(place_of(name).relative_to(TOP)) for name in tops)}, {passed(since)}")
     return True
 
 
 def build_libraries(its: kit.Kit) -> bool:
-    """Builds the libraries that the program stands on by this kit, and answers whether they are built."""
-    since, crates = time.monotonic(), stand_below((CRATE.name,))
-    del crates[CRATE.name]
+    """Builds the libraries that the programs stand on by this kit, and answers whether they are built."""
+    since, crates = time.monotonic(), stand_below(PROGRAMS)
+    for name in PROGRAMS:
+        del crates[name]
     tell(f"{len(crates)} libraries are proved and built by {its.name}, from which rt check goes on")
     if not libraries.build(crates):
         return False
@@ -105,12 +107,12 @@ def build_libraries(its: kit.Kit) -> bool:
 def build(words: list[str], its: kit.Kit) -> bool:
     """Builds what is asked for by this kit, unless it is there, and answers whether it is there now."""
     with locked():
-        if is_built() and not words:
-            tell("the proved program is built")
+        if not words and all(map(is_built, PROGRAMS)):
+            tell("the proved programs are built")
             return True
         if words == ["--libraries"]:
             return build_libraries(its)
-        return build_programs(its, (CRATE.name, *HOSTS) if words else (CRATE.name,))
+        return build_programs(its, (*PROGRAMS, *HOSTS) if words else PROGRAMS)
 
 
 def where_and_why(fault: OSError) -> str:

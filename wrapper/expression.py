@@ -1,6 +1,7 @@
 """`filter -e`: filters captures by an expression of tcpdump's, by way of a script whose guards say what the expression says."""
 
 import argparse
+import os
 import shutil
 import struct
 import sys
@@ -8,7 +9,8 @@ import tempfile
 from collections.abc import Callable, Iterable
 from pathlib import Path
 
-from wrapper import bpf
+from wrapper import bpf, one_pass
+from wrapper.counts import summary
 from wrapper.pieces import Refused, find_capture
 
 PACKETS = 1000
@@ -46,6 +48,9 @@ def run(options: argparse.Namespace, run_filter: Callable[[argparse.Namespace], 
         options.pcap, target = True, options.write
         if target is None:
             return run_filter(options)
+        lines = in_one_pass(options, target)
+        if lines is not None:
+            return lines
         options.out = Path(f"{target}.pieces")
         lines = run_filter(options)
     if options.part is None:
@@ -56,6 +61,24 @@ def run(options: argparse.Namespace, run_filter: Callable[[argparse.Namespace], 
             target.write_bytes(empty_capture(options.captures))
         shutil.rmtree(options.out)
     return lines
+
+
+def in_one_pass(options: argparse.Namespace, target: Path) -> list[str] | None:
+    """Writes the capture in one pass, and answers the lines to be written; None where that can't be done."""
+    if options.part or options.counts or options.json or not one_pass.is_there():
+        return None
+    captures = [find_capture(name) for name in options.captures]
+    if any(capture.second != 1_000_000 or capture.snapped != one_pass.SNAPPED for capture in captures):
+        return None
+    making = target.with_name(f"{target.name}.part")
+    try:
+        counts = one_pass.run(options.script, captures, making)
+        if counts is None:
+            return None
+        os.replace(making, target)
+    finally:
+        making.unlink(missing_ok=True)
+    return summary(counts, {0: "out0"})
 
 
 def read_words(words: list[str], parser: argparse.ArgumentParser) -> argparse.Namespace:

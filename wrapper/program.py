@@ -16,6 +16,9 @@ if TYPE_CHECKING:
 TOP = Path(__file__).resolve().parent.parent
 CRATE = TOP / "crates" / "spin_main"
 PROGRAM = CRATE / "out" / "spin_main"
+
+# The crates of the programs that a build makes.
+PROGRAMS = (CRATE.name, "spinfilter")
 NOT_RUN = 126
 
 # Where this is installed there are no sources, and the program lies beside the wrapper.
@@ -83,14 +86,20 @@ def sources(name: str) -> Iterator[str]:
                     yield os.path.join(at, file)
 
 
-def is_built() -> bool:
-    """Whether the proved program is there and no source of it is newer."""
-    if not os.access(PROGRAM, os.X_OK):
+def place_of(name: str) -> Path:
+    """Where the proved program of a crate is, where it is built."""
+    return TOP / "crates" / name / "out" / name
+
+
+def is_built(name: str = CRATE.name) -> bool:
+    """Whether the proved program of a crate is there, and no source of it is newer."""
+    file = place_of(name)
+    if not os.access(file, os.X_OK):
         return False
-    since = os.stat(PROGRAM).st_mtime
-    if any(os.stat(TOP / name).st_mtime > since for name in ("crates.txt", "HANDLES")):
+    since = os.stat(file).st_mtime
+    if any(os.stat(TOP / it).st_mtime > since for it in ("crates.txt", "HANDLES")):
         return False
-    return all(os.stat(file).st_mtime <= since for name in stands_on(crates_listed()) for file in sources(name))
+    return all(os.stat(it).st_mtime <= since for crate in stands_on(crates_listed(), (name,)) for it in sources(crate))
 
 
 def command() -> list[str] | None:

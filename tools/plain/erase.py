@@ -23,7 +23,7 @@ FOR_C = "spin_c"
 
 # The crates that are covered are those that these stand on, and they themselves.
 TOPS = (
-    *("spin_main", "spin_filter", "host_filter", "host_logger", "host_plugins", "host_renewal", "host_workers"),
+    *("spin_main", "spinfilter", "host_filter", "host_logger", "host_plugins", "host_renewal", "host_workers"),
     *("spin_host", "spin_whole", FOR_C),
 )
 

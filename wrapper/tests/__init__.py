@@ -17,7 +17,7 @@ def make_repository(top: Path, crates: Mapping[str, Sequence[str]]) -> None:
     for name in crates:
         src = top / "crates" / name / "src"
         src.mkdir(parents=True)
-        (src / ("main.rt" if name == "spin_main" else "lib.rt")).write_text("\n" * 5)
+        (src / ("main.rt" if name in ("spin_main", "spinfilter") else "lib.rt")).write_text("\n" * 5)
 
 
 def stand_in(top: Path, name: str, text: str, *others: str) -> None:

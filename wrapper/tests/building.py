@@ -12,7 +12,7 @@ from wrapper import kit
 from wrapper.tests import make_repository, stand_in
 
 CRATES: dict[str, list[str]] = {
-    "low": [], "left": ["low"], "right": ["low"], "spin_main": ["left", "right"], "aside": ["low"],
+    "low": [], "left": ["low"], "right": ["low"], "spinfilter": ["left"], "spin_main": ["left", "right"], "aside": ["low"],
 }
 
 # By $KIND it is a kit that keeps what `rt ci NAME` proved, one that doesn't, or one that knows a plain `rt ci` alone.
@@ -63,7 +63,7 @@ ci)
         exec 9>&-
     done
     [ -n "$FULL" ] || echo "rt: $2 and the crates below passed, and that is kept."
-    [ -n "$2" ] || make crates/spin_main spin_main ;;
+    [ -n "$2" ] || { make crates/spin_main spin_main && make crates/spinfilter spinfilter; } ;;
 lib)
     name=$(basename "$PWD")
     over "$name"

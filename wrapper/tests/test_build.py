@@ -15,9 +15,10 @@ class Build(Building):
     def test_what_the_program_stands_on_is_proved_and_the_program_put_in_its_place(self) -> None:
         status, told = self.build()
         self.assertEqual(status, 0, told)
-        self.assertEqual(sorted(self.begun()), ["left", "low", "right", "spin_main"])
+        self.assertEqual(sorted(self.begun()), ["left", "low", "right", "spin_main", "spinfilter"])
         self.assert_in_order()
-        self.assertTrue((self.top / "crates" / "spin_main" / "out" / "spin_main").is_file())
+        for name in ("spin_main", "spinfilter"):
+            self.assertTrue((self.top / "crates" / name / "out" / name).is_file())
         self.assertIn("left begins", told)
         self.assertIn("spin_main is built", told)
         self.assertIn("spin: built: crates/spin_main/out/spin_main", told)
@@ -32,7 +33,7 @@ class Build(Building):
 
     def test_what_is_built_is_not_built_again(self) -> None:
         self.build()
-        self.assertEqual(self.build(), (0, "spin: the proved program is built\n"))
+        self.assertEqual(self.build(), (0, "spin: the proved programs are built\n"))
 
     def test_the_copy_is_removed_and_that_of_a_killed_build_too(self) -> None:
         left = self.top / "tmp" / "spin-build-999999999-x" / "crates"
@@ -72,7 +73,7 @@ class Build(Building):
         self.wait_for("begin low")
         status, told = self.build()
         first.communicate(timeout=60)
-        self.assertEqual((status, told.splitlines()), (0, ["spin: waiting for another build to end", "spin: the proved program is built"]))
+        self.assertEqual((status, told.splitlines()), (0, ["spin: waiting for another build to end", "spin: the proved programs are built"]))
 
     def test_a_source_that_changes_meanwhile_is_newer(self) -> None:
         child = self.begin(SLEEP="0.5")

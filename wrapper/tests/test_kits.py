@@ -44,12 +44,13 @@ class Plain(Building):
     def test_libraries_are_built_and_the_program_over_them(self) -> None:
         status, told = self.build()
         self.assertEqual(status, 0, told)
-        self.assertEqual(sorted(self.begun()), ["left", "low", "right", "spin_main"])
+        self.assertEqual(sorted(self.begun()), ["left", "low", "right", "spin_main", "spinfilter"])
         self.assert_in_order()
-        self.assertTrue((self.top / "crates" / "spin_main" / "out" / "spin_main").is_file())
+        for name in ("spin_main", "spinfilter"):
+            self.assertTrue((self.top / "crates" / name / "out" / name).is_file())
         self.assertTrue((self.top / "crates" / "left" / "out" / "rlib" / "stamp").is_file())
         self.assertIn("spin: built: crates/spin_main/out/spin_main", told)
-        self.assertEqual(self.build(), (0, "spin: the proved program is built\n"))
+        self.assertEqual(self.build(), (0, "spin: the proved programs are built\n"))
 
     def test_crates_that_share_one_below_them_do_not_wait_for_each_other(self) -> None:
         self.assertEqual(self.build(SLEEP="1")[0], 0)
@@ -61,7 +62,7 @@ class Plain(Building):
         (crate / "data" / "first").write_text("")
         (crate / "args").write_text("run\nfirst\n")
         self.assertEqual(self.build()[0], 0)
-        self.assertEqual(self.lines()[-1], "given run data/first")
+        self.assertIn("given run data/first", self.lines())
 
     def test_a_build_that_was_killed_is_gone_on_with(self) -> None:
         child = self.begin(SLEEP="2")
@@ -105,7 +106,7 @@ class KeptNowhere(Building):
     def test_the_first_crate_shows_it_and_libraries_are_built(self) -> None:
         status, told = self.build(FULL="1")
         self.assertEqual(status, 0, told)
-        self.assertEqual((self.begun()[:2], sorted(self.begun()[2:])), (["low", "low"], ["left", "right", "spin_main"]))
+        self.assertEqual((self.begun()[:2], sorted(self.begun()[2:])), (["low", "low"], ["left", "right", "spin_main", "spinfilter"]))
         self.assertIn("spin: the kit can't keep what it proves here, so rt lib builds the libraries", told)
 
 

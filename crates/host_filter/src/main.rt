@@ -4,14 +4,10 @@
 
 ghost use Rattle.std.specs.Prelude.{None};
 
-use spin_endpoint::{Endpoint, Ends};
-use spin_headers::{write_ipv4, write_udp};
-use spin_objects::Natives;
-use spin_outside::{Failed, MemSource, OpenGate, StdSink};
-use spin_pcap::Reader;
-use spin_run::{RunEnd, run_script};
-use spin_script::read_script;
-use spin_values::{NoMemory, Octets, Text};
+use spin::{
+    Endpoint, Ends, Failed, MemSource, Natives, NoMemory, Octets, OpenGate, Reader, RunEnd,
+    StdSink, Text, read_script, run_script, write_ipv4, write_udp,
+};
 use std::alloc::Global;
 use std::cell::Cell;
 use std::io::{self, Print};

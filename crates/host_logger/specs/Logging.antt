@@ -1,17 +1,17 @@
 -- What the logger hands in, what it logs, and its status.
 use Rattle.std.specs.Prelude.{ℕ, true, List, [], ◌∷◌, ◌++◌, None, Result, Ok, Err}
 use Rattle.std.specs.List.{flat_map}
-use Rattle.spin_code.specs.declared.expr.Expr.TheVariants.{Const, Arg}
-use Rattle.spin_code.specs.declared.test.Test.{Test}
-use Rattle.spin_code.specs.declared.test.Test.TheVariants.{Compare}
-use Rattle.spin_code.specs.declared.test.Cmp.TheVariants.{Le}
-use Rattle.spin_policy.specs.declared.rule.OpMatch.TheVariants.{Any}
-use Rattle.spin_policy.specs.declared.rule.Effect.TheVariants.{Impose}
-use Rattle.spin_policy.specs.declared.rule.Rule.{Rule}
-use Rattle.spin_proto.specs.declared.reply.Step.{Step}
-use Rattle.spin_proto.specs.declared.reply.Step.TheVariants.{Send}
-use Rattle.spin_proto.specs.declared.reply.Reply.{Reply}
-use Rattle.spin_proto.specs.declared.reply.Reply.TheVariants.{Ran}
+use Rattle.spin.specs.Expr.TheVariants.{Const, Arg}
+use Rattle.spin.specs.Test.{Test}
+use Rattle.spin.specs.Test.TheVariants.{Compare}
+use Rattle.spin.specs.Cmp.TheVariants.{Le}
+use Rattle.spin.specs.OpMatch.TheVariants.{Any}
+use Rattle.spin.specs.Effect.TheVariants.{Impose}
+use Rattle.spin.specs.Rule.{Rule}
+use Rattle.spin.specs.Step.{Step}
+use Rattle.spin.specs.Step.TheVariants.{Send}
+use Rattle.spin.specs.Reply.{Reply}
+use Rattle.spin.specs.Reply.TheVariants.{Ran}
 use Rattle.host_logger.specs.declared.Fault.{Fault}
 use Rattle.host_logger.specs.declared.Fault.TheVariants as fault
 

@@ -7,21 +7,18 @@
 
 ghost use Rattle.std.specs.Prelude.{◌≡◌, ◌++◌, IfOk, OnOk};
 ghost use Rattle.std.specs.List.{flat_map};
-ghost use Rattle.spin_log.specs.Pens.{IsSamePen};
-ghost use Rattle.spin_table.specs.SetupOf.{data_of};
-ghost use Rattle.spin_seat.specs.Seats.{IsSeatOf};
+ghost use Rattle.spin.specs.Pens.{IsSamePen};
+ghost use Rattle.spin.specs.SetupOf.{data_of};
+ghost use Rattle.spin.specs.Seats.{IsSeatOf};
 ghost use Rattle.host_logger.specs.Logging as specs;
 
-use spin_code::{Cmp, Expr, Sincere, Test, argument_word};
-use spin_objects::{Catalogue, Guard, NativeFault, Natives};
-use spin_outside::{Sink, StdSink, write_all};
-use spin_policy::{Authoriser, Effect, OpMatch, Policy, PolicyFault, Request, Rule, Verdict};
-use spin_proto::{Deed, Reply, Step};
-use spin_script::{Script, ScriptFault, read_script};
-use spin_seat::{Hub, Seat, SeatFault};
-use spin_table::{Refusal, Verdicted};
-use spin_values::{Args, EventType, Kind, NoMemory, Numbers, Octets, Param, Params, Text, Value};
-use spin_word::{Command, Op};
+use spin::{
+    Args, Authoriser, Catalogue, Cmp, Command, Deed, Effect, EventType, Expr, Guard, Hub, Kind,
+    NativeFault, Natives, NoMemory, Numbers, Octets, Op, OpMatch, Param, Params, Policy,
+    PolicyFault, Refusal, Reply, Request, Rule, Script, ScriptFault, Seat, SeatFault, Sincere,
+    Sink, StdSink, Step, Test, Text, Value, Verdict, Verdicted, argument_word, read_script,
+    write_all,
+};
 use std::alloc::Global;
 use std::io::{self, Print};
 use std::process::ExitCode;

@@ -5,22 +5,18 @@
 #![tactic(auto)]
 
 ghost use Rattle.std.specs.Prelude.{◌≡◌, ◌∷◌, [], IfOk, IfSome, Ok};
-ghost use Rattle.spin_code.specs.declared.act.ActStep.TheVariants.{Result};
-ghost use Rattle.spin_code.specs.declared.expr.Expr.TheVariants.{Const};
-ghost use Rattle.spin_log.specs.Pens.{IsSamePen};
-ghost use Rattle.spin_objects.specs.Units.{IsSincereBy};
-ghost use Rattle.spin_table.specs.SetupOf.{data_of};
-ghost use Rattle.spin_seat.specs.Seats.{IsSeatOf};
+ghost use Rattle.spin.specs.ActStep.TheVariants.{Result};
+ghost use Rattle.spin.specs.Expr.TheVariants.{Const};
+ghost use Rattle.spin.specs.Pens.{IsSamePen};
+ghost use Rattle.spin.specs.Units.{IsSincereBy};
+ghost use Rattle.spin.specs.SetupOf.{data_of};
+ghost use Rattle.spin.specs.Seats.{IsSeatOf};
 
-use spin_code::{Act, ActStep, Expr, Sincere, Steplist};
-use spin_log::Rows;
-use spin_objects::{Catalogue, Handler, Item, Natives, Outcome};
-use spin_proto::{Deed, Reply};
-use spin_raise::Answer;
-use spin_script::{Script, read_script};
-use spin_seat::{Hub, Seat, SeatFault, Seats};
-use spin_values::{Args, EventType, NoMemory, Params, Text};
-use spin_word::{Command, Op, Row, unpack};
+use spin::{
+    Act, ActStep, Answer, Args, Catalogue, Command, Deed, EventType, Expr, Handler, Hub, Item,
+    Natives, NoMemory, Op, Outcome, Params, Reply, Row, Rows, Script, Seat, SeatFault, Seats,
+    Sincere, Steplist, Text, read_script, unpack,
+};
 use std::alloc::Global;
 use std::io::Print;
 use std::process::ExitCode;

@@ -5,22 +5,17 @@
 #![tactic(auto)]
 
 ghost use Rattle.std.specs.Prelude.{◌≡◌, ◌∷◌, [], IfOk, IfSome, IsTrue, Ok};
-ghost use Rattle.spin_word.specs.Commands.{is_command};
-ghost use Rattle.spin_log.specs.Pens.{IsSamePen};
-ghost use Rattle.spin_objects.specs.Units.{IsSincereBy};
-ghost use Rattle.spin_table.specs.SetupOf.{data_of};
-ghost use Rattle.spin_seat.specs.Seats.{IsSeat};
-ghost use Rattle.spin_seat.specs.RenewedHubs.{AreAllSeats};
+ghost use Rattle.spin.specs.Commands.{is_command};
+ghost use Rattle.spin.specs.Pens.{IsSamePen};
+ghost use Rattle.spin.specs.Units.{IsSincereBy};
+ghost use Rattle.spin.specs.SetupOf.{data_of};
+ghost use Rattle.spin.specs.Seats.{IsSeat};
+ghost use Rattle.spin.specs.RenewedHubs.{AreAllSeats};
 
-use spin_code::Sincere;
-use spin_log::Rows;
-use spin_objects::{Catalogue, Natives};
-use spin_proto::{Deed, Reply};
-use spin_raise::Answer;
-use spin_script::{Script, read_script};
-use spin_seat::{Hub, Renewal, Seat, SeatFault, Seats};
-use spin_values::{Args, NoMemory};
-use spin_word::{Command, MAX_PLACE, Op};
+use spin::{
+    Answer, Args, Catalogue, Command, Deed, Hub, MAX_PLACE, Natives, NoMemory, Op, Renewal, Reply,
+    Rows, Script, Seat, SeatFault, Seats, Sincere, read_script,
+};
 use std::alloc::Global;
 use std::process::ExitCode;
 use std::thread::{Threads, join};
@@ -72,7 +67,7 @@ fn bind(alloc: Global, hub: &Hub, mut seat: Seat) -> Result<Seat, SeatFault>
     requires lane { seat.pen.lane ≡ 0 }
     ensures { IfOk result (λ after.
         IsSamePen seat.pen after.pen
-        × (after.first ≡ seat.first)
+        × (after.base ≡ seat.base)
         × IsSeat (data_of hub.now.setup) after) }
 {
     let mut held = 1;
@@ -92,7 +87,7 @@ fn raise(alloc: Global, hub: &Hub, mut seat: Seat) -> Result<(Seat, u32), SeatFa
     requires seat { IsSeat (data_of hub.now.setup) seat }
     ensures { IfOk result (λ after.
         IsSamePen seat.pen after.0.pen
-        × (after.0.first ≡ seat.first)
+        × (after.0.base ≡ seat.base)
         × IsSeat (data_of hub.now.setup) after.0) }
 {
     let (event, args) = (0, Args::new(alloc));
@@ -123,11 +118,11 @@ fn take_turns<R: Threads + Sync>(
     requires lane { a.pen.lane ≡ 0 }
     ensures a { IfOk result.0 (λ after.
         IsSamePen a.pen after.pen
-        × (after.first ≡ a.first)
+        × (after.base ≡ a.base)
         × IsSeat (data_of hub.now.setup) after) }
     ensures b { IfOk result.1 (λ after.
         IsSamePen b.pen after.0.pen
-        × (after.0.first ≡ b.first)
+        × (after.0.base ≡ b.base)
         × IsSeat (data_of hub.now.setup) after.0) }
 {
     join(
@@ -139,7 +134,7 @@ fn take_turns<R: Threads + Sync>(
             requires lane { a.pen.lane ≡ 0 }
             ensures { IfOk result (λ after.
                 IsSamePen a.pen after.pen
-                × (after.first ≡ a.first)
+                × (after.base ≡ a.base)
                 × IsSeat (data_of hub.entry.now.setup) after) }
         { bind(alloc, hub, a) },
         || -> Result<(Seat, u32), SeatFault>
@@ -148,7 +143,7 @@ fn take_turns<R: Threads + Sync>(
             requires seat { IsSeat (data_of hub.now.setup) b }
             ensures { IfOk result (λ after.
                 IsSamePen b.pen after.0.pen
-                × (after.0.first ≡ b.first)
+                × (after.0.base ≡ b.base)
                 × IsSeat (data_of hub.entry.now.setup) after.0) }
         { raise(alloc, hub, b) },
     )

@@ -6,21 +6,17 @@
 
 ghost use Rattle.std.specs.Prelude.{◌≡◌, ◌-◌, ◌<◌, ◌^◌, length, All, IfOk};
 ghost use Rattle.std.specs.Arc.{arc_value};
-ghost use Rattle.spin_objects.specs.Units.{IsSincereBy};
-ghost use Rattle.spin_table.specs.SetupOf.{data_of};
-ghost use Rattle.spin_table.specs.Soundness.{IsSound};
-ghost use Rattle.spin_jobs.specs.Jobs.{CanDoAt, IsReplyFrom};
-ghost use Rattle.spin_later.specs.Agreements.{CanDoTask, IsAgreedAt};
-ghost use Rattle.spin_later.specs.Parties.{IsPartyOf, IsSameParty};
+ghost use Rattle.spin.specs.Units.{IsSincereBy};
+ghost use Rattle.spin.specs.SetupOf.{data_of};
+ghost use Rattle.spin.specs.Soundness.{IsSoundVersion};
+ghost use Rattle.spin.specs.Jobs.{CanDoAt, IsReplyFrom};
+ghost use Rattle.spin.specs.Agreements.{CanDoTask, IsAgreedAt};
+ghost use Rattle.spin.specs.Parties.{IsPartyOf, IsSameParty};
 
-use spin_code::Sincere;
-use spin_later::{Agreement, Parties, Party, Queue, Task, Tasks};
-use spin_objects::{Catalogue, Natives};
-use spin_proto::{JobCall, Reply, job_path};
-use spin_raise::Answer;
-use spin_script::read_script;
-use spin_table::{Setup, Version};
-use spin_values::{Args, NoMemory, Value};
+use spin::{
+    Agreement, Answer, Args, Catalogue, JobCall, Natives, NoMemory, Parties, Party, Queue, Reply,
+    Setup, Sincere, Task, Tasks, Value, Version, job_path, read_script,
+};
 use std::alloc::Global;
 use std::io::Print;
 use std::marker::Brand;
@@ -78,7 +74,7 @@ fn call_of(
     version: &Version,
     number: u32,
 ) -> Result<JobCall, NoMemory>
-    requires sound { IsSound (data_of setup.now) version.now }
+    requires sound { IsSoundVersion (data_of setup.now) version.now }
     requires there { 0 < length (data_of setup.now).events }
     ensures { IfOk result (CanDoAt (data_of setup.now) version.now) }
 {
@@ -91,7 +87,7 @@ fn call_of(
 fn reply_to(alloc: Global, setup: &Setup, task: &Task) -> Result<Reply, NoMemory>
     requires sincere { ⟦<Catalogue as Sincere>⟧.sincere setup.now.catalogue }
     requires can { CanDoTask (data_of setup.now) task.now }
-    ensures { IfOk result (IsReplyFrom (data_of setup.now) (arc_value task.now.version) task.now.call) }
+    ensures { IfOk result (IsReplyFrom (data_of setup.now) (arc_value task.now.version).state task.now.call) }
 {
     job_path(alloc, &task.version, setup, &task.call)
 }
@@ -121,7 +117,7 @@ fn put<A: Agreement, R: Wait + Sync>(
     version: &Arc<Version>,
     party: &mut Party,
 ) -> Result<bool, NoMemory>
-    requires sound { IsSound (data_of setup.now) (arc_value version.now) }
+    requires sound { IsSoundVersion (data_of setup.now) (arc_value version.now) }
     requires there { 0 < length (data_of setup.now).events }
     requires agreed { IsAgreedAt (data_of setup.now) A.allows }
     requires queue { party.old.queue ≡ queue.now.id }
@@ -164,7 +160,7 @@ fn work<A: Agreement, R: Wait + Sync>(
     mut party: Party,
 ) -> Result<(Party, Tally), NoMemory>
     requires sincere { ⟦<Catalogue as Sincere>⟧.sincere setup.now.catalogue }
-    requires sound { IsSound (data_of setup.now) (arc_value version.now) }
+    requires sound { IsSoundVersion (data_of setup.now) (arc_value version.now) }
     requires there { 0 < length (data_of setup.now).events }
     requires agreed { IsAgreedAt (data_of setup.now) A.allows }
     requires queue { party.queue ≡ queue.now.id }
@@ -195,7 +191,7 @@ fn take_turns<A: Agreement + Sync, R: Threads + Wait + Sync>(
     Result<(Party, Tally), NoMemory>,
 )
     requires sincere { ⟦<Catalogue as Sincere>⟧.sincere setup.now.catalogue }
-    requires sound { IsSound (data_of setup.now) (arc_value version.now) }
+    requires sound { IsSoundVersion (data_of setup.now) (arc_value version.now) }
     requires there { 0 < length (data_of setup.now).events }
     requires agreed { IsAgreedAt (data_of setup.now) A.allows }
     requires queue { (a.queue ≡ queue.now.id) × (b.queue ≡ queue.now.id) }
@@ -206,7 +202,7 @@ fn take_turns<A: Agreement + Sync, R: Threads + Wait + Sync>(
         rt,
         || -> Result<(Party, Tally), NoMemory>
             requires sincere { IsSincereBy does asks follows setup.now.catalogue.natives }
-            requires sound { IsSound (data_of setup.now) (arc_value version.now) }
+            requires sound { IsSoundVersion (data_of setup.now) (arc_value version.now) }
             requires there { 0 < length (data_of setup.now).events }
             requires agreed { IsAgreedAt (data_of setup.now) A.allows }
             requires queue { a.queue ≡ queue.now.id }
@@ -214,7 +210,7 @@ fn take_turns<A: Agreement + Sync, R: Threads + Wait + Sync>(
         { work(rt, alloc, queue, setup, version, a) },
         || -> Result<(Party, Tally), NoMemory>
             requires sincere { IsSincereBy does asks follows setup.now.catalogue.natives }
-            requires sound { IsSound (data_of setup.now) (arc_value version.now) }
+            requires sound { IsSoundVersion (data_of setup.now) (arc_value version.now) }
             requires there { 0 < length (data_of setup.now).events }
             requires agreed { IsAgreedAt (data_of setup.now) A.allows }
             requires queue { b.queue ≡ queue.now.id }
@@ -277,7 +273,7 @@ fn play<A: Agreement + Sync, R: Threads + Wait + Sync>(
     version: &Arc<Version>,
 ) -> Result<Tally, NoMemory>
     requires sincere { ⟦<Catalogue as Sincere>⟧.sincere setup.now.catalogue }
-    requires sound { IsSound (data_of setup.now) (arc_value version.now) }
+    requires sound { IsSoundVersion (data_of setup.now) (arc_value version.now) }
     requires there { 0 < length (data_of setup.now).events }
     requires agreed { IsAgreedAt (data_of setup.now) A.allows }
 {

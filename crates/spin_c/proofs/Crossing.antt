@@ -35,7 +35,7 @@ use Rattle.spin_table.specs.contracts.event.EventDef as EventDef
 use Rattle.spin_table.specs.contracts.setup.Setup as Setup
 use Rattle.spin_homes.proofs.homes.Homes.TheSendSync as homes
 use Rattle.spin_homes.proofs.homes.Ticket.TheSendSync as ticket
-use Rattle.spin_proto.proofs.lent.ReplyBuffer.TheSendSync as buffer
+use Rattle.spin_proto.proofs.reply_buffer.ReplyBuffer.TheSendSync as buffer
 use Rattle.spin_proto.proofs.reply.Reply.TheSendSync as reply
 use Rattle.spin_c.proofs.kept.Last.TheSendSync as last
 use Rattle.spin_c.specs.contracts.kept.Kept as Kept

@@ -6,7 +6,7 @@ use Rattle.std.proofs.lemmas.List.{append-nil}
 use Rattle.std.proofs.lemmas.Option.{same_Some}
 use Rattle.spin_word.specs.declared.row.Row.{Row}
 use Rattle.spin_table.specs.Setups.{SetupData}
-use Rattle.spin_table.specs.States.{State}
+use Rattle.spin_table.specs.States.{State, VersionValue}
 use Rattle.spin_proto.specs.declared.deed.JobCall.{JobCall}
 use Rattle.spin_proto.specs.declared.reply.Reply.{Reply}
 use Rattle.spin_proto.specs.Replies.{calls_left}
@@ -35,15 +35,15 @@ HasReply left = ⊥
 is_found : (left : Option Left) (to : Replied) → left ≡ Some (replied to) → HasReply left
 is_found left to is = subst HasReply (sym is) tt
 
--- the state is that which stands beside the reply
-pub pinned_beside : (at : Last) (b : Reply) (pinned : Option State) (job : Option Reply) (to : Replied) → left_in at b pinned job ≡ Some (replied to) → to.pinned ≡ pinned
+-- the version is that which stands beside the reply
+pub pinned_beside : (at : Last) (b : Reply) (pinned : Option VersionValue) (job : Option Reply) (to : Replied) → left_in at b pinned job ≡ Some (replied to) → to.pinned ≡ pinned
 pinned_beside last.None b pinned job to is = absurd (is_found None to is)
 pinned_beside last.Buffer b pinned job to is = sym (ap (λ (left : Option Left). (found left to).pinned) is)
 pinned_beside (last.Other reply) b pinned job to is = sym (ap (λ (left : Option Left). (found left to).pinned) is)
 pinned_beside (last.Cycle cycle) b pinned job to is = absurd (is_found (Some (conflict cycle)) to is)
 
 -- another reply of a job changes that alone
-pub job_beside : (at : Last) (b : Reply) (pinned : Option State) (job other : Option Reply) (to : Replied) → left_in at b pinned job ≡ Some (replied to)
+pub job_beside : (at : Last) (b : Reply) (pinned : Option VersionValue) (job other : Option Reply) (to : Replied) → left_in at b pinned job ≡ Some (replied to)
     → left_in at b pinned other ≡ Some (replied (record to { job = other }))
 job_beside last.None b pinned job other to is = absurd (is_found None to is)
 job_beside last.Buffer b pinned job other to is = ap (λ (left : Option Left). Some (replied (record (found left to) { job = other }))) is
@@ -78,7 +78,7 @@ not_done d left index outcome.NoMemory is =
     does_at d left left index at.to outcome.NoMemory at.kept (subst (λ o. DoesCall d at.to o left outcome.NoMemory) (sym at.there) (inr (at.kept, refl)))
 not_done d left index other is = absurd is
 
-pub done : (d : SetupData) (at : Last) (b : Reply) (pinned : Option State) (job : Option Reply) (index place : ℕ) (reply : Reply)
+pub done : (d : SetupData) (at : Last) (b : Reply) (pinned : Option VersionValue) (job : Option Reply) (index place : ℕ) (reply : Reply)
     → IsJobAt d (left_in at b pinned job) index place reply
     → DoesJob d (left_in at b pinned job) index (left_in at b pinned (Some reply)) (outcome.Raised place (told_of reply))
 done d at b pinned job index place reply is =
@@ -87,7 +87,7 @@ done d at b pinned job index place reply is =
     let after = left_in at b pinned (Some reply) in
     does_at d (left_in at b pinned job) after index call.to told call.kept
     (subst (λ o. DoesCall d call.to o after told) (sym call.there) (inl record {
-      state = is.state;
+      version = is.version;
       pinned = is.pinned;
       reply = reply;
       is = is.is;
@@ -98,7 +98,7 @@ done d at b pinned job index place reply is =
 -- ---- what is pinned
 
 -- the state of a seat that has applied what it read is the replay of its front
-pub whole_replay : (d : SetupData) (seat : SeatValue) (first : State) → IsSeat d seat → seat.kept ≡ None → seat.first ≡ first → IsReplayFrom d first seat.pen.front seat.state
+pub whole_replay : (d : SetupData) (seat : SeatValue) (first : State) → IsSeat d seat → seat.pending ≡ None → seat.base ≡ first → IsReplayFrom d first seat.pen.front seat.state
 whole_replay d seat first is none same =
     let front : seat.pen.front ≡ is.applied = is.front ∙ ap (λ (k : Option Row). is.applied ++ kept_rows k) none ∙ append-nil is.applied in
-    subst (λ (s : State). IsReplayFrom d s seat.pen.front seat.state) same (subst (λ (rows : List Row). IsReplayFrom d seat.first rows seat.state) (sym front) is.replay)
+    subst (λ (s : State). IsReplayFrom d s seat.pen.front seat.state) same (subst (λ (rows : List Row). IsReplayFrom d seat.base rows seat.state) (sym front) is.replay)

@@ -191,7 +191,7 @@ live_are_numbered d s sound =
 -- ---- event by event
 
 nothing : EventState
-nothing = record { bindings = []; tests = []; default = 0 }
+nothing = record { bindings = []; default = 0 }
 
 module _ (s : State) (event : ℕ) (bs : List Binding) (inside : event < length s.events) (are : IsSomeAnd (slice_get s.events event) (λ e. bs ≡ e.bindings)) where
   same_bindings : bs ≡ (get_or s.events event nothing).bindings

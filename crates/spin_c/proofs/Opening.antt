@@ -94,7 +94,7 @@ module _ {A C E : Type 0} {B : A → Type 0} {D : C → Type 0} {F : E → Type 
   -- what is so of a lane's seat and those that wait, where none is out
   pub record AreAllThere (l : Lane A C E B D F) : Type 0 where
     pub all : AreAllSeats (data_of (arc_value l.party).hub.setup) (arc_value l.party).hub.log (seats_at l)
-    pub from : AreFrom l.away.seat.first (seats_at l)
+    pub from : AreFrom l.away.seat.base (seats_at l)
     pub tickets : AreTicketsFrom (arc_value l.party).homes.table.shared.table_id 0 (map ticket_of (l.away ∷ present (drop 1 l.waiting)))
     pub count : length l.waiting ≡ (arc_value l.party).hub.log.lanes
     pub some : 0 < length l.waiting
@@ -107,7 +107,7 @@ module _ {A C E : Type 0} {B : A → Type 0} {D : C → Type 0} {F : E → Type 
       go (inl none) = absurd (home.0 none)
       go (inr w) =
           let p = arc_value l.party in
-          let first = l.away.seat.first in
+          let first = l.away.seat.base in
           let others = drop 1 l.waiting in
           let all = all_home p first 1 others (behind (IsAwayAt p first) l.waiting well.0.others) home.1 in
           let more = one_more l.waiting home.0 in
@@ -134,7 +134,7 @@ module _ {A C E : Type 0} {B : A → Type 0} {D : C → Type 0} {F : E → Type 
       → IsWellParty p first → AreAllSeats (data_of p.hub.setup) p.hub.log seats → AreFrom first seats
       → AreTicketsFrom p.homes.table.shared.table_id 0 tickets → AreLaid seats tickets away waiting → HasRoom (length seats) room → IsWellAt p away waiting room
   laid_well p away waiting room seats tickets first party all from given laid places =
-      let Same = λ (s : SeatValue). s.first ≡ first in
+      let Same = λ (s : SeatValue). s.base ≡ first in
       let rest = map seat_of laid.others in
       let is = laid.seats_are in
       let own = subst (All (Own p first)) is all.own in
@@ -151,7 +151,7 @@ module _ {A C E : Type 0} {B : A → Type 0} {D : C → Type 0} {F : E → Type 
           (tickets'.0, tickets'.1 ∙ sym order.0),
           record { own = All-head (Own p first) away.seat rest own; lane_is = refl; is_seat = ((All-head (From p first) away.seat rest whole).0, refl) },
         );
-        others = subst (AreWaiting (IsAwayAt p away.seat.first) 0) (sym laid.waiting_is)
+        others = subst (AreWaiting (IsAwayAt p away.seat.base) 0) (sym laid.waiting_is)
             (subst (λ (f : State). AreWaiting (IsAwayAt p f) 1 (map Some laid.others)) (sym begins) waits);
         whole = inr (
           order.0,

@@ -3,16 +3,11 @@ use Rattle.std.proofs.Common.{◌≡◌, ℕ, List, Option, Some, None, Result, 
 use Rattle.std.specs.Arc.{arc_value}
 use Rattle.std.specs.Prelude.{All, IfOk, MatchOption, MatchResult, OnErr, OnOk, map, ◌⊎◌}
 use Rattle.spin_values.specs.declared.values.Value.{Value}
-use Rattle.spin_word.specs.declared.work.Deed.{Deed}
-use Rattle.spin_proto.specs.declared.reply.Reply.{Reply}
 use Rattle.spin_host.specs.declared.fault.RaiseFault.{RaiseFault}
 use Rattle.spin_host.specs.Levels.{IsBegun}
 use Rattle.spin_host.specs.Opening.{begin_fault}
 use Rattle.spin_table.specs.SetupOf.{data_of}
-use Rattle.spin_table.specs.Setups.{SetupData}
-use Rattle.spin_seat.specs.Calls.{GivesFrom, reply_answer}
-use Rattle.spin_seat.specs.Replay.{IsReplayFrom}
-use Rattle.spin_seat.specs.Seats.{SeatValue}
+use Rattle.spin_seat.specs.Seats.{version_of}
 use Rattle.spin_c.specs.declared.given.SpinArg.{SpinArg}
 use Rattle.spin_c.specs.declared.lane.Held.{Held}
 use Rattle.spin_c.specs.declared.moves.Move.TheVariants as move
@@ -31,16 +26,11 @@ use Rattle.spin_c.specs.Uttered.{refusal_told}
 use Rattle.spin_c.specs.Waiting.{KeepsHub}
 use Rattle.spin_c.proofs.OpenMoves.{lends_idle}
 
--- whatever was asked, the seat has a pin at the end of the log then
-pub pinned : (d : SetupData) (seat after : SeatValue) (lane place : ℕ) (asked : Deed) (reply : Reply)
-    → GivesFrom d seat.first seat.pen (reply_answer lane asked place reply) after.pen → IsReplayFrom d seat.first after.pen.front after.state → IsPinned d seat after place
-pinned d seat after lane place asked reply gives replay =
-    record { reads = (gives.more, gives.pen, gives.others); replay = replay; place_is = gives.place }
-
 -- what is so of an answer, and what of none
-pub answered_or : {N : Type 0} {A P : ℕ → Type 0} {W : Type 0} (Q : Type 0) (r : Result ℕ N) → IfOk r A → OnOk r W → OnErr r Q → ((n : ℕ) → A n → W → P n) → MatchResult r P (λ _. Q)
-answered_or Q (Ok n) a w q p = p n a w
-answered_or Q (Err why) a w q p = q
+pub answered_or : {N : Type 0} {A P : ℕ → Type 0} {V W : Type 0} (Q : Type 0) (r : Result ℕ N) → IfOk r A → OnOk r V → OnOk r W → OnErr r Q → ((n : ℕ) → A n → V → W → P n)
+    → MatchResult r P (λ _. Q)
+answered_or Q (Ok n) a v w q p = p n a v w
+answered_or Q (Err why) a v w q p = q
 
 module _ {A C E : Type 0} {B : A → Type 0} {D : C → Type 0} {F : E → Type 0} (l after : Lane A C E B D F) (place event : ℕ) (args : List Value)
     (keeps : KeepsHub l after × (after.reply ≡ l.reply)) (pin : IsPinned (data_of (arc_value l.party).hub.setup) l.away.seat after.away.seat place) where
@@ -63,7 +53,7 @@ module _ {A C E : Type 0} {B : A → Type 0} {D : C → Type 0} {F : E → Type 
   )
 
   -- it is
-  pub begun_so : (o : Opened A C E B D F) → arc_value o.party ≡ arc_value after.party → IsBegun after.away.seat.state event args o.raise
+  pub begun_so : (o : Opened A C E B D F) → arc_value o.party ≡ arc_value after.party → IsBegun (version_of after.away.seat) event args o.raise
       → begin_fault (data_of (arc_value l.party).hub.setup) event args ≡ None → BeginsOn l event args after (raising.Open o) (upshot.Begun place)
   begun_so o shared begun none = (
     keeps.0,

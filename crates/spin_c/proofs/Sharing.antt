@@ -112,9 +112,9 @@ whole_as lanes old new slots after room same lane (inr w) = inr (lane ∙ w.0, s
 module _ {A C E : Type 0} {B : A → Type 0} {D : C → Type 0} {F : E → Type 0} where
   -- a lane that takes in what came home is as it should
   pub takes_well : (l : Lane A C E B D F) (after : List (Option Away)) → IsWellLane l
-      → AreTakenIn (IsAwayAt (arc_value l.party) l.away.seat.first) 0 l.waiting after → IsWellLane (record l { waiting = after })
+      → AreTakenIn (IsAwayAt (arc_value l.party) l.away.seat.base) 0 l.waiting after → IsWellLane (record l { waiting = after })
   takes_well l after well taken =
-      let fits = IsAwayAt (arc_value l.party) l.away.seat.first in (
+      let fits = IsAwayAt (arc_value l.party) l.away.seat.base in (
         record {
           party = well.0.party;
           own = well.0.own;
@@ -127,7 +127,7 @@ module _ {A C E : Type 0} {B : A → Type 0} {D : C → Type 0} {F : E → Type 
   -- so is one from which a seat is taken
   pub left_well : (l : Lane A C E B D F) (at : ℕ) → IsWellLane l → IsWellLane (record l { waiting = slice_set l.waiting at None })
   left_well l at well =
-      let fits = IsAwayAt (arc_value l.party) l.away.seat.first in (
+      let fits = IsAwayAt (arc_value l.party) l.away.seat.base in (
         record {
           party = well.0.party;
           own = well.0.own;
@@ -141,7 +141,7 @@ module _ {A C E : Type 0} {B : A → Type 0} {D : C → Type 0} {F : E → Type 
   pub shared_well : (l : Lane A C E B D F) (p : Party A C E B D F) (away : Away) (waiting : List (Option Away)) (room : Room) (at : ℕ) → IsWellLane l
       → slice_get l.waiting at ≡ Some (Some away) → p ≡ arc_value l.party → waiting ≡ [] → IsWellAt p away waiting room
   shared_well l p away waiting room at well waited same fresh =
-      let is = waits_at (IsAwayAt (arc_value l.party) l.away.seat.first) l.waiting at away well.0.others waited in
+      let is = waits_at (IsAwayAt (arc_value l.party) l.away.seat.base) l.waiting at away well.0.others waited in
       record {
         party = rw same (rw is.1.is_seat.1 well.0.party);
         own = rw same ((is.0.0, is.0.1 ∙ sym is.1.lane_is), record { own = is.1.own; lane_is = refl; is_seat = (is.1.is_seat.0, refl) });
@@ -150,7 +150,7 @@ module _ {A C E : Type 0} {B : A → Type 0} {D : C → Type 0} {F : E → Type 
       }
 
   pub takes_none : (l : Lane A C E B D F) → TakesIn l l
-  takes_none l = record { waiting = none_taken (IsAwayAt (arc_value l.party) l.away.seat.first) 0 l.waiting; same = refl }
+  takes_none l = record { waiting = none_taken (IsAwayAt (arc_value l.party) l.away.seat.base) 0 l.waiting; same = refl }
 
   -- a lane whose others wait as before is as it was
   pub set_back : (l : Lane A C E B D F) (waiting : List (Option Away)) → waiting ≡ l.waiting → record l { waiting = waiting } ≡ l

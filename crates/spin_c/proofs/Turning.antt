@@ -61,7 +61,7 @@ module _ {A C E : Type 0} {B : A → Type 0} {D : C → Type 0} {F : E → Type 
 
   -- a lane stays well as its seat does
   pub stays_well : (l : Lane A C E B D F) (seat : SeatValue) → IsWellLane l → IsSamePen l.away.seat.pen seat.pen → IsSeat (data_of (arc_value l.party).hub.setup) seat
-      → seat.first ≡ l.away.seat.first → IsWellAt (arc_value l.party) (record l.away { seat = seat }) l.waiting l.room
+      → seat.base ≡ l.away.seat.base → IsWellAt (arc_value l.party) (record l.away { seat = seat }) l.waiting l.room
   stays_well l seat well same whole first = record {
     party = rw first well.0.party;
     own = ((well.0.own.0.0, well.0.own.0.1 ∙ sym same.2), record { own = same.0 ∙ well.0.own.1.own; lane_is = refl; is_seat = (whole, refl) });

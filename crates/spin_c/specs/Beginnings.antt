@@ -7,7 +7,7 @@ use Rattle.spin_table.specs.Setups.{SetupData}
 use Rattle.spin_seat.specs.Calls.{AddsAtMostAPin, ReadsToPin}
 use Rattle.spin_seat.specs.Places.{place_past}
 use Rattle.spin_seat.specs.Replay.{IsReplayFrom}
-use Rattle.spin_seat.specs.Seats.{SeatValue}
+use Rattle.spin_seat.specs.Seats.{SeatValue, version_of}
 use Rattle.spin_host.specs.Levels.{IsBegun}
 use Rattle.spin_host.specs.Opening.{begin_fault}
 use Rattle.spin_c.specs.declared.lane.Held.{Held}
@@ -27,15 +27,15 @@ use Rattle.spin_c.specs.Waiting.{KeepsHub}
 -- rows up to there.
 pub record IsPinned (d : SetupData) (seat after : SeatValue) (place : ℕ) : Type 0 where
   pub reads : ReadsToPin seat.pen after.pen
-  pub replay : IsReplayFrom d seat.first after.pen.front after.state
-  pub place_is : place ≡ place_past seat.first.place (length after.pen.front)
+  pub replay : IsReplayFrom d seat.base after.pen.front after.state
+  pub place_is : place ≡ place_past seat.base.place (length after.pen.front)
 
--- a raise is open on the seat's state, with a share of the lane's hub
+-- a raise is open on the seat's version, with a share of the lane's hub
 abbrev pub IsOpened : {A C E : Type 0} {B : A → Type 0} {D : C → Type 0} {F : E → Type 0}
     → Lane A C E B D F → ℕ → List Value → Raising A C E B D F → Type 0
 IsOpened l event args raised =
     IsOpenAnd raised
-    (λ o. (arc_value o.party ≡ arc_value l.party) × IsBegun l.away.seat.state event args o.raise)
+    (λ o. (arc_value o.party ≡ arc_value l.party) × IsBegun (version_of l.away.seat) event args o.raise)
 
 -- The lane's seat is pinned. Where the event is there and the arguments fit it, a raise is opened on that state; else it
 -- is told why not, and none is open.

@@ -22,7 +22,7 @@ use Rattle.spin_c.specs.declared.ask.Outcome.TheVariants as outcome
 pub record IsDecided (d : SetupData) (lanes : ℕ) (seat : SeatValue) (c : Command) (after : SeatValue) (place : ℕ)
     (verdict : Verdicted) : Type 0 where
   pub fits : crowds lanes seat.state c ≡ false
-  pub gives : GivesFrom d seat.first seat.pen (verdict_answer seat.pen.lane c place verdict) after.pen
+  pub gives : GivesFrom d seat.base seat.pen (verdict_answer seat.pen.lane c place verdict) after.pen
   pub room : place_before (verdict_answer seat.pen.lane c place verdict) < MAX_PLACE
 
 -- Why there is no verdict: it would leave no room for a renewal, and nothing is done; or it wouldn't, and the log is full.
@@ -30,7 +30,7 @@ abbrev pub IsFull : ℕ → SeatValue → Command → SeatValue → Type 0
 IsFull lanes seat c after =
     ((crowds lanes seat.state c ≡ true) × (after ≡ seat))
     ⊎ ((crowds lanes seat.state c ≡ false) × ReadsOn seat.pen after.pen
-    × IsFaultAt seat.first.place (length after.pen.front) seat_fault.Full)
+    × IsFaultAt seat.base.place (length after.pen.front) seat_fault.Full)
 
 -- It is judged, and what that leaves is kept; or it isn't, and it is told why. Want of memory is no refusal of it. That the
 -- library doesn't share a version, whose bindings an install wants counted, no statement excludes.

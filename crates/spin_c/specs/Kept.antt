@@ -1,6 +1,6 @@
 -- What the last raise or command of a handle left.
 use Rattle.std.specs.Prelude.{List, [], ◌∷◌, ℕ, Option, None, Some}
-use Rattle.spin_table.specs.States.{State}
+use Rattle.spin_table.specs.States.{VersionValue}
 use Rattle.spin_table.specs.declared.refusal.Refusal.TheVariants as refusal
 use Rattle.spin_table.specs.declared.refusal.Verdicted.{Verdicted}
 use Rattle.spin_table.specs.declared.refusal.Verdicted.TheVariants as verdicted
@@ -9,11 +9,11 @@ use Rattle.spin_proto.specs.declared.reply.Reply.{Reply}
 use Rattle.spin_c.specs.declared.kept.Last.{Last}
 use Rattle.spin_c.specs.declared.kept.Last.TheVariants as last
 
--- The reply to a raise; the state on which it was given, where the reply leaves calls to jobs; and the reply to the last
--- of these that was done.
+-- The reply to a raise; the version on which it was given, where the reply leaves calls to jobs; and the reply to the
+-- last of these that was done.
 pub record Replied : Type 0 where
   pub reply : Reply
-  pub pinned : Option State
+  pub pinned : Option VersionValue
   pub job : Option Reply
 
 -- what a raise left, or the cycle for which a command was refused
@@ -22,7 +22,7 @@ pub data Left : Type 0 where
   conflict : List ℕ → Left
 
 -- what is left, by where it stands
-abbrev pub left_in : Last → Reply → Option State → Option Reply → Option Left
+abbrev pub left_in : Last → Reply → Option VersionValue → Option Reply → Option Left
 left_in last.None buffered pinned job = None
 left_in last.Buffer buffered pinned job = Some (replied record { reply = buffered; pinned = pinned; job = job })
 left_in (last.Other reply) buffered pinned job = Some (replied record { reply = reply; pinned = pinned; job = job })
@@ -43,10 +43,10 @@ abbrev pub cycle_left : Option Left → List ℕ
 cycle_left (Some (conflict cycle)) = cycle
 cycle_left other = []
 
--- the state that is kept where these calls are left
-abbrev pub pinned_for : List JobCall → State → Option State
-pinned_for [] s = None
-pinned_for (call ∷ calls) s = Some s
+-- the version that is kept where these calls are left
+abbrev pub pinned_for : List JobCall → VersionValue → Option VersionValue
+pinned_for [] version = None
+pinned_for (call ∷ calls) version = Some version
 
 -- a command that is refused for a cycle leaves that, and any other nothing
 abbrev pub last_by : Verdicted → Last

@@ -36,7 +36,7 @@ use Rattle.spin_c.specs.Uttered.{fault_told, item_bytes, item_told, refusal_told
 -- it is opened, on the version of this place; or there was no memory, and nothing is changed
 abbrev pub IsWithinOrNot : ℕ → List Value → OpenRaise → OpenRaise → Upshot → Type 0
 IsWithinOrNot event args o o' told =
-    (IsWithin event args o o' × (told ≡ upshot.Begun (arc_value o.version).place))
+    (IsWithin event args o o' × (told ≡ upshot.Begun (arc_value o.version).state.place))
     ⊎ ((o' ≡ o) × (told ≡ upshot.NoMemory))
 
 -- so it is where nothing is at fault; else it is told what is, and nothing is changed
@@ -47,7 +47,7 @@ OpensWithin o event args o' told =
     (λ sig e. MatchOption
     (within_fault (setup_of o) o.raise.top.frame.event (is_some (due_in e o.raise.top.frame)) event args)
     (IsWithinOrNot event args o.raise o' told)
-    (λ why. (o' ≡ o.raise) × (told ≡ refusal_told (arc_value o.raise.version).place why)))
+    (λ why. (o' ≡ o.raise) × (told ≡ refusal_told (arc_value o.raise.version).state.place why)))
 
 -- ---- what comes next
 

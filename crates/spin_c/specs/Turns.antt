@@ -15,6 +15,7 @@ use Rattle.spin_script.specs.Scripts.{IsBad}
 use Rattle.spin_script.specs.States.{NativeData, ScriptData}
 use Rattle.spin_script.specs.declared.script.ScriptFault.TheVariants as fault
 use Rattle.spin_seat.specs.Replay.{IsReplayFrom}
+use Rattle.spin_seat.specs.Seats.{version_of}
 use Rattle.spin_seat.specs.Calls.{GivesFrom, AddsAtMostAPin, reply_answer}
 use Rattle.spin_c.specs.Cycles.{binding_told}
 use Rattle.spin_c.specs.Jobs.{DoesJob}
@@ -76,18 +77,18 @@ OpensTo natives text lanes None told = NotOpened natives text lanes told
 -- ---- raising
 
 -- The deed has this reply, which is that of the plain dispatcher at that place; it is told so and kept, and where it leaves
--- calls to jobs also the state on which it was given, the replay of the rows that the log had then.
+-- calls to jobs also the version on which it was given, whose state is the replay of the rows that the log had then.
 pub record IsRaised {A C E : Type 0} {B : A → Type 0} {D : C → Type 0}
     {F : E → Type 0} (l : Lane A C E B D F) (asked : Deed) (after : Lane A C E B D F) (place : ℕ) (told : Told)
     : Type 0 where
   pub reply : Reply
   pub kept : after.reply ≡ Some (replied record {
     reply = reply;
-    pinned = pinned_for (calls_left reply) after.away.seat.state;
+    pinned = pinned_for (calls_left reply) (version_of after.away.seat);
     job = None;
   })
-  pub replay : IsReplayFrom (data_of (arc_value l.party).hub.setup) l.away.seat.first after.away.seat.pen.front after.away.seat.state
-  pub gives : GivesFrom (data_of (arc_value l.party).hub.setup) l.away.seat.first l.away.seat.pen
+  pub replay : IsReplayFrom (data_of (arc_value l.party).hub.setup) l.away.seat.base after.away.seat.pen.front after.away.seat.state
+  pub gives : GivesFrom (data_of (arc_value l.party).hub.setup) l.away.seat.base l.away.seat.pen
       (reply_answer l.away.seat.pen.lane asked place reply) after.away.seat.pen
   pub told_is : told ≡ told_of reply
 

@@ -68,9 +68,9 @@ IsWhole lanes seat waiting room =
 -- The seat is away from its home in the party, and so are those that wait at it.
 pub record IsWellAt {A C E : Type 0} {B : A → Type 0} {D : C → Type 0} {F : E → Type 0} (p : Party A C E B D F)
     (away : Away) (waiting : List (Option Away)) (room : Room) : Type 0 where
-  pub party : IsWellParty p away.seat.first
-  pub own : IsAwayAt p away.seat.first away.seat.pen.lane away
-  pub others : AreWaiting (IsAwayAt p away.seat.first) 0 waiting
+  pub party : IsWellParty p away.seat.base
+  pub own : IsAwayAt p away.seat.base away.seat.pen.lane away
+  pub others : AreWaiting (IsAwayAt p away.seat.base) 0 waiting
   pub whole : IsWhole p.hub.log.lanes away.seat waiting room
 
 -- so it is of a lane, and the jobs can be done that the reply leaves that is kept
@@ -99,13 +99,13 @@ IsWell kept = IfSome kept (λ h. IfLane h (λ l. IsWellLane l))
 abbrev pub KeepsHub : {A C E : Type 0} {B : A → Type 0} {D : C → Type 0} {F : E → Type 0}
     → Lane A C E B D F → Lane A C E B D F → Type 0
 KeepsHub l after =
-    (after.party ≡ l.party) × (after.away.seat.first ≡ l.away.seat.first) × (after.away.ticket ≡ l.away.ticket)
+    (after.party ≡ l.party) × (after.away.seat.base ≡ l.away.seat.base) × (after.away.ticket ≡ l.away.ticket)
     × (after.waiting ≡ l.waiting) × (after.room ≡ l.room) × (after.before ≡ l.before) × (after.lanes ≡ l.lanes)
 
 -- The lane takes in seats that came home, and nothing else of it changes.
 pub record TakesIn {A C E : Type 0} {B : A → Type 0} {D : C → Type 0}
     {F : E → Type 0} (l after : Lane A C E B D F) : Type 0 where
-  pub waiting : AreTakenIn (IsAwayAt (arc_value l.party) l.away.seat.first) 0 l.waiting after.waiting
+  pub waiting : AreTakenIn (IsAwayAt (arc_value l.party) l.away.seat.base) 0 l.waiting after.waiting
   pub same : after ≡ record l { waiting = after.waiting }
 
 -- no other lane's seat is out

@@ -13,11 +13,11 @@ use Rattle.spin_c.specs.Cases.{IsUnread, unread_fault, unread_number}
 use Rattle.spin_c.specs.Packets.{AreCaptured}
 use Rattle.spin_c.specs.Tellings.{laid_over}
 use Rattle.spin_c.specs.declared.reading.Unread.{Unread}
-use Rattle.spin_c.specs.declared.whole.Output.{Output}
-use Rattle.spin_c.specs.declared.whole.SpinRan.{SpinRan}
-use Rattle.spin_c.specs.declared.whole.SpinSending.{SpinSending}
-use Rattle.spin_c.specs.declared.whole.Whole.{Whole}
-use Rattle.spin_c.specs.declared.whole.Whole.TheVariants as whole
+use Rattle.spin_c.specs.declared.whole_run.Output.{Output}
+use Rattle.spin_c.specs.declared.whole_run.SpinRan.{SpinRan}
+use Rattle.spin_c.specs.declared.whole_run.SpinSending.{SpinSending}
+use Rattle.spin_c.specs.declared.whole_run.Whole.{Whole}
+use Rattle.spin_c.specs.declared.whole_run.Whole.TheVariants as whole
 
 -- the bytes of these sends, one behind another
 abbrev pub bytes_sent : List SentSeen → List ℕ

@@ -129,6 +129,7 @@ fn abandon(alloc: Global, raising: &mut Raising) -> Upshot
 }
 
 // Lends the room of the last raise, and takes it back.
+#[inline(always)]
 fn turn_idle(alloc: Global, room: &mut Room, asked: Move) -> Upshot
     ensures same { room.new ≡ room.old }
     ensures told { result ≡ idle_told asked }
@@ -144,6 +145,7 @@ fn turn_idle(alloc: Global, room: &mut Room, asked: Move) -> Upshot
 }
 
 // Does what is asked of what the handle holds, but to close it.
+#[inline(always)]
 fn turn_raising(alloc: Global, raising: &mut Raising, asked: Move) -> Upshot
     requires sincere { IfOpen raising.old
         (λ o. ⟦<Catalogue as Sincere>⟧.sincere (arc_value o.party).hub.setup.catalogue) }
@@ -165,6 +167,7 @@ fn turn_raising(alloc: Global, raising: &mut Raising, asked: Move) -> Upshot
 }
 
 // Does the call on what the handle holds.
+#[inline(always)]
 pub(crate) fn move_maybe(maybe: Maybe<Raising>, call: MoveCall) -> (Maybe<Raising>, Upshot)
     requires sincere { IfSome maybe.value (λ r. IfOpen r
         (λ o. ⟦<Catalogue as Sincere>⟧.sincere (arc_value o.party).hub.setup.catalogue)) }
@@ -184,5 +187,21 @@ pub(crate) fn move_maybe(maybe: Maybe<Raising>, call: MoveCall) -> (Maybe<Raisin
         return (Maybe::none(alloc), Upshot::Done);
     }
     let told = turn_raising(alloc, &mut raising, asked);
+    (Maybe::of(Loose::of(raising)), told)
+}
+
+// Tells what comes next in what the handle holds.
+pub(crate) fn next_maybe(maybe: Maybe<Raising>, alloc: Global) -> (Maybe<Raising>, Upshot)
+    requires sincere { IfSome maybe.value (λ r. IfOpen r
+        (λ o. ⟦<Catalogue as Sincere>⟧.sincere (arc_value o.party).hub.setup.catalogue)) }
+    requires well { IsWellHeld maybe.value }
+    ensures well { IsWellHeld result.0.value }
+    ensures moves { Moves maybe.value wish.Next result.0.value result.1 }
+{
+    let Some(loose) = maybe.into_loose() else {
+        return (Maybe::none(alloc), Upshot::Closed);
+    };
+    let mut raising = loose.into_box();
+    let told = next(alloc, &mut raising);
     (Maybe::of(Loose::of(raising)), told)
 }

@@ -4,6 +4,7 @@ ghost use Rattle.std.specs.Prelude.{◌≡◌, IfOk, IfSome, MatchOption, MatchR
 ghost use Rattle.std.specs.Arc.{arc_value};
 ghost use Rattle.spin_table.specs.SetupOf.{data_of};
 ghost use Rattle.spin_seat.specs.Calls.{AddsAtMostAPin};
+ghost use Rattle.spin_seat.specs.Seats.{version_of};
 ghost use Rattle.spin_c.specs.Beginnings.{Begins, BeginsHeld, BeginsIn, BeginsOn, IsPinned};
 ghost use Rattle.spin_c.specs.Raisings.{IfOpen, IsWellHeld, IsWellOpened, IsIdle};
 ghost use Rattle.spin_c.specs.Waiting.{IfLane, IsWell, IsWellLane, KeepsHub};
@@ -17,20 +18,16 @@ use crate::uttered::refusal_told;
 use spin_code::Sincere;
 use spin_host::{OpenRaise, Room, begin_fault};
 use spin_objects::Catalogue;
-use spin_proto::ReplyBuffer;
 use spin_seat::Party;
 use spin_table::Version;
-use spin_values::{Args, NoMemory};
-use spin_word::Deed;
+use spin_values::NoMemory;
 use std::alloc::Global;
 use std::mem;
 use std::sync::Arc;
 
-// No setup has so many events.
-const NO_EVENT: u8 = u8::MAX;
-
-// Reads the log on to its end, as a raise does, and has a pin there; and tells the place. Since it is a raise of no event
-// it takes no memory where nothing is to be read.
+// Reads the log on to its end, as a raise does, and has a pin there; and tells the place. It takes no memory where nothing
+// is to be read.
+#[inline(always)]
 fn pin(alloc: Global, lane: &mut Lane) -> Result<u16, NoMemory>
     requires sincere { ⟦<Catalogue as Sincere>⟧.sincere (arc_value lane.old.party).hub.setup.catalogue }
     requires well { IsWellLane lane.old }
@@ -40,20 +37,13 @@ fn pin(alloc: Global, lane: &mut Lane) -> Result<u16, NoMemory>
         (IsPinned (data_of (arc_value lane.old.party).hub.setup) lane.old.away.seat lane.new.away.seat)
         (λ _. AddsAtMostAPin lane.old.away.seat.pen lane.new.away.seat.pen) }
 {
-    let nothing = Deed::Raise {
-        event: NO_EVENT,
-        args: Args::new(alloc),
-    };
-    let mut buffer = ReplyBuffer::new(alloc);
-    lane.away
-        .seat
-        .raise_into(alloc, &lane.party.hub, &nothing, &mut buffer)
+    lane.away.seat.pin_version(alloc, &lane.party.hub)
 }
 
 // A share of the lane's hub, and of its version.
 fn shares(lane: &Lane) -> Result<(Arc<Party>, Arc<Version>), NoMemory>
     ensures { IfOk result (λ shares. (arc_value shares.0 ≡ arc_value lane.now.party)
-        × (arc_value shares.1 ≡ lane.now.away.seat.state)) }
+        × (arc_value shares.1 ≡ version_of lane.now.away.seat)) }
 {
     let party = Arc::try_clone(&lane.party)?;
     let version = lane.away.seat.version()?;
@@ -61,6 +51,7 @@ fn shares(lane: &Lane) -> Result<(Arc<Party>, Arc<Version>), NoMemory>
 }
 
 // Opens a raise on the version of a lane's hub at the end of its log, in the room of the last one; or says why not.
+#[inline(always)]
 fn begin_on(lane: &mut Lane, room: Room, begin: Begin) -> (Raising, Upshot)
     requires sincere { ⟦<Catalogue as Sincere>⟧.sincere (arc_value lane.old.party).hub.setup.catalogue }
     requires well { IsWellLane lane.old }
@@ -91,6 +82,7 @@ fn begin_on(lane: &mut Lane, room: Room, begin: Begin) -> (Raising, Upshot)
 }
 
 // Opens a raise on what a lane's handle holds, in the room of the last one.
+#[inline(always)]
 fn begin_held(held: &mut Held, room: Room, begin: Begin) -> (Raising, Upshot)
     requires sincere { IfLane held.old
         (λ l. ⟦<Catalogue as Sincere>⟧.sincere (arc_value l.party).hub.setup.catalogue) }
@@ -110,6 +102,7 @@ fn begin_held(held: &mut Held, room: Room, begin: Begin) -> (Raising, Upshot)
 }
 
 // Opens a raise on what a lane's handle holds, where none is open.
+#[inline(always)]
 fn begin_in(held: &mut Held, raising: &mut Raising, begin: Begin) -> Upshot
     requires sincere { IfLane held.old
         (λ l. ⟦<Catalogue as Sincere>⟧.sincere (arc_value l.party).hub.setup.catalogue) }
@@ -134,6 +127,7 @@ fn begin_in(held: &mut Held, raising: &mut Raising, begin: Begin) -> Upshot
 }
 
 // Opens a raise on a lane's handle.
+#[inline(always)]
 pub(crate) fn begin_maybe(
     maybe: Maybe<Held>,
     other: Maybe<Raising>,

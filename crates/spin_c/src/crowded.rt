@@ -8,7 +8,7 @@ ghost use Rattle.spin_policy.specs.Verdicts.{is_install};
 ghost use Rattle.spin_table.specs.declared.setup.TheConstants.{MAX_LIVE};
 ghost use Rattle.spin_table.specs.SetupOf.{data_of};
 ghost use Rattle.spin_table.specs.Renewals.{live_numbers};
-ghost use Rattle.spin_table.specs.Soundness.{IsSound};
+ghost use Rattle.spin_table.specs.Soundness.{IsSoundVersion};
 ghost use Rattle.spin_seat.specs.Seats.{IsSeat};
 ghost use Rattle.spin_c.specs.Crowded.{crowds};
 ghost use Rattle.spin_c.specs.Judging.{Judges};
@@ -26,8 +26,8 @@ use std::alloc::Global;
 
 // How many bindings are live.
 fn live_count(setup: &Setup, version: &Version) -> u32
-    requires { IsSound (data_of setup.now) version.now }
-    ensures count { result ≡ length (live_numbers version.now) }
+    requires { IsSoundVersion (data_of setup.now) version.now }
+    ensures count { result ≡ length (live_numbers version.now.state) }
     ensures few { result ≤ MAX_EVENTS * MAX_LIVE }
 {
     let _few = setup.live();
@@ -71,7 +71,7 @@ impl Kept {
         requires valid { IsTrue (is_command c.now) }
         requires lane { c.now.lane ≡ seat.old.pen.lane }
         ensures seat { IsSeat (data_of hub.now.setup) seat.new }
-        ensures first { seat.new.first ≡ seat.old.first }
+        ensures first { seat.new.base ≡ seat.old.base }
         ensures same { IsSamePen seat.old.pen seat.new.pen }
         ensures judges { Judges (data_of hub.now.setup) lanes seat.old c.now seat.new self.new result }
     {

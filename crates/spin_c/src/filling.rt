@@ -6,7 +6,7 @@ ghost use Rattle.spin_c.specs.Wholes.{Fills, Fits, TellsWhole, refused_by, sizes
 use crate::copying::put_front;
 use crate::reading::Unread;
 use crate::told::{unread_fault, unread_number};
-use crate::whole::{Output, SpinRan, SpinSending, Whole};
+use crate::whole_run::{Output, SpinRan, SpinSending, Whole};
 
 // Whether each part has room in its buffer.
 fn fits(output: &Output, report: &[u8], sends: &[SpinSending], bytes: &[u8]) -> bool

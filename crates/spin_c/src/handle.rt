@@ -39,6 +39,7 @@ unsafe impl Send for SpinLane {}
 
 impl SpinLane {
     // A closed handle.
+    #[inline(always)]
     pub(crate) fn closed(alloc: Global) -> SpinLane
         ensures { result.kept ≡ None }
     {
@@ -105,6 +106,7 @@ impl SpinLane {
     }
 
     // Opens a raise on what the handle holds.
+    #[inline(always)]
     pub(crate) fn begin(self, other: SpinRaising, begin: Begin) -> (SpinLane, SpinRaising, Upshot)
         ensures { Begins self.kept other.kept begin.event begin.args result.0.kept result.1.kept result.2 }
     {

@@ -7,11 +7,11 @@ ghost use Rattle.spin_proto.specs.declared.reply.Reply.{Reply as ReplyValue};
 ghost use Rattle.spin_proto.specs.Parts.{trace_in};
 ghost use Rattle.spin_proto.specs.Replies.{calls_left};
 ghost use Rattle.spin_seat.specs.Replay.{IsReplayFrom};
-ghost use Rattle.spin_seat.specs.Seats.{IsSeat};
+ghost use Rattle.spin_seat.specs.Seats.{IsSeat, version_of};
 ghost use Rattle.spin_seat.specs.Calls.{AddsAtMostAPin, GivesFrom, reply_answer};
 ghost use Rattle.std.specs.Option.{option_copied, option_map};
 ghost use Rattle.std.specs.Arc.{arc_value};
-ghost use Rattle.spin_table.specs.States.{State};
+ghost use Rattle.spin_table.specs.States.{VersionValue};
 ghost use Rattle.spin_c.specs.Jobs.{IsWellLeft};
 ghost use Rattle.spin_c.specs.Kept.{cycle_left, job_left, left_in, pinned_for, replied, reply_left};
 ghost use Rattle.spin_c.specs.Trails.{told_of};
@@ -70,7 +70,7 @@ impl Model for Kept {
 
 // Keeps the reply that stands in a buffer, and tells it.
 fn keep(alloc: Global, buffer: &mut ReplyBuffer) -> (Last, Told)
-    ensures kept { (pinned : Option State) → (job : Option ReplyValue)
+    ensures kept { (pinned : Option VersionValue) → (job : Option ReplyValue)
         → left_in result.0 buffer.new pinned job ≡ Some (replied record { reply = buffer.old; pinned = pinned; job = job }) }
     ensures told { result.1 ≡ told_of buffer.old }
 {
@@ -87,7 +87,7 @@ fn keep(alloc: Global, buffer: &mut ReplyBuffer) -> (Last, Told)
 
 // The version of the seat, where these calls are left to jobs that are done on it.
 fn pinned(seat: &Seat, calls: &[JobCall]) -> Result<Option<Arc<Version>>, NoMemory>
-    ensures { IfOk result (λ pinned. option_map (λ v. arc_value v) pinned ≡ pinned_for calls.now seat.now.state) }
+    ensures { IfOk result (λ pinned. option_map (λ v. arc_value v) pinned ≡ pinned_for calls.now (version_of seat.now)) }
 {
     if calls.is_empty() {
         return Ok(None);
@@ -174,7 +174,7 @@ impl Kept {
         requires log { seat.old.pen.log ≡ hub.now.log.id }
         requires seat { IsSeat (data_of hub.now.setup) seat.old }
         ensures seat { IsSeat (data_of hub.now.setup) seat.new }
-        ensures first { seat.new.first ≡ seat.old.first }
+        ensures first { seat.new.base ≡ seat.old.base }
         ensures same { IsSamePen seat.old.pen seat.new.pen }
         ensures well { IsWellLeft (data_of hub.now.setup) self.new }
         ensures answer { let d = data_of hub.now.setup in
@@ -183,12 +183,12 @@ impl Kept {
             (reply : ReplyValue)
             × (self.new ≡ Some (replied record {
               reply = reply;
-              pinned = pinned_for (calls_left reply) seat.new.state;
+              pinned = pinned_for (calls_left reply) (version_of seat.new);
               job = None;
             }))
             × (told.1 ≡ told_of reply)
-            × IsReplayFrom d seat.old.first seat.new.pen.front seat.new.state
-            × GivesFrom d seat.old.first pen (reply_answer pen.lane deed.now told.0 reply) seat.new.pen) }
+            × IsReplayFrom d seat.old.base seat.new.pen.front seat.new.state
+            × GivesFrom d seat.old.base pen (reply_answer pen.lane deed.now told.0 reply) seat.new.pen) }
         ensures err { OnErr result (AddsAtMostAPin seat.old.pen seat.new.pen × (self.new ≡ None)) }
     {
         self.forget();

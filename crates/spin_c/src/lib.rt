@@ -1,7 +1,7 @@
 //! The dispatcher for hosts that aren't Rattle: the calls that `bindings/c/spin.h` declares.
 //!
 //! - [`reading`] reads a script, a capture beside it, by [`packets`], and names; [`verdict`] has what a report is judged
-//!   to be by them, and [`judge`] judges it; [`whole`] has what a run with them comes to, [`running`] runs it, and
+//!   to be by them, and [`judge`] judges it; [`whole_run`] has what a run with them comes to, [`running`] runs it, and
 //!   [`filling`] puts what it hands out into buffers;
 //! - [`lane`] is what a handle holds, a seat with its hub, [`handing`] hands the seats of other lanes out and gives them
 //!   home, and [`handle`] is the handle, over [`maybe`] and [`loose`]: pointers that own a box, or may be null;
@@ -27,7 +27,7 @@ ghost use Rattle.spin_c.specs.declared.texts.TheConstants.{CAUSES, FAULTS};
 ghost use Rattle.spin_c.specs.Verdicts.{IsVerdict, no_natives, fault_of, number_of};
 ghost use Rattle.spin_c.specs.Packets.{given_if};
 ghost use Rattle.spin_c.specs.Wholes.{RunsTo, TellsWhole};
-ghost use Rattle.spin_c.specs.declared.whole.Whole.{Whole as WholeValue};
+ghost use Rattle.spin_c.specs.declared.whole_run.Whole.{Whole as WholeValue};
 
 mod answering;
 mod ask;
@@ -67,7 +67,7 @@ mod trail;
 mod turn;
 mod uttered;
 mod verdict;
-mod whole;
+mod whole_run;
 
 use ask::{Ask, Outcome};
 use asking::{args_of, ask_bytes, ask_of, ask_row, ask_step, open_of, share_of, tell};
@@ -92,7 +92,7 @@ use texts::{cause_text, fault_text, tell_text};
 pub use told::{SpinAnswer, SpinFault};
 use told::{fault_of, number_of};
 pub use verdict::Verdict;
-pub use whole::{Output, SpinRan, SpinSending, Whole};
+pub use whole_run::{Output, SpinRan, SpinSending, Whole};
 
 /// The version of these calls. It grows by 1 where one of them is changed, and not where one is added.
 #[unsafe(no_mangle)]

@@ -25,6 +25,7 @@ use std::alloc::Global;
 use std::mem;
 
 // Does what is asked on what the handle holds.
+#[inline(always)]
 pub(crate) fn move_on(alloc: Global, raising: &mut SpinRaising, asked: Move) -> Upshot
     ensures { Moves raising.old.kept asked raising.new.kept result }
 {
@@ -111,6 +112,24 @@ fn step_of(told: &Upshot) -> SpinStep
         Upshot::Told(step) => *step,
         _ => blank(0),
     }
+}
+
+// Tells what comes next in what the handle holds.
+fn next_on(alloc: Global, raising: &mut SpinRaising) -> Upshot
+    ensures { Moves raising.old.kept wish.Next raising.new.kept result }
+{
+    let (after, told) = mem::replace(raising, SpinRaising::closed(alloc)).next(alloc);
+    *raising = after;
+    told
+}
+
+// Tells what comes next, as a step.
+pub(crate) fn next_step(alloc: Global, raising: &mut SpinRaising, step: &mut SpinStep) -> u32
+    ensures { TellsMoveStep raising.old.kept wish.Next raising.new.kept result step.new }
+{
+    let told = next_on(alloc, raising);
+    *step = step_of(&told);
+    number_of(&told)
 }
 
 // Does what is asked, and tells a step.

@@ -9,7 +9,7 @@ use crate::given::SpinArg;
 use crate::handle::SpinLane;
 use crate::moves::Move;
 use crate::moving::{
-    begin_with, gave_with, hand_out, move_of, move_plain, move_step, tell, within_with,
+    begin_with, gave_with, hand_out, move_of, move_plain, move_step, next_step, tell, within_with,
 };
 use crate::raiser::SpinRaising;
 use crate::step::SpinStep;
@@ -68,7 +68,7 @@ pub extern "C" fn spin_within(
 pub extern "C" fn spin_next(alloc: Global, raising: &mut SpinRaising, step: &mut SpinStep) -> u32
     ensures { TellsMoveStep raising.old.kept wish.Next raising.new.kept result step.new }
 {
-    move_step(alloc, raising, Move::Next, step)
+    next_step(alloc, raising, step)
 }
 
 /// Tells an argument of the innermost raise, as it stands: of kind 0 a word, or of kind 1 how many bytes, which are copied

@@ -86,6 +86,7 @@ impl Opened {
     }
 
     // Does what is asked, which leaves the raise open.
+    #[inline(always)]
     pub(crate) fn turn(&mut self, alloc: Global, asked: Move) -> Upshot
         requires well { IsWellOpened self.old }
         requires staying { IsStaying asked }

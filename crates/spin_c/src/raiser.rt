@@ -1,10 +1,11 @@
 //! What C holds of an open raise: a pointer that owns it with its room, or null.
 
 ghost use Rattle.std.specs.Prelude.{◌≡◌, None, Option};
+ghost use Rattle.spin_c.specs.declared.moves.Move.TheVariants as wish;
 ghost use Rattle.spin_c.specs.Moves.{Moves};
 ghost use Rattle.spin_c.specs.Raisers.{RaisingAt, raiser_owns, raising_coded};
 
-use crate::answering::move_maybe;
+use crate::answering::{move_maybe, next_maybe};
 use crate::maybe::Maybe;
 use crate::moves::{MoveCall, Upshot};
 use crate::raising::Raising;
@@ -30,6 +31,7 @@ unsafe impl Send for SpinRaising {}
 
 impl SpinRaising {
     // A closed handle.
+    #[inline(always)]
     pub(crate) fn closed(alloc: Global) -> SpinRaising
         ensures { result.kept ≡ None }
     {
@@ -40,6 +42,7 @@ impl SpinRaising {
     }
 
     // Does the call on what the handle holds.
+    #[inline(always)]
     pub(crate) fn turn(self, call: MoveCall) -> (SpinRaising, Upshot)
         ensures { Moves self.kept call.asked result.0.kept result.1 }
     {
@@ -50,6 +53,28 @@ impl SpinRaising {
                 alloc,
             },
             call,
+        );
+        let Maybe { at, alloc } = maybe;
+        (
+            SpinRaising {
+                at: at as *mut u8,
+                alloc,
+            },
+            told,
+        )
+    }
+
+    // Tells what comes next in what the handle holds.
+    pub(crate) fn next(self, its: Global) -> (SpinRaising, Upshot)
+        ensures { Moves self.kept wish.Next result.0.kept result.1 }
+    {
+        let SpinRaising { at, alloc } = self;
+        let (maybe, told) = next_maybe(
+            Maybe {
+                at: at as *mut Raising,
+                alloc,
+            },
+            its,
         );
         let Maybe { at, alloc } = maybe;
         (

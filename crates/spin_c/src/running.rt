@@ -7,7 +7,7 @@ ghost use Rattle.spin_script.specs.States.{natives_seen};
 ghost use Rattle.spin_c.specs.Wholes.{IsLaidOut, RunsTo};
 
 use crate::reading::{Unread, read_case};
-use crate::whole::{Output, SpinSending, Whole};
+use crate::whole_run::{Output, SpinSending, Whole};
 use spin_code::Sincere;
 use spin_objects::Natives;
 use spin_values::{NoMemory, Octets, Sequence};

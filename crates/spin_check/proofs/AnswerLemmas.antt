@@ -12,8 +12,8 @@ use Rattle.spin_table.specs.declared.refusal.Verdicted.{Verdicted}
 use Rattle.spin_table.specs.declared.refusal.Verdicted.TheVariants as verdicted
 use Rattle.spin_table.specs.Laws.{cause_of, without_cycle}
 use Rattle.spin_table.specs.Setups.{SetupData}
-use Rattle.spin_table.specs.States.{State}
-use Rattle.spin_table.specs.Soundness.{IsSound}
+use Rattle.spin_table.specs.States.{State, VersionValue}
+use Rattle.spin_table.specs.Soundness.{IsSound, IsSoundVersion}
 use Rattle.spin_table.specs.Refusals.{refusal_of}
 use Rattle.spin_table.specs.Steps.{ChangesTo, IsStep, MayConflict}
 use Rattle.spin_table.proofs.StepUniqueness.{one_step}
@@ -138,20 +138,20 @@ conflicts d s c r sound room is step v next h =
 
 -- ---- what is judged
 
--- the verdict, which leads to that state, is the one that is told
-abbrev pub IsOne : SetupData → State → Command → List ℕ → Verdicted → State → Type 0
+-- the verdict, which leads to that version, is the one that is told
+abbrev pub IsOne : SetupData → State → Command → List ℕ → Verdicted → VersionValue → Type 0
 IsOne d s c report verdict next =
-    IsStep d s c verdict next × IsSound d next × ((v : Verdicted) (other : State) → IsStep d s c v other → TellsVerdict report v → v ≡ verdict)
+    IsStep d s c verdict next.state × IsSoundVersion d next × ((v : Verdicted) (other : State) → IsStep d s c v other → TellsVerdict report v → v ≡ verdict)
 
-pub one_accepted : (d : SetupData) (s next after : State) (c : Command) (report : List ℕ)
-    → IsStep d s c verdicted.Accepted next → IsSound d next → after ≡ next → IsOne d s c report verdicted.Accepted after
+pub one_accepted : (d : SetupData) (s : State) (next after : VersionValue) (c : Command) (report : List ℕ)
+    → IsStep d s c verdicted.Accepted next.state → IsSoundVersion d next → after ≡ next → IsOne d s c report verdicted.Accepted after
 one_accepted d s next after c report step sound state =
-    subst (IsOne d s c report verdicted.Accepted) (sym state) (step, sound, λ v other h tells. accepted_alone d s next c step v other h)
+    subst (IsOne d s c report verdicted.Accepted) (sym state) (step, sound, λ v other h tells. accepted_alone d s next.state c step v other h)
 
-pub one_refused : (d : SetupData) (s after : State) (c : Command) (r : Refusal) (report : List ℕ) → tells_cycle r ≡ false → IsStep d s c (verdicted.Refused r) s → IsSound d s → after ≡ s
-    → IsOne d s c report (verdicted.Refused r) after
-one_refused d s after c r report plain step sound state =
-    subst (IsOne d s c report (verdicted.Refused r)) (sym state) (step, sound, λ v other h tells. refused_alone d s c r plain step v other h)
+pub one_refused : (d : SetupData) (now after : VersionValue) (c : Command) (r : Refusal) (report : List ℕ) → tells_cycle r ≡ false → IsStep d now.state c (verdicted.Refused r) now.state
+    → IsSoundVersion d now → after ≡ now → IsOne d now.state c report (verdicted.Refused r) after
+one_refused d now after c r report plain step sound same =
+    subst (IsOne d now.state c report (verdicted.Refused r)) (sym same) (step, sound, λ v other h tells. refused_alone d now.state c r plain step v other h)
 
 -- no cycle is told, or one that the command can't be refused for, or one that it may be
 module _ (d : SetupData) (s : State) (c : Command) (report : List ℕ) where
@@ -169,36 +169,36 @@ module _ (d : SetupData) (s : State) (c : Command) (report : List ℕ) where
     own_cycle may = (may, same_cycle)
 
 -- where a conflict applies
-module _ (d : SetupData) (s : State) (c : Command) (r : Refusal) (report : List ℕ) (sound : IsSound d s)
-    (room : s.place < MAX_PLACE) (is : tells_cycle r ≡ true) (step : IsStep d s c (verdicted.Refused r) s) where
-  pub none_judged : IsConflictTold d s c report None → IsJudged d s c report None
+module _ (d : SetupData) (now : VersionValue) (c : Command) (r : Refusal) (report : List ℕ) (sound : IsSoundVersion d now)
+    (room : now.state.place < MAX_PLACE) (is : tells_cycle r ≡ true) (step : IsStep d now.state c (verdicted.Refused r) now.state) where
+  pub none_judged : IsConflictTold d now.state c report None → IsJudged d now.state c report None
   none_judged none v next h tells =
-      let found = conflicts d s c r sound room is step v next h in
+      let found = conflicts d now.state c r sound.state room is step v next h in
       none found.0 found.3 found.2 (subst (TellsVerdict report) found.1 tells)
 
-  pub cycle_judged : (cycle : List ℕ) (after : State) → IsConflictTold d s c report (Some cycle) → after ≡ s → IsOne d s c report (conflict cycle) after
-  cycle_judged cycle after told state = subst (IsOne d s c report (conflict cycle)) (sym state) (
+  pub cycle_judged : (cycle : List ℕ) (after : VersionValue) → IsConflictTold d now.state c report (Some cycle) → after ≡ now → IsOne d now.state c report (conflict cycle) after
+  cycle_judged cycle after told same = subst (IsOne d now.state c report (conflict cycle)) (sym same) (
     told.0,
     sound,
     λ v next h tells.
-        let found = conflicts d s c r sound room is step v next h in
+        let found = conflicts d now.state c r sound.state room is step v next h in
         found.1 ∙ sym (ap conflict (told.1 found.0 found.3 (subst (TellsVerdict report) found.1 tells))),
   )
 
 -- ---- what is done
 
--- the answer, which leads to that state, is the one that is told
-abbrev pub IsOneDone : SetupData → State → Work → List ℕ → What → State → Type 0
+-- the answer, which leads to that version, is the one that is told
+abbrev pub IsOneDone : SetupData → State → Work → List ℕ → What → VersionValue → Type 0
 IsOneDone d s asked report w after =
-    Answers d s w after × (asked ≡ asked_by w) × IsSound d after × All (BelongsTo after) (answer_calls w)
-    × ((e : Entry) (next : State) → IsNextEntry d s e next → asked ≡ asked_by e.what → Begins report e → (e.what ≡ w) × (next ≡ after))
+    Answers d s w after.state × (asked ≡ asked_by w) × IsSoundVersion d after × All (BelongsTo after.state) (answer_calls w)
+    × ((e : Entry) (next : State) → IsNextEntry d s e next → asked ≡ asked_by e.what → Begins report e → (e.what ≡ w) × (next ≡ after.state))
 
 -- to a command, where its verdict is known
-pub command_done : (d : SetupData) (s after : State) (c : Command) (v : Verdicted) (report : List ℕ) → IsOne d s c report v after → IsOneDone d s (work.Command c) report (what.Command c v) after
+pub command_done : (d : SetupData) (s : State) (after : VersionValue) (c : Command) (v : Verdicted) (report : List ℕ) → IsOne d s c report v after → IsOneDone d s (work.Command c) report (what.Command c v) after
 command_done d s after c v report one = (one.0, refl, one.1, λ k x lt. absurd (omega (arith, lt)), alone) where
-  alone : (e : Entry) (next : State) → IsNextEntry d s e next → work.Command c ≡ asked_by e.what → Begins report e → (e.what ≡ what.Command c v) × (next ≡ after)
+  alone : (e : Entry) (next : State) → IsNextEntry d s e next → work.Command c ≡ asked_by e.what → Begins report e → (e.what ≡ what.Command c v) × (next ≡ after.state)
   alone e next h is begins = go e.what refl where
-    go : (w : What) → e.what ≡ w → (e.what ≡ what.Command c v) × (next ≡ after)
+    go : (w : What) → e.what ≡ w → (e.what ≡ what.Command c v) × (next ≡ after.state)
     go (what.Deed f r) done = absurd (let same : work.Command c ≡ work.Deed f = is ∙ ap asked_by done in cc (same))
     go (what.Command b u) done =
         let same : work.Command c ≡ work.Command b = is ∙ ap asked_by done in
@@ -206,7 +206,7 @@ command_done d s after c v report one = (one.0, refl, one.1, λ k x lt. absurd (
         let moved : IsStep d s b u next = subst (λ w. Answers d s w next) done h.0 in
         let own : IsStep d s c u next = subst (λ x. IsStep d s x u next) (sym command) moved in
         let verdict : u ≡ v = one.2 u next own (e, b, done, begins) in
-        (done ∙ (λ i. what.Command (sym command i) (verdict i)), one_next d s c v next after (subst (λ w. IsStep d s c w next) verdict own) one.0)
+        (done ∙ (λ i. what.Command (sym command i) (verdict i)), one_next d s c v next after.state (subst (λ w. IsStep d s c w next) verdict own) one.0)
 
 -- where none of its verdicts is told
 pub command_none : (d : SetupData) (s : State) (c : Command) (report : List ℕ) → IsJudged d s c report None → IsDone d s (work.Command c) report None
@@ -219,20 +219,20 @@ command_none d s c report none e next h is begins = go e.what refl where
       let moved : IsStep d s b u next = subst (λ w. Answers d s w next) done h.0 in
       none u next (subst (λ x. IsStep d s x u next) (sym command) moved) (e, b, done, begins)
 
--- to a deed, which leaves the state
-pub deed_done : (d : SetupData) (s after : State) (deed : Deed) (r : Reply) (report : List ℕ) → IsDeedReply d s deed r → IsSound d s → All (BelongsTo s) (calls_left r) → after ≡ s
-    → IsOneDone d s (work.Deed deed) report (what.Deed deed r) after
-deed_done d s after deed r report reply sound belong state =
-    subst (IsOneDone d s (work.Deed deed) report (what.Deed deed r)) (sym state) ((reply, refl), refl, sound, belong, alone) where
-      alone : (e : Entry) (next : State) → IsNextEntry d s e next → work.Deed deed ≡ asked_by e.what → Begins report e → (e.what ≡ what.Deed deed r) × (next ≡ s)
+-- to a deed, which leaves the version
+pub deed_done : (d : SetupData) (now after : VersionValue) (deed : Deed) (r : Reply) (report : List ℕ) → IsDeedReply d now.state deed r → IsSoundVersion d now
+    → All (BelongsTo now.state) (calls_left r) → after ≡ now → IsOneDone d now.state (work.Deed deed) report (what.Deed deed r) after
+deed_done d now after deed r report reply sound belong same_version =
+    subst (IsOneDone d now.state (work.Deed deed) report (what.Deed deed r)) (sym same_version) ((reply, refl), refl, sound, belong, alone) where
+      alone : (e : Entry) (next : State) → IsNextEntry d now.state e next → work.Deed deed ≡ asked_by e.what → Begins report e → (e.what ≡ what.Deed deed r) × (next ≡ now.state)
       alone e next h is begins = go e.what refl where
-        go : (w : What) → e.what ≡ w → (e.what ≡ what.Deed deed r) × (next ≡ s)
+        go : (w : What) → e.what ≡ w → (e.what ≡ what.Deed deed r) × (next ≡ now.state)
         go (what.Command b u) done = absurd (let same : work.Deed deed ≡ work.Command b = is ∙ ap asked_by done in cc (same))
         go (what.Deed f t) done =
             let same : work.Deed deed ≡ work.Deed f = is ∙ ap asked_by done in
             let own : deed ≡ f = cc (same) in
-            let moved : IsDeedReply d s f t × (next ≡ s) = subst (λ w. Answers d s w next) done h.0 in
-            let answer : t ≡ r = one_reply d s deed t r (subst (λ x. IsDeedReply d s x t) (sym own) moved.0) reply in
+            let moved : IsDeedReply d now.state f t × (next ≡ now.state) = subst (λ w. Answers d now.state w next) done h.0 in
+            let answer : t ≡ r = one_reply d now.state deed t r (subst (λ x. IsDeedReply d now.state x t) (sym own) moved.0) reply in
             (done ∙ (λ i. what.Deed (sym own i) (answer i)), moved.1)
 
 -- ---- what is answered
@@ -245,13 +245,13 @@ entry_is e place ask w at is done =
     let part : e.part ≡ ask.part = sym (ap (λ (n : Numbered). n.part) is) in
     λ i. record { place = at i; lane = lane i; line = line i; part = part i; what = done i }
 
--- the entry, which leads to that state, is the one with whose line the report begins
-abbrev pub IsOneAnswer : SetupData → State → Ask → List ℕ → Entry → State → Type 0
+-- the entry, which leads to that version, is the one with whose line the report begins
+abbrev pub IsOneAnswer : SetupData → State → Ask → List ℕ → Entry → VersionValue → Type 0
 IsOneAnswer d s ask report entry after =
-    IsNextEntry d s entry after × (numbered ask ≡ asked_of entry) × IsSound d after × All (BelongsTo after) (answer_calls entry.what)
-    × ((e : Entry) (next : State) → IsNextEntry d s e next → numbered ask ≡ asked_of e → Begins report e → (e ≡ entry) × (next ≡ after))
+    IsNextEntry d s entry after.state × (numbered ask ≡ asked_of entry) × IsSoundVersion d after × All (BelongsTo after.state) (answer_calls entry.what)
+    × ((e : Entry) (next : State) → IsNextEntry d s e next → numbered ask ≡ asked_of e → Begins report e → (e ≡ entry) × (next ≡ after.state))
 
-pub one_answer : (d : SetupData) (s after : State) (ask : Ask) (w : What) (place : ℕ) (report : List ℕ) → IsOneDone d s (work_of ask.asked) report w after → place ≡ after.place
+pub one_answer : (d : SetupData) (s : State) (after : VersionValue) (ask : Ask) (w : What) (place : ℕ) (report : List ℕ) → IsOneDone d s (work_of ask.asked) report w after → place ≡ after.state.place
     → IsOneAnswer d s ask report (record { place = place; lane = ask.lane; line = ask.line; part = ask.part; what = w }) after
 one_answer d s after ask w place report done at = (
   (done.0, at),

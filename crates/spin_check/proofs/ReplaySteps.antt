@@ -12,8 +12,8 @@ use Rattle.spin_table.specs.declared.refusal.Refusal.{Refusal}
 use Rattle.spin_table.specs.declared.refusal.Verdicted.{Verdicted}
 use Rattle.spin_table.specs.declared.refusal.Verdicted.TheVariants as verdicted
 use Rattle.spin_table.specs.Setups.{SetupData}
-use Rattle.spin_table.specs.States.{State}
-use Rattle.spin_table.specs.Soundness.{IsSound}
+use Rattle.spin_table.specs.States.{State, VersionValue}
+use Rattle.spin_table.specs.Soundness.{IsSoundVersion}
 use Rattle.spin_table.specs.Refusals.{refusal_of}
 use Rattle.spin_table.specs.Steps.{ChangesTo, IsStep}
 use Rattle.spin_text.specs.Words.{ended, text_of}
@@ -33,7 +33,7 @@ use Rattle.spin_check.specs.declared.answer.Answered.{Answered}
 use Rattle.spin_check.specs.Inner.Told.{Begins}
 use Rattle.spin_check.specs.Inner.Asks.{numbered, IsValid, asks_command, queue_of, commands_left}
 use Rattle.spin_check.specs.Inner.Answers.{IsAnswered}
-use Rattle.spin_check.specs.Inner.Replays.{At, Follows, IsNext, IsFound, sent_by_jobs, queues_after, IsFresh, HasNoNext, GoesOn, AreLonger, EndsAt}
+use Rattle.spin_check.specs.Inner.Replays.{At, Follows, IsNext, IsFound, sent_by_jobs, queues_after, IsFresh, HasNoNext, GoesOn, AreLonger, EndsAt, version_at}
 use Rattle.spin_check.specs.Inner.Standings.{numbers_of}
 use Rattle.spin_check.proofs.Queues.{all_set}
 use Rattle.spin_check.proofs.ReplayLemmas.{IsAlong, along_none, along_more, along_all, along_stuck}
@@ -67,12 +67,12 @@ pub record IsOnWay (d : SetupData) (start at : At) : Type 0 where
   pub done : List Entry
   pub jobs : List JobSeen
   pub along : IsAlong d start done jobs at
-  pub sound : IsSound d at.state
+  pub sound : IsSoundVersion d (version_at at)
   pub valid : All (λ queue. All IsValid queue) at.queues
   pub lanes : length at.queues ≤ MAX_LANES
   pub room : at.state.place + commands_left at.queues ≤ start.state.place + commands_left start.queues
 
-pub on_way_none : (d : SetupData) (start : At) → IsFresh start → IsSound d start.state → All (λ queue. All IsValid queue) start.queues → length start.queues ≤ MAX_LANES → IsOnWay d start start
+pub on_way_none : (d : SetupData) (start : At) → IsFresh start → IsSoundVersion d (version_at start) → All (λ queue. All IsValid queue) start.queues → length start.queues ≤ MAX_LANES → IsOnWay d start start
 on_way_none d start fresh sound valid lanes = record {
   done = [];
   jobs = [];
@@ -156,7 +156,7 @@ module _ (d : SetupData) (at : At) (few : length at.queues ≤ MAX_LANES) where
       no_answer none e next more h = none e next h.answers (asked_is e next more h) (more, h.text)
 
       module _ (answered : Answered) (is : IsAnswered d at.state ask at.rest (Some answered)) where
-        answer_is : (e : Entry) (next : State) (more : List ℕ) → IsNext d at e next more → (e ≡ answered.entry) × (next ≡ arc_value answered.version)
+        answer_is : (e : Entry) (next : State) (more : List ℕ) → IsNext d at e next more → (e ≡ answered.entry) × (next ≡ (arc_value answered.version).state)
         answer_is e next more h = is.4 e next h.answers (asked_is e next more h) (more, h.text)
 
         pub no_line : ((rest : List ℕ) → at.rest ≡ ended (entry_line answered.entry) ++ rest → ⊥) → HasNoNext d at
@@ -204,30 +204,30 @@ module _ (d : SetupData) (at : At) (few : length at.queues ≤ MAX_LANES) where
 
 -- the entry that was found is the one that may come next, and the lines of its jobs find no room
 pub no_room : (d : SetupData) (at : At) (queues : List (List Ask)) (answered : Answered) (rest : Bor (List ℕ)) → IsFound d at queues (Some (answered, rest))
-    → ((own : List JobSeen) → AreJobsFrom d (arc_value answered.version) answered.entry 0 (answer_calls answered.entry.what) own → AreLonger (length rest.now) at.owed own) → GoesOn d at None
+    → ((own : List JobSeen) → AreJobsFrom d (arc_value answered.version).state answered.entry 0 (answer_calls answered.entry.what) own → AreLonger (length rest.now) at.owed own) → GoesOn d at None
 no_room d at queues answered rest found longer e next more h own jobs =
     let one = found.4 e next more h in
-    let of_found : AreJobsFrom d (arc_value answered.version) answered.entry 0 (answer_calls answered.entry.what) own =
+    let of_found : AreJobsFrom d (arc_value answered.version).state answered.entry 0 (answer_calls answered.entry.what) own =
     subst (λ s. AreJobsFrom d s answered.entry 0 (answer_calls answered.entry.what) own) one.1 (subst (λ (x : Entry). AreJobsFrom d next x 0 (answer_calls x.what) own) one.0 jobs) in
     subst (λ m. AreLonger (length m) at.owed own) (sym one.2) (longer own of_found)
 
 -- the entry that was found is written, and its jobs are done
 pub goes_on : (d : SetupData) (at after : At) (answered : Answered) (rest : Bor (List ℕ)) (own : List JobSeen) → IsFound d at after.queues (Some (answered, rest))
-    → after.state ≡ arc_value answered.version → after.last ≡ Some (moment answered.entry) → after.rest ≡ rest.now
-    → AreJobsFrom d (arc_value answered.version) answered.entry 0 (answer_calls answered.entry.what) own → after.owed ≡ at.owed ++ text_of (map job_line own)
+    → version_at after ≡ arc_value answered.version → after.last ≡ Some (moment answered.entry) → after.rest ≡ rest.now
+    → AreJobsFrom d (arc_value answered.version).state answered.entry 0 (answer_calls answered.entry.what) own → after.owed ≡ at.owed ++ text_of (map job_line own)
     → after.sends ≡ at.sends ++ numbers_of (sends_of answered.entry.what) → after.job_sends ≡ at.job_sends ++ sent_by_jobs own → GoesOn d at (Some after)
-goes_on d at after answered rest own found state last rest_is jobs owed sends job_sends = (
+goes_on d at after answered rest own found version last rest_is jobs owed sends job_sends = (
   answered.entry,
   own,
   record {
-    next = subst (λ r. IsNext d at answered.entry after.state r) (sym rest_is) (subst (λ s. IsNext d at answered.entry s rest.now) (sym state) found.0);
+    next = subst (λ r. IsNext d at answered.entry after.state r) (sym rest_is) (subst (λ (v : VersionValue). IsNext d at answered.entry v.state rest.now) (sym version) found.0);
     queues = found.1;
     last = last;
-    jobs = subst (λ s. AreJobsFrom d s answered.entry 0 (answer_calls answered.entry.what) own) (sym state) jobs;
+    jobs = subst (λ (v : VersionValue). AreJobsFrom d v.state answered.entry 0 (answer_calls answered.entry.what) own) (sym version) jobs;
     owed = owed;
     sends = sends;
     job_sends = job_sends;
   },
-  λ x next more h. let one = found.4 x next more h in (one.0, one.1 ∙ sym state, one.2 ∙ sym rest_is),
-  subst (IsSound d) (sym state) found.2,
+  λ x next more h. let one = found.4 x next more h in (one.0, one.1 ∙ sym (ap (λ (v : VersionValue). v.state) version), one.2 ∙ sym rest_is),
+  subst (IsSoundVersion d) (sym version) found.2,
 )

@@ -8,7 +8,7 @@ use Rattle.std.proofs.lemmas.List.Sums.{sum_by-append}
 use Rattle.spin_endpoint.specs.Named.{NamedEnd}
 use Rattle.spin_endpoint.specs.Sends.{name_of}
 use Rattle.spin_table.specs.States.{start_of}
-use Rattle.spin_table.specs.Soundness.{IsSound}
+use Rattle.spin_table.specs.Soundness.{IsSoundVersion}
 use Rattle.spin_text.specs.Words.{ended}
 use Rattle.spin_script.specs.declared.script.Line.{Line}
 use Rattle.spin_script.specs.declared.script.Segment.{Segment}
@@ -19,7 +19,7 @@ use Rattle.spin_report.specs.Histories.{first_line}
 use Rattle.spin_report.specs.Runs.{CaptureSeen, frames_of, start_with}
 use Rattle.spin_check.specs.RunTexts.{StandAs, IsRunText}
 use Rattle.spin_check.specs.Inner.Standings.{AreFlags}
-use Rattle.spin_check.specs.Inner.Segments.{Mark, standing, Goes, IsGoodMark}
+use Rattle.spin_check.specs.Inner.Segments.{Mark, standing, Goes, IsGoodMark, version_of}
 use Rattle.spin_check.specs.Inner.Remains.{end_text, Remains, AreLeft}
 use Rattle.spin_check.proofs.ReportRest.{remains_whole, whole_remains, no_front, remains_on, remains_back, no_segment, remains_end, end_remains}
 
@@ -36,12 +36,12 @@ pub record IsHere (script : ScriptData) (capture : Option CaptureSeen) (start : 
 
 pub record IsOnWhole (script : ScriptData) (capture : Option CaptureSeen) (begun : Mark) (number : ℕ) (mark : Mark) : Type 0 where
   pub here : (start : List NamedEnd) → AreFlags script.endpoints start begun.flags → IsHere script capture start begun number mark
-  pub sound : IsSound script.setup mark.state
+  pub sound : IsSoundVersion script.setup (version_of mark)
   pub room : mark.state.place + commands_of (drop number script.segments) ≤ begun.state.place + commands_of script.segments
   pub long : length mark.flags ≡ length script.endpoints
   pub left : length mark.left ≤ length (frames_of capture)
 
-pub on_whole_none : (script : ScriptData) (capture : Option CaptureSeen) (mark : Mark) → IsSound script.setup mark.state
+pub on_whole_none : (script : ScriptData) (capture : Option CaptureSeen) (mark : Mark) → IsSoundVersion script.setup (version_of mark)
     → length mark.flags ≡ length script.endpoints → length mark.left ≤ length (frames_of capture)
     → IsOnWhole script capture mark 0 mark
 on_whole_none script capture mark sound long left = record {

@@ -7,8 +7,8 @@ use Rattle.std.proofs.lemmas.List.{append-nil, map-append, append_cancel_left, l
 use Rattle.spin_endpoint.specs.Named.{NamedEnd}
 use Rattle.spin_endpoint.specs.Sends.{SentSeen, all_retired, all_received}
 use Rattle.spin_table.specs.Setups.{SetupData}
-use Rattle.spin_table.specs.States.{State}
-use Rattle.spin_table.specs.Soundness.{IsSound}
+use Rattle.spin_table.specs.States.{State, VersionValue}
+use Rattle.spin_table.specs.Soundness.{IsSoundVersion}
 use Rattle.spin_text.specs.Words.{ended, text_of}
 use Rattle.spin_script.specs.declared.script.Line.{Line}
 use Rattle.spin_script.specs.declared.script.Segment.{Segment}
@@ -28,8 +28,8 @@ use Rattle.spin_script.specs.Soundness.{commands_in}
 use Rattle.spin_check.specs.Inner.Asks.{AreAsked, commands_left}
 use Rattle.spin_check.specs.Inner.Standings.{AreFlags, numbers_of}
 use Rattle.spin_check.specs.Inner.Fronts.{IsBehind}
-use Rattle.spin_check.specs.Inner.Replays.{At, AreEntries, HasReplayed, EndsAt}
-use Rattle.spin_check.specs.Inner.Segments.{Mark, head_text, standing, IsPart, Passes, Goes, IsGoodMark}
+use Rattle.spin_check.specs.Inner.Replays.{At, AreEntries, HasReplayed, EndsAt, version_at}
+use Rattle.spin_check.specs.Inner.Segments.{Mark, head_text, standing, IsPart, Passes, Goes, IsGoodMark, version_of}
 use Rattle.spin_check.proofs.ReplayLemmas.{text_of-append}
 use Rattle.spin_check.proofs.EndpointFlags.{flags_received}
 
@@ -249,10 +249,10 @@ as_many names ends later flags now are then = then.all ∙ sym are.all
 
 -- what the next segment needs
 pub good_mark : (d : SetupData) (segment : Segment) (mark next : Mark) (start at : At) → EndsAt d start (Some at) → start.state ≡ mark.state → commands_left start.queues ≡ commands_in segment.lines
-    → next.state ≡ at.state → length next.flags ≡ length mark.flags → next.left ≡ drop (wanted_by segment.lines) mark.left → IsGoodMark d segment mark (Some next)
-good_mark d segment mark next start at ended_so begun commands state flags left = (
-  subst (IsSound d) (sym state) ended_so.3,
-  omega (arith, ended_so.4, commands, ap (λ (s : State). s.place) state, ap (λ (s : State). s.place) begun),
+    → version_of next ≡ version_at at → length next.flags ≡ length mark.flags → next.left ≡ drop (wanted_by segment.lines) mark.left → IsGoodMark d segment mark (Some next)
+good_mark d segment mark next start at ended_so begun commands version flags left = (
+  subst (IsSoundVersion d) (sym version) ended_so.3,
+  omega (arith, ended_so.4, commands, ap (λ (v : VersionValue). v.state.place) version, ap (λ (s : State). s.place) begun),
   flags,
   omega (arith, ap length left, length-drop (wanted_by segment.lines) mark.left),
 )

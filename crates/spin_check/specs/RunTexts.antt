@@ -5,7 +5,7 @@ use Rattle.spin_endpoint.specs.Named.{NamedEnd, stands}
 use Rattle.spin_script.specs.States.{ScriptData}
 use Rattle.spin_report.specs.Histories.{HistorySeen, report_text}
 use Rattle.spin_report.specs.Runs.{RunPoint, CaptureSeen, IsRun}
-use Rattle.spin_pcap.specs.declared.whole.Captured as given
+use Rattle.spin_pcap.specs.declared.captured.Captured as given
 
 -- Of the endpoints that a script names, just those stand whose names are among these.
 abbrev pub StandAs : List (List ℕ) → List (List ℕ) → List NamedEnd → Type 0

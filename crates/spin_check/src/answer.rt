@@ -6,7 +6,7 @@ ghost use Rattle.spin_word.specs.Commands.{is_command};
 ghost use Rattle.spin_word.specs.declared.command.TheConstants.{MAX_PLACE};
 ghost use Rattle.spin_word.specs.declared.work.Work.TheVariants as work;
 ghost use Rattle.spin_table.specs.SetupOf.{data_of};
-ghost use Rattle.spin_table.specs.Soundness.{IsSound};
+ghost use Rattle.spin_table.specs.Soundness.{IsSoundVersion};
 ghost use Rattle.spin_table.specs.Steps.{IsAnswer, IsStep};
 ghost use Rattle.spin_table.specs.declared.refusal.Verdicted.TheVariants as verdicted;
 ghost use Rattle.spin_script.specs.Soundness.{IsValidWork, is_command_work};
@@ -62,9 +62,9 @@ fn conflict_told(
     report: &[u8],
 ) -> Result<Option<Numbers>, NoMemory>
     requires sincere { ⟦<Catalogue as Sincere>⟧.sincere setup.now.catalogue }
-    requires room { version.now.place < MAX_PLACE }
-    requires sound { IsSound (data_of setup.now) version.now }
-    ensures { IfOk result (IsConflictTold (data_of setup.now) version.now c.now report.now) }
+    requires room { version.now.state.place < MAX_PLACE }
+    requires sound { IsSoundVersion (data_of setup.now) version.now }
+    ensures { IfOk result (IsConflictTold (data_of setup.now) version.now.state c.now report.now) }
 {
     let Some(cycle) = cycle_told(alloc, report)? else {
         return Ok(None);
@@ -85,13 +85,13 @@ fn judge_conflict(
     report: &[u8],
 ) -> Result<Option<Judged>, NoMemory>
     requires sincere { ⟦<Catalogue as Sincere>⟧.sincere setup.now.catalogue }
-    requires room { (arc_value version.now).place < MAX_PLACE }
-    requires sound { IsSound (data_of setup.now) (arc_value version.now) }
+    requires room { (arc_value version.now).state.place < MAX_PLACE }
+    requires sound { IsSoundVersion (data_of setup.now) (arc_value version.now) }
     requires conflict { let d = data_of setup.now in
         (r : Refusal) × (tells_cycle r ≡ true)
-        × IsStep d (arc_value version.now) c.now (verdicted.Refused r) (arc_value version.now) }
+        × IsStep d (arc_value version.now).state c.now (verdicted.Refused r) (arc_value version.now).state }
     ensures { let d = data_of setup.now in
-        IfOk result (IsJudged d (arc_value version.now) c.now report.now) }
+        IfOk result (IsJudged d (arc_value version.now).state c.now report.now) }
 {
     let Some(cycle) = conflict_told(alloc, setup, version, c, report)? else {
         return Ok(None);
@@ -112,10 +112,10 @@ fn judge(
 ) -> Result<Option<Judged>, NoMemory>
     requires sincere { ⟦<Catalogue as Sincere>⟧.sincere setup.now.catalogue }
     requires valid { IsTrue (is_command c.now) }
-    requires room { (arc_value version.now).place < MAX_PLACE }
-    requires sound { IsSound (data_of setup.now) (arc_value version.now) }
+    requires room { (arc_value version.now).state.place < MAX_PLACE }
+    requires sound { IsSoundVersion (data_of setup.now) (arc_value version.now) }
     ensures judged { let d = data_of setup.now in
-        IfOk result (IsJudged d (arc_value version.now) c.now report.now) }
+        IfOk result (IsJudged d (arc_value version.now).state c.now report.now) }
 {
     match version.next(alloc, setup, c) {
         Ok(next) => Ok(Some(Judged {
@@ -145,10 +145,10 @@ fn do_command(
 ) -> Result<Option<Done>, NoMemory>
     requires sincere { ⟦<Catalogue as Sincere>⟧.sincere setup.now.catalogue }
     requires valid { IsTrue (is_command c) }
-    requires room { (arc_value version.now).place < MAX_PLACE }
-    requires sound { IsSound (data_of setup.now) (arc_value version.now) }
+    requires room { (arc_value version.now).state.place < MAX_PLACE }
+    requires sound { IsSoundVersion (data_of setup.now) (arc_value version.now) }
     ensures { let d = data_of setup.now in
-        IfOk result (IsDone d (arc_value version.now) (work.Command c) report.now) }
+        IfOk result (IsDone d (arc_value version.now).state (work.Command c) report.now) }
 {
     let Some(Judged { verdict, version }) = judge(alloc, setup, version, &c, report)? else {
         return Ok(None);
@@ -165,9 +165,9 @@ fn do_deed(
     deed: Deed,
 ) -> Result<Done, NoMemory>
     requires sincere { ⟦<Catalogue as Sincere>⟧.sincere setup.now.catalogue }
-    requires sound { IsSound (data_of setup.now) (arc_value version.now) }
+    requires sound { IsSoundVersion (data_of setup.now) (arc_value version.now) }
     ensures { let d = data_of setup.now in (report : List ℕ)
-        → IfOk result (λ done. IsDone d (arc_value version.now) (work.Deed deed) report (Some done)) }
+        → IfOk result (λ done. IsDone d (arc_value version.now).state (work.Deed deed) report (Some done)) }
 {
     let same = Arc::try_clone(version)?;
     let reply = path(alloc, version, setup, &deed)?;
@@ -187,10 +187,10 @@ fn do_asked(
 ) -> Result<Option<Done>, NoMemory>
     requires sincere { ⟦<Catalogue as Sincere>⟧.sincere setup.now.catalogue }
     requires valid { IsValidWork (work_of asked) }
-    requires room { is_command_work (work_of asked) ≡ true → (arc_value version.now).place < MAX_PLACE }
-    requires sound { IsSound (data_of setup.now) (arc_value version.now) }
+    requires room { is_command_work (work_of asked) ≡ true → (arc_value version.now).state.place < MAX_PLACE }
+    requires sound { IsSoundVersion (data_of setup.now) (arc_value version.now) }
     ensures { let d = data_of setup.now in
-        IfOk result (IsDone d (arc_value version.now) (work_of asked) report.now) }
+        IfOk result (IsDone d (arc_value version.now).state (work_of asked) report.now) }
 {
     match asked {
         Asked::Command(c) => do_command(alloc, setup, version, c, report),
@@ -212,10 +212,10 @@ pub(crate) fn answer(
 ) -> Result<Option<Answered>, NoMemory>
     requires sincere { ⟦<Catalogue as Sincere>⟧.sincere setup.now.catalogue }
     requires valid { IsValid ask }
-    requires room { asks_command ask ≡ true → (arc_value version.now).place < MAX_PLACE }
-    requires sound { IsSound (data_of setup.now) (arc_value version.now) }
+    requires room { asks_command ask ≡ true → (arc_value version.now).state.place < MAX_PLACE }
+    requires sound { IsSoundVersion (data_of setup.now) (arc_value version.now) }
     ensures { let d = data_of setup.now in
-        IfOk result (IsAnswered d (arc_value version.now) ask report.now) }
+        IfOk result (IsAnswered d (arc_value version.now).state ask report.now) }
 {
     let Ask {
         lane,

@@ -6,7 +6,7 @@ ghost use Rattle.std.specs.Option.{option_map, option_copied};
 ghost use Rattle.spin_word.specs.declared.command.TheConstants.{MAX_PLACE};
 ghost use Rattle.spin_endpoint.specs.Named.{NamedEnd};
 ghost use Rattle.spin_table.specs.SetupOf.{data_of};
-ghost use Rattle.spin_table.specs.Soundness.{IsSound};
+ghost use Rattle.spin_table.specs.Soundness.{IsSoundVersion};
 ghost use Rattle.spin_text.specs.Words.{ended};
 ghost use Rattle.spin_script.specs.Scripts.{script_seen};
 ghost use Rattle.spin_script.specs.Segments.{IsOrderly};
@@ -16,6 +16,7 @@ ghost use Rattle.spin_report.specs.Runs.{frames_of, counts_of};
 ghost use Rattle.spin_check.specs.RunTexts.{StandAs, IsRunText, capture_of};
 ghost use Rattle.spin_check.specs.Inner.Standings.{AreFlags};
 ghost use Rattle.spin_check.specs.Inner.Remains.{AreLeft};
+ghost use Rattle.spin_check.specs.Inner.Segments.{version_of};
 
 use crate::front::behind;
 use crate::last::put_last;
@@ -52,7 +53,7 @@ fn are_left(
     requires valid { AreValid script.now.segments }
     requires commands { mark.old.state.place + command_lines script.now.segments ≤ MAX_PLACE }
     requires orderly { IsOrderly (script_seen script.now) }
-    requires sound { IsSound (data_of script.now.setup) mark.old.state }
+    requires sound { IsSoundVersion (data_of script.now.setup) (version_of mark.old) }
     requires long { length mark.old.flags ≡ length script.now.endpoints }
     requires left { length mark.old.left ≤ length (frames_of (option_map capture_of (option_copied capture))) }
     ensures { (ends : List NamedEnd) → AreFlags script.now.endpoints ends mark.old.flags

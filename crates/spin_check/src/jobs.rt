@@ -3,7 +3,7 @@
 ghost use Rattle.std.specs.Prelude.{◌≡◌, ◌<◌, ◌^◌, ◌++◌, All, IfOk, OnOk, length};
 ghost use Rattle.std.specs.Arc.{arc_value};
 ghost use Rattle.spin_table.specs.SetupOf.{data_of};
-ghost use Rattle.spin_table.specs.Soundness.{IsSound};
+ghost use Rattle.spin_table.specs.Soundness.{IsSoundVersion};
 ghost use Rattle.spin_proto.specs.Replies.{IsJobReply, BelongsTo};
 ghost use Rattle.spin_proto.specs.declared.reply.Reply.{Reply};
 ghost use Rattle.spin_text.specs.Words.{ended};
@@ -53,10 +53,10 @@ fn do_job(
     sends: &mut Octets,
 ) -> Result<(), NoMemory>
     requires sincere { ⟦<Catalogue as Sincere>⟧.sincere setup.now.catalogue }
-    requires sound { IsSound (data_of setup.now) (arc_value job.now.version) }
-    requires belongs { BelongsTo (arc_value job.now.version) job.now.call }
+    requires sound { IsSoundVersion (data_of setup.now) (arc_value job.now.version) }
+    requires belongs { BelongsTo (arc_value job.now.version).state job.now.call }
     ensures { OnOk result ((reply : Reply)
-        × IsJobReply (data_of setup.now) (arc_value job.now.version) job.now.call reply
+        × IsJobReply (data_of setup.now) (arc_value job.now.version).state job.now.call reply
         × (out.new ≡ out.old ++ ended (job_line (job_seen job.now reply)))
         × (sends.new ≡ sends.old ++ numbers_of (sends_of_reply reply))) }
 {
@@ -78,11 +78,11 @@ pub(crate) fn do_jobs(
     sends: &mut Octets,
 ) -> Result<bool, NoMemory>
     requires sincere { ⟦<Catalogue as Sincere>⟧.sincere setup.now.catalogue }
-    requires sound { IsSound (data_of setup.now) (arc_value version.now) }
-    requires belong { All (BelongsTo (arc_value version.now)) (answer_calls entry.what) }
+    requires sound { IsSoundVersion (data_of setup.now) (arc_value version.now) }
+    requires belong { All (BelongsTo (arc_value version.now).state) (answer_calls entry.what) }
     requires few { length (answer_calls entry.what) < 2 ^ 32 }
     ensures { let d = data_of setup.now in
-        IfOk result (DidJobs d (arc_value version.now) entry room (out.old, sends.old) (out.new, sends.new)) }
+        IfOk result (DidJobs d (arc_value version.now).state entry room (out.old, sends.old) (out.new, sends.new)) }
 {
     let Entry {
         place,

@@ -4,11 +4,11 @@ ghost use Rattle.std.specs.Prelude.{◌≡◌, ◌≤◌, ◌+◌, ℕ, List, Al
 ghost use Rattle.std.specs.Arc.{arc_value};
 ghost use Rattle.spin_word.specs.declared.command.TheConstants.{MAX_LANES, MAX_PLACE};
 ghost use Rattle.spin_table.specs.SetupOf.{data_of};
-ghost use Rattle.spin_table.specs.Soundness.{IsSound};
+ghost use Rattle.spin_table.specs.Soundness.{IsSoundVersion};
 ghost use Rattle.spin_text.specs.Words.{ended};
 ghost use Rattle.spin_report.specs.Lines.{entry_line};
 ghost use Rattle.spin_check.specs.Inner.Asks.{IsValid, commands_left};
-ghost use Rattle.spin_check.specs.Inner.Replays.{Follows, IsFresh, IsFound, GoesOn, EndsAt, at_of};
+ghost use Rattle.spin_check.specs.Inner.Replays.{Follows, IsFresh, IsFound, GoesOn, EndsAt, at_of, version_at};
 ghost use Rattle.spin_check.specs.Inner.Fronts.{IsBehind};
 
 use crate::answer::{Answered, answer};
@@ -19,7 +19,7 @@ use crate::sends::add_of_entry;
 use crate::told::lane_told;
 use spin_code::Sincere;
 use spin_objects::Catalogue;
-use spin_report::{Entry, Moment, entry_text};
+use spin_report::{Entry, EntryKey, entry_text};
 use spin_table::{Setup, Version};
 use spin_values::{NoMemory, Octets};
 use std::alloc::Global;
@@ -35,7 +35,7 @@ pub(crate) struct Replay<'a> {
     // What the lanes are still to do.
     pub(crate) deeds: Deeds,
     // Where the last entry stands.
-    pub(crate) last: Option<Moment>,
+    pub(crate) last: Option<EntryKey>,
     // The lines of the jobs so far, which aren't longer than what is left of the report.
     pub(crate) owed: Octets,
     // The numbers of the endpoints that entries send to.
@@ -55,7 +55,8 @@ impl<'a> Model for Replay<'a> {
     ghost coded = { Prim.hlevel (codes, test.the_row.coded) };
 
     ghost view = { λ r. record {
-      state = arc_value r.version;
+      state = (arc_value r.version).state;
+      tests = (arc_value r.version).tests;
       queues = r.deeds;
       last = r.last;
       rest = r.rest.now;
@@ -66,7 +67,7 @@ impl<'a> Model for Replay<'a> {
 }
 
 // Whether the entry doesn't stand before the last one.
-fn follows(last: &Option<Moment>, entry: &Entry) -> bool
+fn follows(last: &Option<EntryKey>, entry: &Entry) -> bool
     ensures { Decides result (Follows last.now entry.now) }
 {
     match last {
@@ -96,14 +97,14 @@ fn next_entry<'a>(
     setup: &Setup,
     version: &Arc<Version>,
     deeds: &mut Deeds,
-    last: &Option<Moment>,
+    last: &Option<EntryKey>,
     report: &'a [u8],
 ) -> Result<Option<(Answered, &'a [u8])>, NoMemory>
     requires sincere { ⟦<Catalogue as Sincere>⟧.sincere setup.now.catalogue }
-    requires sound { IsSound (data_of setup.now) (arc_value version.now) }
+    requires sound { IsSoundVersion (data_of setup.now) (arc_value version.now) }
     requires valid { All (λ queue. All IsValid queue) deeds.old }
     requires lanes { length deeds.old ≤ MAX_LANES }
-    requires room { (arc_value version.now).place + commands_left deeds.old ≤ MAX_PLACE }
+    requires room { (arc_value version.now).state.place + commands_left deeds.old ≤ MAX_PLACE }
     ensures { (owed sends job_sends : List ℕ) → IfOk result (IsFound (data_of setup.now)
         (at_of (arc_value version.now) deeds.old last.now report.now owed sends job_sends) deeds.new) }
 {
@@ -135,7 +136,8 @@ impl<'a> Replay<'a> {
         deeds: Deeds,
     ) -> Replay<'a>
         ensures fresh { IsFresh result }
-        ensures state { result.state ≡ arc_value version }
+        ensures state { result.state ≡ (arc_value version).state }
+        ensures tests { result.tests ≡ (arc_value version).tests }
         ensures queues { result.queues ≡ deeds }
         ensures rest { result.rest ≡ rest.now }
     {
@@ -154,7 +156,7 @@ impl<'a> Replay<'a> {
     // lines.
     fn step(self, alloc: Global, setup: &Setup) -> Result<Option<Replay<'a>>, NoMemory>
         requires sincere { ⟦<Catalogue as Sincere>⟧.sincere setup.now.catalogue }
-        requires sound { IsSound (data_of setup.now) self.state }
+        requires sound { IsSoundVersion (data_of setup.now) (version_at self) }
         requires valid { All (λ queue. All IsValid queue) self.queues }
         requires lanes { length self.queues ≤ MAX_LANES }
         requires room { self.state.place + commands_left self.queues ≤ MAX_PLACE }
@@ -202,7 +204,7 @@ impl<'a> Replay<'a> {
     // Goes on to the last entry of the segment.
     pub(crate) fn run(self, alloc: Global, setup: &Setup) -> Result<Option<Replay<'a>>, NoMemory>
         requires sincere { ⟦<Catalogue as Sincere>⟧.sincere setup.now.catalogue }
-        requires sound { IsSound (data_of setup.now) self.state }
+        requires sound { IsSoundVersion (data_of setup.now) (version_at self) }
         requires valid { All (λ queue. All IsValid queue) self.queues }
         requires lanes { length self.queues ≤ MAX_LANES }
         requires room { self.state.place + commands_left self.queues ≤ MAX_PLACE }

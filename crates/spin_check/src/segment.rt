@@ -6,14 +6,14 @@ ghost use Rattle.spin_endpoint.specs.declared.ends.TheConstants.{MAX_ENDPOINTS};
 ghost use Rattle.spin_endpoint.specs.Named.{NamedEnd};
 ghost use Rattle.spin_endpoint.specs.Sends.{SentSeen, all_retired};
 ghost use Rattle.spin_table.specs.SetupOf.{data_of};
-ghost use Rattle.spin_table.specs.Soundness.{IsSound};
+ghost use Rattle.spin_table.specs.Soundness.{IsSoundVersion};
 ghost use Rattle.spin_text.specs.Words.{text_of};
 ghost use Rattle.spin_script.specs.Soundness.{IsValidWork, commands_in};
 ghost use Rattle.spin_report.specs.Histories.{lost_lines};
 ghost use Rattle.spin_report.specs.Runs.{retirements, lost_counts};
 ghost use Rattle.spin_check.specs.Inner.Standings.{AreFlags, numbers_of};
 ghost use Rattle.spin_check.specs.Inner.Fronts.{IsBehind};
-ghost use Rattle.spin_check.specs.Inner.Segments.{Goes, IsGoodMark, gone_to, head_text};
+ghost use Rattle.spin_check.specs.Inner.Segments.{Goes, IsGoodMark, gone_to, head_text, version_of};
 
 use crate::deeds::deeds_of;
 use crate::flags::{lost_all, retire_all};
@@ -52,7 +52,8 @@ impl<'a> Model for Mark<'a> {
     ghost coded = { Prim.hlevel (codes, test.the_row.coded) };
 
     ghost view = { λ m. record {
-      state = arc_value m.version;
+      state = (arc_value m.version).state;
+      tests = (arc_value m.version).tests;
       left = m.left.now;
       flags = m.flags.items;
       rest = m.rest.now;
@@ -112,7 +113,7 @@ impl<'a> Mark<'a> {
         segment: &Segment,
     ) -> Result<bool, NoMemory>
         requires sincere { ⟦<Catalogue as Sincere>⟧.sincere setup.now.catalogue }
-        requires sound { IsSound (data_of setup.now) self.old.state }
+        requires sound { IsSoundVersion (data_of setup.now) (version_of self.old) }
         requires few_lanes { lanes ≤ MAX_LANES }
         requires on_lanes { All (λ line. line.lane < lanes) segment.now.lines }
         requires valid { All (λ line. IsValidWork line.work) segment.now.lines }

@@ -30,7 +30,7 @@ order_set seats k s new lt lane order = are_of_lanes 0 (set seats k new) (λ i x
 
 -- one of the seats has answered
 pub still_set : (d : SetupData) (log : LogValue) (seats : List SeatValue) (k : ℕ) (s new : SeatValue) → k < length seats → IsSamePen (get_or seats k s).pen new.pen
-    → new.first ≡ (get_or seats k s).first → IsSeat d new → AreAllSeats d log seats → AreAllSeats d log (set seats k new)
+    → new.base ≡ (get_or seats k s).base → IsSeat d new → AreAllSeats d log seats → AreAllSeats d log (set seats k new)
 still_set d log seats k s new lt pen first seat all = record {
   some = all.some;
   own = All-set (λ (o : SeatValue). o.pen.log ≡ log.id) seats k new (pen.0 ∙ all.own k s lt) all.own;
@@ -45,7 +45,7 @@ pub record Split (d : SetupData) (log : LogValue) (first : SeatValue) (others : 
   pub own : first.pen.log ≡ log.id
   pub others_own : All (λ (o : SeatValue). o.pen.log ≡ log.id) others
   pub seat : IsSeat d first
-  pub seats : All (IsSeatFrom d first.first) others
+  pub seats : All (IsSeatFrom d first.base) others
 
 pub split_all : (d : SetupData) (log : LogValue) (seats left right : List SeatValue) (s : SeatValue) → seats ≡ left ++ right → length left ≡ 1
     → AreAllSeats d log seats → Split d log (get_or left 0 s) right

@@ -128,7 +128,7 @@ fn ask(
     requires log { seat.old.pen.log ≡ hub.now.log.id }
     requires seat { IsSeat (data_of hub.now.setup) seat.old }
     ensures same { IsSamePen seat.old.pen seat.new.pen }
-    ensures first { seat.new.first ≡ seat.old.first }
+    ensures first { seat.new.base ≡ seat.old.base }
     ensures seat { IsSeat (data_of hub.now.setup) seat.new }
 {
     let command = command_of(seat.lane(), op, event).ok_or(Fault::BadRow)?;
@@ -194,7 +194,7 @@ fn meet_others(
     requires log { first.old.pen.log ≡ hub.now.log.id }
     requires logs { All (λ seat. seat.pen.log ≡ hub.now.log.id) others.old }
     requires seat { IsSeat (data_of hub.now.setup) first.old }
-    requires seats { All (IsSeatFrom (data_of hub.now.setup) first.old.first) others.old }
+    requires seats { All (IsSeatFrom (data_of hub.now.setup) first.old.base) others.old }
     ensures first { KnowsMore (data_of hub.now.setup) first.old first.new }
     ensures others { KnowMore (data_of hub.now.setup) others.old others.new }
 {
@@ -232,7 +232,7 @@ fn raise(alloc: Global, hub: &Hub, seat: &mut Seat) -> Result<(u16, Option<Answe
     requires log { seat.old.pen.log ≡ hub.now.log.id }
     requires seat { IsSeat (data_of hub.now.setup) seat.old }
     ensures same { IsSamePen seat.old.pen seat.new.pen }
-    ensures first { seat.new.first ≡ seat.old.first }
+    ensures first { seat.new.base ≡ seat.old.base }
     ensures seat { IsSeat (data_of hub.now.setup) seat.new }
 {
     let (event, args) = (0, Args::new(alloc));

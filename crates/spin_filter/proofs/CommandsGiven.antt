@@ -55,8 +55,8 @@ commands-count (line ∷ lines) = by line.work (commands-count lines) ∙ sym (s
   by (work.Deed d) rest = omega (arith, rest)
   by (work.Packet event count) rest = omega (arith, rest)
 
-pub lines-place : (d : SetupData) (lines : List Line) (before now : Commanded) → IsGiven d (commands_of lines) before now → now.version.place ≤ before.version.place + commands_in lines
-lines-place d lines before now g = omega (arith, given-place d before.version (commands_of lines) g.verdicts now.version g.given, commands-count lines)
+pub lines-place : (d : SetupData) (lines : List Line) (before now : Commanded) → IsGiven d (commands_of lines) before now → now.version.state.place ≤ before.version.state.place + commands_in lines
+lines-place d lines before now g = omega (arith, given-place d before.version.state (commands_of lines) g.verdicts now.version.state g.given, commands-count lines)
 
 -- ---- one list of commands behind the other
 
@@ -69,7 +69,7 @@ are-then d s (c ∷ a) b vs ws between last (v, others, next, step, is, rest) ar
 pub given-then : (d : SetupData) (a b : List Command) (x y z : Commanded) → IsGiven d a x y → IsGiven d b y z → IsGiven d (a ++ b) x z
 given-then d a b x y z p q = record {
   verdicts = p.verdicts ++ q.verdicts;
-  given = are-then d x.version a b p.verdicts q.verdicts y.version z.version p.given q.given;
+  given = are-then d x.version.state a b p.verdicts q.verdicts y.version.state z.version.state p.given q.given;
   counted = λ earlier is. q.counted (earlier ++ p.verdicts) (p.counted earlier is) ∙ ap (λ vs. capped (count_by is_refusal vs)) (append_assoc earlier p.verdicts q.verdicts);
 }
 
@@ -81,11 +81,11 @@ given-none d x = record {
 }
 
 -- one command
-pub given-one : (d : SetupData) (command : Command) (verdict : Verdicted) (x y : Commanded) → IsStep d x.version command verdict y.version
+pub given-one : (d : SetupData) (command : Command) (verdict : Verdicted) (x y : Commanded) → IsStep d x.version.state command verdict y.version.state
     → ((n : ℕ) → x.refused ≡ capped n → y.refused ≡ capped (n + cond (is_refusal verdict) 1 0)) → IsGiven d (command ∷ []) x y
 given-one d command verdict x y step counts = record {
   verdicts = verdict ∷ [];
-  given = (verdict, [], y.version, step, refl, (refl, refl));
+  given = (verdict, [], y.version.state, step, refl, (refl, refl));
   counted = λ earlier is. counts (count_by is_refusal earlier) is
       ∙ ap (λ n. capped n) (sym (count-more is_refusal earlier verdict));
 }
@@ -128,9 +128,9 @@ line-room lines i line lt is =
     omega (arith, next, whole)
 
 -- commands that are given from the start on
-pub commanded : (d : SetupData) (commands : List Command) (start now : Commanded) → start.version ≡ start_of d → start.refused ≡ 0 → IsGiven d commands start now → IsCommanded d commands now
+pub commanded : (d : SetupData) (commands : List Command) (start now : Commanded) → start.version.state ≡ start_of d → start.refused ≡ 0 → IsGiven d commands start now → IsCommanded d commands now
 commanded d commands start now from none g = record {
   verdicts = g.verdicts;
-  given = subst (λ (s : State). AreGiven d s commands g.verdicts now.version) from g.given;
+  given = subst (λ (s : State). AreGiven d s commands g.verdicts now.version.state) from g.given;
   refused = g.counted [] (none ∙ refl);
 }

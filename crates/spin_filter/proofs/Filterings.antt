@@ -47,8 +47,8 @@ for-filter script lines round same made one suited some = record {
 
 pub filtered : (script : ScriptData) (capture : Option ℕ) (files : Option (List File)) (names : List (List ℕ)) (before after : OutletsAt) (commanded : Commanded) (counts : Counts) (accepted refused cut : ℕ)
     (lines : List Line) (sends : List (List ℕ)) (round round' : List ℕ) → lines ≡ lines_in script.segments → sends ≡ script.endpoints → round ≡ round_of lines → round' ≡ round → HasOneSegment script.segments
-    → AreSuited (lane_of lines) [] lines → 0 < length round → IsCommanded script.setup (commands_of lines) commanded → commanded.refused ≡ refused → AreCounts (bindings_at commanded.version) nothing counts → accepted ≡ commanded.version.place
-    → (seen : List PassedCapture) × AllPassed script.setup commanded.version round' seen × IfSome files (λ fs. AreFound fs names seen) × (cut ≡ capped (sum_by (λ c. c.cut) seen))
+    → AreSuited (lane_of lines) [] lines → 0 < length round → IsCommanded script.setup (commands_of lines) commanded → commanded.refused ≡ refused → AreCounts (bindings_at commanded.version.state) nothing counts → accepted ≡ commanded.version.state.place
+    → (seen : List PassedCapture) × AllPassed script.setup commanded.version.state round' seen × IfSome files (λ fs. AreFound fs names seen) × (cut ≡ capped (sum_by (λ c. c.cut) seen))
     × IsDone sends capture (happened_in (records_of seen)) (record before { counts = counts }) after
     → IsFiltered script capture files names before after (record { accepted = accepted; refused = refused; cut = cut })
 filtered script capture files names before after commanded counts accepted refused cut lines sends round round' same same-names made same-round one suited some given same-refused zero-counts place (seen, passed, found, cut_is, all) =
@@ -56,15 +56,16 @@ filtered script capture files names before after commanded counts accepted refus
     let own = subst (λ (ls : List Line). IsCommanded script.setup (commands_of ls) commanded) same given in
     record {
       verdicts = own.verdicts;
-      state = commanded.version;
+      state = commanded.version.state;
       captures = seen;
       suited = for-filter script lines round same made one suited some;
       commands = own.given;
       found = found;
-      passed = subst (λ (r : List ℕ). AllPassed script.setup commanded.version r seen) (same-round ∙ made ∙ ap round_of same) passed;
+      passed = subst (λ (r : List ℕ). AllPassed script.setup commanded.version.state r seen) (same-round ∙ made ∙ ap round_of same) passed;
       sent = done.sent;
-      counts = subst (λ (h : Happened). AreCounts (bindings_at commanded.version) h after.counts) (joined-none (with_lost_of script.endpoints capture before.ends (happened_in (records_of seen))))
-          (done.counted (bindings_at commanded.version) nothing zero-counts);
+      still = done.still;
+      counts = subst (λ (h : Happened). AreCounts (bindings_at commanded.version.state) h after.counts) (joined-none (with_lost_of script.endpoints capture before.ends (happened_in (records_of seen))))
+          (done.counted (bindings_at commanded.version.state) nothing zero-counts);
       accepted = place;
       refused = sym same-refused ∙ own.refused;
       cut = cut_is;

@@ -33,6 +33,8 @@ pub record IsFiltered (script : ScriptData) (capture : Option ℕ) (files : Opti
   pub passed : AllPassed script.setup state (round_of (lines_in script.segments)) captures
   pub sent : AreSent script.endpoints capture (happened_in (records_of captures)).sends before.ends after.ends
       before.sink.told after.sink.told
+  -- no write to the capture failed
+  pub still : after.sink.faults ≡ before.sink.faults
   pub counts : AreCounts (bindings_at state)
       (with_lost_of script.endpoints capture before.ends (happened_in (records_of captures))) after.counts
   pub accepted : filtered.accepted ≡ state.place

@@ -3,7 +3,7 @@
 ghost use Rattle.std.specs.Prelude.{◌≡◌, ◌<◌, ◌≤◌, List, length, drop, IfErr, IfOk, IfSome, MatchResult, Some, sum_by};
 ghost use Rattle.spin_endpoint.specs.declared.ends.TheConstants.{MAX_ENDPOINTS};
 ghost use Rattle.spin_table.specs.SetupOf.{data_of};
-ghost use Rattle.spin_table.specs.Soundness.{IsSound};
+ghost use Rattle.spin_table.specs.Soundness.{IsSoundVersion};
 ghost use Rattle.spin_pcap.specs.Passing.{left_for};
 ghost use Rattle.spin_frames.specs.Heads.{IsHead};
 ghost use Rattle.spin_frames.specs.Written.{with_waiting};
@@ -56,7 +56,7 @@ pub(crate) fn pass_capture<S: Source, W: Sink + Drop>(
     outlets: &mut Outlets<W>,
 ) -> Result<usize, Stop>
     requires sincere { ⟦<Catalogue as Sincere>⟧.sincere passing.now.setup.now.catalogue }
-    requires sound { IsSound (data_of passing.now.setup.now) passing.now.version.now }
+    requires sound { IsSoundVersion (data_of passing.now.setup.now) passing.now.version.now }
     requires few { length passing.now.names.now ≤ MAX_ENDPOINTS }
     requires some { 0 < length passing.now.round.now }
     ensures passed { let before = outlets_at (⟦<Ends as EndsSeen>⟧.all outlets.old.ends)
@@ -65,7 +65,7 @@ pub(crate) fn pass_capture<S: Source, W: Sink + Drop>(
         (with_waiting (W.seen outlets.new.file.sink) outlets.new.file.waiting) outlets.new.counts in
         MatchResult result
         (λ cut. (seen : PassedCapture) × (seen.cut ≡ cut)
-        × ArePassed (data_of passing.now.setup.now) passing.now.version.now passing.now.round.now seen.head seen.passed
+        × ArePassed (data_of passing.now.setup.now) passing.now.version.now.state passing.now.round.now seen.head seen.passed
         × IfSome (S.seen source.old).left (λ file. IsCaptureOf file seen)
         × IsDone passing.now.names.now passing.now.capture (happened_in seen.passed)
         before after)
@@ -89,7 +89,7 @@ fn pass_named<F: Shelf, W: Sink + Drop>(
     outlets: &mut Outlets<W>,
 ) -> Result<usize, Stop>
     requires sincere { ⟦<Catalogue as Sincere>⟧.sincere passing.now.setup.now.catalogue }
-    requires sound { IsSound (data_of passing.now.setup.now) passing.now.version.now }
+    requires sound { IsSoundVersion (data_of passing.now.setup.now) passing.now.version.now }
     requires few { length passing.now.names.now ≤ MAX_ENDPOINTS }
     requires some { 0 < length passing.now.round.now }
     ensures passed { let before = outlets_at (⟦<Ends as EndsSeen>⟧.all outlets.old.ends)
@@ -98,7 +98,7 @@ fn pass_named<F: Shelf, W: Sink + Drop>(
         (with_waiting (W.seen outlets.new.file.sink) outlets.new.file.waiting) outlets.new.counts in
         MatchResult result
         (λ cut. (seen : PassedCapture) × (seen.cut ≡ cut)
-        × ArePassed (data_of passing.now.setup.now) passing.now.version.now passing.now.round.now seen.head seen.passed
+        × ArePassed (data_of passing.now.setup.now) passing.now.version.now.state passing.now.round.now seen.head seen.passed
         × IfSome (F.seen shelf.old).files (λ files. IsFound files name.now seen)
         × IsDone passing.now.names.now passing.now.capture (happened_in seen.passed)
         before after)
@@ -131,7 +131,7 @@ pub(crate) fn pass_captures<F: Shelf, W: Sink + Drop>(
     outlets: &mut Outlets<W>,
 ) -> Result<u64, Stop>
     requires sincere { ⟦<Catalogue as Sincere>⟧.sincere passing.now.setup.now.catalogue }
-    requires sound { IsSound (data_of passing.now.setup.now) passing.now.version.now }
+    requires sound { IsSoundVersion (data_of passing.now.setup.now) passing.now.version.now }
     requires few { length passing.now.names.now ≤ MAX_ENDPOINTS }
     requires some { 0 < length passing.now.round.now }
     ensures passed { let before = outlets_at (⟦<Ends as EndsSeen>⟧.all outlets.old.ends)
@@ -140,7 +140,7 @@ pub(crate) fn pass_captures<F: Shelf, W: Sink + Drop>(
         (with_waiting (W.seen outlets.new.file.sink) outlets.new.file.waiting) outlets.new.counts in
         MatchResult result
         (λ cut. (seen : List PassedCapture)
-        × AllPassed (data_of passing.now.setup.now) passing.now.version.now passing.now.round.now seen
+        × AllPassed (data_of passing.now.setup.now) passing.now.version.now.state passing.now.round.now seen
         × IfSome (F.seen shelf.old).files (λ files. AreFound files captures.now seen)
         × (cut ≡ capped (sum_by (λ c. c.cut) seen))
         × IsDone passing.now.names.now passing.now.capture (happened_in (records_of seen))

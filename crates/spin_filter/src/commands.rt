@@ -4,7 +4,7 @@ ghost use Rattle.std.specs.Prelude.{◌≡◌, ◌<◌, ◌≤◌, ◌+◌, ◌�
 ghost use Rattle.spin_word.specs.Commands.{is_command};
 ghost use Rattle.spin_word.specs.declared.command.TheConstants.{MAX_PLACE};
 ghost use Rattle.spin_table.specs.SetupOf.{data_of};
-ghost use Rattle.spin_table.specs.Soundness.{IsSound};
+ghost use Rattle.spin_table.specs.Soundness.{IsSoundVersion};
 ghost use Rattle.spin_script.specs.Soundness.{IsValidWork, commands_in};
 ghost use Rattle.spin_filter.specs.Commands.{commands_of};
 ghost use Rattle.spin_filter.specs.Inner.Giving.{IsGiven, IsCommanded};
@@ -36,10 +36,10 @@ fn give(
 ) -> Result<Commanded, NoMemory>
     requires sincere { ⟦<Catalogue as Sincere>⟧.sincere setup.now.catalogue }
     requires valid { IsTrue (is_command command.now) }
-    requires room { so_far.version.place < MAX_PLACE }
-    requires sound { IsSound (data_of setup.now) so_far.version }
+    requires room { so_far.version.state.place < MAX_PLACE }
+    requires sound { IsSoundVersion (data_of setup.now) so_far.version }
     ensures given { IfOk result (λ now. IsGiven (data_of setup.now) (command.now ∷ []) so_far now) }
-    ensures sound { IfOk result (λ now. IsSound (data_of setup.now) now.version) }
+    ensures sound { IfOk result (λ now. IsSoundVersion (data_of setup.now) now.version) }
 {
     let Commanded { version, refused } = so_far;
     match version.next(alloc, setup, command) {
@@ -64,10 +64,10 @@ fn give_line(
 ) -> Result<Commanded, NoMemory>
     requires sincere { ⟦<Catalogue as Sincere>⟧.sincere setup.now.catalogue }
     requires valid { IsValidWork line.now.work }
-    requires room { so_far.version.place + commands_in (line.now ∷ []) ≤ MAX_PLACE }
-    requires sound { IsSound (data_of setup.now) so_far.version }
+    requires room { so_far.version.state.place + commands_in (line.now ∷ []) ≤ MAX_PLACE }
+    requires sound { IsSoundVersion (data_of setup.now) so_far.version }
     ensures given { IfOk result (λ now. IsGiven (data_of setup.now) (commands_of (line.now ∷ [])) so_far now) }
-    ensures sound { IfOk result (λ now. IsSound (data_of setup.now) now.version) }
+    ensures sound { IfOk result (λ now. IsSoundVersion (data_of setup.now) now.version) }
 {
     match &line.work {
         Work::Command(command) => give(alloc, setup, so_far, command),
@@ -84,10 +84,10 @@ fn give_commands(
 ) -> Result<Commanded, NoMemory>
     requires sincere { ⟦<Catalogue as Sincere>⟧.sincere setup.now.catalogue }
     requires valid { All (λ line. IsValidWork line.work) lines.now }
-    requires room { so_far.version.place + commands_in lines.now ≤ MAX_PLACE }
-    requires sound { IsSound (data_of setup.now) so_far.version }
+    requires room { so_far.version.state.place + commands_in lines.now ≤ MAX_PLACE }
+    requires sound { IsSoundVersion (data_of setup.now) so_far.version }
     ensures given { IfOk result (λ now. IsGiven (data_of setup.now) (commands_of lines.now) so_far now) }
-    ensures sound { IfOk result (λ now. IsSound (data_of setup.now) now.version) }
+    ensures sound { IfOk result (λ now. IsSoundVersion (data_of setup.now) now.version) }
 {
     let mut now = so_far;
     for line in lines {
@@ -102,7 +102,7 @@ pub(crate) fn give_all(alloc: Global, setup: &Setup, lines: &[Line]) -> Result<C
     requires valid { All (λ line. IsValidWork line.work) lines.now }
     requires few { commands_in lines.now ≤ MAX_PLACE }
     ensures given { IfOk result (IsCommanded (data_of setup.now) (commands_of lines.now)) }
-    ensures sound { IfOk result (λ now. IsSound (data_of setup.now) now.version) }
+    ensures sound { IfOk result (λ now. IsSoundVersion (data_of setup.now) now.version) }
 {
     let version = Version::start(alloc, setup)?;
     let start = Commanded {

@@ -2,7 +2,7 @@
 
 ghost use Rattle.std.specs.Prelude.{◌≡◌, ◌+◌, ◌++◌, ◌∷◌, [], ℕ, List, All, map, IfOk};
 ghost use Rattle.spin_table.specs.SetupOf.{data_of};
-ghost use Rattle.spin_table.specs.Soundness.{IsSound};
+ghost use Rattle.spin_table.specs.Soundness.{IsSoundVersion};
 ghost use Rattle.spin_filter.specs.Counting as specs;
 ghost use Rattle.spin_filter.specs.Counting.{Happened, Marked, BindingAt, IsHit, AreCounts, nothing, binding_of, with_step, with_outcome, with_job, with_losts};
 ghost use Rattle.spin_filter.specs.Listing.{bindings_at};
@@ -106,8 +106,8 @@ impl Counts {
 
     /// Nothing came of anything yet; listed is each binding that is live at the version, and each event's default.
     pub fn of(alloc: Global, setup: &Setup, version: &Version) -> Result<Counts, NoMemory>
-        requires { IsSound (data_of setup.now) version.now }
-        ensures { IfOk result (λ counts. AreCounts (bindings_at version.now) nothing counts) }
+        requires { IsSoundVersion (data_of setup.now) version.now }
+        ensures { IfOk result (λ counts. AreCounts (bindings_at version.now.state) nothing counts) }
     {
         let hits = list_hits(alloc, setup, version)?;
         Counts::with_hits(alloc, hits)

@@ -2,7 +2,7 @@
 
 ghost use Rattle.std.specs.Prelude.{◌≡◌, ◌<◌, ◌++◌, [], List, length, map, slice_get, IfOk, IsSomeAnd, OnOk};
 ghost use Rattle.spin_table.specs.SetupOf.{data_of};
-ghost use Rattle.spin_table.specs.Soundness.{IsSound};
+ghost use Rattle.spin_table.specs.Soundness.{IsSoundVersion};
 ghost use Rattle.spin_filter.specs.Counting.{BindingAt};
 ghost use Rattle.spin_filter.specs.Inner.Fresh.{AreFresh};
 ghost use Rattle.spin_filter.specs.Listing.{binding_at, default_of, bindings_of, bindings_at};
@@ -38,9 +38,9 @@ fn list_default(hits: &mut Vec<Hit>, event: u8, default: u16) -> Result<(), NoMe
 
 // Lists the default of the event, if it has one, and its bindings.
 fn list_event(hits: &mut Vec<Hit>, event: u8, version: &Version) -> Result<(), NoMemory>
-    requires { event < length version.now.events }
+    requires { event < length version.now.state.events }
     ensures { (listed : List BindingAt) → AreFresh listed hits.old.items
-        → OnOk result (IsSomeAnd (slice_get version.now.events event)
+        → OnOk result (IsSomeAnd (slice_get version.now.state.events event)
         (λ e. AreFresh (listed ++ bindings_of event e) hits.new.items)) }
 {
     list_default(hits, event, version.default_of(event))?;
@@ -54,8 +54,8 @@ pub(crate) fn list_hits(
     setup: &Setup,
     version: &Version,
 ) -> Result<Vec<Hit>, NoMemory>
-    requires { IsSound (data_of setup.now) version.now }
-    ensures { IfOk result (λ hits. AreFresh (bindings_at version.now) hits.items) }
+    requires { IsSoundVersion (data_of setup.now) version.now }
+    ensures { IfOk result (λ hits. AreFresh (bindings_at version.now.state) hits.items) }
 {
     let mut hits = Vec::new(alloc);
     for event in 0..setup.events() {

@@ -4,7 +4,7 @@ ghost use Rattle.std.specs.Prelude.{◌≡◌, ◌≤◌, ◌∷◌, [], List, l
 ghost use Rattle.spin_values.specs.declared.values.Value.TheVariants as value;
 ghost use Rattle.spin_endpoint.specs.declared.ends.TheConstants.{MAX_ENDPOINTS};
 ghost use Rattle.spin_table.specs.SetupOf.{data_of};
-ghost use Rattle.spin_table.specs.Soundness.{IsSound};
+ghost use Rattle.spin_table.specs.Soundness.{IsSoundVersion};
 ghost use Rattle.spin_proto.specs.declared.reply.Reply.{Reply};
 ghost use Rattle.spin_proto.specs.Parts.{trace_in};
 ghost use Rattle.spin_proto.specs.Replies.{BelongsTo, IsJobReply};
@@ -83,15 +83,15 @@ fn do_job<W: Sink + Drop>(
     outlets: &mut Outlets<W>,
 ) -> Result<(), Stop>
     requires sincere { ⟦<Catalogue as Sincere>⟧.sincere passing.now.setup.now.catalogue }
-    requires sound { IsSound (data_of passing.now.setup.now) passing.now.version.now }
-    requires belongs { BelongsTo passing.now.version.now call.now }
+    requires sound { IsSoundVersion (data_of passing.now.setup.now) passing.now.version.now }
+    requires belongs { BelongsTo passing.now.version.now.state call.now }
     requires few { length passing.now.names.now ≤ MAX_ENDPOINTS }
     ensures { let before = outlets_at (⟦<Ends as EndsSeen>⟧.all outlets.old.ends)
         (with_waiting (W.seen outlets.old.file.sink) outlets.old.file.waiting) outlets.old.counts in
         let after = outlets_at (⟦<Ends as EndsSeen>⟧.all outlets.new.ends)
         (with_waiting (W.seen outlets.new.file.sink) outlets.new.file.waiting) outlets.new.counts in
         MatchResult result
-        (λ _. (reply : Reply) × IsJobReply (data_of passing.now.setup.now) passing.now.version.now call.now reply
+        (λ _. (reply : Reply) × IsJobReply (data_of passing.now.setup.now) passing.now.version.now.state call.now reply
         × IsDone passing.now.names.now passing.now.capture
         (joined just_job (just_steps taken.now (job_steps (trace_in reply))))
         before after)
@@ -112,8 +112,8 @@ fn do_jobs<W: Sink + Drop>(
     outlets: &mut Outlets<W>,
 ) -> Result<(), Stop>
     requires sincere { ⟦<Catalogue as Sincere>⟧.sincere passing.now.setup.now.catalogue }
-    requires sound { IsSound (data_of passing.now.setup.now) passing.now.version.now }
-    requires belong { All (BelongsTo passing.now.version.now) calls.now }
+    requires sound { IsSoundVersion (data_of passing.now.setup.now) passing.now.version.now }
+    requires belong { All (BelongsTo passing.now.version.now.state) calls.now }
     requires few { length passing.now.names.now ≤ MAX_ENDPOINTS }
     ensures { let before = outlets_at (⟦<Ends as EndsSeen>⟧.all outlets.old.ends)
         (with_waiting (W.seen outlets.old.file.sink) outlets.old.file.waiting) outlets.old.counts in
@@ -121,7 +121,7 @@ fn do_jobs<W: Sink + Drop>(
         (with_waiting (W.seen outlets.new.file.sink) outlets.new.file.waiting) outlets.new.counts in
         MatchResult result
         (λ _. (replies : List Reply)
-        × AreJobReplies (data_of passing.now.setup.now) passing.now.version.now calls.now replies
+        × AreJobReplies (data_of passing.now.setup.now) passing.now.version.now.state calls.now replies
         × IsDone passing.now.names.now passing.now.capture (happened_in_jobs taken.now replies)
         before after)
         (StopsSending passing.now.names.now passing.now.capture
@@ -142,7 +142,7 @@ pub(crate) fn pass_record<W: Sink + Drop>(
     outlets: &mut Outlets<W>,
 ) -> Result<(), Stop>
     requires sincere { ⟦<Catalogue as Sincere>⟧.sincere passing.now.setup.now.catalogue }
-    requires sound { IsSound (data_of passing.now.setup.now) passing.now.version.now }
+    requires sound { IsSoundVersion (data_of passing.now.setup.now) passing.now.version.now }
     requires few { length passing.now.names.now ≤ MAX_ENDPOINTS }
     ensures { let before = outlets_at (⟦<Ends as EndsSeen>⟧.all outlets.old.ends)
         (with_waiting (W.seen outlets.old.file.sink) outlets.old.file.waiting) outlets.old.counts in
@@ -150,7 +150,7 @@ pub(crate) fn pass_record<W: Sink + Drop>(
         (with_waiting (W.seen outlets.new.file.sink) outlets.new.file.waiting) outlets.new.counts in
         MatchResult result
         (λ _. (passed : Passed) × (passed.taken ≡ taken.now)
-        × IsPassed (data_of passing.now.setup.now) passing.now.version.now event passed
+        × IsPassed (data_of passing.now.setup.now) passing.now.version.now.state event passed
         × IsDone passing.now.names.now passing.now.capture (happened_at passed)
         before after)
         (StopsSending passing.now.names.now passing.now.capture

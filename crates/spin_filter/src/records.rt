@@ -3,7 +3,7 @@
 ghost use Rattle.std.specs.Prelude.{◌≡◌, ◌<◌, ◌≤◌, ◌+◌, List, length, take, drop, IfOk, IfSome, MatchResult};
 ghost use Rattle.spin_endpoint.specs.declared.ends.TheConstants.{MAX_ENDPOINTS};
 ghost use Rattle.spin_table.specs.SetupOf.{data_of};
-ghost use Rattle.spin_table.specs.Soundness.{IsSound};
+ghost use Rattle.spin_table.specs.Soundness.{IsSoundVersion};
 ghost use Rattle.spin_pcap.specs.Passing.{left_for};
 ghost use Rattle.spin_frames.specs.Written.{with_waiting};
 ghost use Rattle.spin_filter.specs.Passing.{Passed};
@@ -53,7 +53,7 @@ pub(crate) fn pass_records<S: Source, W: Sink + Drop>(
     outlets: &mut Outlets<W>,
 ) -> Result<usize, Stop>
     requires sincere { ⟦<Catalogue as Sincere>⟧.sincere passing.now.setup.now.catalogue }
-    requires sound { IsSound (data_of passing.now.setup.now) passing.now.version.now }
+    requires sound { IsSoundVersion (data_of passing.now.setup.now) passing.now.version.now }
     requires few { length passing.now.names.now ≤ MAX_ENDPOINTS }
     requires some { 0 < length passing.now.round.now }
     ensures passed { let before = outlets_at (⟦<Ends as EndsSeen>⟧.all outlets.old.ends)
@@ -63,7 +63,7 @@ pub(crate) fn pass_records<S: Source, W: Sink + Drop>(
         let left = left_for window.old (S.seen source.old).left in
         MatchResult result
         (λ cut. (passed : List Passed)
-        × ArePassed (data_of passing.now.setup.now) passing.now.version.now passing.now.round.now head passed
+        × ArePassed (data_of passing.now.setup.now) passing.now.version.now.state passing.now.round.now head passed
         × IfSome left (λ bytes. AreRecords head.order bytes passed cut)
         × IsDone passing.now.names.now passing.now.capture (happened_in passed)
         before after)

@@ -8,13 +8,13 @@ use Rattle.spin_code.specs.declared.test.Cmp.{Cmp}
 use Rattle.spin_code.specs.declared.test.Test.{Test}
 use Rattle.spin_code.specs.declared.test.Test.TheVariants.{Compare, Not', All', Any'}
 use Rattle.spin_code.specs.Size.{expr_depth, test_depth}
-use Rattle.spin_grammar.specs.declared.heads.Operator.{Operator}
-use Rattle.spin_grammar.specs.declared.heads.Operator.TheVariants as operator
-use Rattle.spin_grammar.specs.declared.heads.Joint.{Joint}
-use Rattle.spin_grammar.specs.declared.heads.Joint.TheVariants as joint
+use Rattle.spin_grammar.specs.declared.keywords.Operator.{Operator}
+use Rattle.spin_grammar.specs.declared.keywords.Operator.TheVariants as operator
+use Rattle.spin_grammar.specs.declared.keywords.Connective.{Connective}
+use Rattle.spin_grammar.specs.declared.keywords.Connective.TheVariants as joint
 use Rattle.spin_grammar.specs.Grammar as grammar
 use Rattle.spin_grammar.specs.Grammar.{Atom, Fixed, Want, Expression}
-use Rattle.spin_grammar.specs.Inner.Heads.{sign, joint_word}
+use Rattle.spin_grammar.specs.Inner.Keywords.{sign, joint_word}
 use Rattle.spin_grammar.specs.Forms.{expr_form, test_form, cmp_word}
 use Rattle.spin_grammar.specs.Inner.Reading.{Leads, Takes, Joins, Negates}
 use Rattle.spin_grammar.specs.Lines.{IsWithin}
@@ -40,16 +40,16 @@ joined_depth operator.Plus x y = refl
 joined_depth operator.And x y = refl
 joined_depth operator.Or x y = refl
 
-pub paired : Joint → Test → Test → Test
+pub paired : Connective → Test → Test → Test
 paired joint.All x y = All' nowhere x nowhere y
 paired joint.Any x y = Any' nowhere x nowhere y
 
-pub paired_form : (j : Joint) (x y : Test) → test_form (paired j x y) ≡ Fixed (joint_word j) ∷ (test_form x ++ test_form y)
+pub paired_form : (j : Connective) (x y : Test) → test_form (paired j x y) ≡ Fixed (joint_word j) ∷ (test_form x ++ test_form y)
 unfolding paired
 paired_form joint.All x y = refl
 paired_form joint.Any x y = refl
 
-paired_depth : (j : Joint) (x y : Test) → test_depth (paired j x y) ≡ suc (max (test_depth x) (test_depth y))
+paired_depth : (j : Connective) (x y : Test) → test_depth (paired j x y) ≡ suc (max (test_depth x) (test_depth y))
 unfolding paired
 paired_depth joint.All x y = refl
 paired_depth joint.Any x y = refl
@@ -102,7 +102,7 @@ pub comparison_read : (c : Cmp) (limit k : ℕ) (o r : Option Expr) (j : Option 
     → (t : Test) × Takes (grammar.Test ∷ []) (test_form t) old new × IsWithin test_depth limit j t
 comparison_read c = both_read expr_form expr_depth test_form test_depth (Compare c) grammar.Test Expression (cmp_word c) (λ x y. refl) (λ x y. refl)
 
-pub tests_read : (j : Joint) (limit k : ℕ) (o r p : Option Test) (x y : Test) (old mid left new : List (List ℕ))
+pub tests_read : (j : Connective) (limit k : ℕ) (o r p : Option Test) (x y : Test) (old mid left new : List (List ℕ))
     → k + 1 ≡ limit → Leads (grammar.Test ∷ []) (Fixed (joint_word j) ∷ []) (grammar.Test ∷ grammar.Test ∷ []) old mid
     → Takes (grammar.Test ∷ []) (test_form x) mid left → IsWithin test_depth k o x → Takes (grammar.Test ∷ []) (test_form y) left new
     → IsWithin test_depth k r y → Joins test_form test_depth test_form test_depth (joint_word j) o r p

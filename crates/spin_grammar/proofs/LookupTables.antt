@@ -2,7 +2,7 @@
 use Rattle.std.proofs.Common.{◌≡◌, ℕ, Bool, true, false, List, [], ◌∷◌, map, bytes_eq, Bor, refl}
 use Rattle.std.proofs.lemmas.Slice.Eq.{bytes_eq-Decides}
 use Rattle.spin_grammar.specs.Grammar.{Fixed, Choices, chosen}
-use Rattle.spin_grammar.specs.Inner.Heads.{Next, step_of, known}
+use Rattle.spin_grammar.specs.Inner.Keywords.{Next, step_of, known}
 use Rattle.spin_grammar.specs.Lookup.{look_up}
 
 abbrev pub Row : Type 0 → Type 0

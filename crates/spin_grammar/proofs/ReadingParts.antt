@@ -5,7 +5,7 @@ use Rattle.spin_grammar.specs.declared.cause.Cause.TheVariants as cause
 use Rattle.spin_grammar.specs.declared.fault.Fault.{Fault}
 use Rattle.spin_grammar.specs.declared.fault.Fault.TheVariants.{Bad, NoMemory}
 use Rattle.spin_grammar.specs.Grammar.{Atom, Want, Reading, accepts, reads, then_read, may_end}
-use Rattle.spin_grammar.specs.Inner.Heads.{Next}
+use Rattle.spin_grammar.specs.Inner.Keywords.{Next}
 use Rattle.spin_grammar.specs.Inner.Reading.{Leads, Takes, Fails, GivesSome, GivesBehind}
 
 pub then_read-nest : (a b : List Atom) (r : Reading) → then_read a (then_read b r) ≡ then_read (a ++ b) r

@@ -1,5 +1,5 @@
 -- What the contracts of private functions say.
-pub mod Heads
+pub mod Keywords
 pub mod Reading
 pub mod Spots
 pub mod Fronts

@@ -19,8 +19,8 @@ use Rattle.spin_grammar.specs.declared.kind.Kind.TheVariants as kind
 use Rattle.spin_grammar.specs.declared.limits.TheConstants.{MAX_MODULES, LAST_MODULE, LAST_EVENT}
 use Rattle.spin_grammar.specs.declared.limits.TheConstants.{LAST_ENDPOINT, LAST_HANDLER}
 use Rattle.spin_grammar.specs.declared.limits.TheConstants.{LAST_GUARD, LAST_LANE}
-use Rattle.spin_grammar.specs.declared.line.Said.{Said}
-use Rattle.spin_grammar.specs.declared.line.Said.TheVariants as said
+use Rattle.spin_grammar.specs.declared.line.Statement.{Statement}
+use Rattle.spin_grammar.specs.declared.line.Statement.TheVariants as said
 use Rattle.spin_grammar.specs.Grammar as grammar
 use Rattle.spin_grammar.specs.Grammar.{Atom, Fixed, Numeral, Called, Typed, Want, Number, reads}
 use Rattle.spin_grammar.specs.Forms.{Task, steps_form, test_form, merge_form, rule_form, task_form}
@@ -119,7 +119,7 @@ is_merge_deep (merge.Fold e) = nat_lt MAX_DEPTH (expr_depth e)
 
 -- What was read of a line stands for what the line says: it is that, but for what is too deep,
 -- which wasn't kept.
-abbrev pub Stands : Said → LineMeaning → Type 0
+abbrev pub Stands : Statement → LineMeaning → Type 0
 Stands (said.Modules n) l = l ≡ Modules n
 Stands (said.Event e owner sig o) l = (m : Merge) × (l ≡ Event e owner sig m) × IsKept is_merge_deep o m
 Stands (said.Endpoint p name) l = l ≡ Endpoint p name
@@ -137,12 +137,12 @@ Stands (said.Retire p) l = l ≡ Retire p
 
 -- all words say a line of this kind, for which what was read stands, or this is the cause why they
 -- don't
-abbrev pub GivesLine : ℕ → Kind → List (List ℕ) → Result Said Fault → Type 0
+abbrev pub GivesLine : ℕ → Kind → List (List ℕ) → Result Statement Fault → Type 0
 GivesLine version k ws (Ok s) = (l : LineMeaning) × Spells version k ws l × Stands s l
 GivesLine version k ws (Err f) = (c : Cause) → f ≡ fault.Bad c → reads (wanted version k) ws ≡ Err c
 
 -- what a line declares has the number of such a thing, and what it asks for is valid
-abbrev pub IsInRange : Said → Type 0
+abbrev pub IsInRange : Statement → Type 0
 IsInRange (said.Modules n) = (1 ≤ n) × (n ≤ MAX_MODULES)
 IsInRange (said.Event e owner sig o) = e ≤ LAST_EVENT
 IsInRange (said.Endpoint p name) = p ≤ LAST_ENDPOINT

@@ -10,9 +10,9 @@ ghost use Rattle.std.specs.List.{list_any};
 
 use crate::expression::read_expression;
 use crate::fault::Fault;
-use crate::heads::{MergeWord, PartWord, StepWord};
-use crate::leaves::{count_from, layer_word, merge_word, number_from, part_word, step_word};
+use crate::keywords::{MergeWord, PartWord, StepWord};
 use crate::limits::{LAST_ARGUMENT, LAST_ENDPOINT, LAST_EVENT, MAX_OFFSET, MAX_PARTS};
+use crate::tokens::{count_from, layer_word, merge_word, number_from, part_word, step_word};
 use crate::words::Words;
 use spin_code::{ActStep, MAX_DEPTH, Merge, Part, Parts, Steplist};
 use std::alloc::Global;

@@ -4,16 +4,16 @@ ghost use Rattle.std.specs.Prelude.{◌≡◌, ◌∷◌, ◌<◌, ◌≤◌, �
 ghost use Rattle.spin_code.specs.Size.{expr_depth};
 ghost use Rattle.spin_grammar.specs.Grammar as grammar;
 ghost use Rattle.spin_grammar.specs.Grammar.{Number, Numeral};
-ghost use Rattle.spin_grammar.specs.Inner.Heads.{sign};
+ghost use Rattle.spin_grammar.specs.Inner.Keywords.{sign};
 ghost use Rattle.spin_grammar.specs.Forms.{expr_form};
 ghost use Rattle.spin_grammar.specs.declared.fault.Fault.TheVariants.{NoMemory};
 ghost use Rattle.spin_grammar.specs.Inner.Reading.{Gives, GivesSome, IsThere, Skips, Joins};
 ghost use Rattle.spin_grammar.specs.Lines.{IsWithin};
 
 use crate::fault::Fault;
-use crate::heads::{ExprWord, Operator};
-use crate::leaves::{expr_word, number_from};
+use crate::keywords::{ExprWord, Operator};
 use crate::limits::{LAST_ARGUMENT, MAX_OFFSET, MAX_WIDTH};
+use crate::tokens::{expr_word, number_from};
 use crate::words::Words;
 use spin_code::Expr;
 use std::alloc::Global;

@@ -2,13 +2,13 @@
 //!
 //! The format is read from left to right: what is wanted at a place, and the word there, fix what
 //! is wanted next.
-//! So tables say which words there are ([`heads`] has one for each place), and a line is read in one
+//! So tables say which words there are ([`keywords`] has one for each place), and a line is read in one
 //! pass, without recursion on its depth. Only what isn't too deep is kept.
 //!
-//! - [`breaks`] takes the lines off a text, [`words`] the words off a line;
+//! - [`lines`] takes the lines off a text, [`words`] the words off a line;
 //! - [`limits`] has the limits of numbers, names and texts;
 //! - [`number`] and [`names`] read numbers, names, signatures and bytes;
-//! - [`leaves`] reads what a single word says, over [`heads`], whose tables [`lookup`] looks at;
+//! - [`tokens`] reads what a single word says, over [`keywords`], whose tables [`lookup`] looks at;
 //! - [`expression`], [`test`], [`act`], [`rule`] and [`work`] read what several words say;
 //! - [`line`] reads a whole line of a [`kind`], and [`laws`] says that its words say one thing;
 //! - [`cause`] has why a line isn't in the grammar, [`fault`] that or want of memory.
@@ -21,25 +21,24 @@
 #![tactic(auto)]
 
 mod act;
-mod breaks;
 mod cause;
 mod expression;
 mod fault;
-mod heads;
+mod keywords;
 mod kind;
 mod laws;
-mod leaves;
 mod limits;
 mod line;
+mod lines;
 mod lookup;
 mod names;
 mod number;
 mod rule;
 mod test;
+mod tokens;
 mod words;
 mod work;
 
-pub use breaks::Lines;
 pub use cause::Cause;
 pub use fault::Fault;
 pub use kind::Kind;
@@ -49,7 +48,8 @@ pub use limits::{
     LAST_PLACE, LAST_TARGET, MAX_IMPOSED, MAX_MODULES, MAX_NAME, MAX_NAMED, MAX_OFFSET,
     MAX_PACKETS, MAX_PARTS, MAX_QUOTA, MAX_TEXT, MAX_WIDTH,
 };
-pub use line::{Said, read_line};
+pub use line::{Statement, read_line};
+pub use lines::Lines;
 pub use lookup::look_up;
 pub use number::number_of;
 pub use words::Words;

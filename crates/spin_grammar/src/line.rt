@@ -10,13 +10,13 @@ use crate::act::{read_merge, read_steps};
 use crate::cause::Cause;
 use crate::fault::Fault;
 use crate::kind::Kind;
-use crate::leaves::number_from;
 use crate::limits::{
     LAST_ENDPOINT, LAST_EVENT, LAST_GUARD, LAST_HANDLER, LAST_LANE, LAST_MODULE, MAX_MODULES,
 };
 use crate::names::{guard_body, handler_body, read_name, read_signature};
 use crate::rule::read_rule;
 use crate::test::read_test;
+use crate::tokens::number_from;
 use crate::words::Words;
 use crate::work::read_work;
 use spin_code::{MAX_DEPTH, Merge, Steplist, Test};
@@ -27,7 +27,7 @@ use std::alloc::Global;
 
 /// What a line says. What is too deep to be kept is `None`.
 #[derive(Drop, Debug)]
-pub enum Said {
+pub enum Statement {
     /// The number of modules.
     Modules(u16),
     /// An event.
@@ -115,15 +115,15 @@ pub enum Said {
 }
 
 #[tactic(auto, using(crate::proofs::ReadingParts::failing))]
-fn modules_line(words: &mut Words) -> Result<Said, Fault>
+fn modules_line(words: &mut Words) -> Result<Statement, Fault>
     ensures gives { (version : ℕ) → GivesFront version kind.Modules result words.old words.new }
     ensures ranges { IfOk result IsInRange }
 {
-    Ok(Said::Modules(number_from(words, 1, MAX_MODULES)? as u16))
+    Ok(Statement::Modules(number_from(words, 1, MAX_MODULES)? as u16))
 }
 
 #[tactic(auto, using(crate::proofs::ReadingParts::failing))]
-fn event_line(alloc: Global, words: &mut Words) -> Result<Said, Fault>
+fn event_line(alloc: Global, words: &mut Words) -> Result<Statement, Fault>
     requires { length words.old < 2 ^ 31 }
     ensures gives { (version : ℕ) → GivesFront version kind.Event result words.old words.new }
     ensures ranges { IfOk result IsInRange }
@@ -132,7 +132,7 @@ fn event_line(alloc: Global, words: &mut Words) -> Result<Said, Fault>
     let owner = number_from(words, 0, LAST_MODULE)? as u8;
     let sig = read_signature(alloc, words)?;
     let merge = read_merge(alloc, words)?;
-    Ok(Said::Event {
+    Ok(Statement::Event {
         number,
         owner,
         sig,
@@ -141,17 +141,17 @@ fn event_line(alloc: Global, words: &mut Words) -> Result<Said, Fault>
 }
 
 #[tactic(auto, using(crate::proofs::ReadingParts::failing))]
-fn endpoint_line(alloc: Global, words: &mut Words) -> Result<Said, Fault>
+fn endpoint_line(alloc: Global, words: &mut Words) -> Result<Statement, Fault>
     ensures gives { (version : ℕ) → GivesFront version kind.Endpoint result words.old words.new }
     ensures ranges { IfOk result IsInRange }
 {
     let number = number_from(words, 0, LAST_ENDPOINT)? as u8;
     let name = read_name(alloc, words)?;
-    Ok(Said::Endpoint { number, name })
+    Ok(Statement::Endpoint { number, name })
 }
 
 #[tactic(auto, using(crate::proofs::ReadingParts::failing))]
-fn handler_line(alloc: Global, words: &mut Words) -> Result<Said, Fault>
+fn handler_line(alloc: Global, words: &mut Words) -> Result<Statement, Fault>
     requires { length words.old < 2 ^ 31 }
     ensures gives { (version : ℕ) → GivesFront version kind.Handler result words.old words.new }
     ensures ranges { IfOk result IsInRange }
@@ -160,17 +160,17 @@ fn handler_line(alloc: Global, words: &mut Words) -> Result<Said, Fault>
     match handler_body(alloc, words)? {
         None => {
             let name = read_name(alloc, words)?;
-            Ok(Said::NativeHandler { number, name })
+            Ok(Statement::NativeHandler { number, name })
         }
         Some(sig) => {
             let steps = read_steps(alloc, words)?;
-            Ok(Said::Handler { number, sig, steps })
+            Ok(Statement::Handler { number, sig, steps })
         }
     }
 }
 
 #[tactic(auto, using(crate::proofs::ReadingParts::failing))]
-fn guard_line(alloc: Global, words: &mut Words) -> Result<Said, Fault>
+fn guard_line(alloc: Global, words: &mut Words) -> Result<Statement, Fault>
     requires { length words.old < 2 ^ 31 }
     ensures gives { (version : ℕ) → GivesFront version kind.Guard result words.old words.new }
     ensures ranges { IfOk result IsInRange }
@@ -179,65 +179,65 @@ fn guard_line(alloc: Global, words: &mut Words) -> Result<Said, Fault>
     match guard_body(alloc, words)? {
         None => {
             let name = read_name(alloc, words)?;
-            Ok(Said::NativeGuard { number, name })
+            Ok(Statement::NativeGuard { number, name })
         }
         Some(sig) => {
             let test = read_test(alloc, words, MAX_DEPTH)?;
-            Ok(Said::Guard { number, sig, test })
+            Ok(Statement::Guard { number, sig, test })
         }
     }
 }
 
 #[tactic(auto, using(crate::proofs::ReadingParts::failing))]
-fn rule_line(alloc: Global, words: &mut Words, version: u8) -> Result<Said, Fault>
+fn rule_line(alloc: Global, words: &mut Words, version: u8) -> Result<Statement, Fault>
     ensures gives { GivesFront version kind.Rule result words.old words.new }
     ensures ranges { IfOk result IsInRange }
 {
     let event = number_from(words, 0, LAST_EVENT)? as u8;
     let rule = read_rule(alloc, words, version)?;
-    Ok(Said::Rule { event, rule })
+    Ok(Statement::Rule { event, rule })
 }
 
 #[tactic(auto, using(crate::proofs::ReadingParts::failing))]
-fn authoriser_line(alloc: Global, words: &mut Words) -> Result<Said, Fault>
+fn authoriser_line(alloc: Global, words: &mut Words) -> Result<Statement, Fault>
     ensures gives { (version : ℕ) → GivesFront version kind.Authoriser result words.old words.new }
     ensures ranges { IfOk result IsInRange }
 {
     let event = number_from(words, 0, LAST_EVENT)? as u8;
     let name = read_name(alloc, words)?;
-    Ok(Said::Authoriser { event, name })
+    Ok(Statement::Authoriser { event, name })
 }
 
 #[tactic(auto, using(crate::proofs::ReadingParts::failing))]
-fn default_line(words: &mut Words) -> Result<Said, Fault>
+fn default_line(words: &mut Words) -> Result<Statement, Fault>
     ensures gives { (version : ℕ) → GivesFront version kind.Default result words.old words.new }
     ensures ranges { IfOk result IsInRange }
 {
     let event = number_from(words, 0, LAST_EVENT)? as u8;
     let handler = number_from(words, 1, LAST_HANDLER)? as u16;
-    Ok(Said::Default { event, handler })
+    Ok(Statement::Default { event, handler })
 }
 
 #[tactic(auto, using(crate::proofs::ReadingParts::failing))]
-fn lane_line(alloc: Global, words: &mut Words, version: u8) -> Result<Said, Fault>
+fn lane_line(alloc: Global, words: &mut Words, version: u8) -> Result<Statement, Fault>
     ensures gives { GivesFront version kind.Lane result words.old words.new }
     ensures ranges { IfOk result IsInRange }
 {
     let lane = number_from(words, 0, LAST_LANE)? as u8;
     let work = read_work(alloc, words, version, lane)?;
-    Ok(Said::Lane { lane, work })
+    Ok(Statement::Lane { lane, work })
 }
 
 #[tactic(auto, using(crate::proofs::ReadingParts::failing))]
-fn retire_line(words: &mut Words) -> Result<Said, Fault>
+fn retire_line(words: &mut Words) -> Result<Statement, Fault>
     ensures gives { (version : ℕ) → GivesFront version kind.Retire result words.old words.new }
     ensures ranges { IfOk result IsInRange }
 {
-    Ok(Said::Retire(number_from(words, 0, LAST_ENDPOINT)? as u16))
+    Ok(Statement::Retire(number_from(words, 0, LAST_ENDPOINT)? as u16))
 }
 
 // Reads a line of this kind up to what it has to say.
-fn read_front(alloc: Global, words: &mut Words, version: u8, kind: Kind) -> Result<Said, Fault>
+fn read_front(alloc: Global, words: &mut Words, version: u8, kind: Kind) -> Result<Statement, Fault>
     requires { length words.old < 2 ^ 31 }
     ensures gives { GivesFront version kind result words.old words.new }
     ensures ranges { IfOk result IsInRange }
@@ -252,7 +252,7 @@ fn read_front(alloc: Global, words: &mut Words, version: u8, kind: Kind) -> Resu
         Kind::Authoriser => authoriser_line(alloc, words),
         Kind::Default => default_line(words),
         Kind::Lane => lane_line(alloc, words, version),
-        Kind::Barrier => Ok(Said::Barrier),
+        Kind::Barrier => Ok(Statement::Barrier),
         Kind::Retire => retire_line(words),
     }
 }
@@ -274,7 +274,12 @@ fn finish(words: &mut Words) -> Result<(), Cause>
 ///
 /// The refusal is the cause of the first word that can't stand at its place, or of the line's end. Where the line is
 /// read no word is left. It takes time and memory linear in the line, and no stack that grows with it.
-pub fn read_line(alloc: Global, words: &mut Words, version: u8, kind: Kind) -> Result<Said, Fault>
+pub fn read_line(
+    alloc: Global,
+    words: &mut Words,
+    version: u8,
+    kind: Kind,
+) -> Result<Statement, Fault>
     requires { length words.old < 2 ^ 31 }
     ensures gives { GivesLine version kind words.old result }
     ensures ranges { IfOk result IsInRange }

@@ -9,7 +9,7 @@ ghost use Rattle.spin_grammar.specs.Spelling.{is_name_byte, is_name, is_letter, 
 ghost use Rattle.spin_grammar.specs.Spelling.{params_of, as_type, signature, guard_signature};
 ghost use Rattle.spin_grammar.specs.Spelling.{hex_bytes};
 ghost use Rattle.spin_grammar.specs.Inner.Reading.{Gives, Opens};
-ghost use Rattle.spin_grammar.specs.Inner.Heads.{handler_body_next, guard_body_next};
+ghost use Rattle.spin_grammar.specs.Inner.Keywords.{handler_body_next, guard_body_next};
 
 use crate::cause::Cause;
 use crate::fault::Fault;

@@ -8,11 +8,11 @@ ghost use Rattle.spin_grammar.specs.Forms.{counted_form, effect_form, rule_form}
 ghost use Rattle.spin_grammar.specs.Inner.Reading.{Gives};
 
 use crate::fault::Fault;
-use crate::heads::EffectWord;
-use crate::leaves::{
+use crate::keywords::EffectWord;
+use crate::limits::{LAST_GUARD, LAST_MODULE, MAX_IMPOSED, MAX_QUOTA};
+use crate::tokens::{
     apart_word, count_from, effect_word, forced_word, handler_word, number_from, op_word, own_word,
 };
-use crate::limits::{LAST_GUARD, LAST_MODULE, MAX_IMPOSED, MAX_QUOTA};
 use crate::words::Words;
 use spin_policy::{Effect, Rule};
 use spin_values::Numbers;

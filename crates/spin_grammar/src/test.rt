@@ -5,7 +5,7 @@ ghost use Rattle.spin_code.specs.Size.{expr_depth, test_depth};
 ghost use Rattle.spin_grammar.specs.declared.fault.Fault.TheVariants.{NoMemory};
 ghost use Rattle.spin_grammar.specs.Grammar as grammar;
 ghost use Rattle.spin_grammar.specs.Grammar.{Number, Numeral};
-ghost use Rattle.spin_grammar.specs.Inner.Heads.{joint_word};
+ghost use Rattle.spin_grammar.specs.Inner.Keywords.{joint_word};
 ghost use Rattle.spin_grammar.specs.Forms.{expr_form, test_form, cmp_word};
 ghost use Rattle.spin_grammar.specs.Inner.Reading.{Gives, GivesSome, IsThere, Skips, Joins};
 ghost use Rattle.spin_grammar.specs.Inner.Reading.{Negates};
@@ -13,9 +13,9 @@ ghost use Rattle.spin_grammar.specs.Lines.{IsWithin};
 
 use crate::expression::{read_expression, skip_expression};
 use crate::fault::Fault;
-use crate::heads::{Joint, TestWord};
-use crate::leaves::{number_from, test_word};
+use crate::keywords::{Connective, TestWord};
 use crate::limits::{LAST_ARGUMENT, MAX_OFFSET};
+use crate::tokens::{number_from, test_word};
 use crate::words::Words;
 use spin_code::{Cmp, Expr, Test};
 use std::alloc::Global;
@@ -87,7 +87,7 @@ fn compare(cmp: Cmp, left: Option<Expr>, right: Option<Expr>) -> Option<Test>
 // The two joined, where both are there.
 fn pair(
     alloc: Global,
-    joint: Joint,
+    joint: Connective,
     left: Option<Test>,
     right: Option<Test>,
 ) -> Result<Option<Test>, Fault>
@@ -100,8 +100,8 @@ fn pair(
     let left = Box::new(alloc, left)?;
     let right = Box::new(alloc, right)?;
     Ok(Some(match joint {
-        Joint::All => Test::All(left, right),
-        Joint::Any => Test::Any(left, right),
+        Connective::All => Test::All(left, right),
+        Connective::Any => Test::Any(left, right),
     }))
 }
 

@@ -8,21 +8,21 @@ ghost use Rattle.spin_grammar.specs.Grammar.{last_target};
 ghost use Rattle.spin_grammar.specs.Forms.{value_atom, counted_form, spot_form, task_form, padded};
 ghost use Rattle.spin_grammar.specs.Tasks.{Asks, IsValidOn};
 ghost use Rattle.spin_grammar.specs.Inner.Reading.{Gives, GivesSome, GivesBehind};
-ghost use Rattle.spin_grammar.specs.Inner.Heads.{deed_next};
+ghost use Rattle.spin_grammar.specs.Inner.Keywords.{deed_next};
 ghost use Rattle.spin_grammar.specs.Inner.Spots.{IsSpot, IsValidSpot, GivesValue};
-ghost use Rattle.spin_grammar.specs.declared.heads.DeedWord.TheVariants as deed;
+ghost use Rattle.spin_grammar.specs.declared.keywords.DeedWord.TheVariants as deed;
 
 use crate::cause::Cause;
 use crate::fault::Fault;
-use crate::heads::{DeedWord, SpotWord};
-use crate::leaves::{
-    binding_from, bindings_count, deed_word, exactly, mode_word, number_from, place_word, spot_word,
-};
+use crate::keywords::{DeedWord, SpotWord};
 use crate::limits::{
     LAST_EVENT, LAST_GUARD, LAST_HANDLER, LAST_MODULE, LAST_PLACE, LAST_TARGET, MAX_PACKETS,
 };
 use crate::names::hex_bytes;
 use crate::number::number_of;
+use crate::tokens::{
+    binding_from, bindings_count, deed_word, exactly, mode_word, number_from, place_word, spot_word,
+};
 use crate::words::Words;
 use spin_values::{Args, MAX_PARAMS, Value};
 use spin_word::{Command, Deed, NO_BINDING, NO_BINDINGS, Op, Place, Work};
@@ -59,7 +59,7 @@ fn read_bindings(words: &mut Words) -> Result<[u16; 4], Fault>
 
 /// Where a binding goes: its place, and the bindings before which and after which it goes.
 #[derive(Clone, Copy, Debug)]
-pub struct Around {
+pub struct Constraints {
     place: Place,
     before: [u16; 4],
     after: [u16; 4],
@@ -67,19 +67,19 @@ pub struct Around {
 
 // Reads a place that may be before or after one other binding.
 #[tactic(auto, using(crate::proofs::ReadingParts::failing))]
-fn read_spot(words: &mut Words) -> Result<Around, Fault>
+fn read_spot(words: &mut Words) -> Result<Constraints, Fault>
     ensures gives { GivesSome IsSpot spot_form (grammar.Spot ∷ []) result words.old words.new }
     ensures valid { IfOk result IsValidSpot }
 {
     match spot_word(words)? {
-        SpotWord::At(place) => Ok(Around {
+        SpotWord::At(place) => Ok(Constraints {
             place,
             before: NO_BINDINGS,
             after: NO_BINDINGS,
         }),
         SpotWord::Before => {
             let number = number_from(words, 0, LAST_TARGET)? as u16;
-            Ok(Around {
+            Ok(Constraints {
                 place: Place::Free,
                 before: [number, NO_BINDING, NO_BINDING, NO_BINDING],
                 after: NO_BINDINGS,
@@ -87,7 +87,7 @@ fn read_spot(words: &mut Words) -> Result<Around, Fault>
         }
         SpotWord::After => {
             let number = number_from(words, 0, LAST_TARGET)? as u16;
-            Ok(Around {
+            Ok(Constraints {
                 place: Place::Free,
                 before: NO_BINDINGS,
                 after: [number, NO_BINDING, NO_BINDING, NO_BINDING],
@@ -98,7 +98,7 @@ fn read_spot(words: &mut Words) -> Result<Around, Fault>
 
 // Reads a place, and the bindings before which and after which it is.
 #[tactic(auto, using(crate::proofs::ReadingParts::failing))]
-fn read_wide_spot(words: &mut Words) -> Result<Around, Fault>
+fn read_wide_spot(words: &mut Words) -> Result<Constraints, Fault>
     ensures gives { GivesSome IsSpot spot_form (grammar.Place ∷ grammar.Exactly (codes "before")
         ∷ Bindings ∷ grammar.Exactly (codes "after") ∷ Bindings ∷ []) result words.old words.new }
     ensures valid { IfOk result IsValidSpot }
@@ -108,7 +108,7 @@ fn read_wide_spot(words: &mut Words) -> Result<Around, Fault>
     let before = read_bindings(words)?;
     exactly(words, b"after")?;
     let after = read_bindings(words)?;
-    Ok(Around {
+    Ok(Constraints {
         place,
         before,
         after,
@@ -116,7 +116,7 @@ fn read_wide_spot(words: &mut Words) -> Result<Around, Fault>
 }
 
 // Reads where a binding goes, in a script of this version.
-fn read_around(words: &mut Words, version: u8) -> Result<Around, Fault>
+fn read_around(words: &mut Words, version: u8) -> Result<Constraints, Fault>
     ensures gives { GivesSome IsSpot spot_form (spot_wants version) result words.old words.new }
     ensures valid { IfOk result IsValidSpot }
 {

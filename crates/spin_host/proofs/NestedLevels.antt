@@ -4,7 +4,7 @@ use Rattle.std.specs.List.{All}
 use Rattle.std.specs.Arc.{arc_value}
 use Rattle.std.proofs.lemmas.List.Elements.{All-nil, All-push, All-pop}
 use Rattle.spin_table.specs.Setups.{SetupData}
-use Rattle.spin_table.specs.Soundness.{IsSound}
+use Rattle.spin_table.specs.Soundness.{IsSoundVersion}
 use Rattle.spin_host.specs.declared.open.Level.{Level}
 use Rattle.spin_host.specs.declared.open.OpenRaise.{OpenRaise}
 use Rattle.spin_proto.specs.declared.reply.TheConstants.{MAX_RUNS}
@@ -41,7 +41,7 @@ nested_push ls l next up h =
         longer (x ∷ xs) = omega (arith, longer xs)
 
 -- a raise is opened, and none is around it
-pub stands_alone : (d : SetupData) (o : OpenRaise) → IsSound d (arc_value o.version) → IsLevel (length d.events) o.top → o.below ≡ [] → o.started ≡ 0 → IsOpen d o
+pub stands_alone : (d : SetupData) (o : OpenRaise) → IsSoundVersion d (arc_value o.version) → IsLevel (length d.events) o.top → o.below ≡ [] → o.started ≡ 0 → IsOpen d o
 stands_alone d o sound top none started = record {
   sound = sound;
   top = top;
@@ -54,7 +54,7 @@ stands_alone d o sound top none started = record {
 pub goes_on : (d : SetupData) (o o' : OpenRaise) → IsOpen d o → o'.version ≡ o.version → o'.below ≡ o.below → o'.top.frame.event ≡ o.top.frame.event
     → IsLevel (length d.events) o'.top → o'.started ≤ MAX_RUNS → IsOpen d o'
 goes_on d o o' h version below event level few = record {
-  sound = subst (λ v. IsSound d (arc_value v)) (sym version) h.sound;
+  sound = subst (λ v. IsSoundVersion d (arc_value v)) (sym version) h.sound;
   top = level;
   below = subst (λ (ls : List Level). All (IsLevel (length d.events)) ls) (sym below) h.below;
   nested = subst (λ (ls : List Level). AreNested 0 (ls ++ o'.top ∷ [])) (sym below) (nested_same o.below o.top o'.top event h.nested);
@@ -68,7 +68,7 @@ pub puts_on : (d : SetupData) (o o' : OpenRaise) (around : Level) → IsOpen d o
 puts_on d o o' around h version event level below up on started =
     let up' : around.frame.event < o'.top.frame.event = omega (arith, up, event) in
     record {
-      sound = subst (λ v. IsSound d (arc_value v)) (sym version) h.sound;
+      sound = subst (λ v. IsSoundVersion d (arc_value v)) (sym version) h.sound;
       top = on;
       below = subst (λ (ls : List Level). All (IsLevel (length d.events)) ls) (sym below) (All-push (IsLevel (length d.events)) o.below around h.below level);
       nested =
@@ -82,7 +82,7 @@ pub takes_off : (d : SetupData) (o o' : OpenRaise) → IsOpen d o → o'.version
 takes_off d o o' h version below started =
     let all = All-pop (IsLevel (length d.events)) o.below o'.below (Some o'.top) below h.below in
     record {
-      sound = subst (λ v. IsSound d (arc_value v)) (sym version) h.sound;
+      sound = subst (λ v. IsSoundVersion d (arc_value v)) (sym version) h.sound;
       top = all.1;
       below = all.0;
       nested = subst (λ (ls : List Level). AreNested 0 ls) below (nested_split 0 o.below o.top h.nested).0;

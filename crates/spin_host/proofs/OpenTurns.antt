@@ -137,7 +137,7 @@ module _ (d : SetupData) (o : OpenRaise) (b : Bound) (f : Frame) (firing : Firin
           let n = some_due (due_in b o.top.frame) (sym due) in
           let here : OnTop d o (λ sig e. Stays (units_in d) e o.top.frame f × IsSomeAnd (due_in e f) (λ n. firing ≡ firing_at o.top.frame.event n)
           × (o.started ≡ started_after (due_in e o.top.frame) o.started)) =
-          on_found d (arc_value o.version) o.top.frame.event b
+          on_found d (arc_value o.version).state o.top.frame.event b
           (λ sig e. Stays (units_in d) e o.top.frame f × IsSomeAnd (due_in e f) (λ n. firing ≡ firing_at o.top.frame.event n)
           × (o.started ≡ started_after (due_in e o.top.frame) o.started)) found
           (λ sig typed. (stays, at_event, ap (λ x. started_after x o.started) (sym n.1))) in
@@ -148,7 +148,7 @@ module _ (d : SetupData) (o : OpenRaise) (b : Bound) (f : Frame) (firing : Firin
           let g : Frame = record f { due = None } in
           let here : OnTop d o (λ sig e. (due_in e o.top.frame ≡ None) × Stays (units_in d) e o.top.frame g
           × ((x : Frame) × Stays (units_in d) e o.top.frame x × IsSome (due_in e x))) =
-          on_found d (arc_value o.version) o.top.frame.event b
+          on_found d (arc_value o.version).state o.top.frame.event b
           (λ sig e. (due_in e o.top.frame ≡ None) × Stays (units_in d) e o.top.frame g
           × ((x : Frame) × Stays (units_in d) e o.top.frame x × IsSome (due_in e x))) found
           (λ sig typed. (
@@ -161,7 +161,7 @@ module _ (d : SetupData) (o : OpenRaise) (b : Bound) (f : Frame) (firing : Firin
       choose false false has due told then =
           let here : OnTop d o (λ sig e. Stays (units_in d) e o.top.frame f × IsSomeAnd (due_in e f) (λ n. firing ≡ firing_at o.top.frame.event n)
           × (o.started + 1 ≡ started_after (due_in e o.top.frame) o.started)) =
-          on_found d (arc_value o.version) o.top.frame.event b
+          on_found d (arc_value o.version).state o.top.frame.event b
           (λ sig e. Stays (units_in d) e o.top.frame f × IsSomeAnd (due_in e f) (λ n. firing ≡ firing_at o.top.frame.event n)
           × (o.started + 1 ≡ started_after (due_in e o.top.frame) o.started)) found
           (λ sig typed. (stays, at_event, ap (λ x. started_after x o.started) (sym (none_due (due_in b o.top.frame) (sym due))))) in
@@ -183,7 +183,7 @@ module _ (d : SetupData) (o : OpenRaise) (b : Bound) (f : Frame) (found : OnTop 
     (ends : Ends (units_in d) b o.top.frame f.progress.answer) (event : f.event ≡ o.top.frame.event) where
   end_here : (a : Answer) → a ≡ f.progress.answer → OnTop d o (λ sig e. Ends (units_in d) e o.top.frame a)
   end_here a is =
-      on_found d (arc_value o.version) o.top.frame.event b (λ sig e. Ends (units_in d) e o.top.frame a) found
+      on_found d (arc_value o.version).state o.top.frame.event b (λ sig e. Ends (units_in d) e o.top.frame a) found
       (λ sig typed. subst (λ (x : Answer). Ends (units_in d) b o.top.frame x) (sym is) ends)
 
   pub ended : (t : Turn) (o' : OpenRaise) → IsEnd record o { top = record o.top { frame = f } } t o' → ComesNext d o t o'
@@ -199,7 +199,7 @@ module _ (d : SetupData) (o : OpenRaise) (b : Bound) (f : Frame) (found : OnTop 
           let here = subst P (sym same) (
             (refl, refl, event, refl),
             refl,
-            on_found d (arc_value o.version) o.top.frame.event b (λ sig e. Stays (units_in d) e o.top.frame f) found (λ sig typed. stays),
+            on_found d (arc_value o.version).state o.top.frame.event b (λ sig e. Stays (units_in d) e o.top.frame f) found (λ sig typed. stays),
           ) in
           inr (none, here.0, here.1, here.2)
   ended (turn.Due firing) o' h = absurd h

@@ -9,8 +9,8 @@ use Rattle.spin_objects.specs.declared.item.Item.{Item}
 use Rattle.spin_objects.specs.declared.item.Item.TheVariants as item
 use Rattle.spin_raise.specs.Firing.{Bound}
 use Rattle.spin_table.specs.Setups.{SetupData}
-use Rattle.spin_table.specs.States.{State}
-use Rattle.spin_table.specs.Soundness.{IsSound}
+use Rattle.spin_table.specs.States.{State, VersionValue}
+use Rattle.spin_table.specs.Soundness.{IsSoundVersion}
 use Rattle.spin_proto.specs.declared.reply.TheConstants.{MAX_RUNS}
 use Rattle.spin_proto.specs.Replies.{AreBounds, types_in, units_in}
 use Rattle.spin_host.specs.declared.firing.Firing.{Firing}
@@ -31,7 +31,7 @@ OnEvent d s event P =
 
 -- it holds of the event of the innermost raise
 abbrev pub OnTop : SetupData → OpenRaise → (EventType → Bound → Type 0) → Type 0
-OnTop d o P = OnEvent d (arc_value o.version) o.top.frame.event P
+OnTop d o P = OnEvent d (arc_value o.version).state o.top.frame.event P
 
 -- a raise upwards goes to an event after this one, of so many
 abbrev pub IsUpward : ℕ → ℕ → Upward → Type 0
@@ -57,7 +57,7 @@ AreNested depth (l ∷ levels) = (depth ≤ l.frame.event) × AreNested (depth +
 
 -- an open raise on a version that is sound for the setup, in which no more handlers have started than may
 pub record IsOpen (d : SetupData) (o : OpenRaise) : Type 0 where
-  pub sound : IsSound d (arc_value o.version)
+  pub sound : IsSoundVersion d (arc_value o.version)
   pub top : IsLevel (length d.events) o.top
   pub below : All (IsLevel (length d.events)) o.below
   pub nested : AreNested 0 (o.below ++ o.top ∷ [])
@@ -78,9 +78,9 @@ IsAtTop o o' = (o'.version ≡ o.version) × (o'.below ≡ o.below) × (o'.top.f
     × (o'.top.by_act ≡ o.top.by_act)
 
 -- a raise of an event on these arguments on this version, and none within it
-abbrev pub IsBegun : State → ℕ → List Value → OpenRaise → Type 0
-IsBegun s event args o =
-    (arc_value o.version ≡ s) × IsFresh event args false o.top × (o.below ≡ []) × (o.given ≡ []) × (o.started ≡ 0)
+abbrev pub IsBegun : VersionValue → ℕ → List Value → OpenRaise → Type 0
+IsBegun version event args o =
+    (arc_value o.version ≡ version) × IsFresh event args false o.top × (o.below ≡ []) × (o.given ≡ []) × (o.started ≡ 0)
 
 -- a raise that the host opened from within
 abbrev pub IsWithin : ℕ → List Value → OpenRaise → OpenRaise → Type 0

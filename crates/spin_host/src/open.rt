@@ -8,7 +8,7 @@ ghost use Rattle.spin_plan.specs.Planned.{IsOver};
 ghost use Rattle.spin_objects.specs.Units.{tests_of};
 ghost use Rattle.spin_raise.specs.Firing.{Units, units_of, as_found, IsThere};
 ghost use Rattle.spin_table.specs.SetupOf.{data_of};
-ghost use Rattle.spin_table.specs.Soundness.{IsSound};
+ghost use Rattle.spin_table.specs.Soundness.{IsSoundVersion};
 ghost use Rattle.spin_proto.specs.Replies.{units_in};
 ghost use Rattle.spin_host.specs.OpenRaises.{Done, Gave, Declined};
 ghost use Rattle.spin_host.specs.Frames.{Tells, due_in, answer_fault};
@@ -77,9 +77,9 @@ pub struct OpenRaise {
 
 // An event that is there, as a raise finds it.
 fn bound_at<'a>(version: &'a Version, setup: &'a Setup, event: u8) -> Bound<'a>
-    requires sound { IsSound (data_of setup.now) version.now }
+    requires sound { IsSoundVersion (data_of setup.now) version.now }
     requires there { event < length (data_of setup.now).events }
-    ensures found { OnEvent (data_of setup.now) version.now event (λ sig e. e ≡ as_found result) }
+    ensures found { OnEvent (data_of setup.now) version.now.state event (λ sig e. e ≡ as_found result) }
     ensures there { IsThere (units_of setup.now.catalogue) (as_found result) }
     ensures over { IsOver (tests_of setup.now.catalogue) result.plan.now }
 {
@@ -117,7 +117,7 @@ impl OpenRaise {
         event: u8,
         args: Args,
     ) -> Result<OpenRaise, RaiseFault>
-        requires sound { IsSound (data_of setup.now) (arc_value version) }
+        requires sound { IsSoundVersion (data_of setup.now) (arc_value version) }
         ensures fault { MatchOption (specs.begin_fault (data_of setup.now) event args)
             (IsOk result) (λ why. result ≡ Err why) }
         ensures well { IfOk result (λ raise. IsOpen (data_of setup.now) raise) }
@@ -137,7 +137,7 @@ impl OpenRaise {
         event: u8,
         args: Args,
     ) -> OpenRaise
-        requires sound { IsSound (data_of setup.now) (arc_value version) }
+        requires sound { IsSoundVersion (data_of setup.now) (arc_value version) }
         requires fit { specs.begin_fault (data_of setup.now) event args ≡ None }
         ensures well { IsOpen (data_of setup.now) result }
         ensures begun { levels.IsBegun (arc_value version) event args result }
@@ -236,7 +236,7 @@ impl OpenRaise {
 
     /// The place of the version.
     pub fn place(&self) -> u16
-        ensures { result ≡ (arc_value self.now.version).place }
+        ensures { result ≡ (arc_value self.now.version).state.place }
     {
         self.version.place()
     }

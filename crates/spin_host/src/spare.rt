@@ -14,13 +14,19 @@ const LISTS: usize = 64;
 
 const BYTES: usize = 16;
 
-/// Lists that raises have left, which are taken for the room that they have. What they had is nothing to anybody, so
-/// contracts see nothing of them.
+// Lists that raises have left.
 #[derive(Drop)]
-pub struct Spare {
-    lists: Sequence<Args>,
+struct Lists {
+    args: Sequence<Args>,
     bytes: Sequence<Octets>,
     gift: Gift,
+}
+
+/// Lists that raises have left, which are taken for the room that they have. What they had is nothing to anybody, so
+/// contracts see nothing of them. They lie in one block of memory, so that a handle lends them as one pointer.
+#[derive(Drop)]
+pub struct Spare {
+    lists: Option<Box<Lists>>,
 }
 
 impl Model for Spare {
@@ -29,21 +35,12 @@ impl Model for Spare {
     ghost view = { λ _. tt };
 }
 
-impl Spare {
-    /// None so far. It takes no memory.
-    pub fn new(alloc: Global) -> Spare {
-        Spare {
-            lists: Sequence::new(alloc),
-            bytes: Sequence::new(alloc),
-            gift: Gift::new(alloc),
-        }
-    }
-
-    /// A list for arguments, which has none. It takes no memory.
-    pub fn take_args(&mut self, alloc: Global) -> Args
+impl Lists {
+    // A list for arguments, which has none.
+    fn take_args(&mut self, alloc: Global) -> Args
         ensures { result ≡ [] }
     {
-        match self.lists.pop() {
+        match self.args.pop() {
             Some(args) => {
                 let mut args = args;
                 args.clear();
@@ -53,8 +50,8 @@ impl Spare {
         }
     }
 
-    /// A list for bytes, which has none. It takes no memory.
-    pub fn take_bytes(&mut self, alloc: Global) -> Octets
+    // A list for bytes, which has none.
+    fn take_bytes(&mut self, alloc: Global) -> Octets
         ensures { result ≡ [] }
     {
         match self.bytes.pop() {
@@ -67,8 +64,8 @@ impl Spare {
         }
     }
 
-    /// A list for what a handler gives, which has nothing. It takes no memory.
-    pub fn take_gift(&mut self, alloc: Global) -> Gift
+    // A list for what a handler gives, which has nothing.
+    fn take_gift(&mut self, alloc: Global) -> Gift
         ensures { result ≡ [] }
     {
         let mut gift = mem::replace(&mut self.gift, Gift::new(alloc));
@@ -76,26 +73,26 @@ impl Spare {
         gift
     }
 
-    /// Keeps a list of arguments, and the bytes that they have.
-    pub fn keep_args(&mut self, args: Args) {
+    // Keeps a list of arguments, and the bytes that they have.
+    fn keep_args(&mut self, args: Args) {
         let mut args = args;
         while let Some(value) = args.pop() {
             self.keep_value(value);
         }
-        if self.lists.len() < LISTS {
-            let _ = self.lists.push(args);
+        if self.args.len() < LISTS {
+            let _ = self.args.push(args);
         }
     }
 
-    /// Keeps a list of bytes.
-    pub fn keep_bytes(&mut self, bytes: Octets) {
+    // Keeps a list of bytes.
+    fn keep_bytes(&mut self, bytes: Octets) {
         if self.bytes.len() < BYTES {
             let _ = self.bytes.push(bytes);
         }
     }
 
-    /// Keeps a list of what a handler gives, and the bytes in it.
-    pub fn keep_gift(&mut self, gift: Gift) {
+    // Keeps a list of what a handler gives, and the bytes in it.
+    fn keep_gift(&mut self, gift: Gift) {
         let mut gift = gift;
         while let Some(given) = gift.pop() {
             match given {
@@ -105,6 +102,88 @@ impl Spare {
             }
         }
         self.gift = gift;
+    }
+
+    // Keeps the bytes of a value, if it has some.
+    fn keep_value(&mut self, value: Value) {
+        if let Value::Bytes(bytes) = value {
+            self.keep_bytes(bytes);
+        }
+    }
+}
+
+impl Spare {
+    /// None so far. It takes no memory.
+    pub fn new(_alloc: Global) -> Spare {
+        Spare { lists: None }
+    }
+
+    // Makes the block, where there is none and there is memory for it.
+    fn make_room(&mut self, alloc: Global) {
+        if self.lists.is_none() {
+            let lists = Lists {
+                args: Sequence::new(alloc),
+                bytes: Sequence::new(alloc),
+                gift: Gift::new(alloc),
+            };
+            if let Ok(made) = Box::new(alloc, lists) {
+                self.lists = Some(made);
+            }
+        }
+    }
+
+    /// A list for arguments, which has none. It takes no memory.
+    pub fn take_args(&mut self, alloc: Global) -> Args
+        ensures { result ≡ [] }
+    {
+        match &mut self.lists {
+            Some(lists) => lists.take_args(alloc),
+            None => Args::new(alloc),
+        }
+    }
+
+    /// A list for bytes, which has none. It takes no memory.
+    pub fn take_bytes(&mut self, alloc: Global) -> Octets
+        ensures { result ≡ [] }
+    {
+        match &mut self.lists {
+            Some(lists) => lists.take_bytes(alloc),
+            None => Octets::new(alloc),
+        }
+    }
+
+    /// A list for what a handler gives, which has nothing. It takes no memory.
+    pub fn take_gift(&mut self, alloc: Global) -> Gift
+        ensures { result ≡ [] }
+    {
+        match &mut self.lists {
+            Some(lists) => lists.take_gift(alloc),
+            None => Gift::new(alloc),
+        }
+    }
+
+    /// Keeps a list of arguments, and the bytes that they have.
+    pub fn keep_args(&mut self, args: Args) {
+        self.make_room(args.allocator());
+        if let Some(lists) = &mut self.lists {
+            lists.keep_args(args);
+        }
+    }
+
+    /// Keeps a list of bytes.
+    pub fn keep_bytes(&mut self, bytes: Octets) {
+        self.make_room(bytes.allocator());
+        if let Some(lists) = &mut self.lists {
+            lists.keep_bytes(bytes);
+        }
+    }
+
+    /// Keeps a list of what a handler gives, and the bytes in it.
+    pub fn keep_gift(&mut self, gift: Gift) {
+        self.make_room(gift.allocator());
+        if let Some(lists) = &mut self.lists {
+            lists.keep_gift(gift);
+        }
     }
 
     // Keeps the bytes of a value, if it has some.

@@ -15,6 +15,6 @@ module _ (d : SetupData) (jobs : List Job) (number : ℕ) (job : Job) (there : n
   pub can_run_at : All (CanRun d) jobs → CanRun d job
   can_run_at all = subst (CanRun d) (sym is) (all number job there)
 
-  pub reply_at : (r : Result Reply NoMemory) → IfOk r (λ reply. IsJobReply d (arc_value job.version) job.call reply) → IfOk r (λ reply. calls_left reply ≡ []) → IfOk r (IsReplyAt d jobs number)
+  pub reply_at : (r : Result Reply NoMemory) → IfOk r (λ reply. IsJobReply d (arc_value job.version).state job.call reply) → IfOk r (λ reply. calls_left reply ≡ []) → IfOk r (IsReplyAt d jobs number)
   reply_at (Ok reply) comes none = subst (λ o. IsSomeAnd o (λ job. IsReplyTo d job reply)) (sym (slice_get_read jobs (length jobs) number job refl there is)) (comes, none)
   reply_at (Err fault) comes none = tt

@@ -29,7 +29,7 @@ use std::thread::Threads;
 /// jobs; where a thread can't be started, its worker's part is done by the caller or another worker. A worker that has
 /// no memory ends, the others do all jobs that are left, and the answer is `NoMemory`.
 ///
-/// The state of each version is sound for the setup, each call belongs to its version, and the catalogue's objects do
+/// Each version is sound for the setup, each call belongs to its version, and the catalogue's objects do
 /// what they were handed in with. Versions are lent, and replies moved. Besides what the jobs take, it is linear in
 /// their number.
 pub fn run_all<R: Threads + Sync, G: Gate>(

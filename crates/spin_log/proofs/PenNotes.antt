@@ -17,7 +17,7 @@ use Rattle.spin_log.specs.Rows.{IsCommandBelow, rows_of, IsPrefix, row_words, tu
 use Rattle.spin_log.specs.Inner.Places.{place_of, IsNameIn}
 use Rattle.spin_word.specs.Rows.{lane_of}
 use Rattle.spin_log.specs.Rule.{IsEntry, Stands, Holds, holding}
-use Rattle.spin_log.specs.History.{Moment, pins_from}
+use Rattle.spin_log.specs.History.{LogAction, pins_from}
 use Rattle.spin_log.specs.Steps.{Mine, Learned, AreOfOne, longer, lengthened, both_of}
 use Rattle.spin_log.specs.Pens.{PenValue, pen_value, only_hand, StandsIn, IsHistory}
 use Rattle.spin_log.specs.Inner.Seats.{only_front, with_draft, IsPenSeat, IsNoteSeat}
@@ -187,7 +187,7 @@ rows_below lanes id v words slots final log read =
 -- the moments of the last state
 pub history_of : (lanes id : ℕ) (table : TableId) (v : View) (words : List ℕ) (slots : List (Unit {0}))
     → Final (Seen (Holds lanes) id v) words slots → (log : List Row) → ((entries : List Row) → Stands lanes entries words → log ≡ entries)
-    → (pens : List PenValue) → map (pen_value table) v.hands ≡ pens → (moments : List Moment) × IsHistory log pens moments
+    → (pens : List PenValue) → map (pen_value table) v.hands ≡ pens → (moments : List LogAction) × IsHistory log pens moments
 history_of lanes id table v words slots final log read pens same =
     let r = final.1.0 in
     let is : log ≡ r.log = read r.log (subst (Stands lanes r.log) final.2 r.stands) in (

@@ -14,7 +14,7 @@ use Rattle.spin_log.specs.Rows.{rows_of, IsPrefix}
 use Rattle.spin_word.specs.Rows.{lane_of}
 use Rattle.spin_word.specs.declared.row.Row.{Row}
 use Rattle.spin_log.specs.Rule.{total}
-use Rattle.spin_log.specs.History.{Moment, pin, pins_from, publish, rows_in, lane_at, places_from}
+use Rattle.spin_log.specs.History.{LogAction, pin, pins_from, publish, rows_in, lane_at, places_from}
 
 module _ {X : Type 0} where
   pub all_one : (P : X → Type 0) (x : X) → P x → All P (x ∷ [])
@@ -136,25 +136,25 @@ rows_of_between lane f g log p q e =
     none_left [] e = refl
     none_left (x ∷ xs) e = absurd (omega arith)
 
-pub rows_in-append : (xs ys : List Moment) → rows_in (xs ++ ys) ≡ rows_in xs ++ rows_in ys
+pub rows_in-append : (xs ys : List LogAction) → rows_in (xs ++ ys) ≡ rows_in xs ++ rows_in ys
 rows_in-append [] ys = refl
 rows_in-append (publish row ∷ xs) ys = ap (λ l. row ∷ l) (rows_in-append xs ys)
 rows_in-append (pin lane ∷ xs) ys = rows_in-append xs ys
 
 -- a row that is published adds no pin
-pub pins-publish : (lane n : ℕ) (row : Row) (xs : List Moment) → pins_from lane n (xs ++ publish row ∷ []) ≡ pins_from lane n xs
+pub pins-publish : (lane n : ℕ) (row : Row) (xs : List LogAction) → pins_from lane n (xs ++ publish row ∷ []) ≡ pins_from lane n xs
 pins-publish lane n row [] = refl
 pins-publish lane n row (publish w ∷ xs) = pins-publish lane (n + 1) row xs
 pins-publish lane n row (pin by ∷ xs) = let r = pins-publish lane n row xs in ap (λ l. cond (eqb by lane) (n ∷ l) l) r
 
 -- a pin of another lane adds none
-pub pins-other : (lane n by : ℕ) (xs : List Moment) → by ≢ lane → pins_from lane n (xs ++ pin by ∷ []) ≡ pins_from lane n xs
+pub pins-other : (lane n by : ℕ) (xs : List LogAction) → by ≢ lane → pins_from lane n (xs ++ pin by ∷ []) ≡ pins_from lane n xs
 pins-other lane n by [] other = rw (ne_eqb by lane other) refl
 pins-other lane n by (publish w ∷ xs) other = pins-other lane (n + 1) by xs other
 pins-other lane n by (pin l ∷ xs) other = let r = pins-other lane n by xs other in ap (λ z. cond (eqb l lane) (n ∷ z) z) r
 
 -- a pin of the lane is the number of rows so far
-pub pins-own : (lane n : ℕ) (xs : List Moment) → pins_from lane n (xs ++ pin lane ∷ []) ≡ pins_from lane n xs ++ (n + length (rows_in xs)) ∷ []
+pub pins-own : (lane n : ℕ) (xs : List LogAction) → pins_from lane n (xs ++ pin lane ∷ []) ≡ pins_from lane n xs ++ (n + length (rows_in xs)) ∷ []
 pins-own lane n [] = let z : n ≡ n + 0 = omega arith in rw (eq-eqb lane lane refl) (ap (λ (k : ℕ). k ∷ []) z)
 pins-own lane n (publish w ∷ xs) = let e : (n + 1) + length (rows_in xs) ≡ n + suc (length (rows_in xs)) = omega arith in
     pins-own lane (n + 1) xs ∙ ap (λ (k : ℕ). pins_from lane (n + 1) xs ++ k ∷ []) e
@@ -166,12 +166,12 @@ pins-own lane n (pin l ∷ xs) = let r = pins-own lane n xs in go (eqb l lane) r
     go false e = e
 
 -- a moment of another lane
-pub places-other : (lane n : ℕ) (moment : Moment) (xs : List Moment) → lane_at moment ≢ lane → places_from lane n (xs ++ moment ∷ []) ≡ places_from lane n xs
+pub places-other : (lane n : ℕ) (moment : LogAction) (xs : List LogAction) → lane_at moment ≢ lane → places_from lane n (xs ++ moment ∷ []) ≡ places_from lane n xs
 places-other lane n moment [] other = rw (ne_eqb (lane_at moment) lane other) refl
 places-other lane n moment (x ∷ xs) other = let r = places-other lane (n + 1) moment xs other in ap (λ z. cond (eqb (lane_at x) lane) (n ∷ z) z) r
 
 -- a moment of the lane comes after all
-pub places-own : (lane n : ℕ) (moment : Moment) (xs : List Moment) → lane_at moment ≡ lane → places_from lane n (xs ++ moment ∷ []) ≡ places_from lane n xs ++ (n + length xs) ∷ []
+pub places-own : (lane n : ℕ) (moment : LogAction) (xs : List LogAction) → lane_at moment ≡ lane → places_from lane n (xs ++ moment ∷ []) ≡ places_from lane n xs ++ (n + length xs) ∷ []
 places-own lane n moment [] own = let z : n ≡ n + 0 = omega arith in rw (eq-eqb (lane_at moment) lane own) (ap (λ (k : ℕ). k ∷ []) z)
 places-own lane n moment (x ∷ xs) own =
     let e : (n + 1) + length xs ≡ n + suc (length xs) = omega arith in

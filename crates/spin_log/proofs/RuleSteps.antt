@@ -21,7 +21,7 @@ use Rattle.spin_log.specs.Rows.{IsCommandBelow, rows_of, IsRowOf, IsPrefix, row_
 use Rattle.spin_word.specs.Rows.{lane_of}
 use Rattle.spin_log.specs.Rule.{IsEntry, Stands, Knows, Fits, total, pens_of, Holds, holding, new_hand, new_hands, first_view}
 use Rattle.spin_log.specs.Inner.Blank.{IsBlank}
-use Rattle.spin_log.specs.History.{Moment, pin, publish, rows_in}
+use Rattle.spin_log.specs.History.{LogAction, pin, publish, rows_in}
 use Rattle.spin_log.specs.Steps.{Mine, read_on, writes_on, wrote, pinned, IsNext, looked, drafted, published, reread, learned}
 use Rattle.spin_log.specs.Steps.{longer, longest, lengthened, AreOfOne, without_first, first_alone, note_of, both_of, spent, sat}
 use Rattle.spin_log.proofs.RowLists.{all_prefix, rows_in-append, pins-publish, pins-other, pins-own, places-other, places-own, all_one, all_head, all_tail, all_cons}
@@ -143,7 +143,7 @@ not_counted m n e = rw (ne_eqb m n e) refl
 
 module _ (lanes : ℕ) where
   -- one seat's view changes, and the log with it
-  moved : (s : St) (r : Holds lanes s) (id : ℕ) (v w : View) (log : List Row) (words : List ℕ) (moments : List Moment) → get_elem? s.views id ≡ some v → Stands lanes log words → rows_in moments ≡ log
+  moved : (s : St) (r : Holds lanes s) (id : ℕ) (v w : View) (log : List Row) (words : List ℕ) (moments : List LogAction) → get_elem? s.views id ≡ some v → Stands lanes log words → rows_in moments ≡ log
       → ((j : ℕ) (u : View) → j ≢ id → get_elem? s.views j ≡ some u → Fits lanes log moments words u) → Fits lanes log moments words w → ((lane : ℕ) → pens_of lane w ≡ pens_of lane v)
       → Holds lanes record { words = words; homes = s.homes; views = set s.views id w }
   moved s r id v w log words moments at st published others mine same = record {
@@ -156,7 +156,7 @@ module _ (lanes : ℕ) where
   }
 
   -- the same where no word changes, nor the log
-  unmoved : (s : St) (r : Holds lanes s) (id i n : ℕ) (v w : View) (moments : List Moment) → get_elem? s.views id ≡ some v → get_or s.words i 0 ≡ n → rows_in moments ≡ r.log
+  unmoved : (s : St) (r : Holds lanes s) (id i n : ℕ) (v w : View) (moments : List LogAction) → get_elem? s.views id ≡ some v → get_or s.words i 0 ≡ n → rows_in moments ≡ r.log
       → ((j : ℕ) (u : View) → j ≢ id → get_elem? s.views j ≡ some u → Fits lanes r.log moments s.words u) → Fits lanes r.log moments s.words w → ((lane : ℕ) → pens_of lane w ≡ pens_of lane v)
       → Holds lanes record { words = set s.words i n; homes = s.homes; views = set s.views id w }
   unmoved s r id i n v w moments at found published others mine same =
@@ -167,7 +167,7 @@ module _ (lanes : ℕ) where
   knows s r id hand at = all_head (Knows lanes r.log r.moments s.words) hand [] (r.each id (holding (hand ∷ [])) at).0
 
   -- the view of a pen alone
-  alone : (log : List Row) (moments : List Moment) (words : List ℕ) (hand : Hand) → Knows lanes log moments words hand → Fits lanes log moments words (holding (hand ∷ []))
+  alone : (log : List Row) (moments : List LogAction) (words : List ℕ) (hand : Hand) → Knows lanes log moments words hand → Fits lanes log moments words (holding (hand ∷ []))
   alone log moments words hand k = (all_one (Knows lanes log moments words) hand k, All-nil (λ front. IsPrefix front log))
 
   -- no pen of another seat has this lane
@@ -183,7 +183,7 @@ module _ (lanes : ℕ) where
       omega arith
 
   -- the next row is of another lane
-  of_other : (log : List Row) (moments : List Moment) (words : List ℕ) (hand : Hand) (row : Row) → Knows lanes log moments words hand → IsPrefix (hand.front ++ row ∷ []) log → lane_of row ≢ hand.lane
+  of_other : (log : List Row) (moments : List LogAction) (words : List ℕ) (hand : Hand) (row : Row) → Knows lanes log moments words hand → IsPrefix (hand.front ++ row ∷ []) log → lane_of row ≢ hand.lane
   of_other log moments words hand row k p e =
       let b = rows_of_between hand.lane hand.front (hand.front ++ row ∷ []) log (row ∷ [], refl) p (sym k.reached ∙ k.own) in
       let a = rows_of-append hand.lane hand.front (row ∷ []) ∙ ap (λ l. rows_of hand.lane hand.front ++ l) (rows_of_one hand.lane row e) in
@@ -191,7 +191,7 @@ module _ (lanes : ℕ) where
       let c : length (rows_of hand.lane hand.front ++ row ∷ []) ≡ length (rows_of hand.lane hand.front) = ap length (sym a ∙ b) in
       absurd (omega arith)
 
-  knows_pinned : (log : List Row) (moments : List Moment) (words : List ℕ) (hand : Hand) → rows_in moments ≡ log → hand.front ≡ log
+  knows_pinned : (log : List Row) (moments : List LogAction) (words : List ℕ) (hand : Hand) → rows_in moments ≡ log → hand.front ≡ log
       → Knows lanes log moments words hand → Knows lanes log (moments ++ pin hand.lane ∷ []) words (pinned (0 + length moments) hand)
   knows_pinned log moments words hand published whole k =
       let count : length hand.front ≡ 0 + length (rows_in moments) = let a = ap length whole in let b = ap length published in omega arith in record {
@@ -210,7 +210,7 @@ module _ (lanes : ℕ) where
         within_its_part = k.within_its_part;
       }
 
-  knows_more : (log : List Row) (moments : List Moment) (words : List ℕ) (hand : Hand) (row : Row)
+  knows_more : (log : List Row) (moments : List LogAction) (words : List ℕ) (hand : Hand) (row : Row)
       → Knows lanes log moments words hand → IsPrefix (hand.front ++ row ∷ []) log → Knows lanes log moments words (read_on row hand)
   knows_more log moments words hand row k p =
       let part = k.within_its_part in record {
@@ -387,7 +387,7 @@ module _ (lanes : ℕ) where
       subst (λ (m : Mine). Allows (Holds lanes) slots id m i (λ n. either (eqb n 0) name n) (published (step slots i 0 name none) m))
       (sym is) (publishes_at slots id hand i name at room names whole command)
 
-  knows_draft : (log : List Row) (moments : List Moment) (words : List ℕ) (hand : Hand) (i x : ℕ) → length words ≡ size_of lanes
+  knows_draft : (log : List Row) (moments : List LogAction) (words : List ℕ) (hand : Hand) (i x : ℕ) → length words ≡ size_of lanes
       → Knows lanes log moments words hand → i ≡ row_at hand.lane (length hand.own) + length hand.draft → length hand.draft < 4 → length hand.own < MAX_PLACE
       → Knows lanes log moments (set words i x) (writes_on x hand)
   knows_draft log moments words hand i x size k is room own =
@@ -508,7 +508,7 @@ module _ (lanes : ℕ) where
       cuts s r id v v (note_of v) at f
       (All-nil (Knows lanes r.log r.moments s.words), all_map (λ front. IsPrefix front r.log) (λ (hand : Hand). hand.front) v.hands (λ i d h. (f.0 i d h).front)) (λ lane. omega arith)
 
-  nothing : (log : List Row) (moments : List Moment) (words : List ℕ) → Fits lanes log moments words spent
+  nothing : (log : List Row) (moments : List LogAction) (words : List ℕ) → Fits lanes log moments words spent
   nothing log moments words = (All-nil (Knows lanes log moments words), All-nil (λ front. IsPrefix front log))
 
   pub joins : (id : ℕ) (v : View) (other : ℕ) (w : View) → Joins (Holds lanes) id v other w (both_of v w) spent

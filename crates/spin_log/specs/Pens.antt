@@ -6,7 +6,7 @@ use Rattle.spin_word.specs.declared.command.TheConstants.{MAX_PLACE, MAX_LANES}
 use Rattle.spin_word.specs.declared.row.Row.{Row}
 use Rattle.spin_log.specs.declared.view.Hand.{Hand}
 use Rattle.spin_log.specs.Rows.{rows_of, IsCommandBelow, IsPrefix}
-use Rattle.spin_log.specs.History.{Moment, rows_in, pins_from}
+use Rattle.spin_log.specs.History.{LogAction, rows_in, pins_from}
 use Rattle.spin_log.specs.Rule.{new_hand, new_hands}
 
 -- which log it is, and its number of lanes
@@ -84,7 +84,7 @@ pub record StandsIn (log : List Row) (pen : PenValue) : Type 0 where
 
 -- what has happened to the log, in one order: its rows were published, and each pin of a pen was
 -- set where as many rows had been published as it says
-pub record IsHistory (log : List Row) (pens : List PenValue) (moments : List Moment)
+pub record IsHistory (log : List Row) (pens : List PenValue) (moments : List LogAction)
     : Type 0 where
   pub rows : rows_in moments ≡ log
   pub pins : All (λ (pen : PenValue). pen.pins ≡ pins_from pen.lane 0 moments) pens

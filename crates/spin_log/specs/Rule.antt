@@ -11,7 +11,7 @@ use Rattle.spin_log.specs.declared.view.Hand.{Hand}
 use Rattle.spin_log.specs.declared.view.View.{View}
 use Rattle.spin_log.specs.Rows.{part_size, size_of, row_at, name_of, rows_of, turn, IsCommandBelow}
 use Rattle.spin_log.specs.Rows.{IsPrefix, row_words, StandsAt}
-use Rattle.spin_log.specs.History.{Moment, rows_in, pins_from, places_from}
+use Rattle.spin_log.specs.History.{LogAction, rows_in, pins_from, places_from}
 
 -- the row after this part of the log: its log word names its lane's next row, and the row stands
 -- there
@@ -32,14 +32,14 @@ pub record Stands (lanes : ℕ) (log : List Row) (words : List ℕ) : Type 0 whe
 -- the history has the pen's pins, and its lane's moments at the places that the pen keeps. Each
 -- view keeps those of its own lanes, and a step changes one view: so a step adds to the history at
 -- its end, and nowhere before
-abbrev pub IsMarked : List Moment → Hand → Type 0
+abbrev pub IsMarked : List LogAction → Hand → Type 0
 IsMarked moments hand =
     (hand.pins ≡ pins_from hand.lane 0 moments) × (hand.places ≡ places_from hand.lane 0 moments)
 
 -- what a pen knows of the log: its front begins it, its own rows are the log's rows of its lane and
 -- lie in its front, its pins are those of its lane in the history, and its draft stands in its
 -- lane's next row
-pub record Knows (lanes : ℕ) (log : List Row) (moments : List Moment) (words : List ℕ)
+pub record Knows (lanes : ℕ) (log : List Row) (moments : List LogAction) (words : List ℕ)
     (hand : Hand) : Type 0 where
   pub lanes_is : hand.lanes ≡ lanes
   pub lane : hand.lane < lanes
@@ -53,7 +53,7 @@ pub record Knows (lanes : ℕ) (log : List Row) (moments : List Moment) (words :
   pub within_its_part : 4 * length hand.own + length hand.draft ≤ part_size
 
 -- each pen of the view, and each older front that it keeps
-abbrev pub Fits : ℕ → List Row → List Moment → List ℕ → View → Type 0
+abbrev pub Fits : ℕ → List Row → List LogAction → List ℕ → View → Type 0
 Fits lanes log moments words v =
     All (Knows lanes log moments words) v.hands × All (λ front. IsPrefix front log) v.older
 
@@ -71,7 +71,7 @@ pens_of lane v = total (λ hand. cond (hand.lane == lane) 1 0) v.hands
 pub record Holds (lanes : ℕ) (s : State (Unit {0}) View) : Type 0 where
   pub log : List Row
   pub stands : Stands lanes log s.words
-  pub moments : List Moment
+  pub moments : List LogAction
   pub published : rows_in moments ≡ log
   pub each : (seat : ℕ) (v : View) →
       get_elem? s.views seat ≡ some v → Fits lanes log moments s.words v

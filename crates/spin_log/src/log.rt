@@ -9,7 +9,7 @@ ghost use Rattle.spin_word.specs.declared.command.TheConstants.{MAX_PLACE};
 ghost use Rattle.spin_log.specs.Rows.{size_of, name_of, turn, IsRowOf, IsCommandBelow, row_words};
 ghost use Rattle.spin_log.specs.Rows.{StandsAt};
 ghost use Rattle.spin_log.specs.Inner.Places.{place_of, IsNameIn};
-ghost use Rattle.spin_log.specs.History.{Moment};
+ghost use Rattle.spin_log.specs.History.{LogAction};
 ghost use Rattle.spin_log.specs.Rule.{Stands, first_view, holding};
 ghost use Rattle.spin_log.specs.Inner.Blank.{IsBlank};
 ghost use Rattle.spin_log.specs.Steps.{longer, AreOfOne};
@@ -358,7 +358,7 @@ impl Log {
     pub fn close_into(self, room: RowRoom, pens: Pens) -> Rows
         requires { All (λ pen. pen.log ≡ self.id) pens }
         ensures pens { All (StandsIn result) pens }
-        ensures history { (moments : List Moment) × IsHistory result pens moments }
+        ensures history { (moments : List LogAction) × IsHistory result pens moments }
         ensures rows { All (IsCommandBelow self.lanes) result × (length result ≤ MAX_PLACE) }
     {
         let RowRoom { mut rows } = room;
@@ -375,7 +375,7 @@ impl Log {
         requires { All (λ pen. pen.log ≡ self.id) pens }
         ensures pens { IfOk result (λ log. All (StandsIn log) pens) }
         ensures history { IfOk result
-            (λ log. (moments : List Moment) × IsHistory log pens moments) }
+            (λ log. (moments : List LogAction) × IsHistory log pens moments) }
         ensures rows { IfOk result
             (λ log. All (IsCommandBelow self.lanes) log × (length log ≤ MAX_PLACE)) }
     {

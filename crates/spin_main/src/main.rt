@@ -8,22 +8,22 @@
 //! `out0` to `out3` goes to the files `out0.bin` to `out3.bin` of that folder, and the replies to the echo requests
 //! that are sent to the endpoint `echo` to `echo.bin`.
 //!
-//! The one call, [`spin`](spin_top::spin), works over any shelf, sink, endpoints, natives and gate; [`spin_natives`]
+//! The one call, [`spin`](spin_cli::spin), works over any shelf, sink, endpoints, natives and gate; [`spin_natives`]
 //! has the natives that the program hands in.
 #![tactic(auto)]
 
 ghost use Rattle.spin_natives.specs.Natives as program;
-ghost use Rattle.spin_stages.specs.Outside.{outside};
-ghost use Rattle.spin_top.specs.Statuses.{Call, IsStatus};
+ghost use Rattle.spin_inputs.specs.Outside.{outside};
+ghost use Rattle.spin_cli.specs.Statuses.{Call, IsStatus};
 
+use spin_cli::spin;
 use spin_endpoint::{Endpoint, Ends, EndsSeen, FileEnd};
+use spin_inputs::{End, stop};
 use spin_natives::{boxed_objects, natives_of};
 use spin_objects::{Guard, Handler};
 use spin_outside::{FolderShelf, OpenGate, Shelf, Sink, StdSink};
 use spin_policy::Authoriser;
 use spin_reass::EchoEnd;
-use spin_stages::{End, stop};
-use spin_top::spin;
 use spin_values::{NoMemory, Text};
 use std::alloc::Global;
 use std::io::ErrorKind;

@@ -13,7 +13,7 @@ use Rattle.spin_pcap.specs.Captures.{header_of, IsBody, IsRest}
 use Rattle.spin_pcap.specs.Passing.{ReaderState, left_for, fault_number, IfReading, IsAnswer, UnlessFailed, given_after, state_after}
 use Rattle.spin_pcap.specs.declared.fault.BadRecord.{BadRecord}
 use Rattle.spin_pcap.specs.declared.fault.BadRecord.TheVariants.{Capture, ReadFault, NoMemory}
-use Rattle.spin_pcap.specs.declared.whole.Captured.{Captured}
+use Rattle.spin_pcap.specs.declared.captured.Captured.{Captured}
 use Rattle.spin_pcap.specs.Inner.Recording.{ReadsBody}
 use Rattle.spin_pcap.specs.Whole.{bad_at, ReadsFile}
 

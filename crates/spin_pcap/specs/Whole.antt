@@ -8,7 +8,7 @@ use Rattle.spin_pcap.specs.declared.fault.PcapFault.TheVariants as fault
 use Rattle.spin_pcap.specs.declared.next.Next.{Next}
 use Rattle.spin_pcap.specs.declared.next.Next.TheVariants as next
 use Rattle.spin_pcap.specs.declared.order.Order.{Order}
-use Rattle.spin_pcap.specs.declared.whole.Captured.{Captured}
+use Rattle.spin_pcap.specs.declared.captured.Captured.{Captured}
 use Rattle.spin_pcap.specs.Captures.{header_of, IsCapture}
 use Rattle.spin_pcap.specs.Passing.{fault_number}
 

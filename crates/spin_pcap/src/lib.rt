@@ -10,6 +10,7 @@
 //! Times, the time zone, the accuracy, the snapshot length and the original lengths aren't looked at.
 #![tactic(auto)]
 
+mod captured;
 mod fault;
 mod header;
 mod laws;
@@ -18,12 +19,11 @@ mod next;
 mod order;
 mod reader;
 mod state;
-mod whole;
 mod window;
 
+pub use captured::{Captured, Frames, read_capture};
 pub use fault::{BadRecord, PcapFault};
 pub use laws::{each_has_reading, one_answer, one_reading};
 pub use limits::{MAX_CAPTURED, MAX_HELD, MAX_RECORDS, limits_are_stated};
 pub use next::Next;
 pub use reader::Reader;
-pub use whole::{Captured, Frames, read_capture};

@@ -38,6 +38,11 @@ module _ (R : ℕ → ℕ → Type 0) where
   IsLeastOrder-nil =
       ((IsPermutation-refl [], λ i j d l m. absurd (omega arith)), λ ms h. inl (nil_from_length ms (length_permutation [] ms h.0)))
 
+  -- the same numbers in another order have the same least order
+  pub IsLeastOrder-permutation : (numbers others ns : List ℕ) → IsPermutation numbers others → IsLeastOrder R numbers ns → IsLeastOrder R others ns
+  IsLeastOrder-permutation numbers others ns same h =
+      ((IsPermutation-trans others numbers ns (IsPermutation-sym numbers others same) h.0.0, h.0.1), λ ms g. h.1 ms (IsPermutation-trans numbers others ms same g.0, g.1))
+
   -- a lawful order begins with a number that none of the numbers must precede
   head_is_ready : (irreflexive : (n : ℕ) → R n n → ⊥) (numbers ms : List ℕ) (m : ℕ) → IsLawfulOrder R numbers (m ∷ ms) → All (λ z. R z m → ⊥) numbers
   head_is_ready irreflexive numbers ms m h =

@@ -2,7 +2,11 @@ pub mod NumberLists
 pub mod LawfulOrders
 pub mod Rings
 pub mod Precedences
+pub mod LinkCounts
+pub mod LinkLaws
 pub mod PrecedenceWalks
+pub mod CandidateLists
+pub mod CandidateSearch
 pub mod BindingPlacing
 pub mod UnplacedBindings
 pub mod OrderLaws

@@ -1,5 +1,5 @@
 -- Pairs of a list, and lists of numbers with the same elements.
-use Rattle.std.proofs.Common.{◌≡◌, ℕ, zero, suc, ◌+◌, ◌<◌, Bool, true, false, cond, eqb, List, [], ◌∷◌, length, get_or, take, refl, sym, ap, subst, ◌∙◌, inl, inr, ◌⊎◌, arith, count_by}
+use Rattle.std.proofs.Common.{◌≡◌, ℕ, zero, suc, ◌+◌, ◌<◌, Bool, true, false, cond, eqb, List, [], ◌∷◌, length, get_or, map, take, refl, sym, ap, subst, ◌∙◌, inl, inr, ◌⊎◌, arith, count_by}
 use Rattle.std.specs.List.{All, AllPairs, Any, Contains, remove}
 use Rattle.std.specs.List.Sorted.{IsPermutation}
 use Rattle.std.proofs.lemmas.Bool.{cases_eq, eqb-true, eq-eqb, ne_eqb, cases_Bool}
@@ -36,6 +36,12 @@ Contains-there x y xs (k, l, e) = (suc k, omega arith, e)
 pub Contains-cons : {X : Type 0} (x y : X) (xs : List X) → Contains (y ∷ xs) x → (y ≡ x) ⊎ Contains xs x
 Contains-cons x y xs (zero, l, e) = inl e
 Contains-cons x y xs (suc k, l, e) = inr (k, omega arith, e)
+
+pub map-remove : {X Y : Type 0} (f : X → Y) (xs : List X) (i : ℕ) → map f (remove xs i) ≡ remove (map f xs) i
+map-remove f [] zero = refl
+map-remove f [] (suc i) = refl
+map-remove f (x ∷ xs) zero = refl
+map-remove f (x ∷ xs) (suc i) = ap (λ ys. f x ∷ ys) (map-remove f xs i)
 
 -- 1 for what passes a test, and else 0
 abbrev pub one_if : Bool → ℕ

@@ -6,16 +6,13 @@ use Rattle.std.proofs.lemmas.List.{get_or-map, get_or_default, length-map}
 use Rattle.std.proofs.lemmas.List.Elements.{All-cons, Contains-get_or}
 use Rattle.spin_place.specs.declared.binding.Binding.{Binding}
 use Rattle.spin_place.specs.declared.candidate.Candidate.{Candidate}
-use Rattle.spin_place.specs.Inner.Candidates.{bindings_of}
+use Rattle.spin_place.specs.Inner.Candidates.{bindings_of, numbers_left}
 use Rattle.spin_place.specs.Orders.{AreDistinct, IsRing}
-use Rattle.spin_place.specs.Precedence.{must_precede, numbers_of, MustPrecede}
+use Rattle.spin_place.specs.Precedence.{must_precede, MustPrecede}
 use Rattle.spin_place.proofs.NumberLists.{AllPairs-cons, AllPairs-take}
 use Rattle.spin_place.proofs.LawfulOrders.{length-distinct}
 use Rattle.spin_place.proofs.Precedences.{MustPrecede-from}
 use Rattle.spin_place.proofs.Rings.{IsPath, IsPath-leads}
-
-abbrev pub numbers_left : List Candidate → List ℕ
-numbers_left rest = numbers_of (bindings_of rest)
 
 -- from the candidate at this place over the numbers of the path, each must precede the next
 pub record IsWalk (rest : List Candidate) (at : ℕ) (path : List ℕ) : Type 0 where

@@ -1,2 +1,3 @@
 -- What the contracts of private functions cite alone.
 pub mod Candidates
+pub mod Links

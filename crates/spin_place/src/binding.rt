@@ -48,13 +48,13 @@ impl Binding {
     }
 }
 
-fn is_first(place: Place) -> bool
+pub(crate) fn is_first(place: Place) -> bool
     ensures { result ≡ is_first place }
 {
     matches!(place, Place::First)
 }
 
-fn is_last(place: Place) -> bool
+pub(crate) fn is_last(place: Place) -> bool
     ensures { result ≡ is_last place }
 {
     matches!(place, Place::Last)

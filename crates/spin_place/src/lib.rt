@@ -9,6 +9,7 @@
 mod binding;
 mod candidate;
 mod cycle;
+mod links;
 mod ring;
 mod run_order;
 mod unplaced;

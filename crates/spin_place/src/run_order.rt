@@ -5,9 +5,10 @@ ghost use Rattle.spin_place.specs.Orders.{AreDistinct};
 ghost use Rattle.spin_place.specs.Faults.{IfConflict};
 ghost use Rattle.spin_place.specs.Precedence.{numbers_of, IsLawful, IsTheOrder, IsCycle};
 
-use crate::binding::Binding;
-use crate::candidate::{candidates, least_ready, release};
+use crate::binding::{Binding, is_first, is_last};
+use crate::candidate::{candidates, count_first, count_inner, first_ready, release};
 use crate::cycle::cycle_among;
+use crate::links::{links, links_from};
 use crate::unplaced::are_unplaced;
 use spin_values::{NoMemory, Numbers};
 use std::alloc::Global;
@@ -59,8 +60,11 @@ fn numbers_in_place(alloc: Global, bindings: &[Binding]) -> Result<Numbers, NoMe
 /// binding that it must precede, the one that has the smaller number where it first differs from another.
 /// `Conflict` comes exactly where there is no such order.
 ///
-/// It compares each two of the bindings at most three times, and takes memory for the answer and for one list beside
-/// it. Where no binding asks for a place and their numbers rise, it compares none, and takes time linear in them.
+/// It takes time linear in the bindings and in the numbers that they name, but for sorts and binary searches, and for
+/// three things that can take the square of the bindings: at each place the walk to the first that is ready, and its
+/// removal from the list of those that are left; and the search for a cycle, which compares at most each two of them.
+/// Beside the answer it takes memory for a list of the bindings, and for one of the numbers that they name. Where no
+/// binding asks for a place and their numbers rise, it takes neither list, and time linear in them.
 pub fn order(alloc: Global, bindings: &[Binding]) -> Result<Numbers, OrderFault>
     requires { AreDistinct (numbers_of bindings.now) }
     ensures order { IfOk result (λ ns. IsTheOrder bindings.now ns) }
@@ -70,16 +74,21 @@ pub fn order(alloc: Global, bindings: &[Binding]) -> Result<Numbers, OrderFault>
     if are_unplaced(bindings) {
         return Ok(numbers_in_place(alloc, bindings)?);
     }
-    let mut rest = candidates(alloc, bindings)?;
+    let links = links(alloc, bindings)?;
+    let mut rest = candidates(alloc, bindings, &links)?;
+    let mut firsts = count_first(bindings);
+    let mut inner = count_inner(bindings);
     let mut placed = with_room(alloc, bindings.len())?;
     while !rest.is_empty() {
-        let Some(at) = least_ready(&rest) else {
+        let Some(at) = first_ready(&rest, firsts, inner) else {
             let cycle = cycle_among(&rest, placed.into_vec())?;
             return Err(OrderFault::Conflict(Numbers::from_vec(cycle)));
         };
         let next = rest.remove(at).binding;
         placed.push(next.number)?;
-        release(&mut rest, next);
+        firsts -= usize::from(is_first(next.place));
+        inner -= usize::from(!is_last(next.place));
+        release(&mut rest, links_from(&links, next.number));
     }
     Ok(placed)
 }

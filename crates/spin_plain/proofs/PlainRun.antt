@@ -22,7 +22,7 @@ use Rattle.spin_place.proofs.NumberLists.{AllPairs-head, AllPairs-tail, AllPairs
 use Rattle.spin_table.specs.declared.event.EventDef.{EventDef}
 use Rattle.spin_table.specs.declared.refusal.Refusal.{Refusal}
 use Rattle.spin_table.specs.declared.refusal.Verdicted.TheVariants as verdicted
-use Rattle.spin_table.specs.Setups.{SetupData, tests_in}
+use Rattle.spin_table.specs.Setups.{SetupData}
 use Rattle.spin_table.specs.States.{State, EventState, first_state, start_of}
 use Rattle.spin_table.specs.Refusals.{refusal_on, refusal_of}
 use Rattle.spin_table.specs.Steps.{event_after, events_after, state_after, bindings_if, bindings_at, IsOrderly, ChangesTo}
@@ -66,9 +66,9 @@ record IsFound (d : SetupData) (s : State) : Type 0 where
 
 found_start : (d : SetupData) → IsFound d (start_of d)
 found_start d = record {
-  events = length-map d.events (first_state (tests_in d));
+  events = length-map d.events first_state;
   rising = start_rises d;
-  orderly = All-map (λ (e : EventState). HasLawfulOrder e.bindings) (first_state (tests_in d)) d.events
+  orderly = All-map (λ (e : EventState). HasLawfulOrder e.bindings) first_state d.events
       (λ k e lt. ([], (IsPermutation-refl [], λ i j x l m. absurd (omega arith))));
 }
 

@@ -14,7 +14,7 @@ use Rattle.spin_policy.specs.declared.rule.Verdict.{Verdict}
 use Rattle.spin_place.specs.declared.binding.Binding.{Binding}
 use Rattle.spin_place.specs.Precedence.{numbers_of}
 use Rattle.spin_table.specs.declared.event.EventDef.{EventDef}
-use Rattle.spin_table.specs.Setups.{SetupData, rules_of, tests_in}
+use Rattle.spin_table.specs.Setups.{SetupData, rules_of}
 use Rattle.spin_table.specs.States.{State, EventState, first_state, start_of}
 use Rattle.spin_table.specs.Verdicts.{answer_to}
 use Rattle.spin_table.specs.Steps.{installed, replaced_at, bindings_after, event_after, events_after, state_after, bindings_if, bindings_at}
@@ -91,4 +91,4 @@ next_rises d s c all = go (slice_get d.events c.event) (slice_get s.events c.eve
     go None t is = each_higher s.place s.events all
 
 pub start_rises : (d : SetupData) → IsRising (start_of d)
-start_rises d = All-map (λ (e : EventState). Rises 0 e.bindings) (first_state (tests_in d)) d.events (λ k e lt. none_rise 0)
+start_rises d = All-map (λ (e : EventState). Rises 0 e.bindings) first_state d.events (λ k e lt. none_rise 0)

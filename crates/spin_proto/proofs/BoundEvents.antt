@@ -6,9 +6,8 @@ use Rattle.spin_place.specs.declared.binding.Binding.{Binding}
 use Rattle.spin_place.specs.Precedence.{IsTheOrder}
 use Rattle.spin_place.proofs.OrderLaws.{IsTheOrder-unique}
 use Rattle.spin_raise.specs.Firing.{Bound, bound_of}
-use Rattle.spin_plan.specs.Planned.{Planned, IsOver}
 use Rattle.spin_table.specs.declared.event.EventDef.{EventDef}
-use Rattle.spin_table.specs.Setups.{SetupData, tests_in}
+use Rattle.spin_table.specs.Setups.{SetupData}
 use Rattle.spin_table.specs.States.{State, EventState}
 use Rattle.spin_table.specs.Orders.{arranged}
 use Rattle.spin_table.specs.Soundness.{IsSound, IsSoundEvent}
@@ -110,12 +109,3 @@ here d s event e plan default sound def at_default at_plan =
       sound = fit;
       bound = (order.0, order.1, ap (λ bs. bound_of bs e.merge default) (t.3 order.0 order.1) ∙ ap (λ n. bound_of (arranged t.0.bindings order.0) e.merge n) t.2);
     }
-
--- the plan of an event goes by the tests of the setup
-pub over_here : (d : SetupData) (s : State) (event : ℕ) (e : EventDef) (plan : Planned) → IsSound d s → slice_get d.events event ≡ Some e
-    → IsSomeAnd (slice_get s.events event) (λ (t : EventState). IsOver t.tests plan) → IsOver (tests_in d) plan
-over_here d s event e plan sound def over = from_option (slice_get s.events event) refl over
-  where
-    from_option : (o : Option EventState) → slice_get s.events event ≡ o → IsSomeAnd o (λ (t : EventState). IsOver t.tests plan) → IsOver (tests_in d) plan
-    from_option None is h = absurd h
-    from_option (Some t) is h = subst (λ ts. IsOver ts plan) (sound.each event e t def is).tests h

@@ -4,18 +4,18 @@ ghost use Rattle.std.specs.Prelude.{◌≡◌, ◌<◌, [], length, IfOk};
 ghost use Rattle.std.specs.Option.{option_copied, option_map_or};
 ghost use Rattle.spin_table.specs.SetupOf.{data_of};
 ghost use Rattle.spin_table.specs.States.{binding_of};
-ghost use Rattle.spin_table.specs.Soundness.{IsSound};
+ghost use Rattle.spin_table.specs.Soundness.{IsSoundVersion};
 ghost use Rattle.spin_proto.specs.Replies.{units_in, job_reply, IsJobReply, BelongsTo, calls_left};
 ghost use Rattle.spin_proto.specs.Whole.{job_answer};
 ghost use Rattle.spin_proto.specs.Whole.{marks_of, raised_after, ups_of};
 ghost use Rattle.spin_proto.specs.Inner.Walks.{OnBounds, Spends, UpsRise};
 
 use crate::deed::JobCall;
+use crate::deed_reply::raise_whole;
 use crate::noting::note_items;
 use crate::reply::{Reply, Step};
 use crate::rising::raise_event;
 use crate::walk::{Upward, Walk};
-use crate::whole::raise_whole;
 use spin_code::Sincere;
 use spin_objects::{Catalogue, Outcome};
 use spin_place::Binding;
@@ -61,10 +61,10 @@ fn follow(
     given: &mut Outcome,
     walk: &mut Walk,
 ) -> Result<bool, NoMemory>
-    requires sound { IsSound (data_of setup.now) version.now }
+    requires sound { IsSoundVersion (data_of setup.now) version.now }
     requires sincere { ⟦<Catalogue as Sincere>⟧.sincere setup.now.catalogue }
-    requires rise { UpsRise (length version.now.events) event (ups_of given.old) }
-    ensures { IfOk result (λ on. OnBounds (data_of setup.now) version.now (λ bounds.
+    requires rise { UpsRise (length version.now.state.events) event (ups_of given.old) }
+    ensures { IfOk result (λ on. OnBounds (data_of setup.now) version.now.state (λ bounds.
         let later = raised_after runner (units_in (data_of setup.now)) bounds event in
         Spends on (marks_of event later given.old) walk.old walk.new)) }
 {
@@ -98,10 +98,10 @@ fn binding_job(
     number: u16,
     mut args: Args,
 ) -> Result<Reply, NoMemory>
-    requires sound { IsSound (data_of setup.now) version.now }
+    requires sound { IsSoundVersion (data_of setup.now) version.now }
     requires sincere { ⟦<Catalogue as Sincere>⟧.sincere setup.now.catalogue }
-    requires belongs { BelongsTo version.now (JobCall.Binding event number args) }
-    ensures { IfOk result (λ reply. OnBounds (data_of setup.now) version.now (λ bounds.
+    requires belongs { BelongsTo version.now.state (JobCall.Binding event number args) }
+    ensures { IfOk result (λ reply. OnBounds (data_of setup.now) version.now.state (λ bounds.
         let call = JobCall.Binding event number args in
         reply ≡ job_reply (units_in (data_of setup.now)) bounds call)) }
 {
@@ -129,7 +129,7 @@ fn binding_job(
 /// likewise; the answer is its result, or done. The answer is [`Reply::Ran`] without jobs, or [`Reply::Spent`] exactly
 /// where more than [`MAX_RUNS`] handlers would start.
 ///
-/// The state of the version is sound for the setup, the catalogue's objects do what they were handed in with, and the
+/// The version is sound for the setup, the catalogue's objects do what they were handed in with, and the
 /// call's event is there, as is its binding: so it is of each call that a reply on this version leaves. It is linear
 /// in what the handlers do and give and in the guards that are tested.
 ///
@@ -140,10 +140,10 @@ pub fn job_path(
     setup: &Setup,
     call: &JobCall,
 ) -> Result<Reply, NoMemory>
-    requires sound { IsSound (data_of setup.now) version.now }
+    requires sound { IsSoundVersion (data_of setup.now) version.now }
     requires sincere { ⟦<Catalogue as Sincere>⟧.sincere setup.now.catalogue }
-    requires belongs { BelongsTo version.now call.now }
-    ensures reply { IfOk result (λ reply. IsJobReply (data_of setup.now) version.now call.now reply) }
+    requires belongs { BelongsTo version.now.state call.now }
+    ensures reply { IfOk result (λ reply. IsJobReply (data_of setup.now) version.now.state call.now reply) }
     ensures calls { IfOk result (λ reply. calls_left reply ≡ []) }
 {
     match call {

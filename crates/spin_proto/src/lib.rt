@@ -7,24 +7,24 @@
 #![tactic(auto)]
 
 mod deed;
+mod deed_reply;
 mod jobs;
 mod law;
-mod lent;
 mod limits;
 mod noting;
 mod reply;
+mod reply_buffer;
 mod rising;
 mod turning;
 mod view;
 mod walk;
-mod whole;
 
 pub use deed::{Job, JobCall, JobCalls, Jobs};
+pub use deed_reply::path;
 pub use jobs::job_path;
 pub use law::renamed_states_reply_alike;
-pub use lent::{ReplyBuffer, path_into};
 pub use limits::limits_are_stated;
 pub use reply::{MAX_RUNS, Reply, Step, Trace};
+pub use reply_buffer::{ReplyBuffer, path_into};
 pub use spin_word::Deed;
 pub use view::{LentReply, ReplyView};
-pub use whole::path;

@@ -3,7 +3,7 @@
 ghost use Rattle.std.specs.Prelude.{◌≡◌, ◌<◌, [], length, IfOk};
 ghost use Rattle.std.specs.List.{flat_map};
 ghost use Rattle.spin_table.specs.SetupOf.{data_of};
-ghost use Rattle.spin_table.specs.Soundness.{IsSound};
+ghost use Rattle.spin_table.specs.Soundness.{IsSoundVersion};
 ghost use Rattle.spin_proto.specs.Replies.{units_in};
 ghost use Rattle.spin_proto.specs.Whole.{marks_of, raised, raised_after};
 ghost use Rattle.spin_proto.specs.Inner.Walks.{OnBounds, Comes, UpsRise};
@@ -33,12 +33,12 @@ pub(crate) fn raise_event(
     given: &mut Outcome,
     walk: &mut Walk,
 ) -> Result<Option<Answer>, NoMemory>
-    requires sound { IsSound (data_of setup.now) version.now }
+    requires sound { IsSoundVersion (data_of setup.now) version.now }
     requires sincere { ⟦<Catalogue as Sincere>⟧.sincere setup.now.catalogue }
-    requires there { event < length version.now.events }
+    requires there { event < length version.now.state.events }
     requires from { progress.old.from ≡ 0 }
     requires answer { progress.old.answer ≡ Answer.NoHandler }
-    ensures { IfOk result (λ answer. OnBounds (data_of setup.now) version.now (λ bounds.
+    ensures { IfOk result (λ answer. OnBounds (data_of setup.now) version.now.state (λ bounds.
         let all = raised runner (units_in (data_of setup.now)) bounds 0 event progress.old.args in
         Comes answer all walk.old walk.new)) }
 {

@@ -3,14 +3,13 @@ use Rattle.std.proofs.Common.{◌≡◌, ◌∙◌, ◌+◌, ℕ, Bool, true, fa
 use Rattle.std.specs.Prelude.{◌==◌, if◌then◌else◌, nat_lt, nat_le, slice_get, Option, Some, None, MatchOption}
 use Rattle.std.specs.Option.{option_map, option_map_or}
 use Rattle.std.proofs.lemmas.Option.{slice_get-map}
-use Rattle.std.proofs.lemmas.List.{length-map, map-set}
+use Rattle.std.proofs.lemmas.List.{length-map}
 use Rattle.spin_values.specs.First.{first_of, numbered}
 use Rattle.spin_objects.proofs.NumberedItems.{numbered-map}
 use Rattle.spin_values.specs.declared.types.EventType.{EventType}
 use Rattle.spin_code.specs.declared.act.Act.{Act}
 use Rattle.spin_code.specs.declared.act.ActStep.{ActStep}
 use Rattle.spin_code.specs.declared.act.ActStep.TheVariants as step
-use Rattle.spin_code.specs.declared.test.Test.{Test}
 use Rattle.spin_word.specs.Commands.{guard_is_used, handler_is_used}
 use Rattle.spin_word.specs.declared.command.Mode.{Mode}
 use Rattle.spin_word.specs.declared.command.Command.{Command}
@@ -30,7 +29,7 @@ use Rattle.spin_table.specs.States.{State, EventState, binding_of, first_state, 
 use Rattle.spin_table.specs.Verdicts.{answer_to, named_rule}
 use Rattle.spin_table.specs.Units.{same_signature, same_parameter_kinds, step_raises_down, raises_down, is_set, sets_argument, is_filter, has_wrong_mode}
 use Rattle.spin_table.specs.Refusals.{refusal_of, refusal_on, refusals_at, lacks_binding, is_denied_by, is_full, of_handler, of_guard, mode_of}
-use Rattle.spin_table.specs.Steps.{state_after, event_after, events_after, bindings_if, bindings_at, IsOrderly, IsConflict, ChangesTo, IsStep}
+use Rattle.spin_table.specs.Steps.{state_after, events_after, bindings_at, IsOrderly, IsConflict, ChangesTo, IsStep}
 use Rattle.spin_raise.specs.declared.bound.Runner.TheVariants as runner
 use Rattle.spin_raise.specs.Firing.{Units, Bound}
 use Rattle.spin_proto.specs.declared.deed.JobCall.{JobCall}
@@ -51,14 +50,6 @@ use Rattle.spin_report.specs.Legal.{Answers, IsLegal}
 use Rattle.spin_report.specs.Jobs.{answer_calls, AreJobsFrom, AreJobs}
 use Rattle.spin_report.proofs.BareRaises.{bare_units, bare_bound, raised_same, raised_after_same, job_of_same}
 
--- ---- states
-
-abbrev bare_event_state : EventState → EventState
-bare_event_state t = record t { tests = map bare_test t.tests }
-
-abbrev pub bare_state : State → State
-bare_state s = record s { events = map bare_event_state s.events }
-
 mapped : {A B C : Type 0} (f : A → B) (g : A → A) (h : A → C) (k : C → B) → ((x : A) → f (g x) ≡ k (h x)) → (xs : List A) → map f (map g xs) ≡ map k (map h xs)
 mapped f g h k same [] = refl
 mapped f g h k same (x ∷ xs) = λ i. same x i ∷ mapped f g h k same xs i
@@ -70,15 +61,9 @@ mapped_same f g same (x ∷ xs) = λ i. same x i ∷ mapped_same f g same xs i
 tests_same : (d : SetupData) → tests_in (bare_setup d) ≡ map bare_test (tests_in d)
 tests_same d = mapped (λ (g : GuardUnit). g.test) bare_guard (λ (g : GuardUnit). g.test) bare_test (λ g. refl) d.guards
 
-started : (tests : List Test) (es : List EventDef) → map bare_event_state (map (first_state tests) es) ≡ map (first_state (map bare_test tests)) (map bare_event es)
-started tests [] = refl
-started tests (e ∷ es) = ap (λ (ts : List EventState). first_state (map bare_test tests) e ∷ ts) (started tests es)
-
--- the start of a setup, without where its boxes lie
-pub bare_start : (d : SetupData) → bare_state (start_of d) ≡ start_of (bare_setup d)
-bare_start d =
-    ap (λ (ts : List EventState). record { place = 0; events = ts }) (started (tests_in d) d.events)
-    ∙ ap (λ (ts : List Test). record { place = 0; events = map (first_state ts) (map bare_event d.events) }) (sym (tests_same d))
+-- the state at the start doesn't say where boxes lie
+pub bare_start : (d : SetupData) → start_of d ≡ start_of (bare_setup d)
+bare_start d = ap (λ (ts : List EventState). record { place = 0; events = ts }) (sym (mapped_same first_state bare_event (λ e. refl) d.events))
 
 -- ---- replies
 
@@ -96,7 +81,7 @@ reply_same u bounds types (deed.Raise event args) =
     ap (λ (r : Raised). reply_if_fit types event args (reply_of MAX_RUNS r)) (raised_same runner.Raiser u bounds 0 event args)
 reply_same u bounds types (deed.Later event args) = refl
 
-bounds_same : (es : List EventDef) (ts : List EventState) (bs : List Bound) → AreBounds es ts bs → AreBounds (map bare_event es) (map bare_event_state ts) (map bare_bound bs)
+bounds_same : (es : List EventDef) (ts : List EventState) (bs : List Bound) → AreBounds es ts bs → AreBounds (map bare_event es) ts (map bare_bound bs)
 bounds_same [] [] [] h = h
 bounds_same [] [] (b ∷ bs) h = absurd h
 bounds_same [] (t ∷ ts) bs h = absurd h
@@ -104,7 +89,7 @@ bounds_same (e ∷ es) [] bs h = absurd h
 bounds_same (e ∷ es) (t ∷ ts) [] h = absurd h
 bounds_same (e ∷ es) (t ∷ ts) (b ∷ bs) h = ((h.0.0, h.0.1, ap bare_bound h.0.2), bounds_same es ts bs h.1)
 
-bare_reply : (d : SetupData) (s : State) (asked : Deed) (r : Reply) → IsDeedReply d s asked r → IsDeedReply (bare_setup d) (bare_state s) asked r
+bare_reply : (d : SetupData) (s : State) (asked : Deed) (r : Reply) → IsDeedReply d s asked r → IsDeedReply (bare_setup d) s asked r
 bare_reply d s asked r (bounds, are, is) = (
   map bare_bound bounds,
   bounds_same d.events s.events bounds are,
@@ -127,7 +112,7 @@ job_same u bounds (call.Binding event number args) =
     (job_of_same u event number (handler_at bounds event number) (raised_after runner.Job u bounds event) (raised_after runner.Job (bare_units u) (map bare_bound bounds) event) args
     (raised_after_same runner.Job u bounds event))
 
-bare_job : (d : SetupData) (s : State) (asked : JobCall) (r : Reply) → IsJobReply d s asked r → IsJobReply (bare_setup d) (bare_state s) asked r
+bare_job : (d : SetupData) (s : State) (asked : JobCall) (r : Reply) → IsJobReply d s asked r → IsJobReply (bare_setup d) s asked r
 bare_job d s asked r (bounds, are, is) = (
   map bare_bound bounds,
   bounds_same d.events s.events bounds are,
@@ -191,80 +176,73 @@ first_same d c e bs =
     ∷ (is_full d.live bs c, refusal.TooMany)
     ∷ [])
 
-on_same : (d : SetupData) (c : Command) (e : Option EventDef) (t : Option EventState) → refusal_on (bare_setup d) c (option_map bare_event e) (option_map bare_event_state t) ≡ refusal_on d c e t
+on_same : (d : SetupData) (c : Command) (e : Option EventDef) (t : Option EventState) → refusal_on (bare_setup d) c (option_map bare_event e) t ≡ refusal_on d c e t
 on_same d c None t = refl
 on_same d c (Some e) None = refl
 on_same d c (Some e) (Some t) = first_same d c e t.bindings
 
-refusal_same : (d : SetupData) (s : State) (c : Command) → refusal_of (bare_setup d) (bare_state s) c ≡ refusal_of d s c
+refusal_same : (d : SetupData) (s : State) (c : Command) → refusal_of (bare_setup d) s c ≡ refusal_of d s c
 refusal_same d s c =
-    (λ i. refusal_on (bare_setup d) c (slice_get-map bare_event d.events c.event i) (slice_get-map bare_event_state s.events c.event i))
+    (λ i. refusal_on (bare_setup d) c (slice_get-map bare_event d.events c.event i) (slice_get s.events c.event))
     ∙ on_same d c (slice_get d.events c.event) (slice_get s.events c.event)
 
 -- ---- steps
 
 events_same : (d : SetupData) (place : ℕ) (c : Command) (e : Option EventDef) (t : Option EventState) (ts : List EventState)
-    → map bare_event_state (events_after d.policies place c e t ts) ≡ events_after d.policies place c (option_map bare_event e) (option_map bare_event_state t) (map bare_event_state ts)
+    → events_after d.policies place c e t ts ≡ events_after d.policies place c (option_map bare_event e) t ts
 events_same d place c None t ts = refl
 events_same d place c (Some e) None ts = refl
-events_same d place c (Some e) (Some t) ts = map-set bare_event_state ts c.event (event_after d.policies e place c t)
+events_same d place c (Some e) (Some t) ts = refl
 
-after_same : (d : SetupData) (c : Command) (s : State) → bare_state (state_after d c s) ≡ state_after (bare_setup d) c (bare_state s)
+after_same : (d : SetupData) (c : Command) (s : State) → state_after d c s ≡ state_after (bare_setup d) c s
 after_same d c s =
     let events = events_same d (s.place + 1) c (slice_get d.events c.event) (slice_get s.events c.event) s.events
-    ∙ (λ i. events_after d.policies (s.place + 1) c (sym (slice_get-map bare_event d.events c.event) i) (sym (slice_get-map bare_event_state s.events c.event) i) (map bare_event_state s.events)) in
+    ∙ (λ i. events_after d.policies (s.place + 1) c (sym (slice_get-map bare_event d.events c.event) i) (slice_get s.events c.event) s.events) in
     ap (λ (ts : List EventState). record { place = s.place + 1; events = ts }) events
 
-bindings_same : (s : State) (event : ℕ) → bindings_at (bare_state s) event ≡ bindings_at s event
-bindings_same s event = ap bindings_if (slice_get-map bare_event_state s.events event) ∙ go (slice_get s.events event)
-  where
-    go : (o : Option EventState) → bindings_if (option_map bare_event_state o) ≡ bindings_if o
-    go None = refl
-    go (Some t) = refl
+behind_same : (d : SetupData) (c : Command) (s : State) → bindings_at (state_after d c s) c.event ≡ bindings_at (state_after (bare_setup d) c s) c.event
+behind_same d c s = ap (λ (x : State). bindings_at x c.event) (after_same d c s)
 
-behind_same : (d : SetupData) (c : Command) (s : State) → bindings_at (state_after d c s) c.event ≡ bindings_at (state_after (bare_setup d) c (bare_state s)) c.event
-behind_same d c s = sym (bindings_same (state_after d c s) c.event) ∙ ap (λ (x : State). bindings_at x c.event) (after_same d c s)
-
-bare_changes : (d : SetupData) (s : State) (c : Command) (v : Verdicted) (next : State) → ChangesTo d s c v next → ChangesTo (bare_setup d) (bare_state s) c v (bare_state next)
+bare_changes : (d : SetupData) (s : State) (c : Command) (v : Verdicted) (next : State) → ChangesTo d s c v next → ChangesTo (bare_setup d) s c v next
 bare_changes d s c verdicted.Accepted next h =
-    (ap bare_state h.0 ∙ after_same d c s, subst (λ (bs : List Binding). IsOrderly c.op bs) (behind_same d c s) h.1)
+    (h.0 ∙ after_same d c s, subst (λ (bs : List Binding). IsOrderly c.op bs) (behind_same d c s) h.1)
 bare_changes d s c (verdicted.Refused r) next h =
-    (ap bare_state h.0, subst (λ (bs : List Binding). IsConflict c.op bs r) (behind_same d c s) h.1)
+    (h.0, subst (λ (bs : List Binding). IsConflict c.op bs r) (behind_same d c s) h.1)
 
-bare_step_of : (d : SetupData) (s : State) (c : Command) (v : Verdicted) (next : State) → IsStep d s c v next → IsStep (bare_setup d) (bare_state s) c v (bare_state next)
+bare_step_of : (d : SetupData) (s : State) (c : Command) (v : Verdicted) (next : State) → IsStep d s c v next → IsStep (bare_setup d) s c v next
 bare_step_of d s c v next h =
-    let P = ChangesTo (bare_setup d) (bare_state s) c v (bare_state next) in
-    let Q = λ (r : Refusal). (v ≡ verdicted.Refused r) × (bare_state next ≡ bare_state s) in
+    let P = ChangesTo (bare_setup d) s c v next in
+    let Q = λ (r : Refusal). (v ≡ verdicted.Refused r) × (next ≡ s) in
     subst (λ (o : Option Refusal). MatchOption o P Q) (sym (refusal_same d s c)) (go (refusal_of d s c) h)
   where
     go : (o : Option Refusal) → MatchOption o (ChangesTo d s c v next) (λ r. (v ≡ verdicted.Refused r) × (next ≡ s))
-        → MatchOption o (ChangesTo (bare_setup d) (bare_state s) c v (bare_state next)) (λ r. (v ≡ verdicted.Refused r) × (bare_state next ≡ bare_state s))
+        → MatchOption o (ChangesTo (bare_setup d) s c v next) (λ r. (v ≡ verdicted.Refused r) × (next ≡ s))
     go None got = bare_changes d s c v next got
-    go (Some r) got = (got.0, ap bare_state got.1)
+    go (Some r) got = got
 
-bare_answers : (d : SetupData) (s : State) (w : What) (next : State) → Answers d s w next → Answers (bare_setup d) (bare_state s) w (bare_state next)
+bare_answers : (d : SetupData) (s : State) (w : What) (next : State) → Answers d s w next → Answers (bare_setup d) s w next
 bare_answers d s (what.Command c v) next h = bare_step_of d s c v next h
-bare_answers d s (what.Deed asked reply) next h = (bare_reply d s asked reply h.0, ap bare_state h.1)
+bare_answers d s (what.Deed asked reply) next h = (bare_reply d s asked reply h.0, h.1)
 
 -- entries that are legal for a setup are so without where its boxes lie
-pub bare_legal : (d : SetupData) (entries : List Entry) (s last : State) → IsLegal d s entries last → IsLegal (bare_setup d) (bare_state s) entries (bare_state last)
-bare_legal d [] s last h = ap bare_state h
+pub bare_legal : (d : SetupData) (entries : List Entry) (s last : State) → IsLegal d s entries last → IsLegal (bare_setup d) s entries last
+bare_legal d [] s last h = h
 bare_legal d (entry ∷ entries) s last (next, (answers, place), rest) =
-    (bare_state next, (bare_answers d s entry.what next answers, place), bare_legal d entries next last rest)
+    (next, (bare_answers d s entry.what next answers, place), bare_legal d entries next last rest)
 
 -- ---- jobs
 
 bare_jobs_from : (d : SetupData) (state : State) (entry : Entry) (index : ℕ) (calls : List JobCall) (jobs : List JobSeen)
-    → AreJobsFrom d state entry index calls jobs → AreJobsFrom (bare_setup d) (bare_state state) entry index calls jobs
+    → AreJobsFrom d state entry index calls jobs → AreJobsFrom (bare_setup d) state entry index calls jobs
 bare_jobs_from d state entry index [] jobs h = h
 bare_jobs_from d state entry index (asked ∷ calls) jobs (reply, others, is, are, rest) =
     (reply, others, bare_job d state asked reply is, are, bare_jobs_from d state entry (index + 1) calls others rest)
 
 -- and so are their jobs
-pub bare_jobs : (d : SetupData) (entries : List Entry) (state : State) (jobs : List JobSeen) → AreJobs d state entries jobs → AreJobs (bare_setup d) (bare_state state) entries jobs
+pub bare_jobs : (d : SetupData) (entries : List Entry) (state : State) (jobs : List JobSeen) → AreJobs d state entries jobs → AreJobs (bare_setup d) state entries jobs
 bare_jobs d [] state jobs h = h
 bare_jobs d (entry ∷ entries) state jobs (next, own, others, (answers, place), from, rest, are) = (
-  bare_state next,
+  next,
   own,
   others,
   (bare_answers d state entry.what next answers, place),

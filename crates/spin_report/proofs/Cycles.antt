@@ -18,7 +18,7 @@ use Rattle.spin_table.specs.declared.refusal.Refusal.{Refusal}
 use Rattle.spin_table.specs.declared.refusal.Refusal.TheVariants as refusal
 use Rattle.spin_table.specs.declared.refusal.Verdicted.{Verdicted}
 use Rattle.spin_table.specs.declared.refusal.Verdicted.TheVariants as verdicted
-use Rattle.spin_table.specs.Setups.{SetupData, rules_of, tests_in}
+use Rattle.spin_table.specs.Setups.{SetupData, rules_of}
 use Rattle.spin_table.specs.States.{State, EventState, first_state, start_of}
 use Rattle.spin_table.specs.Verdicts.{answer_to}
 use Rattle.spin_table.specs.Refusals.{refusals_at, refusal_on, refusal_of}
@@ -83,7 +83,7 @@ next_numbered d s c all = go (slice_get d.events c.event) (slice_get s.events c.
     go None t is = each_higher s.place s.events all
 
 start_numbered : (d : SetupData) → IsNumbered (start_of d)
-start_numbered d = All-map (λ (e : EventState). UpTo 0 e.bindings) (first_state (tests_in d)) d.events (λ k e lt. All-nil (λ (b : Binding). b.number ≤ 0))
+start_numbered d = All-map (λ (e : EventState). UpTo 0 e.bindings) first_state d.events (λ k e lt. All-nil (λ (b : Binding). b.number ≤ 0))
 
 -- ---- the numbers of cycles
 

@@ -32,7 +32,7 @@ use Rattle.spin_report.proofs.LaneAnswers.{answered_by_lanes, filter_asked}
 use Rattle.spin_report.proofs.Cycles.{IsUnder, started_under}
 use Rattle.spin_report.proofs.HistoryUniqueness.{all_asked, law}
 use Rattle.spin_report.proofs.Following.{same_jobs, same_run}
-use Rattle.spin_report.proofs.BareRuns.{bare_standing, bare_run}
+use Rattle.spin_report.proofs.BareRuns.{bare_run}
 
 -- ---- all segments are one list of entries
 
@@ -164,13 +164,13 @@ module _ (script other : ScriptData) (has : HasLaneLines script.lanes script.seg
   bare = bare_script script
 
   -- runs of both are runs of one script
-  other_run : (ends : List NamedEnd) (k : HistorySeen) (last : RunPoint) → IsRun other capture ends k last → IsRun bare capture ends k (bare_standing last)
-  other_run ends k last run = subst (λ (x : ScriptData). IsRun x capture ends k (bare_standing last)) (sym alike) (bare_run other capture ends k last run)
+  other_run : (ends : List NamedEnd) (k : HistorySeen) (last : RunPoint) → IsRun other capture ends k last → IsRun bare capture ends k last
+  other_run ends k last run = subst (λ (x : ScriptData). IsRun x capture ends k last) (sym alike) (bare_run other capture ends k last run)
 
   bare_rows : (ends ends' : List NamedEnd) (h k : HistorySeen) (last last' : RunPoint) → IsRun script capture ends h last
       → IsRun other capture ends' k last' → report_text h ≡ report_text k → segment_entries h ≡ segment_entries k
   bare_rows ends ends' h k last last' run run' same =
-      same_rows bare capture has ends ends' h k (bare_standing last) (bare_standing last') (bare_run script capture ends h last run) (other_run ends' k last' run') same
+      same_rows bare capture has ends ends' h k last last' (bare_run script capture ends h last run) (other_run ends' k last' run') same
 
 -- so the readings of a text are
 abbrev pub ReadAlike : (NativeData → List ℕ → ScriptData → Type 0) → Type 0
@@ -185,7 +185,7 @@ history_as IsReadAs read n text script other capture ends ends' h k last last' i
     let rows = bare_rows script other so.0 so.1 capture ends ends' h k last last' run run' same in (
       rows,
       same_jobs (bare_script script) script.segments (start_with (bare_script script) (frames_of capture) ends) (start_with (bare_script script) (frames_of capture) ends')
-          (bare_standing last) (bare_standing last') h.segments k.segments refl rows
+          last last' h.segments k.segments refl rows
           (bare_run script capture ends h last run).segments (other_run script other so.0 so.1 capture ends' k last' run').segments,
     )
 
@@ -194,7 +194,7 @@ pub run_as : (IsReadAs : NativeData → List ℕ → ScriptData → Type 0) → 
 run_as IsReadAs read n text script other capture ends h k last last' is is' run run' same =
     let so = read n text script other is is' in
     let rows = bare_rows script other so.0 so.1 capture ends ends h k last last' run run' same in
-    let one = same_run (bare_script script) capture ends h k (bare_standing last) (bare_standing last')
+    let one = same_run (bare_script script) capture ends h k last last'
     (bare_run script capture ends h last run) (other_run script other so.0 so.1 capture ends k last' run') rows in (
       one.0,
       ap (λ (x : RunPoint). x.left) one.1,

@@ -34,11 +34,11 @@ pub struct Entry {
 
 /// Where an entry stands among those of its segment: by place, at one place the accepted command first, and then by
 /// lane, line and part.
-pub type Moment = (u16, bool, u8, u32, u32);
+pub type EntryKey = (u16, bool, u8, u32, u32);
 
 impl Entry {
     /// Where it stands among the entries of its segment.
-    pub fn moment(&self) -> Moment
+    pub fn moment(&self) -> EntryKey
         ensures { result ≡ segments.moment self.now }
     {
         let is_accepted = matches!(&self.what, What::Command(_, Verdicted::Accepted));

@@ -16,7 +16,7 @@ mod text;
 mod verdict;
 mod view;
 
-pub use entry::{Entries, Entry, Moment, What};
+pub use entry::{Entries, Entry, EntryKey, What};
 pub use law::{one_history, report_tells};
 pub use records::{records_wanted, split_records};
 pub use reply::reply_text;

@@ -8,8 +8,8 @@ use Rattle.spin_word.specs.declared.row.Row.{Row}
 use Rattle.spin_log.specs.Rows.{IsPrefix}
 use Rattle.spin_log.specs.Pens.{PenValue}
 use Rattle.spin_table.specs.Setups.{SetupData}
-use Rattle.spin_table.specs.States.{State}
-use Rattle.spin_table.specs.Soundness.{IsSound}
+use Rattle.spin_table.specs.States.{State, VersionValue}
+use Rattle.spin_table.specs.Soundness.{IsSoundVersion}
 use Rattle.spin_proto.specs.declared.deed.JobCall.{JobCall}
 use Rattle.spin_proto.specs.declared.deed.Job.{Job}
 use Rattle.spin_proto.specs.Replies.{BelongsTo}
@@ -35,7 +35,7 @@ jobs_from-push entry index [] call = ap (λ n. asked_job entry n call ∷ []) (o
 jobs_from-push entry index (first ∷ calls) call =
     ap (λ l. asked_job entry index first ∷ l) (jobs_from-push entry (index + 1) calls call ∙ ap (λ n. jobs_from entry (index + 1) calls ++ asked_job entry n call ∷ []) (omega arith))
 
-pub adds_nothing : (entry : Entry) (version : State) (jobs : List Job) → AddsJobs entry version [] jobs jobs
+pub adds_nothing : (entry : Entry) (version : VersionValue) (jobs : List Job) → AddsJobs entry version [] jobs jobs
 adds_nothing entry version jobs = record {
   added = [];
   jobs_are = sym (append-nil jobs);
@@ -44,8 +44,8 @@ adds_nothing entry version jobs = record {
 }
 
 -- one more job
-pub adds_one : (entry : Entry) (version : State) (calls : List JobCall) (old middle new : List Job) (job : Job) → AddsJobs entry version calls old middle → new ≡ middle ++ job ∷ []
-    → job.place ≡ entry.place → job.lane ≡ entry.lane → job.line ≡ entry.line → job.part ≡ entry.part → job.index ≡ length calls → arc_value job.version ≡ version → BelongsTo version job.call
+pub adds_one : (entry : Entry) (version : VersionValue) (calls : List JobCall) (old middle new : List Job) (job : Job) → AddsJobs entry version calls old middle → new ≡ middle ++ job ∷ []
+    → job.place ≡ entry.place → job.lane ≡ entry.lane → job.line ≡ entry.line → job.part ≡ entry.part → job.index ≡ length calls → arc_value job.version ≡ version → BelongsTo version.state job.call
     → AddsJobs entry version (calls ++ job.call ∷ []) old new
 adds_one entry version calls old middle new job a is place lane line part index version_is belongs =
     let one : job_asked job ≡ asked_job entry (length calls) job.call = λ i. record { place = place i; lane = lane i; line = line i; part = part i; index = index i; call = job.call } in
@@ -92,13 +92,13 @@ rows_stand first place front more le =
 -- the version of a job is that of its place in each log that the front begins
 pub version_stands : (d : SetupData) (first : State) (pen after : PenValue) (jobs : List Job) → IsPrefix pen.front after.front
     → All (λ (j : Job). j.place ≤ place_past first.place (length pen.front)) jobs
-    → All (λ (j : Job). IsReplayFrom d first (take (rows_past first.place j.place) pen.front) (arc_value j.version)) jobs
-    → All (λ (j : Job). IsReplayFrom d first (take (rows_past first.place j.place) after.front) (arc_value j.version)) jobs
+    → All (λ (j : Job). IsReplayFrom d first (take (rows_past first.place j.place) pen.front) (arc_value j.version).state) jobs
+    → All (λ (j : Job). IsReplayFrom d first (take (rows_past first.place j.place) after.front) (arc_value j.version).state) jobs
 version_stands d first pen after jobs p reached versions k j lt =
     let place = (get_or jobs k j).place in
     let rows = rows_past first.place place in
     let same : take rows pen.front ≡ take rows after.front = sym (ap (take rows) p.1 ∙ rows_stand first.place place pen.front p.0 (reached k j lt)) in
-    subst (λ rows. IsReplayFrom d first rows (arc_value (get_or jobs k j).version)) same (versions k j lt)
+    subst (λ rows. IsReplayFrom d first rows (arc_value (get_or jobs k j).version).state) same (versions k j lt)
 
 -- the jobs where the front grows
 pub jobs_stay : (d : SetupData) (first : State) (before pen after : PenValue) (entries : List Entry) (jobs : List Job) → RanFrom d first before (map seat_answer entries) pen
@@ -111,17 +111,17 @@ jobs_stay d first before pen after entries jobs r p j = record {
 }
 
 -- one more entry, with its jobs
-pub jobs_more : (d : SetupData) (first : State) (pen : PenValue) (entries : List Entry) (entry : Entry) (version : State) (old new : List Job)
+pub jobs_more : (d : SetupData) (first : State) (pen : PenValue) (entries : List Entry) (entry : Entry) (version : VersionValue) (old new : List Job)
     → AreJobsOf d first entries pen.front old → AddsJobs entry version (answer_calls entry.what) old new
-    → IsReplayFrom d first (take (rows_past first.place entry.place) pen.front) version → IsSound d version → AreJobsOf d first (entries ++ entry ∷ []) pen.front new
+    → IsReplayFrom d first (take (rows_past first.place entry.place) pen.front) version.state → IsSoundVersion d version → AreJobsOf d first (entries ++ entry ∷ []) pen.front new
 jobs_more d first pen entries entry version old new j a replay sound = record {
   asked =
       ap (map job_asked) a.jobs_are ∙ map-append job_asked old a.added ∙ (λ i. j.asked i ++ a.asked i)
       ∙ sym (flat_map-append jobs_of entries (entry ∷ []) ∙ ap (λ l. flat_map jobs_of entries ++ l) (append-nil (jobs_of entry)));
-  versions = both (λ (x : Job). IsReplayFrom d first (take (rows_past first.place x.place) pen.front) (arc_value x.version)) j.versions
-      (λ x l. subst (λ (p : ℕ × State). IsReplayFrom d first (take (rows_past first.place p.0) pen.front) p.1) (λ i. (sym l.place i, sym l.version_is i)) replay);
-  sound = both (λ (x : Job). IsSound d (arc_value x.version)) j.sound (λ x l. subst (IsSound d) (sym l.version_is) sound);
-  calls = both (λ (x : Job). BelongsTo (arc_value x.version) x.call) j.calls (λ x l. subst (λ s. BelongsTo s x.call) (sym l.version_is) l.call);
+  versions = both (λ (x : Job). IsReplayFrom d first (take (rows_past first.place x.place) pen.front) (arc_value x.version).state) j.versions
+      (λ x l. subst (λ (p : ℕ × VersionValue). IsReplayFrom d first (take (rows_past first.place p.0) pen.front) p.1.state) (λ i. (sym l.place i, sym l.version_is i)) replay);
+  sound = both (λ (x : Job). IsSoundVersion d (arc_value x.version)) j.sound (λ x l. subst (IsSoundVersion d) (sym l.version_is) sound);
+  calls = both (λ (x : Job). BelongsTo (arc_value x.version).state x.call) j.calls (λ x l. subst (λ (v : VersionValue). BelongsTo v.state x.call) (sym l.version_is) l.call);
 }
   where
     both : (P : Job → Type 0) → All P old → ((x : Job) → IsLeftBy entry version x → P x) → All P new

@@ -7,11 +7,11 @@ use Rattle.std.proofs.lemmas.List.Elements.{All-push}
 use Rattle.std.proofs.lemmas.List.Concat.{flat_map-append}
 use Rattle.spin_proto.specs.declared.deed.Job.{Job}
 use Rattle.spin_run.specs.declared.lane.Lane.{Lane}
-use Rattle.spin_run.specs.declared.trail.Mark.{Mark}
+use Rattle.spin_run.specs.declared.trail.EntryIndex.{EntryIndex}
 use Rattle.spin_run.specs.declared.trail.Trail.{Trail}
 use Rattle.spin_run.specs.Inner.Weaves.{IsEmptied, unmarked, marks_by_lane, jobs_by_lane}
 
-pub record Gathered (before now : List Lane) (i : ℕ) (trails : List Trail) (marks : List Mark) (jobs : List Job) : Type 0 where
+pub record Gathered (before now : List Lane) (i : ℕ) (trails : List Trail) (marks : List EntryIndex) (jobs : List Job) : Type 0 where
   pub count : length now ≡ length before
   pub trails_are : trails ≡ map unmarked (take i before)
   pub taken : marks ≡ flat_map (λ marks. marks) (take i (marks_by_lane before))
@@ -42,7 +42,7 @@ trail_more : (before : List Lane) (i : ℕ) (lane : Lane) (all : List Trail) →
 trail_more before i lane all here is =
     is ∙ sym (map-append unmarked (take i before) (get_or before i lane ∷ [])) ∙ sym (ap (map unmarked) (take_more before i lane here))
 
-pub gathers : (before now : List Lane) (i : ℕ) (trails ts : List Trail) (marks ms : List Mark) (jobs js : List Job) (lane rest : Lane) → i < length before
+pub gathers : (before now : List Lane) (i : ℕ) (trails ts : List Trail) (marks ms : List EntryIndex) (jobs js : List Job) (lane rest : Lane) → i < length before
     → Gathered before now i trails marks jobs → IsEmptied rest → ts ≡ trails ++ unmarked (get_or now i lane) ∷ []
     → ms ≡ marks ++ (get_or now i lane).trail.marks → js ≡ jobs ++ (get_or now i lane).jobs → rest.seat ≡ (get_or now i lane).seat
     → rest.stop ≡ (get_or now i lane).stop → rest.entries ≡ (get_or now i lane).entries → Gathered before (set now i rest) (i + 1) ts ms js
@@ -65,7 +65,7 @@ gathers before now i trails ts marks ms jobs js lane rest here g none trail_adde
     plus : (i : ℕ) → i ≡ i + 0
     plus i = omega arith
 
-pub all_emptied : (before now : List Lane) (i : ℕ) (trails : List Trail) (marks : List Mark) (jobs : List Job) → length before ≤ i → Gathered before now i trails marks jobs → All IsEmptied now
+pub all_emptied : (before now : List Lane) (i : ℕ) (trails : List Trail) (marks : List EntryIndex) (jobs : List Job) → length before ≤ i → Gathered before now i trails marks jobs → All IsEmptied now
 all_emptied before now i trails marks jobs le g = subst (All IsEmptied) (take_all i now (omega (arith, le, g.count))) g.emptied
 
 -- where it ends in the middle, the stops are as before

@@ -26,12 +26,12 @@ use Rattle.spin_run.proofs.WovenEntries.{next_replays}
 
 -- the reply is one of the job's call on its version
 abbrev pub IsRepliedBy : SetupData → Job → Reply → Type 0
-IsRepliedBy d job reply = IsJobReply d (arc_value job.version) job.call reply
+IsRepliedBy d job reply = IsJobReply d (arc_value job.version).state job.call reply
 
 module _ (d : SetupData) (first : State) (log : List Row) where
   -- the job's version is that of its place in the log
   abbrev pub IsOfLog : Job → Type 0
-  IsOfLog job = IsReplayFrom d first (take (rows_past first.place job.place) log) (arc_value job.version)
+  IsOfLog job = IsReplayFrom d first (take (rows_past first.place job.place) log) (arc_value job.version).state
 
   -- the jobs of one entry with their replies, and the jobs that are left
   record Split (state : State) (entry : Entry) (index : ℕ) (calls : List JobCall) (rest : List JobAsked) (jobs : List Job) (replies : List Reply) : Type 0 where
@@ -64,8 +64,8 @@ module _ (d : SetupData) (first : State) (log : List Row) where
       let head : job_asked job ≡ one = cc (is) in
       let tail : map job_asked jobs ≡ jobs_from entry (index + 1) calls ++ rest = cc (is) in
       let more = split state entry (index + 1) calls rest jobs replies replay tail replied.1 (All-tail IsOfLog job jobs of_log) in
-      let here = subst (λ (n : ℕ). IsReplayFrom d first (take (rows_past first.place n) log) (arc_value job.version)) (ap (λ (a : JobAsked). a.place) head) (All-head IsOfLog job jobs of_log) in
-      let version : arc_value job.version ≡ state = IsReplayFrom-one d first (take (rows_past first.place entry.place) log) (arc_value job.version) state here replay in
+      let here = subst (λ (n : ℕ). IsReplayFrom d first (take (rows_past first.place n) log) (arc_value job.version).state) (ap (λ (a : JobAsked). a.place) head) (All-head IsOfLog job jobs of_log) in
+      let version : (arc_value job.version).state ≡ state = IsReplayFrom-one d first (take (rows_past first.place entry.place) log) (arc_value job.version).state state here replay in
       let asked : job.call ≡ call = ap (λ (a : JobAsked). a.call) head in
       let answer : IsJobReply d state call reply = subst (λ (x : State × JobCall). IsJobReply d x.0 x.1 reply) (λ i. (version i, asked i)) replied.0 in
       let seen : job_seen job reply ≡ entry_job entry index reply =

@@ -91,7 +91,7 @@ module _ (f : Option (List Entry) → Option (List Entry)) where
     some = omega (arith, length-map (lane ∷ lanes) changed);
     all = length-map (lane ∷ lanes) changed ∙ r.all;
     order = subst (AreOfLanes 0) (sym (same_seats (lane ∷ lanes))) r.order;
-    each = All-map (IsReady d log count lane.seat.first lane.seat.pen.front) changed (lane ∷ lanes) (λ k l lt.
+    each = All-map (IsReady d log count lane.seat.base lane.seat.pen.front) changed (lane ∷ lanes) (λ k l lt.
         let one = r.each k l lt in
         record {
           own = one.own;

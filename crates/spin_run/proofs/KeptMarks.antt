@@ -22,8 +22,8 @@ use Rattle.spin_report.specs.Lines.{entry_line}
 use Rattle.spin_report.specs.Views.{answer_steps}
 use Rattle.spin_report.specs.Runs.{sent_by, sends_of_reply, sends_of}
 use Rattle.spin_report.specs.Segments.{is_accepted, moment}
-use Rattle.spin_run.specs.declared.trail.Stretch.{Stretch}
-use Rattle.spin_run.specs.declared.trail.Mark.{Mark}
+use Rattle.spin_run.specs.declared.trail.Span.{Span}
+use Rattle.spin_run.specs.declared.trail.EntryIndex.{EntryIndex}
 use Rattle.spin_run.specs.declared.trail.Trail.{Trail}
 use Rattle.spin_run.specs.Summaries.{Counts, counts_in, is_run, is_send, is_refused}
 use Rattle.spin_run.specs.Trails.{items_in, LiesIn, kind_of, is_accepted_kind, mark_moment, IsMarkOf, none_left, IsTrailOf, AddsTo, trail_of, AreMarksOf}
@@ -34,34 +34,34 @@ use Rattle.spin_run.proofs.TextLines.{text_of-append}
 -- ---- stretches
 
 -- a stretch stays where the list grows
-stretch_stays : {X : Type 0} (s : Stretch) (xs ys : List X) → LiesIn s (length xs) → items_in s (xs ++ ys) ≡ items_in s xs
+stretch_stays : {X : Type 0} (s : Span) (xs ys : List X) → LiesIn s (length xs) → items_in s (xs ++ ys) ≡ items_in s xs
 stretch_stays s xs ys lies =
     let before : s.from ≤ length xs = omega (arith, lies.rises, lies.ends) in
     ap (take (s.to - s.from)) (drop-append-le s.from xs ys before)
     ∙ take-append-le (s.to - s.from) (drop s.from xs) ys (omega (arith, lies.rises, lies.ends, length-drop s.from xs))
 
-lies_on : {X : Type 0} (s : Stretch) (xs ys : List X) → LiesIn s (length xs) → LiesIn s (length (xs ++ ys))
+lies_on : {X : Type 0} (s : Span) (xs ys : List X) → LiesIn s (length xs) → LiesIn s (length (xs ++ ys))
 lies_on s xs ys lies = record { rises = lies.rises; ends = omega (arith, lies.ends, length-append xs ys) }
 
 -- what was added is a stretch
-pub stretch_added : {X : Type 0} (s : Stretch) (xs ys : List X) → s.from ≡ length xs → s.to ≡ length (xs ++ ys) → items_in s (xs ++ ys) ≡ ys
+pub stretch_added : {X : Type 0} (s : Span) (xs ys : List X) → s.from ≡ length xs → s.to ≡ length (xs ++ ys) → items_in s (xs ++ ys) ≡ ys
 stretch_added s xs ys from to =
     let long : length ys ≡ s.to - s.from = omega (arith, from, to, length-append xs ys) in
     ap (take (s.to - s.from)) (drop_at xs ys s.from (sym from))
     ∙ ap (λ n. take n ys) (sym long) ∙ take_all (length ys) ys (omega arith)
 
-lies_added : {X : Type 0} (s : Stretch) (xs ys : List X) → s.from ≡ length xs → s.to ≡ length (xs ++ ys) → LiesIn s (length (xs ++ ys))
+lies_added : {X : Type 0} (s : Span) (xs ys : List X) → s.from ≡ length xs → s.to ≡ length (xs ++ ys) → LiesIn s (length (xs ++ ys))
 lies_added s xs ys from to = record { rises = omega (arith, from, to, length-append xs ys); ends = omega (arith, to) }
 
 -- how many items a stretch has
-length-items_in : {X : Type 0} (s : Stretch) (xs : List X) → LiesIn s (length xs) → length (items_in s xs) ≡ s.to - s.from
+length-items_in : {X : Type 0} (s : Span) (xs : List X) → LiesIn s (length xs) → length (items_in s xs) ≡ s.to - s.from
 length-items_in s xs lies = omega (arith, lies.rises, lies.ends, length-take (s.to - s.from) (drop s.from xs), length-drop s.from xs)
 
 -- ---- one entry more
 
 -- a mark of a trail is one of each trail that goes on from it
 mark_stays : (old new : Trail) (text : List ℕ) (sends : List SentSeen) → new.text ≡ old.text ++ text → new.sends ≡ old.sends ++ sends
-    → (m : Mark) (e : Entry) → IsMarkOf old m e → IsMarkOf new m e
+    → (m : EntryIndex) (e : Entry) → IsMarkOf old m e → IsMarkOf new m e
 mark_stays old new text sends texts sent m e is = record {
   place = is.place;
   kind = is.kind;
@@ -76,7 +76,7 @@ mark_stays old new text sends texts sent m e is = record {
 }
 
 -- and one of each trail with the same text and the same sends
-pub mark_in : (old new : Trail) → new.text ≡ old.text → new.sends ≡ old.sends → (m : Mark) (e : Entry) → IsMarkOf old m e → IsMarkOf new m e
+pub mark_in : (old new : Trail) → new.text ≡ old.text → new.sends ≡ old.sends → (m : EntryIndex) (e : Entry) → IsMarkOf old m e → IsMarkOf new m e
 mark_in old new texts sent = mark_stays old new [] [] (texts ∙ sym (append-nil old.text)) (sent ∙ sym (append-nil old.sends))
 
 pub AllZip-weaker : {X Y : Type 0} (R S : X → Y → Type 0) → ((x : X) (y : Y) → R x y → S x y) → (xs : List X) (ys : List Y) → AllZip R xs ys → AllZip S xs ys
@@ -85,8 +85,8 @@ AllZip-weaker R S f [] (y ∷ ys) h = absurd h
 AllZip-weaker R S f (x ∷ xs) [] h = absurd h
 AllZip-weaker R S f (x ∷ xs) (y ∷ ys) h = (f x y h.0, AllZip-weaker R S f xs ys h.1)
 
-marks_more : (old new : Trail) (m : Mark) (e : Entry) → ((m : Mark) (e : Entry) → IsMarkOf old m e → IsMarkOf new m e) → IsMarkOf new m e
-    → (marks : List Mark) (entries : List Entry) → AllZip (IsMarkOf old) marks entries → AllZip (IsMarkOf new) (marks ++ m ∷ []) (entries ++ e ∷ [])
+marks_more : (old new : Trail) (m : EntryIndex) (e : Entry) → ((m : EntryIndex) (e : Entry) → IsMarkOf old m e → IsMarkOf new m e) → IsMarkOf new m e
+    → (marks : List EntryIndex) (entries : List Entry) → AllZip (IsMarkOf old) marks entries → AllZip (IsMarkOf new) (marks ++ m ∷ []) (entries ++ e ∷ [])
 marks_more old new m e stays last [] [] h = (last, tt)
 marks_more old new m e stays last [] (x ∷ entries) h = absurd h
 marks_more old new m e stays last (n ∷ marks) [] h = absurd h
@@ -104,7 +104,7 @@ sends_more entries e =
     ∙ ap (λ l. flat_map (λ (x : Entry). sends_of x.what) entries ++ l) (append-nil (sends_of e.what))
 
 -- the mark that is made of an entry
-pub record IsMade (old new : Trail) (e : Entry) (m : Mark) : Type 0 where
+pub record IsMade (old new : Trail) (e : Entry) (m : EntryIndex) : Type 0 where
   pub place : m.place ≡ e.place
   pub kind : m.kind ≡ kind_of e.what
   pub lane : m.lane ≡ e.lane
@@ -116,7 +116,7 @@ pub record IsMade (old new : Trail) (e : Entry) (m : Mark) : Type 0 where
   pub sends_from : m.sends.from ≡ length old.sends
   pub sends_to : m.sends.to ≡ length new.sends
 
-pub adds_entry : (old new : Trail) (e : Entry) (m : Mark) → new.text ≡ old.text ++ ended (entry_line e) → new.sends ≡ old.sends ++ sends_of e.what
+pub adds_entry : (old new : Trail) (e : Entry) (m : EntryIndex) → new.text ≡ old.text ++ ended (entry_line e) → new.sends ≡ old.sends ++ sends_of e.what
     → new.marks ≡ old.marks ++ m ∷ [] → IsMade old new e m → AddsTo old e new
 adds_entry old new e m texts sent marks made =
     let text_to : m.text.to ≡ length (old.text ++ ended (entry_line e)) = made.text_to ∙ ap length texts in
@@ -139,7 +139,7 @@ adds_entry old new e m texts sent marks made =
         text = texts ∙ (λ i. h.text i ++ ended (entry_line e)) ∙ sym (line_more entries e);
         sends = sent ∙ (λ i. h.sends i ++ sends_of e.what) ∙ sym (sends_more entries e);
         marks =
-            subst (λ (l : List Mark). AllZip (IsMarkOf new) l (entries ++ e ∷ [])) (sym marks)
+            subst (λ (l : List EntryIndex). AllZip (IsMarkOf new) l (entries ++ e ∷ [])) (sym marks)
             (marks_more old new m e (mark_stays old new (ended (entry_line e)) (sends_of e.what) texts sent) last old.marks entries h.marks);
       };
     }
@@ -160,26 +160,26 @@ kind_refused (what.Command c verdicted.Accepted) = refl
 kind_refused (what.Command c (verdicted.Refused r)) = refl
 kind_refused (what.Deed d r) = refl
 
-pub moment_is : (trail : Trail) (m : Mark) (e : Entry) → IsMarkOf trail m e → mark_moment m ≡ moment e
+pub moment_is : (trail : Trail) (m : EntryIndex) (e : Entry) → IsMarkOf trail m e → mark_moment m ≡ moment e
 moment_is trail m e is = λ i. (is.place i, not ((ap is_accepted_kind is.kind ∙ kind_accepted e.what) i), is.lane i, is.line i, is.part i)
 
 -- each mark lies in the trail of its lane
-pub marks_lie : (trails : List Trail) (marks : List Mark) (entries : List Entry) → All (λ (m : Mark). m.lane < length trails) marks → AreMarksOf trails marks entries
+pub marks_lie : (trails : List Trail) (marks : List EntryIndex) (entries : List Entry) → All (λ (m : EntryIndex). m.lane < length trails) marks → AreMarksOf trails marks entries
     → All (IsInTrails trails) marks
 marks_lie trails [] entries under h = All-nil (IsInTrails trails)
 marks_lie trails (m ∷ marks) [] under h = absurd h
 marks_lie trails (m ∷ marks) (e ∷ entries) under h =
     All-cons (IsInTrails trails) m marks
-    (record { there = All-head (λ (n : Mark). n.lane < length trails) m marks under; text = h.0.text_lies; sends = h.0.sends_lie })
-    (marks_lie trails marks entries (All-tail (λ (n : Mark). n.lane < length trails) m marks under) h.1)
+    (record { there = All-head (λ (n : EntryIndex). n.lane < length trails) m marks under; text = h.0.text_lies; sends = h.0.sends_lie })
+    (marks_lie trails marks entries (All-tail (λ (n : EntryIndex). n.lane < length trails) m marks under) h.1)
 
-pub lines_are : (trails : List Trail) (marks : List Mark) (entries : List Entry) → AreMarksOf trails marks entries → flat_map (line_in trails) marks ≡ text_of (map entry_line entries)
+pub lines_are : (trails : List Trail) (marks : List EntryIndex) (entries : List Entry) → AreMarksOf trails marks entries → flat_map (line_in trails) marks ≡ text_of (map entry_line entries)
 lines_are trails [] [] h = refl
 lines_are trails [] (e ∷ entries) h = absurd h
 lines_are trails (m ∷ marks) [] h = absurd h
 lines_are trails (m ∷ marks) (e ∷ entries) h = λ i. h.0.text i ++ lines_are trails marks entries h.1 i
 
-pub sends_told : (trails : List Trail) (marks : List Mark) (entries : List Entry) → AreMarksOf trails marks entries
+pub sends_told : (trails : List Trail) (marks : List EntryIndex) (entries : List Entry) → AreMarksOf trails marks entries
     → flat_map (sends_in trails) marks ≡ flat_map (λ (e : Entry). sends_of e.what) entries
 sends_told trails [] [] h = refl
 sends_told trails [] (e ∷ entries) h = absurd h
@@ -229,7 +229,7 @@ sends_count (what.Deed d r) = reply_count r
 abbrev one : Bool → ℕ
 one b = cond b 1 0
 
-pub counts_are : (trails : List Trail) (marks : List Mark) (entries : List Entry) → AreMarksOf trails marks entries → counts_by marks ≡ counts_in entries
+pub counts_are : (trails : List Trail) (marks : List EntryIndex) (entries : List Entry) → AreMarksOf trails marks entries → counts_by marks ≡ counts_in entries
 counts_are trails [] [] h = refl
 counts_are trails [] (e ∷ entries) h = absurd h
 counts_are trails (m ∷ marks) [] h = absurd h
@@ -238,15 +238,15 @@ counts_are trails (m ∷ marks) (e ∷ entries) h =
     let is = h.0 in
     same_counts (counts_by (m ∷ marks)) (counts_in (e ∷ entries))
     (omega (arith, ap (λ (c : Counts). c.entries) rest))
-    (count-cons (λ (x : Mark). is_accepted_kind x.kind) m marks
+    (count-cons (λ (x : EntryIndex). is_accepted_kind x.kind) m marks
     ∙ (λ i. one ((ap is_accepted_kind is.kind ∙ kind_accepted e.what) i) + (ap (λ (c : Counts). c.accepted) rest) i)
     ∙ sym (count-cons (λ (x : Entry). is_accepted x.what) e entries))
-    (count-cons (λ (x : Mark). is_refused_kind x.kind) m marks
+    (count-cons (λ (x : EntryIndex). is_refused_kind x.kind) m marks
     ∙ (λ i. one ((ap is_refused_kind is.kind ∙ kind_refused e.what) i) + (ap (λ (c : Counts). c.refused) rest) i)
     ∙ sym (count-cons (λ (x : Entry). is_refused x.what) e entries))
-    (sum_by-cons (λ (x : Mark). x.runs) m marks
+    (sum_by-cons (λ (x : EntryIndex). x.runs) m marks
     ∙ (λ i. is.runs i + (ap (λ (c : Counts). c.runs) rest) i)
     ∙ sym (sum_by-cons (λ (x : Entry). count_by is_run (answer_steps x.what)) e entries))
-    (sum_by-cons (λ (x : Mark). x.sends.to - x.sends.from) m marks
+    (sum_by-cons (λ (x : EntryIndex). x.sends.to - x.sends.from) m marks
     ∙ (λ i. (sym (length-items_in m.sends (trail_of trails m.lane).sends is.sends_lie) ∙ ap length is.sends ∙ sends_count e.what) i + (ap (λ (c : Counts). c.sends) rest) i)
     ∙ sym (sum_by-cons (λ (x : Entry). count_by is_send (answer_steps x.what)) e entries))

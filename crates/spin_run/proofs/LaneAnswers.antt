@@ -13,14 +13,14 @@ use Rattle.spin_word.specs.declared.work.Work.TheVariants as work
 use Rattle.spin_log.specs.Rows.{IsPrefix}
 use Rattle.spin_log.specs.Pens.{PenValue}
 use Rattle.spin_table.specs.Setups.{SetupData}
-use Rattle.spin_table.specs.States.{State}
-use Rattle.spin_table.specs.Soundness.{IsSound}
+use Rattle.spin_table.specs.States.{State, VersionValue}
+use Rattle.spin_table.specs.Soundness.{IsSoundVersion}
 use Rattle.spin_table.specs.declared.refusal.Verdicted.{Verdicted}
 use Rattle.spin_proto.specs.declared.deed.Job.{Job}
 use Rattle.spin_proto.specs.Replies.{BelongsTo}
 use Rattle.spin_seat.specs.Replay.{IsReplayFrom}
 use Rattle.spin_seat.specs.Places.{rows_past}
-use Rattle.spin_seat.specs.Seats.{IsSeatFrom}
+use Rattle.spin_seat.specs.Seats.{IsSeatFrom, version_of}
 use Rattle.spin_seat.specs.Calls.{ReadsOn, GivesFrom, IsFaultAt, IsUnrefused, verdict_answer}
 use Rattle.spin_seat.specs.Runs.{RanFrom, GainsPinsPast}
 use Rattle.spin_seat.proofs.PastPlaces.{place_past_is, rows_past_is}
@@ -40,9 +40,9 @@ use Rattle.spin_run.proofs.KeptMarks.{new_trail}
 -- ---- one call
 
 -- one more entry
-entry_more : (d : SetupData) (old new : Lane) (entry : Entry) → AddsTo old.trail entry new.trail → GivesFrom d old.seat.first old.seat.pen (seat_answer entry) new.seat.pen
-    → new.seat.first ≡ old.seat.first → new.entries ≡ kept_with old.entries (entry ∷ [])
-    → ((given : List Entry) → AreJobsOf d old.seat.first given new.seat.pen.front old.jobs → AreJobsOf d old.seat.first (given ++ entry ∷ []) new.seat.pen.front new.jobs)
+entry_more : (d : SetupData) (old new : Lane) (entry : Entry) → AddsTo old.trail entry new.trail → GivesFrom d old.seat.base old.seat.pen (seat_answer entry) new.seat.pen
+    → new.seat.base ≡ old.seat.base → new.entries ≡ kept_with old.entries (entry ∷ [])
+    → ((given : List Entry) → AreJobsOf d old.seat.base given new.seat.pen.front old.jobs → AreJobsOf d old.seat.base (given ++ entry ∷ []) new.seat.pen.front new.jobs)
     → Answers d (asked_of entry ∷ []) old new
 entry_more d old new entry adds gives first kept jobs = record {
   added = entry ∷ [];
@@ -51,7 +51,7 @@ entry_more d old new entry adds gives first kept jobs = record {
   first = first;
   kept = kept;
   goes_on = λ before given h.
-      let base = old.seat.first in
+      let base = old.seat.base in
       let answers : map seat_answer (given ++ entry ∷ []) ≡ map seat_answer given ++ seat_answer entry ∷ [] = map-append seat_answer given (entry ∷ []) in
       let front = (answered d old.seat.pen (seat_answer entry) new.seat.pen gives).front in
       record {
@@ -64,29 +64,29 @@ entry_more d old new entry adds gives first kept jobs = record {
 }
 
 -- a deed's reply, with the jobs that it leaves on the version of the seat
-pub reply_more : (d : SetupData) (old new : Lane) (entry : Entry) (version : State) → AddsTo old.trail entry new.trail
-    → GivesFrom d old.seat.first old.seat.pen (seat_answer entry) new.seat.pen → IsSeatFrom d old.seat.first new.seat → new.seat.kept ≡ None → version ≡ new.seat.state
+pub reply_more : (d : SetupData) (old new : Lane) (entry : Entry) (version : VersionValue) → AddsTo old.trail entry new.trail
+    → GivesFrom d old.seat.base old.seat.pen (seat_answer entry) new.seat.pen → IsSeatFrom d old.seat.base new.seat → new.seat.pending ≡ None → version ≡ version_of new.seat
     → new.entries ≡ kept_with old.entries (entry ∷ []) → AddsJobs entry version (answer_calls entry.what) old.jobs new.jobs → Answers d (asked_of entry ∷ []) old new
 reply_more d old new entry version added gives seat whole is kept adds =
-    let base = old.seat.first in
+    let base = old.seat.base in
     let rows = rows_past base.place entry.place in
     let place : length new.seat.pen.front ≤ rows =
     omega (arith, gives.place, place_past_is base.place (length new.seat.pen.front), rows_past_is base.place entry.place) in
-    let replay : IsReplayFrom d base (take rows new.seat.pen.front) version =
-    subst (λ (x : State × List Row × State). IsReplayFrom d x.0 x.1 x.2) (λ i. (seat.1 i, sym (take_all rows new.seat.pen.front place) i, sym is i)) (whole_applied d new.seat seat.0 whole) in
+    let replay : IsReplayFrom d base (take rows new.seat.pen.front) version.state =
+    subst (λ (x : State × List Row × VersionValue). IsReplayFrom d x.0 x.1 x.2.state) (λ i. (seat.1 i, sym (take_all rows new.seat.pen.front place) i, sym is i)) (whole_applied d new.seat seat.0 whole) in
     entry_more d old new entry added gives seat.1 kept
-    (λ given j. jobs_more d base new.seat.pen given entry version old.jobs new.jobs j adds replay (subst (IsSound d) (sym is) seat.0.sound))
+    (λ given j. jobs_more d base new.seat.pen given entry version old.jobs new.jobs j adds replay (subst (IsSoundVersion d) (sym is) seat.0.sound))
 
 -- a command's verdict, which leaves no job
 pub verdict_more : (d : SetupData) (old new : Lane) (entry : Entry) → answer_calls entry.what ≡ [] → AddsTo old.trail entry new.trail
-    → new.jobs ≡ old.jobs → GivesFrom d old.seat.first old.seat.pen (seat_answer entry) new.seat.pen → IsSeatFrom d old.seat.first new.seat → new.seat.kept ≡ None
+    → new.jobs ≡ old.jobs → GivesFrom d old.seat.base old.seat.pen (seat_answer entry) new.seat.pen → IsSeatFrom d old.seat.base new.seat → new.seat.pending ≡ None
     → new.entries ≡ kept_with old.entries (entry ∷ []) → Answers d (asked_of entry ∷ []) old new
 verdict_more d old new entry none added jobs gives seat whole kept =
-    reply_more d old new entry new.seat.state added gives seat whole refl kept (record {
+    reply_more d old new entry (version_of new.seat) added gives seat whole refl kept (record {
       added = [];
       jobs_are = jobs ∙ sym (append-nil old.jobs);
       asked = sym (ap (jobs_from entry 0) none);
-      each = All-nil (IsLeftBy entry new.seat.state);
+      each = All-nil (IsLeftBy entry (version_of new.seat));
     })
 
 -- nothing is given
@@ -104,7 +104,7 @@ keeps_then (Some kept) first second = ap Some (append_assoc kept first second)
 
 -- a call that only reads rows of other lanes
 pub reads_more : (d : SetupData) (old new : Lane) → new.trail ≡ old.trail → new.jobs ≡ old.jobs → ReadsOn old.seat.pen new.seat.pen
-    → new.seat.first ≡ old.seat.first → new.entries ≡ old.entries → Answers d [] old new
+    → new.seat.base ≡ old.seat.base → new.entries ≡ old.entries → Answers d [] old new
 reads_more d old new trail jobs reads first kept =
     let pins : new.seat.pen.pins ≡ old.seat.pen.pins = ap (λ (p : PenValue). p.pins) reads.1 in
     let front : IsPrefix old.seat.pen.front new.seat.pen.front = (reads.0, ap (λ (p : PenValue). p.front) reads.1) in
@@ -114,19 +114,19 @@ reads_more d old new trail jobs reads first kept =
       count = omega (arith, ap (λ (t : Trail). length t.marks) trail);
       first = first;
       kept = kept ∙ keeps_none old.entries;
-      goes_on = λ before given h. none_given d old.seat.first before given new (record {
+      goes_on = λ before given h. none_given d old.seat.base before given new (record {
         ran = ran_reads d before old.seat.pen new.seat.pen (map seat_answer given) h.ran reads;
         pins = pins ∙ h.pins;
-        jobs_are = subst (AreJobsOf d old.seat.first given new.seat.pen.front) (sym jobs)
-            (jobs_stay d old.seat.first before old.seat.pen new.seat.pen given old.jobs h.ran front h.jobs_are);
+        jobs_are = subst (AreJobsOf d old.seat.base given new.seat.pen.front) (sym jobs)
+            (jobs_stay d old.seat.base before old.seat.pen new.seat.pen given old.jobs h.ran front h.jobs_are);
         told = subst (IsTrailOf given) (sym trail) h.told;
       });
     }
 
 -- a command that finds the log full
 pub ends_full : (d : SetupData) (old new : Lane) (asked : List Numbered) → new.trail ≡ old.trail → new.jobs ≡ old.jobs
-    → ReadsOn old.seat.pen new.seat.pen → new.seat.first ≡ old.seat.first → new.entries ≡ old.entries
-    → IsFaultAt old.seat.first.place (length new.seat.pen.front) fault.Full → BeginsWithCommand asked → EndsFull d asked old new
+    → ReadsOn old.seat.pen new.seat.pen → new.seat.base ≡ old.seat.base → new.entries ≡ old.entries
+    → IsFaultAt old.seat.base.place (length new.seat.pen.front) fault.Full → BeginsWithCommand asked → EndsFull d asked old new
 ends_full d old new asked trail jobs reads first kept full next = record {
   first = [];
   left = asked;
@@ -145,7 +145,7 @@ answers_nothing d lane = record {
   count = omega arith;
   first = refl;
   kept = keeps_none lane.entries;
-  goes_on = λ before given h. none_given d lane.seat.first before given lane h;
+  goes_on = λ before given h. none_given d lane.seat.base before given lane h;
 }
 
 pub answers_then : (d : SetupData) (first second : List Numbered) (old middle new : Lane) → Answers d first old middle → Answers d second middle new → Answers d (first ++ second) old new
@@ -194,24 +194,24 @@ pub answers_count : (d : SetupData) (asked : List Numbered) (old new : Lane) →
 answers_count d asked old new a = omega (arith, a.count, ap length a.asked_are, length-map a.added asked_of)
 
 -- a lane that has answered nothing
-pub nothing_answered : (d : SetupData) (lane : Lane) → IsNew lane.trail → lane.jobs ≡ [] → HasAnswered d lane.seat.first lane.seat.pen [] lane
+pub nothing_answered : (d : SetupData) (lane : Lane) → IsNew lane.trail → lane.jobs ≡ [] → HasAnswered d lane.seat.base lane.seat.pen [] lane
 nothing_answered d lane trail jobs = record {
   ran = nothing_ran d lane.seat.pen;
   pins = sym (append-nil lane.seat.pen.pins);
-  jobs_are = subst (AreJobsOf d lane.seat.first [] lane.seat.pen.front) (sym jobs) none;
+  jobs_are = subst (AreJobsOf d lane.seat.base [] lane.seat.pen.front) (sym jobs) none;
   told = new_trail lane.trail trail;
 }
   where
-    none : AreJobsOf d lane.seat.first [] lane.seat.pen.front []
+    none : AreJobsOf d lane.seat.base [] lane.seat.pen.front []
     none = record {
       asked = refl;
-      versions = All-nil (λ (j : Job). IsReplayFrom d lane.seat.first (take (rows_past lane.seat.first.place j.place) lane.seat.pen.front) (arc_value j.version));
-      sound = All-nil (λ (j : Job). IsSound d (arc_value j.version));
-      calls = All-nil (λ (j : Job). BelongsTo (arc_value j.version) j.call);
+      versions = All-nil (λ (j : Job). IsReplayFrom d lane.seat.base (take (rows_past lane.seat.base.place j.place) lane.seat.pen.front) (arc_value j.version).state);
+      sound = All-nil (λ (j : Job). IsSoundVersion d (arc_value j.version));
+      calls = All-nil (λ (j : Job). BelongsTo (arc_value j.version).state j.call);
     }
 
 -- there is no memory for the one thing that is asked
-pub short_alone : (d : SetupData) (old new : Lane) (lane line : ℕ) (asked : Work) → LacksFor d old.seat.first old.seat.pen asked new.seat → EndsShort d (asked_alone lane line 0 asked) old new
+pub short_alone : (d : SetupData) (old new : Lane) (lane line : ℕ) (asked : Work) → LacksFor d old.seat.base old.seat.pen asked new.seat → EndsShort d (asked_alone lane line 0 asked) old new
 short_alone d old new lane line asked lacks = record {
   first = [];
   middle = old;
@@ -224,8 +224,8 @@ short_alone d old new lane line asked lacks = record {
 
 -- why a command has no verdict
 pub command_ends : (d : SetupData) (old new : Lane) (line : ℕ) (c : Command) (f : SeatFault) → new.trail ≡ old.trail → new.jobs ≡ old.jobs
-    → ReadsOn old.seat.pen new.seat.pen → new.seat.first ≡ old.seat.first → new.entries ≡ old.entries
-    → IsFaultAt old.seat.first.place (length new.seat.pen.front) f → IsUnrefused d new.seat c f
+    → ReadsOn old.seat.pen new.seat.pen → new.seat.base ≡ old.seat.base → new.entries ≡ old.entries
+    → IsFaultAt old.seat.base.place (length new.seat.pen.front) f → IsUnrefused d new.seat c f
     → Comes d (asked_alone old.seat.pen.lane line 0 (work.Command c)) old (Err f) new
 command_ends d old new line c fault.Full trail jobs reads first kept full unrefused =
     ends_full d old new (asked_alone old.seat.pen.lane line 0 (work.Command c)) trail jobs reads first kept full refl
@@ -233,7 +233,7 @@ command_ends d old new line c fault.NoMemory trail jobs reads first kept full un
 
 -- a verdict that couldn't be kept
 pub verdict_lost : (d : SetupData) (old new : Lane) (line : ℕ) (c : Command) (place : ℕ) (verdict : Verdicted)
-    → GivesFrom d old.seat.first old.seat.pen (verdict_answer old.seat.pen.lane c place verdict) new.seat.pen
+    → GivesFrom d old.seat.base old.seat.pen (verdict_answer old.seat.pen.lane c place verdict) new.seat.pen
     → EndsShort d (asked_alone old.seat.pen.lane line 0 (work.Command c)) old new
 verdict_lost d old new line c place verdict gives = short_alone d old new old.seat.pen.lane line (work.Command c) (inl (place, verdict, gives))
 

@@ -141,10 +141,10 @@ seated lanes lane seat = record {
 
 -- the seats of lanes that stand first in two lists have met
 pub meets : (d : SetupData) (lanes left right : List Lane) (k : ℕ) (x y : Lane) (sa sb : SeatValue) (r : Result (Unit {0}) NoMemory)
-    → lanes ≡ left ++ right → length left ≡ k → 0 < k → 0 < length right → IsSeatFrom d (get_or left 0 x).seat.first sa → IsSeatFrom d (get_or right 0 y).seat.first sb
+    → lanes ≡ left ++ right → length left ≡ k → 0 < k → 0 < length right → IsSeatFrom d (get_or left 0 x).seat.base sa → IsSeatFrom d (get_or right 0 y).seat.base sb
     → MatchResult r (λ _. sa.pen ≡ with_front (get_or left 0 x).seat.pen (longer (get_or left 0 x).seat.pen.front (get_or right 0 y).seat.pen.front)) (λ _. sa.pen ≡ (get_or left 0 x).seat.pen)
     → MatchResult r (λ _. sb.pen ≡ with_front (get_or right 0 y).seat.pen (longer (get_or left 0 x).seat.pen.front (get_or right 0 y).seat.pen.front)) (λ _. sb.pen ≡ (get_or right 0 y).seat.pen)
-    → OnOk r ((sa.kept ≡ None) × (sb.kept ≡ None)) → OnOk r (ReadsOn (get_or left 0 x).seat.pen sa.pen × ReadsOn (get_or right 0 y).seat.pen sb.pen) → OnOk r (IsPen sa.pen × IsPen sb.pen)
+    → OnOk r ((sa.pending ≡ None) × (sb.pending ≡ None)) → OnOk r (ReadsOn (get_or left 0 x).seat.pen sa.pen × ReadsOn (get_or right 0 y).seat.pen sb.pen) → OnOk r (IsPen sa.pen × IsPen sb.pen)
     → OnOk r (Met d lanes k (set left 0 (seated left x sa) ++ set right 0 (seated right y sb)))
 meets d lanes left right k x y sa sb (Err e) parts size pos some seat_a seat_b pen_a pen_b whole reads pens = tt
 meets d lanes left right k x y sa sb (Ok done) parts size pos some seat_a seat_b pen_a pen_b whole reads pens = record {
@@ -309,10 +309,10 @@ state_first d [] l lt = absurd (omega arith)
 state_first d (lane ∷ lanes) l lt = refl
 
 -- seats that have applied one front have one state
-one_state : (d : SetupData) (a b : Lane) → IsSeat d a.seat → IsSeat d b.seat → a.seat.first ≡ b.seat.first → IsSettled a → IsSettled b
+one_state : (d : SetupData) (a b : Lane) → IsSeat d a.seat → IsSeat d b.seat → a.seat.base ≡ b.seat.base → IsSettled a → IsSettled b
     → a.seat.pen.front ≡ b.seat.pen.front → a.seat.state ≡ b.seat.state
 one_state d a b sa sb first ta tb same =
-    IsReplayFrom-one d b.seat.first b.seat.pen.front a.seat.state b.seat.state
+    IsReplayFrom-one d b.seat.base b.seat.pen.front a.seat.state b.seat.state
     (subst (λ (x : State × List Row). IsReplayFrom d x.0 x.1 a.seat.state) (λ i. (first i, same i)) (whole_applied d a.seat sa ta.whole)) (whole_applied d b.seat sb tb.whole)
 
 pub have_met : (d : SetupData) (log : TableId) (before settled once twice : List Lane) → 0 < length before → AreOfHub d log before

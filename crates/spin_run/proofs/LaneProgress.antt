@@ -164,14 +164,14 @@ has_run d asked old now new r trail jobs stays comes seat trail' jobs' stop entr
     same : ◌≡◌ {A = Lane} (record { seat = now.seat; trail = now.trail; jobs = now.jobs; stop = result_err r; entries = now.entries }) new
     same = λ i. record { seat = sym seat i; trail = sym trail' i; jobs = sym jobs' i; stop = sym stop i; entries = sym entries i }
 
-    before : HasAnswered d old.seat.first old.seat.pen [] old
+    before : HasAnswered d old.seat.base old.seat.pen [] old
     before = nothing_answered d old trail jobs
 
     ran : (o : Result (Unit {0}) SeatFault) → Comes d own old o now
         → (given : List Entry)
-        × ((HadMemory (result_err o) → RanLane d old.seat.first own old.seat.pen now.seat.pen given now.jobs (result_err o)
+        × ((HadMemory (result_err o) → RanLane d old.seat.base own old.seat.pen now.seat.pen given now.jobs (result_err o)
         × (IsTrailOf given now.trail × (now.entries ≡ kept_with old.entries given)))
-        × (result_err o ≡ Some fault.NoMemory → RanShort d old.seat.first own old.seat.pen now.seat given))
+        × (result_err o ≡ Some fault.NoMemory → RanShort d old.seat.base own old.seat.pen now.seat given))
     ran (Ok done) a =
         let h = a.goes_on old.seat.pen [] before in (
           a.added,

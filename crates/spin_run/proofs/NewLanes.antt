@@ -54,9 +54,9 @@ at_first d first [] None state e r = (refl, r)
 at_first d first [] (Some row) state e r = absurd (cc (e))
 at_first d first (x ∷ applied) kept state e r = absurd (cc (e))
 
-new_seat : (d : SetupData) (first : State) (seat : SeatValue) → IsSeatFrom d first seat → seat.pen.front ≡ [] → (seat.kept ≡ None) × (seat.state ≡ first)
+new_seat : (d : SetupData) (first : State) (seat : SeatValue) → IsSeatFrom d first seat → seat.pen.front ≡ [] → (seat.pending ≡ None) × (seat.state ≡ first)
 new_seat d first seat h none =
-    at_first d first h.0.applied seat.kept seat.state (sym none ∙ h.0.front) (subst (λ (s : State). IsReplayFrom d s h.0.applied seat.state) h.1 h.0.replay)
+    at_first d first h.0.applied seat.pending seat.state (sym none ∙ h.0.front) (subst (λ (s : State). IsReplayFrom d s h.0.applied seat.state) h.1 h.0.replay)
 
 -- what is so of new lanes
 pub record AreNew (d : SetupData) (first : State) (id : TableId) (n : ℕ) (lanes : List Lane) : Type 0 where

@@ -35,11 +35,11 @@ use Rattle.spin_run.specs.Ends.{segment_text, Writes}
 use Rattle.spin_run.specs.Inner.Reading.{given_by, GivesFrames, Reads, TakesFrames}
 use Rattle.spin_run.specs.Inner.Lining.{counts_to}
 use Rattle.spin_run.specs.Inner.Sending.{sends_made, SendsAll}
-use Rattle.spin_run.specs.Inner.Steps.{Moment, standing, Setting, RunsFrom, retired_for, HasRunOne, StopsOne, HasTold, OneBy}
+use Rattle.spin_run.specs.Inner.Steps.{RunState, standing, Setting, RunsFrom, retired_for, HasRunOne, StopsOne, HasTold, OneBy}
 use Rattle.spin_run.specs.Summaries.{Counts, counts_in}
 use Rattle.spin_run.specs.Inner.Tallies.{TalliesOn, Tells}
 use Rattle.spin_run.specs.Inner.Writing.{joined}
-use Rattle.spin_run.specs.declared.trail.Mark.{Mark}
+use Rattle.spin_run.specs.declared.trail.EntryIndex.{EntryIndex}
 use Rattle.spin_run.specs.declared.trail.Trail.{Trail}
 use Rattle.spin_run.specs.Trails.{AreMarksOf}
 use Rattle.spin_run.specs.Inner.Marks.{sends_in}
@@ -92,7 +92,7 @@ lost_are names ends sends lost few h = lost_from 0 names lost (lost_to names end
 
 -- ---- the part of the history
 
-abbrev pub part_of : Setting → Segment → Moment → List Entry → List JobSeen → SegmentSeen
+abbrev pub part_of : Setting → Segment → RunState → List Entry → List JobSeen → SegmentSeen
 part_of s segment before entries jobs = record {
   retired = retirements s.endpoints segment.retires before.outside.ends;
   start = before.state.place;
@@ -102,14 +102,14 @@ part_of s segment before entries jobs = record {
 }
 
 -- how it leaves the standing
-abbrev pub next_of : Setting → Segment → Moment → List (List ℕ) → State → List Entry → List JobSeen → RunPoint
+abbrev pub next_of : Setting → Segment → RunState → List (List ℕ) → State → List Entry → List JobSeen → RunPoint
 next_of s segment before left state entries jobs = record {
   state = state;
   left = drop (wanted_by segment.lines) left;
   ends = all_received s.endpoints (sends_from entries jobs) (retired_for s segment before);
 }
 
-pub runs_to : (s : Setting) (segment : Segment) (before : Moment) (left frames : List (List ℕ)) (state : State) (entries : List Entry) (jobs : List JobSeen)
+pub runs_to : (s : Setting) (segment : Segment) (before : RunState) (left frames : List (List ℕ)) (state : State) (entries : List Entry) (jobs : List JobSeen)
     → frames ≡ take (wanted_by segment.lines) left → IsWoven s.setup s.lanes (asked_in segment.lines frames) before.state state entries jobs
     → RunsFrom s segment before left (part_of s segment before entries jobs) (next_of s segment before left state entries jobs)
 runs_to s segment before left frames state entries jobs read woven =
@@ -123,7 +123,7 @@ runs_to s segment before left frames state entries jobs read woven =
       ends = refl;
     }
 
-pub runs_one : (s : Setting) (segment : Segment) (before after : Moment) (left frames : List (List ℕ)) (entries : List Entry) (jobs : List JobSeen)
+pub runs_one : (s : Setting) (segment : Segment) (before after : RunState) (left frames : List (List ℕ)) (entries : List Entry) (jobs : List JobSeen)
     → frames ≡ take (wanted_by segment.lines) left → IsWoven s.setup s.lanes (asked_in segment.lines frames) before.state after.state entries jobs
     → after.outside.ends ≡ all_received s.endpoints (sends_from entries jobs) (retired_for s segment before)
     → RunsFrom s segment before left (part_of s segment before entries jobs) (standing after (drop (wanted_by segment.lines) left))
@@ -178,18 +178,18 @@ wanted_fits lines i line lt is =
 -- ---- the ends of a segment
 
 -- the sink is as before
-abbrev pub SameSink : Moment → Moment → Type 0
+abbrev pub SameSink : RunState → RunState → Type 0
 SameSink before after = after.outside.sink ≡ before.outside.sink
 
-nothing : (before after : Moment) → SameSink before after → Writes before.outside after.outside []
+nothing : (before after : RunState) → SameSink before after → Writes before.outside after.outside []
 nothing before after same = subst (λ (x : SinkSeen). Appends before.outside.sink.told x.told []) (sym same) (Appends-none before.outside.sink.told)
 
-pub stops_retiring : (s : Setting) (number : ℕ) (segment : Segment) (before after : Moment) (left : List (List ℕ)) (rest : Option (Result Next PcapFault)) → SameSink before after
+pub stops_retiring : (s : Setting) (number : ℕ) (segment : Segment) (before after : RunState) (left : List (List ℕ)) (rest : Option (Result Next PcapFault)) → SameSink before after
     → ((after.outside.ends ≡ before.outside.ends) ⊎ (after.outside.ends ≡ retired_for s segment before)) → StopsOne s number segment before after left rest end.NoMemory
 stops_retiring s number segment before after left rest same (inl none) = (inl none, nothing before after same)
 stops_retiring s number segment before after left rest same (inr all) = (inr (inl all), nothing before after same)
 
-pub stops_reading_in : (s : Setting) (number : ℕ) (segment : Segment) (before after : Moment) (left : List (List ℕ)) (rest : Option (Result Next PcapFault))
+pub stops_reading_in : (s : Setting) (number : ℕ) (segment : Segment) (before after : RunState) (left : List (List ℕ)) (rest : Option (Result Next PcapFault))
     (wanted : ℕ) (capture : Option ReaderState) (stop : RunEnd) → SameSink before after → after.outside.ends ≡ retired_for s segment before
     → wanted ≡ wanted_by segment.lines → GivesFrames wanted before.capture capture (Err stop) left [] rest → StopsOne s number segment before after left rest stop
 stops_reading_in s number segment before after left rest wanted capture (end.Capture n reason) same ends sum h = (h.1, subst (λ (k : ℕ). length left < k) sum h.0, ends, nothing before after same)
@@ -200,13 +200,13 @@ stops_reading_in s number segment before after left rest wanted capture end.Writ
 stops_reading_in s number segment before after left rest wanted capture (end.Endpoint p) same ends sum h = absurd h
 
 -- what a segment has come to before its sends are made: the records that it took, and what its lanes answered
-pub record HasAnswered (s : Setting) (segment : Segment) (before : Moment) (left : List (List ℕ)) (state : State)
+pub record HasAnswered (s : Setting) (segment : Segment) (before : RunState) (left : List (List ℕ)) (state : State)
     (entries : List Entry) (jobs : List Job) (replies : List Reply) (frames : List (List ℕ)) : Type 0 where
   pub read : frames ≡ take (wanted_by segment.lines) left
   pub woven : IsWoven s.setup s.lanes (asked_in segment.lines frames) before.state state entries (jobs_seen jobs replies)
   pub replies_are : length replies ≡ length jobs
 
-pub stops_sending : (s : Setting) (number : ℕ) (segment : Segment) (before after : Moment) (left frames : List (List ℕ)) (rest : Option (Result Next PcapFault)) (state : State)
+pub stops_sending : (s : Setting) (number : ℕ) (segment : Segment) (before after : RunState) (left frames : List (List ℕ)) (rest : Option (Result Next PcapFault)) (state : State)
     (entries : List Entry) (jobs : List Job) (replies : List Reply) (stop : RunEnd) → SameSink before after → HasAnswered s segment before left state entries jobs replies frames
     → SendsAll s.endpoints (sends_made entries replies) (Err stop) (retired_for s segment before) after.outside.ends → StopsOne s number segment before after left rest stop
 stops_sending s number segment before after left frames rest state entries jobs replies end.NoMemory same h sent = (inr (inl sent), nothing before after same)
@@ -224,25 +224,25 @@ stops_sending s number segment before after left frames rest state entries jobs 
 stops_sending s number segment before after left frames rest state entries jobs replies (end.Capture n reason) same h sent = absurd sent
 
 -- all sends were made
-pub record HasSent (s : Setting) (segment : Segment) (before after : Moment) (entries : List Entry)
+pub record HasSent (s : Setting) (segment : Segment) (before after : RunState) (entries : List Entry)
     (replies : List Reply) (lost : List ℕ) : Type 0 where
   pub sent : SendsAll s.endpoints (sends_made entries replies) (Ok lost) (retired_for s segment before) after.outside.ends
 
-sent_run : (s : Setting) (segment : Segment) (before after : Moment) (left frames : List (List ℕ)) (entries : List Entry) (jobs : List Job) (replies : List Reply) (lost : List ℕ)
+sent_run : (s : Setting) (segment : Segment) (before after : RunState) (left frames : List (List ℕ)) (entries : List Entry) (jobs : List Job) (replies : List Reply) (lost : List ℕ)
     → HasAnswered s segment before left after.state entries jobs replies frames → HasSent s segment before after entries replies lost
     → RunsFrom s segment before left (part_of s segment before entries (jobs_seen jobs replies)) (standing after (drop (wanted_by segment.lines) left))
 sent_run s segment before after left frames entries jobs replies lost h k =
     runs_one s segment before after left frames entries (jobs_seen jobs replies) h.read h.woven
     (k.sent.0 ∙ ap (λ (x : List SentSeen). all_received s.endpoints x (retired_for s segment before)) (sends_are entries jobs replies h.replies_are))
 
-stops_lining : (s : Setting) (number : ℕ) (segment : Segment) (before after : Moment) (left frames : List (List ℕ)) (rest : Option (Result Next PcapFault)) (entries : List Entry)
+stops_lining : (s : Setting) (number : ℕ) (segment : Segment) (before after : RunState) (left frames : List (List ℕ)) (rest : Option (Result Next PcapFault)) (entries : List Entry)
     (jobs : List Job) (replies : List Reply) (lost : List ℕ) → SameSink before after → HasAnswered s segment before left after.state entries jobs replies frames
     → HasSent s segment before after entries replies lost → StopsOne s number segment before after left rest end.NoMemory
 stops_lining s number segment before after left frames rest entries jobs replies lost same h k =
     (inr (inr (_, _, sent_run s segment before after left frames entries jobs replies lost h k, refl)), nothing before after same)
 
 -- its lines were made
-pub record HasLines (s : Setting) (number : ℕ) (segment : Segment) (before : Moment) (entries : List Entry)
+pub record HasLines (s : Setting) (number : ℕ) (segment : Segment) (before : RunState) (entries : List Entry)
     (jobs : List Job) (replies : List Reply) (lost : List ℕ) (retired lines : List (List ℕ)) : Type 0 where
   pub few : length s.endpoints ≤ MAX_ENDPOINTS
   pub retired_are : retired ≡ map ended (map retire_line (retirements s.endpoints segment.retires before.outside.ends))
@@ -250,7 +250,7 @@ pub record HasLines (s : Setting) (number : ℕ) (segment : Segment) (before : M
   pub start_is : start ≡ before.state.place
   pub lines_are : lines ≡ retired ++ map ended (segment_line number start ∷ map entry_line entries ++ map job_line (jobs_seen jobs replies) ++ lost_lines (counts_to lost (length s.endpoints)))
 
-made_text : (s : Setting) (number : ℕ) (segment : Segment) (before after : Moment) (entries : List Entry) (jobs : List Job) (replies : List Reply) (lost : List ℕ) (retired lines : List (List ℕ))
+made_text : (s : Setting) (number : ℕ) (segment : Segment) (before after : RunState) (entries : List Entry) (jobs : List Job) (replies : List Reply) (lost : List ℕ) (retired lines : List (List ℕ))
     → length replies ≡ length jobs → HasSent s segment before after entries replies lost → HasLines s number segment before entries jobs replies lost retired lines
     → joined lines ≡ segment_text number (part_of s segment before entries (jobs_seen jobs replies))
 made_text s number segment before after entries jobs replies lost retired lines long k m =
@@ -261,7 +261,7 @@ made_text s number segment before after entries jobs replies lost retired lines 
     text_is number (part_of s segment before entries seen) retired lines m.retired_are
     (m.lines_are ∙ (λ i. retired ++ map ended (segment_line number (m.start_is i) ∷ map entry_line entries ++ map job_line seen ++ lost_lines (counts i))))
 
-stops_writing : (s : Setting) (number : ℕ) (segment : Segment) (before after : Moment) (left frames : List (List ℕ)) (rest : Option (Result Next PcapFault)) (entries : List Entry)
+stops_writing : (s : Setting) (number : ℕ) (segment : Segment) (before after : RunState) (left frames : List (List ℕ)) (rest : Option (Result Next PcapFault)) (entries : List Entry)
     (jobs : List Job) (replies : List Reply) (lost : List ℕ) (retired lines : List (List ℕ)) (n : ℕ) → HasAnswered s segment before left after.state entries jobs replies frames
     → HasSent s segment before after entries replies lost → HasLines s number segment before entries jobs replies lost retired lines → n < length (joined lines)
     → Appends before.outside.sink.told after.outside.sink.told (take n (joined lines)) → StopsOne s number segment before after left rest end.WriteFault
@@ -278,7 +278,7 @@ stops_writing s number segment before after left frames rest entries jobs replie
 is_left : (later left : List (List ℕ)) (wanted wanted' : ℕ) → later ≡ drop wanted left → wanted ≡ wanted' → later ≡ drop wanted' left
 is_left later left wanted wanted' is sum = is ∙ ap (λ n. drop n left) sum
 
-has_run_one : (s : Setting) (number : ℕ) (segment : Segment) (before after : Moment) (left later frames : List (List ℕ)) (rest : Option (Result Next PcapFault))
+has_run_one : (s : Setting) (number : ℕ) (segment : Segment) (before after : RunState) (left later frames : List (List ℕ)) (rest : Option (Result Next PcapFault))
     (entries : List Entry) (jobs : List Job) (replies : List Reply) (lost : List ℕ) (retired lines : List (List ℕ)) (wanted : ℕ)
     → HasAnswered s segment before left after.state entries jobs replies frames → HasSent s segment before after entries replies lost
     → HasLines s number segment before entries jobs replies lost retired lines → Appends before.outside.sink.told after.outside.sink.told (joined lines)
@@ -294,7 +294,7 @@ has_run_one s number segment before after left later frames rest entries jobs re
 }
 
 -- it was told, and its entries counted
-has_told : (s : Setting) (number : ℕ) (segment : Segment) (before after : Moment) (left later frames : List (List ℕ)) (rest : Option (Result Next PcapFault)) (entries : List Entry)
+has_told : (s : Setting) (number : ℕ) (segment : Segment) (before after : RunState) (left later frames : List (List ℕ)) (rest : Option (Result Next PcapFault)) (entries : List Entry)
     (jobs : List Job) (replies : List Reply) (lost : List ℕ) (retired lines : List (List ℕ)) (wanted : ℕ) → HasAnswered s segment before left after.state entries jobs replies frames
     → HasSent s segment before after entries replies lost → HasLines s number segment before entries jobs replies lost retired lines
     → Appends before.outside.sink.told after.outside.sink.told (joined lines) → wanted ≡ wanted_by segment.lines → GivesFrames wanted before.capture after.capture (Ok frames) left later rest
@@ -306,7 +306,7 @@ has_told s number segment before after left later frames rest entries jobs repli
 }
 
 -- telling it stopped
-stops_telling : (s : Setting) (number : ℕ) (segment : Segment) (before after : Moment) (left frames : List (List ℕ)) (rest : Option (Result Next PcapFault)) (entries : List Entry)
+stops_telling : (s : Setting) (number : ℕ) (segment : Segment) (before after : RunState) (left frames : List (List ℕ)) (rest : Option (Result Next PcapFault)) (entries : List Entry)
     (jobs : List Job) (replies : List Reply) (lost : List ℕ) (retired lines : List (List ℕ)) (stop : RunEnd) → HasAnswered s segment before left after.state entries jobs replies frames
     → HasSent s segment before after entries replies lost → HasLines s number segment before entries jobs replies lost retired lines
     → Tells before.outside.sink after.outside.sink (joined lines) (Err stop) → StopsOne s number segment before after left rest stop
@@ -320,13 +320,13 @@ stops_telling s number segment before after left frames rest entries jobs replie
 stops_telling s number segment before after left frames rest entries jobs replies lost retired lines (end.Capture n reason) h k m t = absurd t
 
 -- what a segment comes to, and what it takes
-abbrev pub OneRead : Setting → ℕ → Segment → Moment → Moment → Option Counts → Option Counts → Result (Unit {0}) RunEnd → Type 0
+abbrev pub OneRead : Setting → ℕ → Segment → RunState → RunState → Option Counts → Option Counts → Result (Unit {0}) RunEnd → Type 0
 OneRead s number segment before after tally tally' result =
     Reads before.capture before.outside.source after.capture after.outside.source result (λ left next rest. OneBy s number segment before after tally tally' result left next rest
     × TakesFrames (wanted_by segment.lines) before.capture after.capture before.outside.source after.outside.source result left)
 
 -- its records were read, and then it stopped
-pub stops_behind : (s : Setting) (number : ℕ) (segment : Segment) (before after : Moment) (tally tally' : Option Counts) (frames : List (List ℕ)) (wanted : ℕ) (stop : RunEnd)
+pub stops_behind : (s : Setting) (number : ℕ) (segment : Segment) (before after : RunState) (tally tally' : Option Counts) (frames : List (List ℕ)) (wanted : ℕ) (stop : RunEnd)
     → wanted ≡ wanted_by segment.lines → ReadsFrames wanted before.capture before.outside.source after.capture after.outside.source (Ok frames)
     → ((left : List (List ℕ)) (rest : Option (Result Next PcapFault)) → frames ≡ take (wanted_by segment.lines) left → StopsOne s number segment before after left rest stop)
     → OneRead s number segment before after tally tally' (Err stop)
@@ -343,7 +343,7 @@ stops_behind s number segment before after tally tally' frames wanted stop sum r
     )
 
 -- it stopped before its records were read
-pub stops_before : (s : Setting) (number : ℕ) (segment : Segment) (before after : Moment) (tally tally' : Option Counts) (stop : RunEnd) → after.outside.source ≡ before.outside.source
+pub stops_before : (s : Setting) (number : ℕ) (segment : Segment) (before after : RunState) (tally tally' : Option Counts) (stop : RunEnd) → after.outside.source ≡ before.outside.source
     → ((left : List (List ℕ)) (rest : Option (Result Next PcapFault)) → StopsOne s number segment before after left rest stop) → OneRead s number segment before after tally tally' (Err stop)
 stops_before s number segment before after tally tally' stop same f =
     let some = some_left before.capture before.outside.source in (
@@ -358,7 +358,7 @@ stops_before s number segment before after tally tally' stop same f =
     )
 
 -- it stopped while they were read
-pub stops_within : (s : Setting) (number : ℕ) (segment : Segment) (before after : Moment) (tally tally' : Option Counts) (wanted : ℕ) (stop : RunEnd)
+pub stops_within : (s : Setting) (number : ℕ) (segment : Segment) (before after : RunState) (tally tally' : Option Counts) (wanted : ℕ) (stop : RunEnd)
     → SameSink before after → after.outside.ends ≡ retired_for s segment before → wanted ≡ wanted_by segment.lines
     → ReadsFrames wanted before.capture before.outside.source after.capture after.outside.source (Err stop) → OneRead s number segment before after tally tally' (Err stop)
 stops_within s number segment before after tally tally' wanted stop same ends sum h = (
@@ -372,7 +372,7 @@ stops_within s number segment before after tally tally' wanted stop same ends su
 )
 
 -- it was told, or telling it stopped
-pub one_told : (s : Setting) (number : ℕ) (segment : Segment) (before after : Moment) (frames : List (List ℕ)) (entries : List Entry) (jobs : List Job) (replies : List Reply) (lost : List ℕ)
+pub one_told : (s : Setting) (number : ℕ) (segment : Segment) (before after : RunState) (frames : List (List ℕ)) (entries : List Entry) (jobs : List Job) (replies : List Reply) (lost : List ℕ)
     (retired lines : List (List ℕ)) (wanted : ℕ) → ((left : List (List ℕ)) → frames ≡ take (wanted_by segment.lines) left → HasAnswered s segment before left after.state entries jobs replies frames)
     → HasSent s segment before after entries replies lost → HasLines s number segment before entries jobs replies lost retired lines → wanted ≡ wanted_by segment.lines
     → ReadsFrames wanted before.capture before.outside.source after.capture after.outside.source (Ok frames) → (tally tally' : Option Counts) (result : Result (Unit {0}) RunEnd)
@@ -399,7 +399,7 @@ sends_as names sends sends' ends ends' after result a e h =
     (subst (λ (x : List SentSeen). SendsAll names x result ends after) a h)
 
 -- those of the marks of entries, and of replies
-pub marks_sent : (trails trails' : List Trail) (marks marks' : List Mark) (entries : List Entry) (rs rs' : List Reply) → trails ≡ trails' → marks ≡ marks' → rs ≡ rs'
+pub marks_sent : (trails trails' : List Trail) (marks marks' : List EntryIndex) (entries : List Entry) (rs rs' : List Reply) → trails ≡ trails' → marks ≡ marks' → rs ≡ rs'
     → AreMarksOf trails' marks' entries → flat_map (sends_in trails) marks ++ flat_map sends_of_reply rs ≡ sends_made entries rs'
 marks_sent trails trails' marks marks' entries rs rs' a b r are =
     (λ i. flat_map (sends_in (a i)) (b i) ++ flat_map sends_of_reply (r i)) ∙ ap (λ x. x ++ flat_map sends_of_reply rs') (sends_told trails' marks' entries are)

@@ -32,7 +32,7 @@ lane_is lanes k l order lt =
 pub rows_below : (d : SetupData) (log : TableId) (count : ℕ) (lanes : List Lane) → AreReady d log count lanes → All (IsCommandBelow count) (front_of lanes)
 rows_below d log count [] ready = let some = ready.some in absurd (omega arith)
 rows_below d log count (lane ∷ lanes) ready =
-    let r : IsReady d log count lane.seat.first lane.seat.pen.front lane = ready.each 0 lane (omega arith) in
+    let r : IsReady d log count lane.seat.base lane.seat.pen.front lane = ready.each 0 lane (omega arith) in
     subst (λ n. All (IsCommandBelow n) lane.seat.pen.front) r.among r.pen.commands
 
 -- each row was accepted at its own place, by the lane that it is of
@@ -53,13 +53,13 @@ clean_front d log count (first ∷ lanes) ready front row rest e =
 pub place_is_front : (d : SetupData) (log : TableId) (count : ℕ) (lanes : List Lane) → AreReady d log count lanes → (state_of d lanes).place ≡ place_of d lanes
 place_is_front d log count [] ready = let some = ready.some in absurd (omega arith)
 place_is_front d log count (lane ∷ lanes) ready =
-    let r : IsReady d log count lane.seat.first lane.seat.pen.front lane = ready.each 0 lane (omega arith) in
+    let r : IsReady d log count lane.seat.base lane.seat.pen.front lane = ready.each 0 lane (omega arith) in
     let front = lane.seat.pen.front in
-    clean_place_from d lane.seat.first front [] front lane.seat.state (clean_front d log count (lane ∷ lanes) ready) (sym (append-nil front)) (whole_applied d lane.seat r.seat.0 r.whole)
-    ∙ sym (place_past_is lane.seat.first.place (length front))
+    clean_place_from d lane.seat.base front [] front lane.seat.state (clean_front d log count (lane ∷ lanes) ready) (sym (append-nil front)) (whole_applied d lane.seat r.seat.0 r.whole)
+    ∙ sym (place_past_is lane.seat.base.place (length front))
 
 -- how far the first lane's seat knows the log
 pub first_place : (d : SetupData) (lanes : List Lane) (lane : Lane) → 0 < length lanes → lane ≡ get_or lanes 0 lane
-    → place_past lane.seat.first.place (length lane.seat.pen.front) ≡ place_of d lanes
+    → place_past lane.seat.base.place (length lane.seat.pen.front) ≡ place_of d lanes
 first_place d [] lane some is = absurd (omega (arith, some))
-first_place d (first ∷ lanes) lane some is = ap (λ (x : Lane). place_past x.seat.first.place (length x.seat.pen.front)) is
+first_place d (first ∷ lanes) lane some is = ap (λ (x : Lane). place_past x.seat.base.place (length x.seat.pen.front)) is

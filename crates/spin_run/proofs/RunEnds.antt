@@ -25,7 +25,7 @@ use Rattle.spin_run.specs.Records.{AreRecords, HasRecords, room_of}
 use Rattle.spin_run.specs.Ends.{RunSeen, HasRun, retired_before, IsReadWhole, IsWhole, end_text, Writes, WritesInto, EndsBy}
 use Rattle.spin_run.specs.Inner.Reading.{given_by, IsCutRest, GivesRest}
 use Rattle.spin_run.specs.Inner.Ending.{AreCounts, GivesCounts, Finishes}
-use Rattle.spin_run.specs.Inner.Steps.{Moment, standing, Stands, HasToldAll, WalksBy}
+use Rattle.spin_run.specs.Inner.Steps.{RunState, standing, Stands, HasToldAll, WalksBy}
 use Rattle.spin_run.specs.Summaries.{Counts, counts_in}
 use Rattle.spin_run.specs.Inner.Tallies.{Tells}
 use Rattle.spin_run.proofs.PartCounts.{tallies_same}
@@ -108,11 +108,11 @@ frames_are capture s frames (Some (Ok (next.Cut n))) used left told r h = refl
 frames_are capture s frames (Some (Ok next.Packet)) used left told r h = absurd h
 frames_are capture s frames (Some (Err wrong)) used left told r h = absurd h
 
-abbrev history_of : (script : ScriptData) (capture : Option ReaderState) (frames left : List (List ℕ)) (rest : Option (Result Next PcapFault)) (before : RunSeen) (now : Moment)
+abbrev history_of : (script : ScriptData) (capture : Option ReaderState) (frames left : List (List ℕ)) (rest : Option (Result Next PcapFault)) (before : RunSeen) (now : RunState)
     → Stands script capture frames left before (length script.segments) now → Option CaptureCounts → HistorySeen
 history_of script capture frames left rest before now s told = record { segments = s.parts; end = now.state.place; capture = told }
 
-is_whole : (script : ScriptData) (capture : Option ReaderState) (frames left : List (List ℕ)) (rest : Option (Result Next PcapFault)) (before : RunSeen) (now : Moment) (told : Option CaptureCounts)
+is_whole : (script : ScriptData) (capture : Option ReaderState) (frames left : List (List ℕ)) (rest : Option (Result Next PcapFault)) (before : RunSeen) (now : RunState) (told : Option CaptureCounts)
     → AreRecords capture before.source frames rest → (s : Stands script capture frames left before (length script.segments) now)
     → AreCounts (given_by now.capture) (length left) rest told → IsWhole script frames rest before.ends now.outside.ends (history_of script capture frames left rest before now s told)
 is_whole script capture frames left rest before now told r s h =
@@ -146,7 +146,7 @@ none_retired : (script : ScriptData) (ends : List NamedEnd) → retired_before s
 none_retired script ends = ap (λ (o : Option Segment). option_map_or (λ (t : Segment). all_retired script.endpoints t.retires ends) o ends) (behind_all script.segments)
 
 pub ends_whole : (script : ScriptData) (capture : Option ReaderState) (frames left : List (List ℕ)) (rest : Option (Result Next PcapFault))
-    (before : RunSeen) (now : Moment) (log_length : ℕ) (after : RunSeen) → after.ends ≡ now.outside.ends → log_length ≡ now.state.place
+    (before : RunSeen) (now : RunState) (log_length : ℕ) (after : RunSeen) → after.ends ≡ now.outside.ends → log_length ≡ now.state.place
     → AreRecords capture before.source frames rest → (s : Stands script capture frames left before (length script.segments) now)
     → Finishes log_length now.capture now.outside.sink after.sink (Ok tt) left rest → EndsBy script (room_of capture) frames rest before after end.Whole
 ends_whole script capture frames left rest before now log_length after ends place r s h =
@@ -156,7 +156,7 @@ ends_whole script capture frames left rest before now log_length after ends plac
     subst (λ (x : List ℕ). Writes before after x) (sym (report_more history)) (writes_more before now.outside after (front_text s.parts) (end_text history) s.text line) in
     (history, subst (λ (x : List NamedEnd). IsWhole script frames rest before.ends x history) (sym ends) (is_whole script capture frames left rest before now h.0 r s h.1), text)
 
-pub ends_stopped : (script : ScriptData) (capture : Option ReaderState) (frames left : List (List ℕ)) (rest : Option (Result Next PcapFault)) (before : RunSeen) (now : Moment)
+pub ends_stopped : (script : ScriptData) (capture : Option ReaderState) (frames left : List (List ℕ)) (rest : Option (Result Next PcapFault)) (before : RunSeen) (now : RunState)
     (log_length : ℕ) (after : RunSeen) (stop : RunEnd) → after.ends ≡ now.outside.ends → log_length ≡ now.state.place → AreRecords capture before.source frames rest
     → AreRecords now.capture now.outside.source left rest → (s : Stands script capture frames left before (length script.segments) now)
     → Finishes log_length now.capture now.outside.sink after.sink (Err stop) left rest → EndsBy script (room_of capture) frames rest before after stop
@@ -210,7 +210,7 @@ ends_stopped script capture frames left rest before now log_length after (end.En
 -- ---- how the walk ends
 
 pub walks_whole : (script : ScriptData) (capture : Option ReaderState) (frames left : List (List ℕ)) (rest : Option (Result Next PcapFault)) (before : RunSeen)
-    (now : Moment) (log_length : ℕ) (after : RunSeen) (tally tally' tally'' : Option Counts) → after.ends ≡ now.outside.ends → log_length ≡ now.state.place
+    (now : RunState) (log_length : ℕ) (after : RunSeen) (tally tally' tally'' : Option Counts) → after.ends ≡ now.outside.ends → log_length ≡ now.state.place
     → AreRecords capture before.source frames rest → (s : HasToldAll script capture frames left before (length script.segments) now tally tally')
     → Finishes log_length now.capture now.outside.sink after.sink (Ok tt) left rest → tally'' ≡ tally' → WalksBy script (room_of capture) frames rest before tally after tally'' end.Whole
 unfolding ends_whole
@@ -219,7 +219,7 @@ walks_whole script capture frames left rest before now log_length after tally ta
     (e.0, e.1, e.2, tallies_same tally tally' tally'' (counts_in (flat_map (λ (p : SegmentSeen). p.entries) s.stands.parts)) s.counted same)
 
 pub walks_stopped : (script : ScriptData) (capture : Option ReaderState) (frames left : List (List ℕ)) (rest : Option (Result Next PcapFault)) (before : RunSeen)
-    (now : Moment) (log_length : ℕ) (after : RunSeen) (tally tally' : Option Counts) (stop : RunEnd) → after.ends ≡ now.outside.ends → log_length ≡ now.state.place
+    (now : RunState) (log_length : ℕ) (after : RunSeen) (tally tally' : Option Counts) (stop : RunEnd) → after.ends ≡ now.outside.ends → log_length ≡ now.state.place
     → AreRecords capture before.source frames rest → AreRecords now.capture now.outside.source left rest → (s : Stands script capture frames left before (length script.segments) now)
     → Finishes log_length now.capture now.outside.sink after.sink (Err stop) left rest → WalksBy script (room_of capture) frames rest before tally after tally' stop
 walks_stopped script capture frames left rest before now log_length after tally tally' end.Whole ends place r r' s h = absurd h.0

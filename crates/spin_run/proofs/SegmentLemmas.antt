@@ -16,7 +16,7 @@ use Rattle.spin_log.specs.Pens.{PenValue, StandsIn, IsPen}
 use Rattle.spin_log.proofs.RowLists.{rows_of-append}
 use Rattle.spin_table.specs.Setups.{SetupData}
 use Rattle.spin_table.specs.States.{State}
-use Rattle.spin_table.specs.Soundness.{IsSound}
+use Rattle.spin_table.specs.Soundness.{IsSoundVersion}
 use Rattle.spin_proto.specs.declared.deed.Job.{Job}
 use Rattle.spin_proto.specs.Replies.{BelongsTo}
 use Rattle.spin_proto.specs.declared.reply.Reply.{Reply}
@@ -45,7 +45,7 @@ use Rattle.spin_run.specs.declared.lane.Lane.{Lane}
 use Rattle.spin_run.specs.Lanes.{seat_answer, rows_in, job_asked, jobs_of, AreJobsOf, RanLane, HadMemory, kept_with}
 use Rattle.spin_run.specs.Segments.{front_of, first_of, state_of, place_of, IsAtRest, AreAtRest, IsReady, AreReady, IsFitSegment, HaveRun, jobs_seen, kept_at}
 use Rattle.spin_run.specs.Meetings.{AreOfHub, HasMet, HaveMet}
-use Rattle.spin_run.specs.declared.trail.Mark.{Mark}
+use Rattle.spin_run.specs.declared.trail.EntryIndex.{EntryIndex}
 use Rattle.spin_run.specs.declared.trail.Trail.{Trail}
 use Rattle.spin_run.specs.Trails.{IsMarkOf, IsTrailOf, none_left, trail_of, unmarked_trail, AreMarksOf}
 use Rattle.spin_run.specs.Inner.Weaves.{AreOfTheirLanes, IsInterleaving, AreMarksInOrder, AreJobsInOrder, IsEmptied, unmarked, marks_by_lane, jobs_by_lane}
@@ -70,7 +70,7 @@ front_of_first : (xs : List Lane) (l : Lane) → 0 < length xs → front_of xs �
 front_of_first [] l lt = absurd (omega arith)
 front_of_first (x ∷ xs) l lt = refl
 
-first_of_first : (d : SetupData) (xs : List Lane) (l : Lane) → 0 < length xs → first_of d xs ≡ (get_or xs 0 l).seat.first
+first_of_first : (d : SetupData) (xs : List Lane) (l : Lane) → 0 < length xs → first_of d xs ≡ (get_or xs 0 l).seat.base
 first_of_first d [] l lt = absurd (omega arith)
 first_of_first d (x ∷ xs) l lt = refl
 
@@ -251,7 +251,7 @@ module _ (d : SetupData) (log : TableId) (count : ℕ) (lines : List Line) (reco
 
     -- ---- the trails and the jobs that are woven
 
-    abbrev marks : List (List Mark)
+    abbrev marks : List (List EntryIndex)
     marks = marks_by_lane met
 
     abbrev jobs : List (List Job)
@@ -263,7 +263,7 @@ module _ (d : SetupData) (log : TableId) (count : ℕ) (lines : List Line) (reco
     jobs_count : length jobs ≡ length before
     jobs_count = length-map met (λ (x : Lane). x.jobs) ∙ met_count
 
-    marks_are : (k : ℕ) (e : List Mark) → k < length before → get_or marks k e ≡ (get_or ran k l).trail.marks
+    marks_are : (k : ℕ) (e : List EntryIndex) → k < length before → get_or marks k e ≡ (get_or ran k l).trail.marks
     marks_are k e lt = get_or-map (λ (x : Lane). x.trail.marks) met k l e (omega (arith, met_count)) ∙ ap (λ (t : Trail). t.marks) (lane_met k lt).read.trail
 
     -- the trail of each lane is that of what it has given
@@ -283,11 +283,11 @@ module _ (d : SetupData) (log : TableId) (count : ℕ) (lines : List Line) (reco
         let r = lane_ran k lt in
         trail_in_order k (trail_at k) (asked_of_lane k asked) r.left r.ran.rising (trail_lane k lt) r.deeds_are (lane_rises k lines records f.fit.numbers)
 
-    pub marks_lanes : AreOfTheirLanes (λ (m : Mark). m.lane) marks
+    pub marks_lanes : AreOfTheirLanes (λ (m : EntryIndex). m.lane) marks
     marks_lanes k e lt =
         let at : k < length before = omega (arith, marks_count) in
         let t = (get_or ran k l).trail in
-        subst (All (λ (m : Mark). m.lane ≡ k)) (sym (marks_are k e at))
+        subst (All (λ (m : EntryIndex). m.lane ≡ k)) (sym (marks_are k e at))
         (lanes_of_marks (IsMarkOf t) (λ m e is. is.lane) (λ n. n ≡ k) t.marks (trail_at k) (told_at k at).marks (trail_lane k at))
 
     pub marks_order : All AreMarksInOrder marks
@@ -322,7 +322,7 @@ module _ (d : SetupData) (log : TableId) (count : ℕ) (lines : List Line) (reco
         let rows = rows_past base.place job.place in
         let same : take rows (front_of met) ≡ take rows (pen_ran k).front =
         ap (take rows) (begins k lt) ∙ rows_stand base.place job.place (pen_ran k).front (lane_met k lt).read.reads.0 (jobs_reach k lt i j in') in
-        subst (λ (rows : List Row). IsReplayFrom d base rows (arc_value job.version)) (sym same) ((lane_ran k lt).jobs_are.versions i j in')
+        subst (λ (rows : List Row). IsReplayFrom d base rows (arc_value job.version).state) (sym same) ((lane_ran k lt).jobs_are.versions i j in')
 
     -- ---- the entries whose marks are woven
 
@@ -349,28 +349,28 @@ module _ (d : SetupData) (log : TableId) (count : ℕ) (lines : List Line) (reco
         (mark_in (get_or ran k l).trail (trail_of trails k) (ap (λ (t : Trail). t.text) at ∙ ap (λ (t : Trail). t.text) read) (ap (λ (t : Trail). t.sends) at ∙ ap (λ (t : Trail). t.sends) read))
         (get_or ran k l).trail.marks (trail_at k) (told_at k lt).marks
 
-    module _ (woven_marks : List Mark) (all : IsInterleaving (λ (m : Mark). m.lane) marks woven_marks) where
-      pub marks_under : All (λ (m : Mark). m.lane < length before) woven_marks
-      marks_under = subst (λ (n : ℕ). All (λ (m : Mark). m.lane < n) woven_marks) marks_count all.lanes_are
+    module _ (woven_marks : List EntryIndex) (all : IsInterleaving (λ (m : EntryIndex). m.lane) marks woven_marks) where
+      pub marks_under : All (λ (m : EntryIndex). m.lane < length before) woven_marks
+      marks_under = subst (λ (n : ℕ). All (λ (m : EntryIndex). m.lane < n) woven_marks) marks_count all.lanes_are
 
-      each_lane : (k : ℕ) → AllZip (IsMarkOf (trail_of trails k)) (filter (λ (m : Mark). m.lane == k) woven_marks) (trail_at k)
+      each_lane : (k : ℕ) → AllZip (IsMarkOf (trail_of trails k)) (filter (λ (m : EntryIndex). m.lane == k) woven_marks) (trail_at k)
       each_lane k = go (ltb k (length before)) refl
         where
-          go : (b : Bool) → ltb k (length before) ≡ b → AllZip (IsMarkOf (trail_of trails k)) (filter (λ (m : Mark). m.lane == k) woven_marks) (trail_at k)
+          go : (b : Bool) → ltb k (length before) ≡ b → AllZip (IsMarkOf (trail_of trails k)) (filter (λ (m : EntryIndex). m.lane == k) woven_marks) (trail_at k)
           go true e =
               let lt = ltb-true k (length before) e in
-              subst (λ (ms : List Mark). AllZip (IsMarkOf (trail_of trails k)) ms (trail_at k)) (sym (all.each k [] (omega (arith, lt, marks_count)) ∙ marks_are k [] lt)) (told_in k lt)
+              subst (λ (ms : List EntryIndex). AllZip (IsMarkOf (trail_of trails k)) ms (trail_at k)) (sym (all.each k [] (omega (arith, lt, marks_count)) ∙ marks_are k [] lt)) (told_in k lt)
           go false e =
               let le = ltb-false k (length before) e in
-              subst (λ (x : List Mark × List Entry). AllZip (IsMarkOf (trail_of trails k)) x.0 x.1)
+              subst (λ (x : List EntryIndex × List Entry). AllZip (IsMarkOf (trail_of trails k)) x.0 x.1)
               (λ i. (
-                sym (filter_beyond (λ (m : Mark). m.lane) (length before) k woven_marks (λ lt. absurd (omega (arith, lt, le))) marks_under) i,
+                sym (filter_beyond (λ (m : EntryIndex). m.lane) (length before) k woven_marks (λ lt. absurd (omega (arith, lt, le))) marks_under) i,
                 sym
                     (get_or_past given k [] (omega (arith, le, f.have_run.given_count))) i,
               )) tt
 
-      pub lifted : Lifted (λ (m : Mark). m.lane) (λ (e : Entry). e.lane) (λ k. IsMarkOf (trail_of trails k)) (λ k m e is. sym is.lane) trail_at woven_marks
-      lifted = lift (λ (m : Mark). m.lane) (λ (e : Entry). e.lane) (λ k. IsMarkOf (trail_of trails k)) (λ k m e is. sym is.lane) woven_marks trail_at each_lane
+      pub lifted : Lifted (λ (m : EntryIndex). m.lane) (λ (e : Entry). e.lane) (λ k. IsMarkOf (trail_of trails k)) (λ k m e is. sym is.lane) trail_at woven_marks
+      lifted = lift (λ (m : EntryIndex). m.lane) (λ (e : Entry). e.lane) (λ k. IsMarkOf (trail_of trails k)) (λ k m e is. sym is.lane) woven_marks trail_at each_lane
 
     module _ (entries : List Entry) (woven_jobs : List Job) where
       -- what the weave gave
@@ -382,7 +382,7 @@ module _ (d : SetupData) (log : TableId) (count : ℕ) (lines : List Line) (reco
         pub jobs_rise : AreJobsInOrder woven_jobs
 
       -- it is so of the entries of the woven marks
-      pub wove : (woven_marks : List Mark) → AreMarksOf trails woven_marks entries → ((k : ℕ) → of_lane k entries ≡ trail_at k) → All (λ (m : Mark). m.lane < length before) woven_marks
+      pub wove : (woven_marks : List EntryIndex) → AreMarksOf trails woven_marks entries → ((k : ℕ) → of_lane k entries ≡ trail_at k) → All (λ (m : EntryIndex). m.lane < length before) woven_marks
           → AreMarksInOrder woven_marks → IsInterleaving (λ (j : Job). j.lane) jobs woven_jobs → AreJobsInOrder woven_jobs → Wove
       wove woven_marks are each lanes order of_jobs rise = record {
         each_trail = λ k lt. each k;
@@ -425,8 +425,8 @@ module _ (d : SetupData) (log : TableId) (count : ℕ) (lines : List Line) (reco
         jobs_left = record {
           asked = jobs_told;
           versions = of_all_jobs (IsOfLog d base (front_of met)) jobs_of_log;
-          sound = of_all_jobs (λ (j : Job). IsSound d (arc_value j.version)) (λ k lt. (lane_ran k lt).jobs_are.sound);
-          calls = of_all_jobs (λ (j : Job). BelongsTo (arc_value j.version) j.call) (λ k lt. (lane_ran k lt).jobs_are.calls);
+          sound = of_all_jobs (λ (j : Job). IsSoundVersion d (arc_value j.version)) (λ k lt. (lane_ran k lt).jobs_are.sound);
+          calls = of_all_jobs (λ (j : Job). BelongsTo (arc_value j.version).state j.call) (λ k lt. (lane_ran k lt).jobs_are.calls);
         }
 
         -- the front is the one before and the rows that the entries published
@@ -479,7 +479,7 @@ module _ (d : SetupData) (log : TableId) (count : ℕ) (lines : List Line) (reco
 
       pub base_after : first_of d after ≡ base
       base_after =
-          first_of_first d after l (omega (arith, after_count, f.ready.some)) ∙ ap (λ (s : SeatValue). s.first) (seat_after 0 f.ready.some) ∙ (seat_met 0 f.ready.some).1
+          first_of_first d after l (omega (arith, after_count, f.ready.some)) ∙ ap (λ (s : SeatValue). s.base) (seat_after 0 f.ready.some) ∙ (seat_met 0 f.ready.some).1
 
       pub place_after : place_of d after ≡ place_past base.place (length (front_of met))
       place_after = λ i. place_past (base_after i).place (length (front_after i))
@@ -519,7 +519,7 @@ module _ (d : SetupData) (log : TableId) (count : ℕ) (lines : List Line) (reco
             among = ap (λ (s : SeatValue). s.pen.lanes) seat ∙ ap (λ (p : PenValue). p.lanes) m.read.reads.1 ∙ same.1 ∙ r.among;
             pen = subst (λ (s : SeatValue). IsPen s.pen) (sym seat) m.settled.pen;
             seat = subst (λ (x : State × SeatValue). IsSeatFrom d x.0 x.1) (λ i. (sym base_after i, sym seat i)) (seat_met k lt);
-            whole = ap (λ (s : SeatValue). s.kept) seat ∙ m.settled.whole;
+            whole = ap (λ (s : SeatValue). s.pending) seat ∙ m.settled.whole;
             front_is = ap (λ (s : SeatValue). s.pen.front) seat ∙ m.front_is ∙ sym front_after;
             trail = none.0;
             jobs_are = none.1;
@@ -590,8 +590,8 @@ rest_of_ready d log count lanes r = record {
 pub ready_state : (d : SetupData) (log : TableId) (count : ℕ) (lanes : List Lane) (s : State) → AreReady d log count lanes → IsReplayFrom d (first_of d lanes) (front_of lanes) s → s ≡ state_of d lanes
 ready_state d log count [] s r replay = let some = r.some in absurd (omega arith)
 ready_state d log count (lane ∷ lanes) s r replay =
-    let one : IsReady d log count lane.seat.first lane.seat.pen.front lane = r.each 0 lane (omega arith) in
-    IsReplayFrom-one d lane.seat.first lane.seat.pen.front s lane.seat.state replay (whole_applied d lane.seat one.seat.0 one.whole)
+    let one : IsReady d log count lane.seat.base lane.seat.pen.front lane = r.each 0 lane (omega arith) in
+    IsReplayFrom-one d lane.seat.base lane.seat.pen.front s lane.seat.state replay (whole_applied d lane.seat one.seat.0 one.whole)
 
 pub woven_ready : (d : SetupData) (log : TableId) (count : ℕ) (lanes : List Lane) (asked : List Numbered) (after : State) (entries : List Entry) (jobs : List JobSeen) → AreReady d log count lanes
     → ((before : State) × IsReplayFrom d (first_of d lanes) (front_of lanes) before × IsWoven d (length lanes) asked before after entries jobs) → IsWoven d (length lanes) asked (state_of d lanes) after entries jobs

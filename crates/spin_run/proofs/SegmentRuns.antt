@@ -27,7 +27,7 @@ use Rattle.spin_run.specs.declared.end.RunEnd.TheVariants as end
 use Rattle.spin_run.specs.Records.{AreRecords, room_of, IsTakenPast}
 use Rattle.spin_run.specs.Ends.{RunSeen, HasRun, IsReading, retired_before, segment_text, wanted_to, Writes, WritesInto, EndsWithin, TakesFor, EndsBy, CountsBy, seen}
 use Rattle.spin_run.specs.Inner.Reading.{given_by, IsGoing, HasTaken, Reads, TakesFrames}
-use Rattle.spin_run.specs.Inner.Steps.{Moment, standing, setting_of, RunsFrom, retired_for, HasRunOne, HasTold, StopsOne, Stands, HasToldAll, WalksBy, AllBy, RunsAll, Setting}
+use Rattle.spin_run.specs.Inner.Steps.{RunState, standing, setting_of, RunsFrom, retired_for, HasRunOne, HasTold, StopsOne, Stands, HasToldAll, WalksBy, AllBy, RunsAll, Setting}
 use Rattle.spin_run.specs.Summaries.{Counts, counts_in}
 use Rattle.spin_run.specs.Inner.Tallies.{TalliesOn}
 use Rattle.spin_run.proofs.PartCounts.{tallies_none, tallies_more, entries_more}
@@ -95,11 +95,11 @@ wanted_next script count segment there =
     ∙ sum_by_push (λ (t : Segment). wanted_by t.lines) (take count script.segments) segment
 
 -- how many records are left, where all wanted so far were there
-left_long : (script : ScriptData) (reader : Option ReaderState) (frames left : List (List ℕ)) (before : RunSeen) (count : ℕ) (now : Moment)
+left_long : (script : ScriptData) (reader : Option ReaderState) (frames left : List (List ℕ)) (before : RunSeen) (count : ℕ) (now : RunState)
     → Stands script reader frames left before count now → length left ≡ length frames - wanted_to script count
 left_long script reader frames left before count now s = ap length s.left_is ∙ length-drop (wanted_to script count) frames
 
-pub stands_start : (script : ScriptData) (reader : Option ReaderState) (frames : List (List ℕ)) (before : RunSeen) (now : Moment) → now.capture ≡ reader
+pub stands_start : (script : ScriptData) (reader : Option ReaderState) (frames : List (List ℕ)) (before : RunSeen) (now : RunState) → now.capture ≡ reader
     → now.outside.source ≡ before.source → now.state ≡ (start_with script frames before.ends).state → now.outside.ends ≡ before.ends
     → given_by now.capture ≡ 0 → Writes before now.outside (ended first_line) → Stands script reader frames frames before 0 now
 stands_start script reader frames before now same source state ends given text = record {
@@ -112,7 +112,7 @@ stands_start script reader frames before now same source state ends given text =
   going = λ g. given;
 }
 
-pub stands_next : (script : ScriptData) (reader : Option ReaderState) (frames left later : List (List ℕ)) (before : RunSeen) (count : ℕ) (segment : Segment) (now next : Moment)
+pub stands_next : (script : ScriptData) (reader : Option ReaderState) (frames left later : List (List ℕ)) (before : RunSeen) (count : ℕ) (segment : Segment) (now next : RunState)
     → slice_get script.segments count ≡ Some segment → (s : Stands script reader frames left before count now) → HasRunOne (setting_of script) count segment now next left later
     → TakesFrames {T = Unit {0}} (wanted_by segment.lines) now.capture next.capture now.outside.source next.outside.source (Ok tt) left → Stands script reader frames later before (count + 1) next
 stands_next script reader frames left later before count segment now next there s one took =
@@ -142,7 +142,7 @@ stands_next script reader frames left later before count segment now next there 
     }
 
 -- nothing was run, and nothing counted
-pub told_start : (script : ScriptData) (reader : Option ReaderState) (frames : List (List ℕ)) (before : RunSeen) (now : Moment) (tally tally' : Option Counts)
+pub told_start : (script : ScriptData) (reader : Option ReaderState) (frames : List (List ℕ)) (before : RunSeen) (now : RunState) (tally tally' : Option Counts)
     → now.capture ≡ reader → now.outside.source ≡ before.source → now.state ≡ (start_with script frames before.ends).state → now.outside.ends ≡ before.ends
     → given_by now.capture ≡ 0 → Writes before now.outside (ended first_line) → tally' ≡ tally → HasToldAll script reader frames frames before 0 now tally tally'
 unfolding stands_start
@@ -153,7 +153,7 @@ told_start script reader frames before now tally tally' same source state ends g
 
 -- one segment more was run, and its entries counted
 pub told_next : (script : ScriptData) (reader : Option ReaderState) (frames left later : List (List ℕ)) (before : RunSeen) (count : ℕ)
-    (segment : Segment) (now next : Moment) (tally tally' tally'' : Option Counts) → slice_get script.segments count ≡ Some segment
+    (segment : Segment) (now next : RunState) (tally tally' tally'' : Option Counts) → slice_get script.segments count ≡ Some segment
     → HasToldAll script reader frames left before count now tally tally' → HasTold (setting_of script) count segment now next tally' tally'' left later
     → TakesFrames {T = Unit {0}} (wanted_by segment.lines) now.capture next.capture now.outside.source next.outside.source (Ok tt) left
     → HasToldAll script reader frames later before (count + 1) next tally tally''
@@ -176,7 +176,7 @@ reads_so P Q before s after s' (Ok done) f h = λ left rest r. let one = h left 
 reads_so P Q before s after s' (Err stop) f h = (h.0, h.1, h.2, f h.0 [] h.1 h.3)
 
 -- what was run in a setting is a run of the script whose setting it is
-pub runs_script : (script : ScriptData) (s : Setting) (reader : Option ReaderState) (start : RunSeen) (now : Moment) (tally counted : Option Counts)
+pub runs_script : (script : ScriptData) (s : Setting) (reader : Option ReaderState) (start : RunSeen) (now : RunState) (tally counted : Option Counts)
     (capture : Option ReaderState) (after : RunSeen) (tally' : Option Counts) (result : Result ℕ RunEnd) → s ≡ setting_of script
     → RunsAll s script.segments now counted capture after tally' result → ((frames : List (List ℕ)) → HasToldAll script reader frames frames start 0 now tally counted)
     → Reads now.capture now.outside.source capture after.source result (AllBy script reader start tally capture after tally' result)
@@ -189,7 +189,7 @@ retired_is : (script : ScriptData) (count : ℕ) (segment : Segment) (ends : Lis
     → all_retired script.endpoints segment.retires ends ≡ retired_before script count ends
 retired_is script count segment ends there = ap (λ (o : Option Segment). option_map_or (λ (t : Segment). all_retired script.endpoints t.retires ends) o ends) (sym there)
 
-within : (script : ScriptData) (count : ℕ) (segment : Segment) (now : Moment) (left : List (List ℕ)) (ends : List NamedEnd)
+within : (script : ScriptData) (count : ℕ) (segment : Segment) (now : RunState) (left : List (List ℕ)) (ends : List NamedEnd)
     → slice_get script.segments count ≡ Some segment → ((ends ≡ now.outside.ends)
     ⊎ ((ends ≡ retired_for (setting_of script) segment now) ⊎ ((part : SegmentSeen) × (next : RunPoint) × RunsFrom (setting_of script) segment now left part next × (ends ≡ next.ends))))
     → EndsWithin script count (standing now left) ends
@@ -198,7 +198,7 @@ within script count segment now left ends there (inr (inl retired)) = inr (inl (
 within script count segment now left ends there (inr (inr all)) = inr (inr (all.0, all.1, record { segment = segment; there = there; run = all.2 }, all.3))
 
 -- what was taken by a run that stopped in a segment
-takes_for : (script : ScriptData) (reader : Option ReaderState) (frames left : List (List ℕ)) (before : RunSeen) (count : ℕ) (segment : Segment) (now next : Moment) (stop : RunEnd)
+takes_for : (script : ScriptData) (reader : Option ReaderState) (frames left : List (List ℕ)) (before : RunSeen) (count : ℕ) (segment : Segment) (now next : RunState) (stop : RunEnd)
     → slice_get script.segments count ≡ Some segment → Stands script reader frames left before count now
     → TakesFrames {T = Unit {0}} (wanted_by segment.lines) now.capture next.capture now.outside.source next.outside.source (Err stop) left
     → TakesFor script (room_of reader) frames count before next.outside
@@ -215,7 +215,7 @@ has_rest None source left rest going r = absurd going
 has_rest (Some reader) source left rest going r = λ none. absurd (let e : Some r.0 ≡ None = sym r.1 ∙ none in cc (e))
 
 -- where the next record is read
-pub reading : (script : ScriptData) (reader : Option ReaderState) (frames left : List (List ℕ)) (rest : Option (Result Next PcapFault)) (before : RunSeen) (count : ℕ) (now : Moment)
+pub reading : (script : ScriptData) (reader : Option ReaderState) (frames left : List (List ℕ)) (rest : Option (Result Next PcapFault)) (before : RunSeen) (count : ℕ) (now : RunState)
     → Stands script reader frames left before count now → AreRecords now.capture now.outside.source left rest → IsGoing now.capture
     → ((wanted_to script count + 1 ≤ wanted_to script (count + 1)) ⊎ (count ≡ length script.segments)) → IsReading script frames rest count
 reading script reader frames left rest before count now s r going at = record {
@@ -227,7 +227,7 @@ reading script reader frames left rest before count now s r going at = record {
 
 -- the end of a run that stopped in a segment
 pub one_ends : (script : ScriptData) (reader : Option ReaderState) (frames left : List (List ℕ)) (rest : Option (Result Next PcapFault)) (before : RunSeen) (count : ℕ)
-    (segment : Segment) (now next : Moment) (stop : RunEnd) → slice_get script.segments count ≡ Some segment → Stands script reader frames left before count now
+    (segment : Segment) (now next : RunState) (stop : RunEnd) → slice_get script.segments count ≡ Some segment → Stands script reader frames left before count now
     → AreRecords now.capture now.outside.source left rest → StopsOne (setting_of script) count segment now next left rest stop
     → TakesFrames {T = Unit {0}} (wanted_by segment.lines) now.capture next.capture now.outside.source next.outside.source (Err stop) left
     → EndsBy script (room_of reader) frames rest before next.outside stop
@@ -324,7 +324,7 @@ fresh_given (Some reader) h = h.0
 
 -- which is the end of the walk, as no segment stops whole
 pub one_walks : (script : ScriptData) (past : ℕ) (frames : List (List ℕ)) (rest : Option (Result Next PcapFault)) (before after : RunSeen)
-    (tally tally' : Option Counts) (s : Setting) (number : ℕ) (segment : Segment) (now next : Moment) (left : List (List ℕ)) (stop : RunEnd)
+    (tally tally' : Option Counts) (s : Setting) (number : ℕ) (segment : Segment) (now next : RunState) (left : List (List ℕ)) (stop : RunEnd)
     → StopsOne s number segment now next left rest stop → EndsBy script past frames rest before after stop → WalksBy script past frames rest before tally after tally' stop
 one_walks script past frames rest before after tally tally' s number segment now next left end.Whole h e = absurd h
 one_walks script past frames rest before after tally tally' s number segment now next left end.ReadFault h e = e

@@ -22,7 +22,7 @@ use Rattle.spin_proto.specs.contracts.deed.Job as Job
 use Rattle.spin_jobs.proofs.ThreadCrossing.{Shared, setup_sync, version_send, version_sync}
 use Rattle.spin_report.specs.contracts.entry.Entry as Entry
 use Rattle.spin_run.specs.contracts.lane.Lane as Lane
-use Rattle.spin_run.specs.contracts.trail.Mark as Mark
+use Rattle.spin_run.specs.contracts.trail.EntryIndex as EntryIndex
 use Rattle.spin_run.specs.contracts.trail.Sending as Sending
 use Rattle.spin_run.proofs.trail.Sending.TheSendSync as sending
 use Rattle.spin_run.specs.contracts.trail.Trail as Trail
@@ -66,13 +66,13 @@ seat_send = search (pen.the_send, version_send, version_sync, crosses, sendable)
 job_send : IsSend Job.the_row
 job_send = search (version_send, version_sync, crosses, sendable) depth 60 fits 20000
 
-mark_send : IsSend Mark.the_row
+mark_send : IsSend EntryIndex.the_row
 mark_send = search (crosses, sendable) depth 60 fits 20000
 
 trail_send : IsSend (Trail.the_field).row
 trail_send =
     struct_send (shape Trail.the_type)
-    (list.the_send u8 (search sendable), (list.the_send Sending.the_row sending.the_send, (list.the_send Mark.the_row mark_send, tt)))
+    (list.the_send u8 (search sendable), (list.the_send Sending.the_row sending.the_send, (list.the_send EntryIndex.the_row mark_send, tt)))
 
 entry_send : IsSend Entry.the_row
 entry_send = search (crosses, sendable) depth 60 fits 20000

@@ -8,7 +8,7 @@ use Rattle.spin_word.specs.declared.work.Work.TheVariants as work
 use Rattle.spin_log.specs.Pens.{PenValue, IsSamePen}
 use Rattle.spin_table.specs.Setups.{SetupData}
 use Rattle.spin_table.specs.States.{State}
-use Rattle.spin_table.specs.Soundness.{IsSound}
+use Rattle.spin_table.specs.Soundness.{IsSoundVersion}
 use Rattle.spin_table.specs.declared.refusal.Verdicted.{Verdicted}
 use Rattle.spin_proto.specs.declared.deed.JobCall.{JobCall}
 use Rattle.spin_proto.specs.declared.deed.Job.{Job}
@@ -39,7 +39,7 @@ IsFresh lane = IsNew lane.trail × (lane.jobs ≡ []) × (lane.stop ≡ None)
 
 -- ---- an entry as the answer of a seat
 
-abbrev pub said_of : What → seat.Said
+abbrev pub said_of : What → seat.Exchange
 said_of (what.Command command verdict) = seat.command command verdict
 said_of (what.Deed deed reply) = seat.deed deed reply
 
@@ -92,10 +92,10 @@ jobs_of entry = jobs_from entry 0 (answer_calls entry.what)
 pub record AreJobsOf (d : SetupData) (first : State) (entries : List Entry) (front : List Row) (jobs : List Job)
     : Type 0 where
   pub asked : map job_asked jobs ≡ flat_map jobs_of entries
-  pub versions : All (λ job. IsReplayFrom d first (take (rows_past first.place job.place) front)
-      (arc_value job.version)) jobs
-  pub sound : All (λ job. IsSound d (arc_value job.version)) jobs
-  pub calls : All (λ job. BelongsTo (arc_value job.version) job.call) jobs
+  pub versions : All (λ (job : Job). IsReplayFrom d first (take (rows_past first.place job.place) front)
+      (arc_value job.version).state) jobs
+  pub sound : All (λ (job : Job). IsSoundVersion d (arc_value job.version)) jobs
+  pub calls : All (λ (job : Job). BelongsTo (arc_value job.version).state job.call) jobs
 
 -- ---- one lane
 
@@ -147,7 +147,7 @@ pub record RanShort (d : SetupData) (first : State) (deeds : List Numbered) (bef
 -- so it is of a lane in a segment in which all lanes are asked these
 abbrev pub HasRunShort : SetupData → List Numbered → Lane → Lane → List Entry → Type 0
 HasRunShort d asked before after entries =
-    RanShort d before.seat.first (asked_of_lane before.seat.pen.lane asked) before.seat.pen after.seat entries
+    RanShort d before.seat.base (asked_of_lane before.seat.pen.lane asked) before.seat.pen after.seat entries
 
 -- The entries that a lane keeps once it has given these, too: none where it keeps none.
 abbrev pub kept_with : Option (List Entry) → List Entry → Option (List Entry)
@@ -159,10 +159,10 @@ kept_with (Some kept) given = Some (kept ++ given)
 -- entries, and it keeps them if it keeps entries; and where it had none, it has done a front of them.
 pub record HasRunLane (d : SetupData) (asked : List Numbered) (before after : Lane) (entries : List Entry)
     : Type 0 where
-  pub seat : IsSeatFrom d before.seat.first after.seat
+  pub seat : IsSeatFrom d before.seat.base after.seat
   pub same : IsSamePen before.seat.pen after.seat.pen
   pub ran : HadMemory after.stop
-      → RanLane d before.seat.first (asked_of_lane before.seat.pen.lane asked)
+      → RanLane d before.seat.base (asked_of_lane before.seat.pen.lane asked)
       before.seat.pen after.seat.pen entries after.jobs after.stop
   pub told : HadMemory after.stop → IsTrailOf entries after.trail
   pub kept : HadMemory after.stop → after.entries ≡ kept_with before.entries entries

@@ -20,7 +20,7 @@ AreOfHub d log lanes = (first : State) × All (IsOfHub d first log) lanes
 
 -- The lane's seat has read rows of other lanes and no more, and what it answered is as before.
 pub record HasRead (d : SetupData) (before after : Lane) : Type 0 where
-  pub seat : IsSeatFrom d before.seat.first after.seat
+  pub seat : IsSeatFrom d before.seat.base after.seat
   pub reads : ReadsOn before.seat.pen after.seat.pen
   pub trail : after.trail ≡ before.trail
   pub jobs_are : after.jobs ≡ before.jobs
@@ -30,7 +30,7 @@ pub record HasRead (d : SetupData) (before after : Lane) : Type 0 where
 -- the lane's seat has applied all that it knows
 pub record IsSettled (lane : Lane) : Type 0 where
   pub pen : IsPen lane.seat.pen
-  pub whole : lane.seat.kept ≡ None
+  pub whole : lane.seat.pending ≡ None
 
 -- The lane's seat has read rows of other lanes up to this front, and has applied all of them, which comes to that
 -- state.

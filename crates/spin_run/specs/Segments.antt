@@ -33,7 +33,7 @@ front_of (lane ∷ lanes) = lane.seat.pen.front
 
 abbrev pub first_of : SetupData → List Lane → State
 first_of d [] = start_of d
-first_of d (lane ∷ lanes) = lane.seat.first
+first_of d (lane ∷ lanes) = lane.seat.base
 
 abbrev pub state_of : SetupData → List Lane → State
 state_of d [] = start_of d
@@ -70,7 +70,7 @@ pub record IsReady (d : SetupData) (log : TableId) (count : ℕ) (first : State)
   pub among : lane.seat.pen.lanes ≡ count
   pub pen : IsPen lane.seat.pen
   pub seat : IsSeatFrom d first lane.seat
-  pub whole : lane.seat.kept ≡ None
+  pub whole : lane.seat.pending ≡ None
   pub front_is : lane.seat.pen.front ≡ front
   pub trail : IsNew lane.trail
   pub jobs_are : lane.jobs ≡ []

@@ -11,20 +11,20 @@ use Rattle.spin_report.specs.Lines.{entry_line}
 use Rattle.spin_report.specs.Runs.{sends_of}
 use Rattle.spin_report.specs.Views.{answer_steps}
 use Rattle.spin_run.specs.Summaries.{is_run}
-use Rattle.spin_run.specs.declared.trail.Stretch.{Stretch}
+use Rattle.spin_run.specs.declared.trail.Span.{Span}
 use Rattle.spin_run.specs.declared.trail.Kind.{Kind}
 use Rattle.spin_run.specs.declared.trail.Kind.TheVariants as kind
-use Rattle.spin_run.specs.declared.trail.Mark.{Mark}
+use Rattle.spin_run.specs.declared.trail.EntryIndex.{EntryIndex}
 use Rattle.spin_run.specs.declared.trail.Trail.{Trail}
 
 -- ---- stretches
 
 -- the items of a stretch
-abbrev pub items_in : {X : Type 0} → Stretch → List X → List X
+abbrev pub items_in : {X : Type 0} → Span → List X → List X
 items_in stretch items = slice_range items stretch.from stretch.to
 
 -- the stretch lies in a list of that length
-pub record LiesIn (stretch : Stretch) (long : ℕ) : Type 0 where
+pub record LiesIn (stretch : Span) (long : ℕ) : Type 0 where
   pub rises : stretch.from ≤ stretch.to
   pub ends : stretch.to ≤ long
 
@@ -42,12 +42,12 @@ is_accepted_kind kind.Refused = false
 is_accepted_kind kind.Deed = false
 
 -- where the mark's entry stands among those of its segment
-abbrev pub mark_moment : Mark → ℕ × Bool × ℕ × ℕ × ℕ
+abbrev pub mark_moment : EntryIndex → ℕ × Bool × ℕ × ℕ × ℕ
 mark_moment mark = (mark.place, not (is_accepted_kind mark.kind), mark.lane, mark.line, mark.part)
 
 -- The mark is that of the entry, in this trail: it tells where the entry stands, of which kind it is and how many of
 -- its steps run a handler, and its stretches are the entry's line and what the entry sends.
-pub record IsMarkOf (trail : Trail) (mark : Mark) (entry : Entry) : Type 0 where
+pub record IsMarkOf (trail : Trail) (mark : EntryIndex) (entry : Entry) : Type 0 where
   pub place : mark.place ≡ entry.place
   pub kind : mark.kind ≡ kind_of entry.what
   pub lane : mark.lane ≡ entry.lane
@@ -94,5 +94,5 @@ abbrev pub trail_of : List Trail → ℕ → Trail
 trail_of trails lane = slice_index_or trails lane none_left
 
 -- the marks are those of these entries, each in the trail of its own lane
-abbrev pub AreMarksOf : List Trail → List Mark → List Entry → Type 0
+abbrev pub AreMarksOf : List Trail → List EntryIndex → List Entry → Type 0
 AreMarksOf trails marks entries = AllZip (λ mark entry. IsMarkOf (trail_of trails mark.lane) mark entry) marks entries

@@ -3,6 +3,7 @@
 ghost use Rattle.std.specs.Prelude.{◌<◌, ◌^◌, length, All, OnOk};
 ghost use Rattle.spin_proto.specs.Replies.{BelongsTo};
 ghost use Rattle.spin_report.specs.Jobs.{answer_calls};
+ghost use Rattle.spin_seat.specs.Seats.{version_of};
 ghost use Rattle.spin_run.specs.Inner.Answering.{AddsJobs};
 
 use spin_proto::{Job, Jobs};
@@ -15,7 +16,7 @@ pub(crate) fn leave_jobs(jobs: &mut Jobs, entry: &EntryView, seat: &Seat) -> Res
     requires few { length (answer_calls entry.now.what) < 2 ^ 32 }
     requires belong { All (BelongsTo seat.now.state) (answer_calls entry.now.what) }
     ensures { let calls = answer_calls entry.now.what in
-        OnOk result (AddsJobs entry.now seat.now.state calls jobs.old jobs.new) }
+        OnOk result (AddsJobs entry.now (version_of seat.now) calls jobs.old jobs.new) }
 {
     let mut index = 0;
     for call in entry.what.calls() {

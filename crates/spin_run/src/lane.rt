@@ -112,7 +112,7 @@ impl Lane {
         requires sincere { ⟦<Catalogue as Sincere>⟧.sincere hub.now.setup.catalogue }
         requires ready { let d = data_of hub.now.setup in
             let seat = self.old.seat in
-            IsAtRest d hub.now.log.id hub.now.log.lanes seat.first seat.pen.front self.old }
+            IsAtRest d hub.now.log.id hub.now.log.lanes seat.base seat.pen.front self.old }
         requires lines { IsFitSegment hub.now.log.lanes segment.now.lines }
         ensures { let asked = asked_in segment.now.lines frames.now in
             (entries : List Entry) × HasRunLane (data_of hub.now.setup) asked self.old self.new entries }
@@ -132,7 +132,7 @@ impl Lane {
         requires sincere { ⟦<Catalogue as Sincere>⟧.sincere hub.now.setup.catalogue }
         requires ready { let d = data_of hub.now.setup in
             let seat = self.old.seat in
-            IsAtRest d hub.now.log.id hub.now.log.lanes seat.first seat.pen.front self.old }
+            IsAtRest d hub.now.log.id hub.now.log.lanes seat.base seat.pen.front self.old }
         requires lines { IsFitSegment hub.now.log.lanes segment.now.lines }
         ensures stays { Stays (data_of hub.now.setup) self.old self.new }
         ensures comes { let asked = asked_in segment.now.lines frames.now in

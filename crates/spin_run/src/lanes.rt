@@ -212,7 +212,7 @@ pub fn run_lanes<R: Threads + Sync, G: Gate>(
             requires sincere { IsSincereBy does asks follows hub.now.setup.catalogue.natives }
             requires ready { let d = data_of hub.now.setup in
                 let seat = lane.old.seat in
-                IsAtRest d hub.now.log.id hub.now.log.lanes seat.first seat.pen.front lane.old }
+                IsAtRest d hub.now.log.id hub.now.log.lanes seat.base seat.pen.front lane.old }
             requires lines { IsFitSegment hub.now.log.lanes segment.now.lines }
             ensures { let asked = asked_in segment.entry.now.lines frames.entry.now in
                 (entries : List Entry) × HasRunLane (data_of hub.entry.now.setup) asked lane.old lane.new entries }

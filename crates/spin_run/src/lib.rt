@@ -49,4 +49,4 @@ pub use script::run_script;
 pub use segment::{WORKERS, Woven, run_segment};
 pub use spin_pcap::Frames;
 pub use summary::run_summary;
-pub use trail::{Kind, Mark, Marks, Sending, Stretch, Trail, Trails};
+pub use trail::{EntryIndex, Kind, Marks, Sending, Span, Trail, Trails};

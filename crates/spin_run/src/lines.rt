@@ -10,7 +10,7 @@ ghost use Rattle.spin_run.specs.Segments.{jobs_seen};
 ghost use Rattle.spin_run.specs.Inner.Marks.{IsInTrails, line_in};
 ghost use Rattle.spin_run.specs.Inner.Lining.{retired_as, if_lost, counts_to};
 
-use crate::trail::{Mark, Trail};
+use crate::trail::{EntryIndex, Trail};
 use crate::writing::TextLines;
 use spin_endpoint::Lost;
 use spin_proto::{Job, Reply};
@@ -45,7 +45,7 @@ pub(crate) fn add_segment(lines: &mut TextLines, number: usize, start: u16) -> R
 }
 
 // Appends the line of a mark, from its lane's trail.
-fn put_line(text: &mut Octets, trails: &[Trail], mark: &Mark) -> Result<(), NoMemory>
+fn put_line(text: &mut Octets, trails: &[Trail], mark: &EntryIndex) -> Result<(), NoMemory>
     requires lies { IsInTrails trails.now mark.now }
     ensures { OnOk result (text.new ≡ text.old ++ line_in trails.now mark.now) }
 {
@@ -57,7 +57,7 @@ fn put_line(text: &mut Octets, trails: &[Trail], mark: &Mark) -> Result<(), NoMe
 pub(crate) fn put_entries(
     text: &mut Octets,
     trails: &[Trail],
-    marks: &[Mark],
+    marks: &[EntryIndex],
 ) -> Result<(), NoMemory>
     requires lie { All (IsInTrails trails.now) marks.now }
     ensures { OnOk result (text.new ≡ text.old ++ flat_map (line_in trails.now) marks.now) }

@@ -8,7 +8,7 @@ ghost use Rattle.spin_run.specs.Inner.Marks.{IsInTrails, sends_in};
 ghost use Rattle.spin_run.specs.Inner.Sending.{SendsAll, SendsByCount};
 
 use crate::end::RunEnd;
-use crate::trail::{Mark, Sending, Trail};
+use crate::trail::{EntryIndex, Sending, Trail};
 use spin_endpoint::{Ends, EndsSeen, Lost, Sent};
 use spin_proto::{Reply, Step};
 use spin_values::{NoMemory, Text};
@@ -52,7 +52,7 @@ fn add_all<'a>(sends: &mut Vec<Sent<'a>>, kept: &'a [Sending]) -> Result<(), NoM
 fn add_of_mark<'a>(
     sends: &mut Vec<Sent<'a>>,
     trails: &'a [Trail],
-    mark: &Mark,
+    mark: &EntryIndex,
 ) -> Result<(), NoMemory>
     requires lies { IsInTrails trails.now mark.now }
     ensures { OnOk result (sends.new.items ≡ sends.old.items ++ sends_in trails.now mark.now) }
@@ -65,7 +65,7 @@ fn add_of_mark<'a>(
 fn add_of_entries<'a>(
     sends: &mut Vec<Sent<'a>>,
     trails: &'a [Trail],
-    marks: &[Mark],
+    marks: &[EntryIndex],
 ) -> Result<(), NoMemory>
     requires lie { All (IsInTrails trails.now) marks.now }
     ensures { OnOk result (sends.new.items ≡ sends.old.items ++ flat_map (sends_in trails.now) marks.now) }
@@ -90,7 +90,7 @@ fn add_of_jobs<'a>(sends: &mut Vec<Sent<'a>>, replies: &'a [Reply]) -> Result<()
 fn sends_of_segment<'a>(
     alloc: Global,
     trails: &'a [Trail],
-    marks: &[Mark],
+    marks: &[EntryIndex],
     replies: &'a [Reply],
 ) -> Result<Vec<Sent<'a>>, NoMemory>
     requires lie { All (IsInTrails trails.now) marks.now }
@@ -110,7 +110,7 @@ pub(crate) fn send_all(
     ends: &mut Ends,
     names: &[Text],
     trails: &[Trail],
-    marks: &[Mark],
+    marks: &[EntryIndex],
     replies: &[Reply],
 ) -> Result<Lost, RunEnd>
     requires few { length names.now ≤ MAX_ENDPOINTS }

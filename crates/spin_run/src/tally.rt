@@ -6,7 +6,7 @@ ghost use Rattle.spin_run.specs.Summaries.{counts_in, summary_lines};
 ghost use Rattle.spin_run.specs.Inner.Marks.{counts_by};
 ghost use Rattle.spin_run.specs.Inner.Tallies.{plus};
 
-use crate::trail::{Kind, Mark};
+use crate::trail::{EntryIndex, Kind};
 use spin_text::{end_line, put_number};
 use spin_values::{NoMemory, Octets};
 use std::alloc::Global;
@@ -69,7 +69,7 @@ impl Tally {
     }
 
     // Counts the entry of a mark. After want of memory some of it may be counted.
-    fn add_mark(&mut self, mark: &Mark) -> Result<(), NoMemory>
+    fn add_mark(&mut self, mark: &EntryIndex) -> Result<(), NoMemory>
         ensures { OnOk result (self.new ≡ plus self.old (counts_by (mark.now ∷ []))) }
     {
         add(&mut self.entries, 1)?;
@@ -83,7 +83,7 @@ impl Tally {
     }
 
     // Counts the entries of marks, in time linear in them. After want of memory some of them may be counted.
-    pub(crate) fn add_marks(&mut self, marks: &[Mark]) -> Result<(), NoMemory>
+    pub(crate) fn add_marks(&mut self, marks: &[EntryIndex]) -> Result<(), NoMemory>
         ensures { OnOk result (self.new ≡ plus self.old (counts_by marks.now)) }
     {
         for mark in marks {

@@ -7,7 +7,7 @@ ghost use Rattle.spin_run.specs.Summaries.{is_run};
 ghost use Rattle.spin_run.specs.Trails.{IsNew, AddsTo, LiesIn, items_in, kind_of, mark_moment};
 
 use spin_proto::Step;
-use spin_report::{EntryView, LentWhat, Moment, WhatView, view_text};
+use spin_report::{EntryKey, EntryView, LentWhat, WhatView, view_text};
 use spin_table::Verdicted;
 use spin_values::{NoMemory, Octets, Sequence};
 use std::alloc::Global;
@@ -15,14 +15,14 @@ use std::marker::Model;
 
 /// The items of a list from one place up to another, both counted from 0; the second is not one of them.
 #[derive(Clone, Copy, PartialEq, Eq, Debug)]
-pub struct Stretch {
+pub struct Span {
     /// The place of the first.
     pub from: usize,
     /// The place behind the last.
     pub to: usize,
 }
 
-impl Stretch {
+impl Span {
     /// How many items it has.
     pub fn len(&self) -> usize
         ensures { result ≡ self.now.to - self.now.from }
@@ -52,7 +52,7 @@ pub enum Kind {
 
 /// What is kept of an entry: where it stands, and which part of its lane's trail is its own.
 #[derive(Clone, Copy, PartialEq, Eq, Debug)]
-pub struct Mark {
+pub struct EntryIndex {
     /// The place: how many commands were accepted up to here, this one included.
     pub place: u16,
     /// Whether it tells a command.
@@ -66,14 +66,14 @@ pub struct Mark {
     /// How many of its steps run a handler.
     pub runs: u32,
     /// Its line, in the text of its lane.
-    pub text: Stretch,
+    pub text: Span,
     /// What it sends, among the sends of its lane.
-    pub sends: Stretch,
+    pub sends: Span,
 }
 
-impl Mark {
+impl EntryIndex {
     /// Where its entry stands among the entries of the segment.
-    pub(crate) fn moment(&self) -> Moment
+    pub(crate) fn moment(&self) -> EntryKey
         ensures { result ≡ mark_moment self.now }
     {
         let is_accepted = matches!(self.kind, Kind::Accepted);
@@ -113,7 +113,7 @@ impl Sending {
 }
 
 /// Marks of entries, in order.
-pub type Marks = Sequence<Mark>;
+pub type Marks = Sequence<EntryIndex>;
 
 /// What the entries of a lane leave in a segment: a mark of each, in their order, the lines that tell them, one behind
 /// another, and what they send. An entry takes its line and 48 bytes.
@@ -199,18 +199,18 @@ impl Trail {
         view_text(entry, &mut self.text)?;
         let steps = entry.what.steps();
         add_steps(&mut self.sends, steps)?;
-        self.marks.push(Mark {
+        self.marks.push(EntryIndex {
             place: entry.place,
             kind: kind_in(&entry.what),
             lane: entry.lane,
             line: entry.line,
             part: entry.part,
             runs: runs_in(steps)?,
-            text: Stretch {
+            text: Span {
                 from: line,
                 to: self.text.len(),
             },
-            sends: Stretch {
+            sends: Span {
                 from: sent,
                 to: self.sends.len(),
             },

@@ -6,7 +6,7 @@ use Rattle.spin_objects.specs.declared.unit.Check.{Check}
 use Rattle.spin_objects.specs.declared.catalogue.Catalogue.{Catalogue}
 use Rattle.spin_grammar.specs.declared.fault.Fault.{Fault}
 use Rattle.spin_grammar.specs.declared.kind.Kind.{Kind}
-use Rattle.spin_grammar.specs.declared.line.Said.{Said}
+use Rattle.spin_grammar.specs.declared.line.Statement.{Statement}
 use Rattle.spin_grammar.specs.Lines.{LineMeaning, Stands, GivesLine}
 use Rattle.spin_script.specs.Sections.{is_out_of_order}
 use Rattle.spin_script.specs.declared.script.Script.{Script}
@@ -73,7 +73,7 @@ says_begun n s hs gs line k ws e x =
     some_zero s.version (eqb s.version 0) refl (λ none. opens line (Says k ws) (ap (λ (z : ScriptState). head z line) (sym (is_start n s hs gs x none)) ∙ e))
 
 -- a line was read and added
-pub said_declared : {A : Type 0} (n : NativeData) (s t : ScriptState) (hs ks : List Body) (gs cs : List Check) (number : ℕ) (k : Kind) (ws : List (List ℕ)) (what : Said) (r : Result A Fault)
+pub said_declared : {A : Type 0} (n : NativeData) (s t : ScriptState) (hs ks : List Body) (gs cs : List Check) (number : ℕ) (k : Kind) (ws : List (List ℕ)) (what : Statement) (r : Result A Fault)
     → GivesLine s.version k ws (Ok what) → AddsSaid n s number what r t → ((l : LineMeaning) → Stands what l → Grows n hs gs l r ks cs)
     → is_out_of_order k s.section s.begins ≡ false → eqb s.version 0 ≡ false
     → IsDeclared n s hs gs → IfOk r (λ _. IsDeclared n t ks cs)

@@ -7,8 +7,8 @@ use Rattle.spin_word.specs.declared.work.Work.TheVariants as work
 use Rattle.spin_grammar.specs.declared.cause.Cause.TheVariants as cause
 use Rattle.spin_grammar.specs.declared.fault.Fault.{Fault}
 use Rattle.spin_grammar.specs.declared.kind.Kind.{Kind}
-use Rattle.spin_grammar.specs.declared.line.Said.{Said}
-use Rattle.spin_grammar.specs.declared.line.Said.TheVariants as said
+use Rattle.spin_grammar.specs.declared.line.Statement.{Statement}
+use Rattle.spin_grammar.specs.declared.line.Statement.TheVariants as said
 use Rattle.spin_grammar.specs.Tasks.{IsValidOn}
 use Rattle.spin_grammar.specs.Lines.{LineMeaning, Stands, GivesLine, IsInRange, line_kind}
 use Rattle.spin_grammar.specs.Words.{words}
@@ -28,7 +28,7 @@ valid_work lane (work.Command c) valid there = valid (omega arith)
 valid_work lane (work.Deed d) valid there = tt
 valid_work lane (work.Packet e k) valid there = tt
 
-line_in_range : (r : Said) (l : LineMeaning) → IsInRange r → Stands r l → IsLineInRange l
+line_in_range : (r : Statement) (l : LineMeaning) → IsInRange r → Stands r l → IsLineInRange l
 line_in_range (said.Modules n) l range is = subst IsLineInRange (sym is) range
 line_in_range (said.Event e owner sig o) l range is = subst IsLineInRange (sym is.1) range
 line_in_range (said.Endpoint p name) l range is = subst IsLineInRange (sym is) tt
@@ -43,7 +43,7 @@ line_in_range (said.Lane lane w) l range is = subst IsLineInRange (sym is.1) (λ
 line_in_range said.Barrier l range is = subst IsLineInRange (sym is) tt
 line_in_range (said.Retire p) l range is = subst IsLineInRange (sym is) tt
 
-pub said_sound : {A : Type 0} (n : NativeData) (s : ScriptState) (number : ℕ) (k : Kind) (ws : List (List ℕ)) (what : Said) (r : Result A Fault) (t : ScriptState)
+pub said_sound : {A : Type 0} (n : NativeData) (s : ScriptState) (number : ℕ) (k : Kind) (ws : List (List ℕ)) (what : Statement) (r : Result A Fault) (t : ScriptState)
     → GivesLine s.version k ws (Ok what) → IsInRange what → AddsSaid n s number what r t → is_out_of_order k s.section s.begins ≡ false
     → IsSound n s → IfOk r (λ _. IsSound n t)
 said_sound n s number k ws what (Ok a) t gives range adds order x =

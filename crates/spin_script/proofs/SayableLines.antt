@@ -27,7 +27,7 @@ use Rattle.spin_grammar.specs.Lines as line
 use Rattle.spin_grammar.specs.Lines.{LineMeaning, line_kind, form, wanted}
 use Rattle.spin_grammar.proofs.CanonicalSpelling.{went, over, ok_same, by_number, by_signature, by_blob}
 use Rattle.spin_grammar.proofs.Signatures.{one_of}
-use Rattle.spin_script.proofs.SayableWords.{Said, Says, First, first, opens, both, renamed, nothing, closed, OneOf, same_bytes, one_choice, behind, none, numeral, name, typed, pair, three}
+use Rattle.spin_script.proofs.SayableWords.{Spelled, Says, First, first, opens, both, renamed, nothing, closed, OneOf, same_bytes, one_choice, behind, none, numeral, name, typed, pair, three}
 use Rattle.spin_script.proofs.SayableWords.{tested, counted_numbers, bindings, op_says, own_says, forced_says, apart_says, place_says, mode_says, exact_says, handler_says, steps, merged}
 
 -- ---- rules
@@ -47,7 +47,7 @@ force_says k =
     (both k (λ (f : Forced). Fixed (forced_word f) ∷ []) (λ (b : Bool). Fixed (apart_word b) ∷ []) (want.ForcedPlace ∷ []) (want.ForcedMode ∷ []) (forced_says k) (apart_says k))
 
 forced_of : (version k : ℕ) (b : Bool) (wants : List Want) (ws : List (List ℕ)) (atoms : List Atom) → length ws ≤ suc k → (o : First (want.Effect version) wants ws atoms)
-    → OneOf (cond b ((codes "force", want.Counted 0 4 (want.Number 1 1023) ∷ want.ForcedPlace ∷ want.ForcedMode ∷ []) ∷ []) []) o.taken → Said effect_form wants (length ws) atoms
+    → OneOf (cond b ((codes "force", want.Counted 0 4 (want.Number 1 1023) ∷ want.ForcedPlace ∷ want.ForcedMode ∷ []) ∷ []) []) o.taken → Spelled effect_form wants (length ws) atoms
 forced_of version k true wants ws atoms le o (inl is) =
     behind k effect_form (λ (p : List ℕ × (Forced × Bool)). counted_form p.0 ++ Fixed (forced_word p.1.0) ∷ Fixed (apart_word p.1.1) ∷ [])
     (λ (p : List ℕ × (Forced × Bool)). effect.Force p.0 p.1.0 p.1.1) (codes "force") _ (λ p. refl) (force_says k)
@@ -56,7 +56,7 @@ forced_of version k true wants ws atoms le o (inr is) = absurd is
 forced_of version k false wants ws atoms le o is = absurd is
 
 effect_of : (version k : ℕ) (wants : List Want) (ws : List (List ℕ)) (atoms : List Atom) → length ws ≤ suc k
-    → (o : First (want.Effect version) wants ws atoms) → OneOf (want.effects version) o.taken → Said effect_form wants (length ws) atoms
+    → (o : First (want.Effect version) wants ws atoms) → OneOf (want.effects version) o.taken → Spelled effect_form wants (length ws) atoms
 effect_of version k wants ws atoms le o (inl is) =
     behind k effect_form (λ (u : Unit {0}). []) (λ (u : Unit {0}). effect.Allow) (codes "allow") [] (λ u. refl) (none k) (want.Effect version) wants ws atoms le o is
 effect_of version k wants ws atoms le o (inr (inl is)) =
@@ -103,7 +103,7 @@ unfolding accepts
 spot_words w p e = one_choice w want.spots p e
 
 spot_of : (k : ℕ) (wants : List Want) (ws : List (List ℕ)) (atoms : List Atom) → length ws ≤ suc k
-    → (o : First want.Spot wants ws atoms) → OneOf want.spots o.taken → Said spot_form wants (length ws) atoms
+    → (o : First want.Spot wants ws atoms) → OneOf want.spots o.taken → Spelled spot_form wants (length ws) atoms
 spot_of k wants ws atoms le o (inl is) = behind k spot_form (λ (u : Unit {0}). []) (λ (u : Unit {0}). forms.At place.Free) (codes "free") [] (λ u. refl) (none k) want.Spot wants ws atoms le o is
 spot_of k wants ws atoms le o (inr (inl is)) =
     behind k spot_form (λ (u : Unit {0}). []) (λ (u : Unit {0}). forms.At place.First) (codes "first") [] (λ u. refl) (none k) want.Spot wants ws atoms le o is

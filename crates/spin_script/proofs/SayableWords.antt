@@ -42,7 +42,7 @@ use Rattle.spin_grammar.proofs.Signatures.{one_of}
 -- ---- what is said first of what is wanted
 
 -- a value was said, and the others are wanted in the words that are left
-pub record Said {A : Type 0} (spell : A → List Atom) (wants : List Want) (room : ℕ) (atoms : List Atom) : Type 0 where
+pub record Spelled {A : Type 0} (spell : A → List Atom) (wants : List Want) (room : ℕ) (atoms : List Atom) : Type 0 where
   pub value : A
   pub words : List (List ℕ)
   pub rest : List Atom
@@ -53,7 +53,7 @@ pub record Said {A : Type 0} (spell : A → List Atom) (wants : List Want) (room
 -- in up to so many words, what is wanted there says a value, whatever is wanted behind it
 abbrev pub Says : {A : Type 0} → ℕ → (A → List Atom) → List Want → Type 0
 Says k spell front =
-    (wants : List Want) (ws : List (List ℕ)) (atoms : List Atom) → length ws ≤ k → reads (front ++ wants) ws ≡ Ok atoms → Said spell wants (length ws) atoms
+    (wants : List Want) (ws : List (List ℕ)) (atoms : List Atom) → length ws ≤ k → reads (front ++ wants) ws ≡ Ok atoms → Spelled spell wants (length ws) atoms
 
 -- the first word, and what it leads to
 pub record First (w : Want) (wants : List Want) (ws : List (List ℕ)) (atoms : List Atom) : Type 0 where
@@ -130,7 +130,7 @@ pub append_none : (xs : List Atom) → xs ++ [] ≡ xs
 append_none [] = refl
 append_none (x ∷ xs) = ap (λ (ys : List Atom). x ∷ ys) (append_none xs)
 
-pub closed : {A : Type 0} (spell : A → List Atom) (room : ℕ) (atoms : List Atom) → Said spell [] room atoms → (a : A) × (atoms ≡ spell a)
+pub closed : {A : Type 0} (spell : A → List Atom) (room : ℕ) (atoms : List Atom) → Spelled spell [] room atoms → (a : A) × (atoms ≡ spell a)
 closed spell room atoms s = (s.value, s.whole ∙ ap (λ (x : List Atom). spell s.value ++ x) (nothing s.words s.rest s.read) ∙ append_none (spell s.value))
 
 -- ---- one of the format's own words
@@ -153,7 +153,7 @@ one_choice w (c ∷ cs) p e =
 
 -- what such a word and what is wanted behind it say
 pub behind : {A B : Type 0} (k : ℕ) (spell : B → List Atom) (f : A → List Atom) (make : A → B) (word : List ℕ) (next : List Want) → ((a : A) → Fixed word ∷ f a ≡ spell (make a)) → Says k f next
-    → (w : Want) (wants : List Want) (ws : List (List ℕ)) (atoms : List Atom) → length ws ≤ suc k → (o : First w wants ws atoms) → (Fixed word, next) ≡ o.taken → Said spell wants (length ws) atoms
+    → (w : Want) (wants : List Want) (ws : List (List ℕ)) (atoms : List Atom) → length ws ≤ suc k → (o : First w wants ws atoms) → (Fixed word, next) ≡ o.taken → Spelled spell wants (length ws) atoms
 behind k spell f make word next same says w wants ws atoms le o is =
     let n = opens w wants ws atoms o (Fixed word, next) is in
     let c = n.count in
@@ -229,7 +229,7 @@ expression_says w p e =
     ]
 
 pub expression_of : (k : ℕ) → Says k expr_form (want.Expression ∷ []) → (wants : List Want) (ws : List (List ℕ)) (atoms : List Atom) → length ws ≤ suc k → (o : First want.Expression wants ws atoms)
-    → ((n : ℕ) × ((Numeral n, []) ≡ o.taken)) ⊎ (((a : ℕ) × ((Argument a, []) ≡ o.taken)) ⊎ OneOf want.expressions o.taken) → Said expr_form wants (length ws) atoms
+    → ((n : ℕ) × ((Numeral n, []) ≡ o.taken)) ⊎ (((a : ℕ) × ((Argument a, []) ≡ o.taken)) ⊎ OneOf want.expressions o.taken) → Spelled expr_form wants (length ws) atoms
 expression_of k says wants ws atoms le o (inl n) =
     let f = opens want.Expression wants ws atoms o (Numeral n.0, []) n.1 in
     record { value = expr.Const n.0; words = f.words; rest = f.rest; read = f.read; whole = f.whole; fewer = let c = f.count in omega (arith, c) }
@@ -264,13 +264,13 @@ unfolding accepts
 test_says w p e = one_choice w want.tests p e
 
 pub compared : (k : ℕ) (c : Cmp) (wants : List Want) (ws : List (List ℕ)) (atoms : List Atom) → length ws ≤ suc k → (o : First want.Test wants ws atoms)
-    → (Fixed (cmp_word c), want.Expression ∷ want.Expression ∷ []) ≡ o.taken → Said test_form wants (length ws) atoms
+    → (Fixed (cmp_word c), want.Expression ∷ want.Expression ∷ []) ≡ o.taken → Spelled test_form wants (length ws) atoms
 compared k c wants ws atoms le o is =
     behind k test_form (λ (p : Two). expr_form p.0 ++ expr_form p.1) (λ (p : Two). test.Compare c p.0 p.1)
     (cmp_word c) (want.Expression ∷ want.Expression ∷ []) (λ p. refl) (two k) want.Test wants ws atoms le o is
 
 pub test_of : (k : ℕ) → Says k test_form (want.Test ∷ []) → (wants : List Want) (ws : List (List ℕ)) (atoms : List Atom) → length ws ≤ suc k → (o : First want.Test wants ws atoms)
-    → OneOf want.tests o.taken → Said test_form wants (length ws) atoms
+    → OneOf want.tests o.taken → Spelled test_form wants (length ws) atoms
 test_of k says wants ws atoms le o (inl is) = behind k test_form (λ (u : Unit {0}). []) (λ (u : Unit {0}). test.True) (codes "true") [] (λ u. refl) (none k) want.Test wants ws atoms le o is
 test_of k says wants ws atoms le o (inr (inl is)) = compared k cmp.Eq wants ws atoms le o is
 test_of k says wants ws atoms le o (inr (inr (inl is))) = compared k cmp.Ne wants ws atoms le o is
@@ -485,7 +485,7 @@ unfolding accepts
 part_says w p e = one_choice w want.parts p e
 
 pub part_of : (k : ℕ) (wants : List Want) (ws : List (List ℕ)) (atoms : List Atom) → length ws ≤ suc k
-    → (o : First want.Part wants ws atoms) → OneOf want.parts o.taken → Said part_form wants (length ws) atoms
+    → (o : First want.Part wants ws atoms) → OneOf want.parts o.taken → Spelled part_form wants (length ws) atoms
 part_of k wants ws atoms le o (inl is) = behind k part_form expr_form (λ (e : Expr). part.Word e) (codes "w") (want.Expression ∷ []) (λ e. refl) (expression k) want.Part wants ws atoms le o is
 part_of k wants ws atoms le o (inr (inl is)) =
     behind k part_form (λ (p : ℕ × ℕ). Numeral p.0 ∷ Numeral p.1 ∷ []) (λ (p : ℕ × ℕ). part.Bytes p.0 p.1) (codes "b") _ (λ p. refl) (pair k 0 7 0 65535) want.Part wants ws atoms le o is
@@ -563,7 +563,7 @@ unfolding accepts
 merge_says w p e = one_choice w want.merges p e
 
 pub merge_of : (k : ℕ) (wants : List Want) (ws : List (List ℕ)) (atoms : List Atom) → length ws ≤ suc k
-    → (o : First want.Merge wants ws atoms) → OneOf want.merges o.taken → Said merge_form wants (length ws) atoms
+    → (o : First want.Merge wants ws atoms) → OneOf want.merges o.taken → Spelled merge_form wants (length ws) atoms
 merge_of k wants ws atoms le o (inl is) = behind k merge_form (λ (u : Unit {0}). []) (λ (u : Unit {0}). merge.Last) (codes "last") [] (λ u. refl) (none k) want.Merge wants ws atoms le o is
 merge_of k wants ws atoms le o (inr (inl is)) =
     behind k merge_form expr_form (λ (x : Expr). merge.Fold x) (codes "fold") (want.Expression ∷ []) (λ x. refl) (expression k) want.Merge wants ws atoms le o is

@@ -6,7 +6,7 @@ use Rattle.std.proofs.lemmas.Bool.Decides.{nat_tests}
 use Rattle.spin_grammar.specs.declared.kind.Kind.{Kind}
 use Rattle.spin_grammar.specs.declared.cause.Cause.{Cause}
 use Rattle.spin_grammar.specs.declared.fault.Fault.{Fault}
-use Rattle.spin_grammar.specs.declared.line.Said.{Said}
+use Rattle.spin_grammar.specs.declared.line.Statement.{Statement}
 use Rattle.spin_grammar.specs.Lines.{GivesLine}
 use Rattle.spin_grammar.specs.declared.cause.Cause.TheVariants as cause
 use Rattle.spin_script.specs.declared.script.Script.{Script}
@@ -18,7 +18,7 @@ use Rattle.spin_script.specs.Inner.Reader.{AddsSaid, GivesSaid, GivesState}
 use Rattle.spin_script.specs.Scripts.{cause_number, script_seen, IsBad}
 
 -- a line that was read, and was added or not
-pub said_gives : {A : Type 0} (n : NativeData) (s : ScriptState) (number : ℕ) (k : Kind) (ws : List (List ℕ)) (said : Said) (r : Result A Fault) (t : ScriptState)
+pub said_gives : {A : Type 0} (n : NativeData) (s : ScriptState) (number : ℕ) (k : Kind) (ws : List (List ℕ)) (said : Statement) (r : Result A Fault) (t : ScriptState)
     → GivesLine s.version k ws (Ok said) → AddsSaid n s number said r t → GivesSaid n s number k ws r t
 said_gives n s number k ws said (Ok a) t g adds = let added = adds g.0 g.2 in (g.0, g.1, added.0, added.1)
 said_gives n s number k ws said (Err f) t g adds = λ c is. inr (g.0, g.1, adds g.0 g.2 c is)

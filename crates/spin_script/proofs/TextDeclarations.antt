@@ -7,7 +7,7 @@ use Rattle.spin_objects.specs.declared.unit.Body.{Body}
 use Rattle.spin_objects.specs.declared.unit.Check.{Check}
 use Rattle.spin_grammar.specs.declared.fault.Fault.{Fault}
 use Rattle.spin_grammar.specs.declared.kind.Kind.{Kind}
-use Rattle.spin_grammar.specs.declared.line.Said.{Said}
+use Rattle.spin_grammar.specs.declared.line.Statement.{Statement}
 use Rattle.spin_grammar.specs.Lines as line
 use Rattle.spin_grammar.specs.Lines.{LineMeaning, Stands, GivesLine}
 use Rattle.spin_script.specs.States.{NativeData, ScriptState, native_at, start}
@@ -56,7 +56,7 @@ check_more n gs line.Barrier = sym (append-nil gs)
 check_more n gs (line.Retire p) = sym (append-nil gs)
 
 -- a line was read and added
-pub said_more : {A : Type 0} (n : NativeData) (s : ScriptState) (hs ks : List Body) (gs cs : List Check) (k : Kind) (ws : List (List ℕ)) (what : Said) (r : Result A Fault)
+pub said_more : {A : Type 0} (n : NativeData) (s : ScriptState) (hs ks : List Body) (gs cs : List Check) (k : Kind) (ws : List (List ℕ)) (what : Statement) (r : Result A Fault)
     → GivesLine s.version k ws (Ok what) → ((l : LineMeaning) → Stands what l → Grows n hs gs l r ks cs)
     → IfOk r (λ _. DeclaresMore n s (Ok (Says k ws)) hs gs ks cs)
 said_more n s hs ks gs cs k ws what (Ok a) gives grows =

@@ -27,7 +27,7 @@ use crate::rules::{add_authoriser, add_default, add_rule};
 use crate::script::{Script, ScriptFault};
 use crate::units::{add_guard, add_handler, add_native_guard, add_native_handler};
 use spin_code::Sincere;
-use spin_grammar::{Cause, Fault, Kind, Lines, MAX_TEXT, Said, Words, read_line};
+use spin_grammar::{Cause, Fault, Kind, Lines, MAX_TEXT, Statement, Words, read_line};
 use spin_objects::{Catalogue, Natives};
 use spin_table::{EventList, MAX_LIVE, Setup};
 use spin_values::NoMemory;
@@ -38,7 +38,7 @@ fn add(
     alloc: Global,
     draft: &mut Draft,
     catalogue: &mut Catalogue,
-    said: Said,
+    said: Statement,
     number: u32,
 ) -> Result<(), Fault>
     requires range { IsInRange said }
@@ -52,24 +52,28 @@ fn add(
         result catalogue.new.bodies catalogue.new.checks }
 {
     match said {
-        Said::Modules(modules) => add_modules(draft, modules),
-        Said::Event {
+        Statement::Modules(modules) => add_modules(draft, modules),
+        Statement::Event {
             number,
             owner,
             sig,
             merge,
         } => add_event(alloc, draft, number, owner, sig, merge),
-        Said::Endpoint { number, name } => add_endpoint(draft, number, name),
-        Said::Handler { number, sig, steps } => add_handler(draft, catalogue, number, sig, steps),
-        Said::NativeHandler { number, name } => add_native_handler(draft, catalogue, number, name),
-        Said::Guard { number, sig, test } => add_guard(draft, catalogue, number, sig, test),
-        Said::NativeGuard { number, name } => add_native_guard(draft, catalogue, number, name),
-        Said::Rule { event, rule } => add_rule(draft, catalogue, event, rule),
-        Said::Authoriser { event, name } => add_authoriser(draft, catalogue, event, name),
-        Said::Default { event, handler } => add_default(draft, catalogue, event, handler),
-        Said::Lane { lane, work } => add_lane(draft, number, lane, work),
-        Said::Barrier => add_barrier(alloc, draft),
-        Said::Retire(endpoint) => add_retire(draft, endpoint),
+        Statement::Endpoint { number, name } => add_endpoint(draft, number, name),
+        Statement::Handler { number, sig, steps } => add_handler(
+            draft, catalogue, number, sig, steps,
+        ),
+        Statement::NativeHandler { number, name } => add_native_handler(
+            draft, catalogue, number, name,
+        ),
+        Statement::Guard { number, sig, test } => add_guard(draft, catalogue, number, sig, test),
+        Statement::NativeGuard { number, name } => add_native_guard(draft, catalogue, number, name),
+        Statement::Rule { event, rule } => add_rule(draft, catalogue, event, rule),
+        Statement::Authoriser { event, name } => add_authoriser(draft, catalogue, event, name),
+        Statement::Default { event, handler } => add_default(draft, catalogue, event, handler),
+        Statement::Lane { lane, work } => add_lane(draft, number, lane, work),
+        Statement::Barrier => add_barrier(alloc, draft),
+        Statement::Retire(endpoint) => add_retire(draft, endpoint),
     }
 }
 

@@ -61,7 +61,7 @@ known key log d first lane seat k h = record {
   lane_is = h.lane_is;
   is_seat = (
     subst (λ e. IsSeat e seat) (one_setup h.d d (sym h.key_is.setup_is ∙ k.setup_is)) h.is_seat,
-    one_state seat.first first (sym h.key_is.first_is ∙ k.first_is),
+    one_state seat.base first (sym h.key_is.first_is ∙ k.first_is),
   );
 }
 
@@ -83,11 +83,11 @@ pub key_from : (key : HomeKey) (log : TableId) (d : SetupData) (s first : State)
 key_from key log d s first k e = subst (λ (t : State). IsKeyOf key log d t) e k
 
 -- the first of seats tells the first state of all
-pub first_of : (d : SetupData) (s : State) (seats : List SeatValue) (seat : SeatValue) → All (IsSeatFrom d s) seats → slice_get seats 0 ≡ Some seat → seat.first ≡ s
+pub first_of : (d : SetupData) (s : State) (seats : List SeatValue) (seat : SeatValue) → All (IsSeatFrom d s) seats → slice_get seats 0 ≡ Some seat → seat.base ≡ s
 first_of d s seats seat all at =
-    ap (λ (t : SeatValue). t.first) (sym (get_or_from_slice_get seats 0 seat seat at)) ∙ (all 0 seat (slice_get_within seats 0 seat at)).1
+    ap (λ (t : SeatValue). t.base) (sym (get_or_from_slice_get seats 0 seat seat at)) ∙ (all 0 seat (slice_get_within seats 0 seat at)).1
 
 pub one_first : (d : SetupData) (s first : State) (seats : List SeatValue) → 0 < length seats → All (IsSeatFrom d s) seats → AreFrom first seats → s ≡ first
 one_first d s first [] some all from = absurd (omega (arith, some))
 one_first d s first (x ∷ xs) some all from =
-    sym (All-head (IsSeatFrom d s) x xs all).1 ∙ All-head (λ (t : SeatValue). t.first ≡ first) x xs from
+    sym (All-head (IsSeatFrom d s) x xs all).1 ∙ All-head (λ (t : SeatValue). t.base ≡ first) x xs from

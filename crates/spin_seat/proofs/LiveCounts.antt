@@ -15,7 +15,7 @@ abbrev pub has : ℕ → EventState → Bool
 has n e = is_live e.bindings n
 
 nothing : EventState
-nothing = record { bindings = []; tests = []; default = 0 }
+nothing = record { bindings = []; default = 0 }
 
 module _ (s : State) (event n : ℕ) (bs : List Binding) (inside : event < length s.events) (are : IsSomeAnd (slice_get s.events event) (λ e. bs ≡ e.bindings)) where
   of_event : has n (get_or s.events event nothing) ≡ is_live bs n

@@ -9,7 +9,7 @@ use Rattle.spin_word.proofs.RowFields.{is_wide}
 use Rattle.spin_table.specs.Renamings.{StayNamed}
 use Rattle.spin_table.specs.Renewals.{is_live_in, live_numbers, old_number}
 use Rattle.spin_table.proofs.RenewedNumbers.{AreNumbers, are_numbers, high_number, old_rises}
-use Rattle.spin_seat.specs.Answers.{Said, command, deed}
+use Rattle.spin_seat.specs.Answers.{Exchange, command, deed}
 use Rattle.spin_seat.specs.Renewals.{IsValid, NamesStay, ValidCommandsStayNamed}
 
 -- a number was at most so far past the place
@@ -43,7 +43,7 @@ all_named to place (n ∷ ns) low room valid (suc k) d h = all_named to place ns
 are_bindings : (ns : List ℕ) → IsTrue (bindings_or_none ns) → IsTrue (list_all binding_or_none ns)
 are_bindings ns valid = grind arith
 
-said_named : (to : ℕ → ℕ) (place : ℕ) → ((m : ℕ) → to m ≤ place + m) → place + MAX_PLACE < no_number → (said : Said) → IsValid said → NamesStay to said
+said_named : (to : ℕ → ℕ) (place : ℕ) → ((m : ℕ) → to m ≤ place + m) → place + MAX_PLACE < no_number → (said : Exchange) → IsValid said → NamesStay to said
 said_named to place low room (command c verdict) valid =
     let wide = is_wide c valid in
     (all_named to place c.before low room (are_bindings c.before wide.1), all_named to place c.after low room (are_bindings c.after wide.2))

@@ -17,7 +17,7 @@ use Rattle.spin_table.proofs.RenamedSteps.{renamed_steps}
 use Rattle.spin_table.proofs.RenewedNumbers.{old_zero}
 use Rattle.spin_table.proofs.Renewing.{renewals_rename}
 use Rattle.spin_proto.proofs.RenamedReplies.{replies_both}
-use Rattle.spin_seat.specs.Answers.{Said, command, deed, Answer, LeadsTo, AreLegalAnswers}
+use Rattle.spin_seat.specs.Answers.{Exchange, command, deed, Answer, LeadsTo, AreLegalAnswers}
 use Rattle.spin_seat.specs.Renewals.{renamed_said, renamed_answer, NamesStay, StaysNamed, before_renewal, AnswersAreRenamed, RenewalsGoOn}
 
 -- a step leaves the place, or raises it by one
@@ -31,14 +31,14 @@ step_rises d s c v next None h = changes_rises d s c v next h
 step_rises d s c v next (Some r) h = let e = ap (λ (t : State). t.place) h.1 in (omega arith, omega arith)
 
 -- one answer in both states
-record BothLead (d : SetupData) (to : ℕ → ℕ) (s t next : State) (said : Said) : Type 0 where
+record BothLead (d : SetupData) (to : ℕ → ℕ) (s t next : State) (said : Exchange) : Type 0 where
   other : State
   leads : LeadsTo d t (renamed_said to said) other
   same : IsRenamed to next other
   low : s.place ≤ next.place
   high : next.place ≤ s.place + 1
 
-both_lead : (d : SetupData) (to : ℕ → ℕ) (s t next : State) (said : Said) → Rises to → to 0 ≡ 0 → IsRenamed to s t → t.place + 1 < no_number
+both_lead : (d : SetupData) (to : ℕ → ℕ) (s t next : State) (said : Exchange) → Rises to → to 0 ≡ 0 → IsRenamed to s t → t.place + 1 < no_number
     → NamesStay to said → LeadsTo d s said next → BothLead d to s t next said
 both_lead d to s t next (command c v) rises zero same room named step =
     let r = renamed_steps d to s t c v next rises same room named.0 named.1 step in

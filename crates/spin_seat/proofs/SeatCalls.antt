@@ -53,9 +53,9 @@ gives_later d first old middle new answer h g =
 
 -- an answer that is given at the front
 pub gives_here : (d : SetupData) (old : SeatValue) (new : PenValue) (answer : Answer) (after : State) → IsSeat d old
-    → old.kept ≡ None → LeadsTo d old.state answer.said after → answer.lane ≡ old.pen.lane → answer.place ≡ place_past old.first.place (length new.front)
+    → old.pending ≡ None → LeadsTo d old.state answer.said after → answer.lane ≡ old.pen.lane → answer.place ≡ place_past old.base.place (length new.front)
     → new ≡ pen_after (row_published answer.said) old.pen → IfSome (row_published answer.said) (λ row. lane_of row ≡ old.pen.lane)
-    → IsReplayFrom d old.first new.front after → GivesFrom d old.first old.pen answer new
+    → IsReplayFrom d old.base new.front after → GivesFrom d old.base old.pen answer new
 gives_here d old new answer after h none leads lane place is row replay =
     let nil = append-nil old.pen.front in
     record {
@@ -67,15 +67,15 @@ gives_here d old new answer after h none leads lane place is row replay =
       row = row;
       lane = lane;
       place = place;
-      replay_before = subst (λ rows. IsReplayFrom d old.first rows old.state) (sym nil) (whole_applied d old h none);
+      replay_before = subst (λ rows. IsReplayFrom d old.base rows old.state) (sym nil) (whole_applied d old h none);
       replay_after = replay;
       leads = leads;
     }
 
 -- a reply that is given at a pin
 pub gives_reply : (d : SetupData) (old : PenValue) (seat : SeatValue) (asked : Deed) (place : ℕ) (reply : Reply)
-    → ReadsToPin old seat.pen → IsSeat d seat → seat.kept ≡ None → place ≡ place_past seat.first.place (length seat.pen.front) → IsDeedReply d seat.state asked reply
-    → GivesFrom d seat.first old (reply_answer old.lane asked place reply) seat.pen
+    → ReadsToPin old seat.pen → IsSeat d seat → seat.pending ≡ None → place ≡ place_past seat.base.place (length seat.pen.front) → IsDeedReply d seat.state asked reply
+    → GivesFrom d seat.base old (reply_answer old.lane asked place reply) seat.pen
 gives_reply d old seat asked place reply h k none at is =
     let whole = whole_applied d seat k none in
     record {
@@ -87,19 +87,19 @@ gives_reply d old seat asked place reply h k none at is =
       row = tt;
       lane = refl;
       place = at;
-      replay_before = subst (λ rows. IsReplayFrom d seat.first rows seat.state) (ap (λ (p : PenValue). p.front) h.1) whole;
+      replay_before = subst (λ rows. IsReplayFrom d seat.base rows seat.state) (ap (λ (p : PenValue). p.front) h.1) whole;
       replay_after = whole;
       leads = (is, refl);
     }
 
 -- a verdict that is given after rows that were read on
 pub judges_later : (d : SetupData) (old middle new : SeatValue) (c : Command) (judged : Judged)
-    → ReadsOn old.pen middle.pen → middle.first ≡ old.first → Judges d middle c judged new → Judges d old c judged new
+    → ReadsOn old.pen middle.pen → middle.base ≡ old.base → Judges d middle c judged new → Judges d old c judged new
 judges_later d old middle new c judged h first j =
     let lane : middle.pen.lane ≡ old.pen.lane = ap (λ (p : PenValue). p.lane) h.1 in
     record {
       gives = subst (λ (x : State × ℕ). GivesFrom d x.0 old.pen (verdict_answer x.1 c judged.place judged.verdict) new.pen) (λ i. (first i, lane i))
-          (gives_later d middle.first old.pen middle.pen new.pen (verdict_answer middle.pen.lane c judged.place judged.verdict) h j.gives);
+          (gives_later d middle.base old.pen middle.pen new.pen (verdict_answer middle.pen.lane c judged.place judged.verdict) h j.gives);
       room = j.room;
       whole = j.whole;
     }

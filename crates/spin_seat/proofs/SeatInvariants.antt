@@ -21,8 +21,8 @@ use Rattle.spin_log.proofs.RowLists.{rows_of_one, rows_of_other, rows_of-append}
 use Rattle.spin_table.specs.declared.refusal.Verdicted.{Verdicted}
 use Rattle.spin_table.specs.declared.refusal.Verdicted.TheVariants as verdicted
 use Rattle.spin_table.specs.Setups.{SetupData}
-use Rattle.spin_table.specs.States.{State, start_of}
-use Rattle.spin_table.specs.Soundness.{IsSound}
+use Rattle.spin_table.specs.States.{State, start_of, VersionValue}
+use Rattle.spin_table.specs.Soundness.{IsSoundVersion}
 use Rattle.spin_table.specs.Renewals.{NameGiven}
 use Rattle.spin_word.specs.declared.command.TheConstants.{MAX_PLACE}
 use Rattle.spin_table.specs.Refusals.{refusal_of}
@@ -78,33 +78,33 @@ clean_own d first lane front row clean accepted f x r e is =
     (λ (t : (rest : List Row) × (front ≡ f ++ x ∷ rest)). clean f x t.0 t.1 is) (pushed front row f x r e)
 
 -- a seat that keeps no row has applied its whole front
-pub whole_applied : (d : SetupData) (seat : SeatValue) → IsSeat d seat → seat.kept ≡ None → IsReplayFrom d seat.first seat.pen.front seat.state
+pub whole_applied : (d : SetupData) (seat : SeatValue) → IsSeat d seat → seat.pending ≡ None → IsReplayFrom d seat.base seat.pen.front seat.state
 whole_applied d seat h none =
     let is : seat.pen.front ≡ h.applied = h.front ∙ (ap (λ k. h.applied ++ kept_rows k) none ∙ append-nil h.applied) in
-    subst (λ (rows : List Row). IsReplayFrom d seat.first rows seat.state) (sym is) h.replay
+    subst (λ (rows : List Row). IsReplayFrom d seat.base rows seat.state) (sym is) h.replay
 
 -- the same of a seat whose log begins at the start, and what else is so of it
-pub all_applied : (d : SetupData) (seat : SeatValue) → IsSeatOf d seat → seat.kept ≡ None → IsReplay d seat.pen.front seat.state
+pub all_applied : (d : SetupData) (seat : SeatValue) → IsSeatOf d seat → seat.pending ≡ None → IsReplay d seat.pen.front seat.state
 all_applied d seat h none = subst (λ (s : State). IsReplayFrom d s seat.pen.front seat.state) h.1 (whole_applied d seat h.0 none)
 
 pub start_clean : (d : SetupData) (seat : SeatValue) → IsSeatOf d seat → IsCleanFor d seat.pen.lane seat.pen.front
 start_clean d seat h = subst (λ (s : State). IsLaneCleanFrom d s seat.pen.lane seat.pen.front) h.1 h.0.clean
 
 -- the place of the state is at most the number of rows past the first one
-pub place_fits : (d : SetupData) (seat : SeatValue) → IsSeat d seat → seat.state.place ≤ seat.first.place + length seat.pen.front
+pub place_fits : (d : SetupData) (seat : SeatValue) → IsSeat d seat → seat.state.place ≤ seat.base.place + length seat.pen.front
 place_fits d seat h =
-    let le = IsReplayFrom-place d h.applied seat.first seat.state h.replay in
-    omega (arith, ap length h.front, length-append h.applied (kept_rows seat.kept))
+    let le = IsReplayFrom-place d h.applied seat.base seat.state h.replay in
+    omega (arith, ap length h.front, length-append h.applied (kept_rows seat.pending))
 
 -- so there is a number for one more binding
 pub next_room : (place first rows at : ℕ) → place ≤ first + rows → first ≤ MAX_PLACE → rows ≤ MAX_PLACE → at ≡ place → at + 1 < no_number
 next_room place first rows at fits low few is = omega (arith, fits, low, few, is)
 
 -- a seat that has read a row of another lane, and keeps it
-pub keeps : (d : SetupData) (seat : SeatValue) (new : PenValue) (row : Row) → IsSeat d seat → seat.kept ≡ None → new ≡ read seat.pen row → lane_of row ≢ seat.pen.lane
-    → IsSeat d (record { pen = new; first = seat.first; state = seat.state; kept = Some row })
+pub keeps : (d : SetupData) (seat : SeatValue) (new : PenValue) (row : Row) → IsSeat d seat → seat.pending ≡ None → new ≡ read seat.pen row → lane_of row ≢ seat.pen.lane
+    → IsSeat d (record { pen = new; base = seat.base; state = seat.state; tests = seat.tests; pending = Some row })
 keeps d seat new row h none is other =
-    subst (λ (p : PenValue). IsSeat d (record { pen = p; first = seat.first; state = seat.state; kept = Some row })) (sym is)
+    subst (λ (p : PenValue). IsSeat d (record { pen = p; base = seat.base; state = seat.state; tests = seat.tests; pending = Some row })) (sym is)
     (record {
       fits = h.fits;
       applied = seat.pen.front;
@@ -112,51 +112,51 @@ keeps d seat new row h none is other =
       front = refl;
       sound = h.sound;
       given = h.given;
-      clean = clean_longer d seat.first seat.pen.lane seat.pen.front (row ∷ []) h.clean (rows_of_other seat.pen.lane row other);
+      clean = clean_longer d seat.base seat.pen.lane seat.pen.front (row ∷ []) h.clean (rows_of_other seat.pen.lane row other);
     })
 
 -- a seat that has a pin more
 pub pins : (d : SetupData) (seat : SeatValue) (new : PenValue) → IsSeat d seat → new ≡ pinned_at_front seat.pen
-    → IsSeat d (record { pen = new; first = seat.first; state = seat.state; kept = seat.kept })
+    → IsSeat d (record { pen = new; base = seat.base; state = seat.state; tests = seat.tests; pending = seat.pending })
 pins d seat new h is =
-    subst (λ (p : PenValue). IsSeat d (record { pen = p; first = seat.first; state = seat.state; kept = seat.kept })) (sym is)
+    subst (λ (p : PenValue). IsSeat d (record { pen = p; base = seat.base; state = seat.state; tests = seat.tests; pending = seat.pending })) (sym is)
     (record { fits = h.fits; applied = h.applied; replay = h.replay; front = h.front; sound = h.sound; given = h.given; clean = h.clean })
 
 -- a seat that has applied the row that it kept
-pub applies : (d : SetupData) (seat : SeatValue) (row : Row) (c : Command) (v : Verdicted) (next : State)
-    → IsSeat d seat → seat.kept ≡ Some row → StandsFor row c → IsStep d seat.state c v next → IsSound d next
-    → IsSeat d (record { pen = seat.pen; first = seat.first; state = next; kept = None })
+pub applies : (d : SetupData) (seat : SeatValue) (row : Row) (c : Command) (v : Verdicted) (next : VersionValue)
+    → IsSeat d seat → seat.pending ≡ Some row → StandsFor row c → IsStep d seat.state c v next.state → IsSoundVersion d next
+    → IsSeat d (record { pen = seat.pen; base = seat.base; state = next.state; tests = next.tests; pending = None })
 applies d seat row c v next h kept stands step sound =
     let is : seat.pen.front ≡ h.applied ++ row ∷ [] = h.front ∙ ap (λ k. h.applied ++ kept_rows k) kept in
     record {
       fits = h.fits;
       applied = h.applied ++ row ∷ [];
-      replay = IsReplayFrom-push d seat.first h.applied row seat.state next v h.replay (c, stands, step);
+      replay = IsReplayFrom-push d seat.base h.applied row seat.state next.state v h.replay (c, stands, step);
       front = is ∙ sym (append-nil (h.applied ++ row ∷ []));
       sound = sound;
-      given = (names_stay_given d).1 seat.state c v next h.sound h.given step;
+      given = (names_stay_given d).1 seat.state c v next.state h.sound.state h.given step;
       clean = h.clean;
     }
 
 -- a seat that has published an accepted command
-pub publishes : (d : SetupData) (seat : SeatValue) (new : PenValue) (c : Command) (next : State) → IsSeat d seat → seat.kept ≡ None
-    → new ≡ written seat.pen (row_of c) → StandsFor (row_of c) c → IsStep d seat.state c verdicted.Accepted next → IsSound d next
-    → IsSeat d (record { pen = new; first = seat.first; state = next; kept = None })
+pub publishes : (d : SetupData) (seat : SeatValue) (new : PenValue) (c : Command) (next : VersionValue) → IsSeat d seat → seat.pending ≡ None
+    → new ≡ written seat.pen (row_of c) → StandsFor (row_of c) c → IsStep d seat.state c verdicted.Accepted next.state → IsSoundVersion d next
+    → IsSeat d (record { pen = new; base = seat.base; state = next.state; tests = next.tests; pending = None })
 publishes d seat new c next h none is stands step sound =
     let whole = whole_applied d seat h none in
-    subst (λ (p : PenValue). IsSeat d (record { pen = p; first = seat.first; state = next; kept = None })) (sym is)
+    subst (λ (p : PenValue). IsSeat d (record { pen = p; base = seat.base; state = next.state; tests = next.tests; pending = None })) (sym is)
     (record {
       fits = h.fits;
       applied = seat.pen.front ++ row_of c ∷ [];
-      replay = IsReplayFrom-push d seat.first seat.pen.front (row_of c) seat.state next verdicted.Accepted whole (c, stands, step);
+      replay = IsReplayFrom-push d seat.base seat.pen.front (row_of c) seat.state next.state verdicted.Accepted whole (c, stands, step);
       front = sym (append-nil (seat.pen.front ++ row_of c ∷ []));
       sound = sound;
-      given = (names_stay_given d).1 seat.state c verdicted.Accepted next h.sound h.given step;
-      clean = clean_own d seat.first seat.pen.lane seat.pen.front (row_of c) h.clean (seat.state, whole, (next, (c, stands, step)));
+      given = (names_stay_given d).1 seat.state c verdicted.Accepted next.state h.sound.state h.given step;
+      clean = clean_own d seat.base seat.pen.lane seat.pen.front (row_of c) h.clean (seat.state, whole, (next.state, (c, stands, step)));
     })
 
 -- the row that a seat keeps is a command's
-pub kept_is_command : (d : SetupData) (seat : SeatValue) (row : Row) (lanes : ℕ) → IsSeat d seat → seat.kept ≡ Some row → All (IsCommandBelow lanes) seat.pen.front → IsCommand row
+pub kept_is_command : (d : SetupData) (seat : SeatValue) (row : Row) (lanes : ℕ) → IsSeat d seat → seat.pending ≡ Some row → All (IsCommandBelow lanes) seat.pen.front → IsCommand row
 kept_is_command d seat row lanes h kept all =
     let is : seat.pen.front ≡ h.applied ++ row ∷ [] = h.front ∙ ap (λ k. h.applied ++ kept_rows k) kept in
     let inside : length h.applied < length seat.pen.front = omega (arith, ap length is, length-append h.applied (row ∷ [])) in
@@ -205,16 +205,16 @@ pub reads_nothing : (pen new : PenValue) → new ≡ pen → ReadsOn pen new
 reads_nothing pen new is = ([], is ∙ ap (with_front pen) (sym (append-nil pen.front)), refl)
 
 -- a seat that has learnt a front no shorter, and has its version
-pub learns : (d : SetupData) (seat other : SeatValue) (new : PenValue) → IsSeat d seat → IsSeat d other → other.first ≡ seat.first
-    → other.kept ≡ None → AreOfOne seat.pen.front other.pen.front → length seat.pen.front ≤ length other.pen.front
+pub learns : (d : SetupData) (seat other : SeatValue) (new : PenValue) → IsSeat d seat → IsSeat d other → other.base ≡ seat.base
+    → other.pending ≡ None → AreOfOne seat.pen.front other.pen.front → length seat.pen.front ≤ length other.pen.front
     → new ≡ with_front seat.pen (longer seat.pen.front other.pen.front) → seat.pen.own ≡ rows_of seat.pen.lane seat.pen.front
-    → new.own ≡ rows_of new.lane new.front → IsSeat d (record { pen = new; first = seat.first; state = other.state; kept = None })
+    → new.own ≡ rows_of new.lane new.front → IsSeat d (record { pen = new; base = seat.base; state = other.state; tests = other.tests; pending = None })
 learns d seat other new h k first none one short is own own' =
     let front = other.pen.front in
     let is' : new ≡ with_front seat.pen front = is ∙ ap (with_front seat.pen) (longer_is seat.pen.front front one short) in
     let p : IsPrefix seat.pen.front front = begins seat.pen.front front one short in
     let has : seat.pen.own ≡ rows_of seat.pen.lane front = subst (λ (q : PenValue). q.own ≡ rows_of q.lane q.front) is' own' in
-    subst (λ (q : PenValue). IsSeat d (record { pen = q; first = seat.first; state = other.state; kept = None })) (sym is')
+    subst (λ (q : PenValue). IsSeat d (record { pen = q; base = seat.base; state = other.state; tests = other.tests; pending = None })) (sym is')
     (record {
       fits = h.fits;
       applied = front;
@@ -222,8 +222,8 @@ learns d seat other new h k first none one short is own own' =
       front = sym (append-nil front);
       sound = k.sound;
       given = k.given;
-      clean = subst (IsLaneCleanFrom d seat.first seat.pen.lane) (sym p.1)
-          (clean_longer d seat.first seat.pen.lane seat.pen.front p.0 h.clean (none_added seat.pen.lane seat.pen.front p.0 front p.1 (sym own ∙ has)));
+      clean = subst (IsLaneCleanFrom d seat.base seat.pen.lane) (sym p.1)
+          (clean_longer d seat.base seat.pen.lane seat.pen.front p.0 h.clean (none_added seat.pen.lane seat.pen.front p.0 front p.1 (sym own ∙ has)));
     })
 
 -- one seat more gives its pen
@@ -293,27 +293,27 @@ new_know_nothing id lanes from (suc n) =
     all_cons (λ (p : PenValue). p.front ≡ []) (pen_value id (new_hand lanes from)) (map (pen_value id) (new_hands lanes (from + 1) n)) refl (new_know_nothing id lanes (from + 1) n)
 
 -- one pen more gives a seat
-pub seats_more : (d : SetupData) (first : State) (seats seats' : List SeatValue) (pens rest all : List PenValue) (pen : PenValue) (head state : State)
-    → (map (λ (s : SeatValue). s.pen) seats ++ pens ≡ all) × All (IsSeatFrom d first) seats × All (λ (p : PenValue). p.front ≡ []) pens
-    → pens ≡ pen ∷ rest → seats' ≡ seats ++ record { pen = pen; first = head; state = state; kept = None } ∷ [] → head ≡ first → state ≡ head → first.place ≤ MAX_PLACE → IsSound d first
-    → NameGiven first
-    → (map (λ (s : SeatValue). s.pen) seats' ++ rest ≡ all) × All (IsSeatFrom d first) seats' × All (λ (p : PenValue). p.front ≡ []) rest
-seats_more d first seats seats' pens rest all pen head state h is more same equal fits sound given =
+pub seats_more : (d : SetupData) (first : VersionValue) (seats seats' : List SeatValue) (pens rest all : List PenValue) (pen : PenValue) (head version : VersionValue)
+    → (map (λ (s : SeatValue). s.pen) seats ++ pens ≡ all) × All (IsSeatFrom d first.state) seats × All (λ (p : PenValue). p.front ≡ []) pens
+    → pens ≡ pen ∷ rest → seats' ≡ seats ++ record { pen = pen; base = head.state; state = version.state; tests = version.tests; pending = None } ∷ [] → head ≡ first → version ≡ head → first.state.place ≤ MAX_PLACE → IsSoundVersion d first
+    → NameGiven first.state
+    → (map (λ (s : SeatValue). s.pen) seats' ++ rest ≡ all) × All (IsSeatFrom d first.state) seats' × All (λ (p : PenValue). p.front ≡ []) rest
+seats_more d first seats seats' pens rest all pen head version h is more same equal fits sound given =
     let every : All (λ (p : PenValue). p.front ≡ []) (pen ∷ rest) = subst (All (λ (p : PenValue). p.front ≡ [])) is h.2 in
     let nil : pen.front ≡ [] = All-head (λ (p : PenValue). p.front ≡ []) pen rest every in
-    let new : SeatValue = record { pen = pen; first = head; state = state; kept = None } in
+    let new : SeatValue = record { pen = pen; base = head.state; state = version.state; tests = version.tests; pending = None } in
     let seat : IsSeat d new = record {
-      fits = subst (λ (s : State). s.place ≤ MAX_PLACE) (sym same) fits;
+      fits = subst (λ (v : VersionValue). v.state.place ≤ MAX_PLACE) (sym same) fits;
       applied = [];
-      replay = equal;
+      replay = ap (λ (v : VersionValue). v.state) equal;
       front = nil;
-      sound = subst (IsSound d) (sym (equal ∙ same)) sound;
-      given = subst NameGiven (sym (equal ∙ same)) given;
-      clean = subst (IsLaneCleanFrom d head pen.lane) (sym nil) (clean_none d head pen.lane);
+      sound = subst (IsSoundVersion d) (sym (equal ∙ same)) sound;
+      given = subst (λ (v : VersionValue). NameGiven v.state) (sym (equal ∙ same)) given;
+      clean = subst (IsLaneCleanFrom d head.state pen.lane) (sym nil) (clean_none d head.state pen.lane);
     } in (
       ap (λ l. map (λ (s : SeatValue). s.pen) l ++ rest) more ∙ (ap (λ l. l ++ rest) (map-append (λ (s : SeatValue). s.pen) seats (new ∷ []))
           ∙ (append_assoc (map (λ (s : SeatValue). s.pen) seats) (pen ∷ []) rest ∙ (ap (λ (l : List PenValue). map (λ (s : SeatValue). s.pen) seats ++ l) (sym is) ∙ h.0))),
-      subst (All (IsSeatFrom d first)) (sym more) (All-push (IsSeatFrom d first) seats new h.1 (seat, same)),
+      subst (All (IsSeatFrom d first.state)) (sym more) (All-push (IsSeatFrom d first.state) seats new h.1 (seat, ap (λ (v : VersionValue). v.state) same)),
       All-tail (λ (p : PenValue). p.front ≡ []) pen rest every,
     )
   where

@@ -29,8 +29,8 @@ both_taken d log seats rest rest' a b two h first second = go rest' (first ∙ a
     go (x ∷ more) is = absurd (omega (arith, h.all, two, ap length is))
 
 -- both seats after a call of each
-pub both_still : (d : SetupData) (log : LogValue) (a b a' b' : SeatValue) → AreAllSeats d log (a ∷ b ∷ []) → IsSamePen a.pen a'.pen → a'.first ≡ a.first → IsSeat d a'
-    → IsSamePen b.pen b'.pen → b'.first ≡ b.first → IsSeat d b' → AreAllSeats d log (a' ∷ b' ∷ [])
+pub both_still : (d : SetupData) (log : LogValue) (a b a' b' : SeatValue) → AreAllSeats d log (a ∷ b ∷ []) → IsSamePen a.pen a'.pen → a'.base ≡ a.base → IsSeat d a'
+    → IsSamePen b.pen b'.pen → b'.base ≡ b.base → IsSeat d b' → AreAllSeats d log (a' ∷ b' ∷ [])
 both_still d log a b a' b' h pen_a first_a seat_a pen_b first_b seat_b = record {
   some = h.some;
   own = all_cons (λ (s : SeatValue). s.pen.log ≡ log.id) a' (b' ∷ []) (pen_a.0 ∙ h.own 0 a (omega arith))

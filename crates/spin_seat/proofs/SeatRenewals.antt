@@ -9,7 +9,7 @@ use Rattle.spin_values.specs.declared.no_memory.NoMemory.{NoMemory}
 use Rattle.spin_word.specs.declared.command.TheConstants.{MAX_PLACE}
 use Rattle.spin_word.specs.declared.row.Row.{Row}
 use Rattle.spin_log.specs.Rows.{rows_of}
-use Rattle.spin_log.specs.History.{Moment, pins_from}
+use Rattle.spin_log.specs.History.{LogAction, pins_from}
 use Rattle.spin_log.specs.Pens.{PenValue, LogValue, StandsIn, IsHistory, with_front, new_pens}
 use Rattle.spin_log.proofs.RowLists.{all_cons, all_map, prefix_trans, rows_of-append}
 use Rattle.spin_table.specs.Setups.{SetupData}
@@ -28,14 +28,14 @@ use Rattle.spin_seat.proofs.ClosedLogs.{Closed, longest_is_log}
 
 -- ---- one seat
 
-pub knows_same : (d : SetupData) (old new : SeatValue) → IsSeat d new → new.first ≡ old.first → new.pen ≡ old.pen → KnowsMore d old new
+pub knows_same : (d : SetupData) (old new : SeatValue) → IsSeat d new → new.base ≡ old.base → new.pen ≡ old.pen → KnowsMore d old new
 knows_same d old new seat first pen = record { seat = seat; first = first; reads = reads_nothing old.pen new.pen pen }
 
 pub knows_then : (d : SetupData) (old middle new : SeatValue) → KnowsMore d old middle → KnowsMore d middle new → KnowsMore d old new
 knows_then d old middle new a b = record { seat = b.seat; first = b.first ∙ a.first; reads = reads_further old.pen middle.pen new.pen a.reads b.reads }
 
 -- a seat that has met another
-pub knows_met : (d : SetupData) (old new : SeatValue) (r : Result (Unit {0}) NoMemory) (front : List Row) → IsSeat d new → new.first ≡ old.first
+pub knows_met : (d : SetupData) (old new : SeatValue) (r : Result (Unit {0}) NoMemory) (front : List Row) → IsSeat d new → new.base ≡ old.base
     → MatchResult r (λ _. new.pen ≡ with_front old.pen front) (λ _. new.pen ≡ old.pen) → OnOk r (ReadsOn old.pen new.pen) → KnowsMore d old new
 knows_met d old new (Ok done) front seat first pen reads = record { seat = seat; first = first; reads = reads }
 knows_met d old new (Err e) front seat first pen reads = knows_same d old new seat first pen
@@ -114,11 +114,11 @@ still_all d log before after h a = record {
 -- how they stand when it has met so many
 pub record Round (d : SetupData) (first : SeatValue) (others : List SeatValue) (k : ℕ) (first' : SeatValue) (others' : List SeatValue) : Type 0 where
   pub knows : KnowsMore d first first'
-  pub whole : first'.kept ≡ None
+  pub whole : first'.pending ≡ None
   pub others_know : KnowMore d others others'
   pub shorter : (i : ℕ) (s : SeatValue) → i < k → length (get_or others' i s).pen.front ≤ length first'.pen.front
 
-pub round_begins : (d : SetupData) (first first' : SeatValue) (others : List SeatValue) → KnowsMore d first first' → first'.kept ≡ None → All (IsSeat d) others → Round d first others 0 first' others
+pub round_begins : (d : SetupData) (first first' : SeatValue) (others : List SeatValue) → KnowsMore d first first' → first'.pending ≡ None → All (IsSeat d) others → Round d first others 0 first' others
 round_begins d first first' others knows whole are = record {
   knows = knows;
   whole = whole;
@@ -127,7 +127,7 @@ round_begins d first first' others knows whole are = record {
 }
 
 pub round_more : (d : SetupData) (first : SeatValue) (others : List SeatValue) (k : ℕ) (now next : SeatValue) (others' : List SeatValue) (s new : SeatValue)
-    → k < length others' → Round d first others k now others' → KnowsMore d now next → next.kept ≡ None → KnowsMore d (get_or others' k s) new → new.pen.front ≡ next.pen.front
+    → k < length others' → Round d first others k now others' → KnowsMore d now next → next.pending ≡ None → KnowsMore d (get_or others' k s) new → new.pen.front ≡ next.pen.front
     → Round d first others (k + 1) next (set others' k new)
 round_more d first others k now next others' s new lt r knows whole one same = record {
   knows = knows_then d first now next r.knows knows;
@@ -242,7 +242,7 @@ closed_before d lanes before after log h c all order = record {
   rows = c.rows;
 }
 
-pub history_before : (d : SetupData) (before after : List SeatValue) (log : List Row) (moments : List Moment) → KnowMore d before after
+pub history_before : (d : SetupData) (before after : List SeatValue) (log : List Row) (moments : List LogAction) → KnowMore d before after
     → IsHistory log (map (λ (s : SeatValue). s.pen) after) moments → IsHistory log (map (λ (s : SeatValue). s.pen) before) moments
 history_before d before after log moments h is = record {
   rows = is.rows;
@@ -267,7 +267,7 @@ is_renewal d first lanes before met s rows live numbers seats new some from h kn
     record {
       last = seat.state;
       replay = subst (λ (l : List Row). IsReplayFrom d first l seat.state) (sym all) (first_replay d first before met s some from h knows);
-      sound = at.sound;
+      sound = at.sound.state;
       given = at.given;
       numbers = same ∙ is;
       room = subst (λ (l : List ℕ). length l < MAX_PLACE) (sym same) room;

@@ -16,28 +16,28 @@ use Rattle.spin_seat.specs.Replay.{IsReplayFrom}
 use Rattle.spin_seat.specs.Places.{place_past, rows_past}
 
 -- what was asked of a seat, with what it said: a command with its verdict, or a deed with its reply
-pub data Said : Type 0 where
-  command : Command → Verdicted → Said
-  deed : Deed → Reply → Said
+pub data Exchange : Type 0 where
+  command : Command → Verdicted → Exchange
+  deed : Deed → Reply → Exchange
 
 -- an answer of a seat: its lane, its place, and what was asked and said
 pub record Answer : Type 0 where
   pub lane : ℕ
   pub place : ℕ
-  pub said : Said
+  pub said : Exchange
 
 -- the row that an accepted command has in the log; a refused one and a deed have none
-abbrev pub row_published : Said → Option Row
+abbrev pub row_published : Exchange → Option Row
 row_published (command c Accepted) = Some (row_of c)
 row_published (command c (Refused refusal)) = None
 row_published (deed asked reply) = None
 
-abbrev pub is_accepted : Said → Bool
+abbrev pub is_accepted : Exchange → Bool
 is_accepted said = is_some (row_published said)
 
 -- What was asked at the first state has this answer, and leads to the second: an accepted command
 -- to the next state, a refused one or a deed to the same.
-abbrev pub LeadsTo : SetupData → State → Said → State → Type 0
+abbrev pub LeadsTo : SetupData → State → Exchange → State → Type 0
 LeadsTo d s (command c verdict) next = IsStep d s c verdict next
 LeadsTo d s (deed asked reply) next = IsDeedReply d s asked reply × (next ≡ s)
 

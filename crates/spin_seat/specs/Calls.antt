@@ -81,4 +81,4 @@ IsFaultAt place length fault.NoMemory = place_past place length < MAX_PLACE
 -- applied all that it has read
 abbrev pub IsUnrefused : SetupData → SeatValue → Command → SeatFault → Type 0
 IsUnrefused d seat c fault.Full = ⊤
-IsUnrefused d seat c fault.NoMemory = seat.kept ≡ None → refusal_of d seat.state c ≡ None
+IsUnrefused d seat c fault.NoMemory = seat.pending ≡ None → refusal_of d seat.state c ≡ None

@@ -9,14 +9,15 @@ use Rattle.spin_code.specs.declared.act.Act.{Act}
 use Rattle.spin_code.specs.contracts.act.Act as act
 use Rattle.spin_code.specs.declared.test.Test.{Test}
 use Rattle.spin_code.specs.contracts.test.Test as test
+use Rattle.spin_place.specs.declared.binding.Binding.{Binding}
+use Rattle.spin_place.specs.contracts.binding.Binding as binding
 use Rattle.spin_policy.specs.declared.rule.Rule.{Rule}
 use Rattle.spin_policy.specs.contracts.rule.Rule as rule
 use Rattle.spin_objects.specs.Units.{HandlerUnit, GuardUnit}
 use Rattle.spin_table.specs.declared.event.EventDef.{EventDef}
 use Rattle.spin_table.specs.contracts.event.EventDef as event
-use Rattle.spin_table.specs.contracts.version.Version as version
 use Rattle.spin_table.specs.Setups.{SetupData}
-use Rattle.spin_table.specs.States.{State}
+use Rattle.spin_table.specs.States.{State, EventState}
 
 -- a tree of numbers, in order
 unfoldable pub flat : Gv → List ℕ
@@ -49,8 +50,15 @@ setup_code =
       policies = p.1.1.1.1.1;
     }) (λ _. refl)
 
+abbrev pub event_code : Coded EventState
+event_code =
+    code_by (List Binding × ℕ) (coded× (coded_list binding.the_row.coded) coded_ℕ)
+    (λ e. (e.bindings, e.default)) (λ p. record { bindings = p.0; default = p.1 }) (λ _. refl)
+
 abbrev pub state_code : Coded State
-state_code = version.the_row.coded
+state_code =
+    code_by (ℕ × List EventState) (coded× coded_ℕ (coded_list event_code))
+    (λ s. (s.place, s.events)) (λ p. record { place = p.0; events = p.1 }) (λ _. refl)
 
 unfoldable pub log_numbers : TableId → List ℕ
 log_numbers log = flat (table_id_coded.code log)

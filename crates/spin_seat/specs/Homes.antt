@@ -23,7 +23,7 @@ pub record IsSeatAt (log : TableId) (d : SetupData) (first : State) (lane : ℕ)
 -- it is the seat of that lane of whatever hub the key tells
 pub record IsHomeSeat (key : HomeKey) (lane : ℕ) (seat : SeatValue) : Type 0 where
   pub d : SetupData
-  pub key_is : IsKeyOf key seat.pen.log d seat.first
+  pub key_is : IsKeyOf key seat.pen.log d seat.base
   pub lane_is : seat.pen.lane ≡ lane
   pub is_seat : IsSeat d seat
 

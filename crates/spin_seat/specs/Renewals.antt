@@ -8,11 +8,11 @@ use Rattle.spin_table.specs.Soundness.{IsSound}
 use Rattle.spin_table.specs.Renamings.{Rises, StayNamed, renamed_command, renamed_verdict, IsRenamed}
 use Rattle.spin_table.specs.Renewals.{NameGiven, live_numbers, old_number, renewed}
 use Rattle.spin_proto.specs.Renamings.{renamed_reply}
-use Rattle.spin_seat.specs.Answers.{Said, command, deed, Answer, AreLegalAnswers}
+use Rattle.spin_seat.specs.Answers.{Exchange, command, deed, Answer, AreLegalAnswers}
 
 -- Below, `to` gives each number of a binding the one that it has in the other state.
 
-abbrev pub renamed_said : (ℕ → ℕ) → Said → Said
+abbrev pub renamed_said : (ℕ → ℕ) → Exchange → Exchange
 renamed_said to (command c verdict) =
     command (renamed_command to c) (renamed_verdict to verdict)
 renamed_said to (deed asked reply) = deed asked (renamed_reply to reply)
@@ -26,7 +26,7 @@ renamed_answer to first second answer = record {
 }
 
 -- what a command's constraints name is named under the other numbers too
-abbrev pub NamesStay : (ℕ → ℕ) → Said → Type 0
+abbrev pub NamesStay : (ℕ → ℕ) → Exchange → Type 0
 NamesStay to (command c verdict) = StayNamed to c.before × StayNamed to c.after
 NamesStay to (deed asked reply) = ⊤
 
@@ -62,7 +62,7 @@ RenewalsGoOn =
     × IsRenamed (old_number (live_numbers s) s.place) last other
 
 -- what was asked is a deed, or a valid command
-abbrev pub IsValid : Said → Type 0
+abbrev pub IsValid : Exchange → Type 0
 IsValid (command c verdict) = IsTrue (is_command c)
 IsValid (deed asked reply) = ⊤
 

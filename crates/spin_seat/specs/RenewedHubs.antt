@@ -25,7 +25,7 @@ pub record AreAllSeats (d : SetupData) (log : LogValue) (seats : List SeatValue)
 -- the seat may have read rows of other lanes and applied them, and all else is as before
 pub record KnowsMore (d : SetupData) (before after : SeatValue) : Type 0 where
   pub seat : IsSeat d after
-  pub first : after.first ≡ before.first
+  pub first : after.base ≡ before.base
   pub reads : ReadsOn before.pen after.pen
 
 -- the same of each of these seats
@@ -47,7 +47,7 @@ pub record IsTotalFrom (d : SetupData) (first : State) (seats : List SeatValue) 
 -- that seat keeps no row, and no seat of these knows more
 abbrev pub KnowsAllOf : SeatValue → List SeatValue → Type 0
 KnowsAllOf first seats =
-    (first.kept ≡ None)
+    (first.pending ≡ None)
     × All (λ (seat : SeatValue). length seat.pen.front ≤ length first.pen.front) seats
 
 -- the first of the seats knows what all know

@@ -3,7 +3,7 @@
 ghost use Rattle.std.specs.Prelude.{◌≡◌, ◌≤◌, [], List, All, map, length, vec_capacity, IfOk};
 ghost use Rattle.spin_word.specs.declared.command.TheConstants.{MAX_PLACE};
 ghost use Rattle.spin_log.specs.Rows.{IsCommandBelow};
-ghost use Rattle.spin_log.specs.History.{Moment};
+ghost use Rattle.spin_log.specs.History.{LogAction};
 ghost use Rattle.spin_log.specs.Pens.{StandsIn, IsHistory};
 ghost use Rattle.spin_table.specs.SetupOf.{data_of};
 ghost use Rattle.spin_table.specs.States.{State};
@@ -51,7 +51,7 @@ impl Hub {
             → AnswersAreLegalFrom (data_of self.setup) first seats result }
         ensures each { All (λ seat. StandsIn result seat.pen) seats }
         ensures history { let pens = map (λ seat. seat.pen) seats in
-            (moments : List Moment) × IsHistory result pens moments }
+            (moments : List LogAction) × IsHistory result pens moments }
         ensures rows { All (IsCommandBelow self.log.lanes) result × (length result ≤ MAX_PLACE) }
     {
         let CloseRoom { rows, pens: room } = room;
@@ -76,7 +76,7 @@ impl Hub {
             → IfOk result (λ log. AnswersAreLegalFrom (data_of self.setup) first seats log) }
         ensures each { IfOk result (λ log. All (λ seat. StandsIn log seat.pen) seats) }
         ensures history { let pens = map (λ seat. seat.pen) seats in
-            IfOk result (λ log. (moments : List Moment) × IsHistory log pens moments) }
+            IfOk result (λ log. (moments : List LogAction) × IsHistory log pens moments) }
         ensures rows { IfOk result (λ log. All (IsCommandBelow self.log.lanes) log × (length log ≤ MAX_PLACE)) }
     {
         let room = CloseRoom::new(alloc, seats.len())?;

@@ -25,7 +25,7 @@ impl Hub {
         requires log { first.old.pen.log ≡ self.now.log.id }
         requires logs { All (λ seat. seat.pen.log ≡ self.now.log.id) others.old }
         requires seat { IsSeat (data_of self.now.setup) first.old }
-        requires seats { All (IsSeatFrom (data_of self.now.setup) first.old.first) others.old }
+        requires seats { All (IsSeatFrom (data_of self.now.setup) first.old.base) others.old }
         ensures first { KnowsMore (data_of self.now.setup) first.old first.new }
         ensures others { KnowMore (data_of self.now.setup) others.old others.new }
         ensures ok { OnOk result (KnowsAllOf first.new others.new) }
@@ -47,7 +47,7 @@ impl Hub {
         requires some { 0 < length seats.old }
         requires logs { All (λ seat. seat.pen.log ≡ self.now.log.id) seats.old }
         requires seats { All (IsSeat (data_of self.now.setup)) seats.old }
-        requires one { (seat : SeatValue) → AreFrom (slice_index_or seats.old 0 seat).first seats.old }
+        requires one { (seat : SeatValue) → AreFrom (slice_index_or seats.old 0 seat).base seats.old }
         ensures seats { KnowMore (data_of self.now.setup) seats.old seats.new }
         ensures ok { OnOk result (FirstKnowsAll seats.new) }
         ensures err { OnErr result (FirstKnowsAll seats.new → ⊥) }

@@ -46,7 +46,7 @@ struct FirstNumbers;
 impl Names<Seat> for FirstNumbers {
     ghost use Rattle.spin_seat.specs.Codes.{state_numbers};
 
-    ghost numbers = { λ seat. state_numbers seat.first };
+    ghost numbers = { λ seat. state_numbers seat.base };
 }
 
 /// At home at the index of a lane may be the seat of that lane, of the key's hub.
@@ -69,7 +69,7 @@ pub type SeatTickets = Sequence<SeatTicket>;
 
 // The key of homes for the seats of this log over this setup, of which this is one.
 fn key_of(log: &Log, setup: &Setup, seat: &Seat) -> HomeKey
-    ensures { IsKeyOf result log.now.id (data_of setup.now) seat.now.first }
+    ensures { IsKeyOf result log.now.id (data_of setup.now) seat.now.base }
 {
     HomeKey {
         log: Tag::of::<Log, LogNumbers>(log),
@@ -86,7 +86,7 @@ pub(crate) fn homes_of(
     seat: &Seat,
     lanes: u8,
 ) -> Result<(SeatHomes, SeatTickets), NoMemory>
-    ensures key { IfOk result (λ made. IsKeyOf made.0.table.shared.key log.now.id (data_of setup.now) seat.now.first) }
+    ensures key { IfOk result (λ made. IsKeyOf made.0.table.shared.key log.now.id (data_of setup.now) seat.now.base) }
     ensures tickets { IfOk result (λ made. AreFor lanes made.0.table.shared.table_id made.1) }
 {
     let key = key_of(log, setup, seat);

@@ -66,10 +66,10 @@ impl Hub {
         requires log_b { b.old.pen.log ≡ self.now.log.id }
         requires seat_a { IsSeat (data_of self.now.setup) a.old }
         requires seat_b { IsSeat (data_of self.now.setup) b.old }
-        requires first { b.old.first ≡ a.old.first }
+        requires first { b.old.base ≡ a.old.base }
         ensures seat_a { IsSeat (data_of self.now.setup) a.new }
         ensures seat_b { IsSeat (data_of self.now.setup) b.new }
-        ensures first { (a.new.first ≡ a.old.first) × (b.new.first ≡ b.old.first) }
+        ensures first { (a.new.base ≡ a.old.base) × (b.new.base ≡ b.old.base) }
         ensures a { let front = longer a.old.pen.front b.old.pen.front in
             MatchResult result
             (λ _. a.new.pen ≡ with_front a.old.pen front)
@@ -80,7 +80,7 @@ impl Hub {
             (λ _. b.new.pen ≡ b.old.pen) }
         ensures same { IsSamePen a.old.pen a.new.pen × IsSamePen b.old.pen b.new.pen }
         ensures state { OnOk result (a.new.state ≡ b.new.state) }
-        ensures whole { OnOk result ((a.new.kept ≡ None) × (b.new.kept ≡ None)) }
+        ensures whole { OnOk result ((a.new.pending ≡ None) × (b.new.pending ≡ None)) }
         ensures reads { OnOk result
             (ReadsOn a.old.pen a.new.pen × ReadsOn b.old.pen b.new.pen) }
         ensures pens { OnOk result (IsPen a.new.pen × IsPen b.new.pen) }

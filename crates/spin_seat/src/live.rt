@@ -3,7 +3,7 @@
 ghost use Rattle.std.specs.Prelude.{◌≡◌, ◌<◌, ◌≤◌, ◌↔◌, length, IsTrue, MatchResult};
 ghost use Rattle.spin_word.specs.declared.command.TheConstants.{MAX_PLACE};
 ghost use Rattle.spin_table.specs.SetupOf.{data_of};
-ghost use Rattle.spin_table.specs.Soundness.{IsSound};
+ghost use Rattle.spin_table.specs.Soundness.{IsSoundVersion};
 ghost use Rattle.std.specs.Option.{option_copied};
 ghost use Rattle.spin_table.specs.States.{binding_of, is_live};
 ghost use Rattle.spin_table.specs.Renewals.{is_live_in, live_numbers};
@@ -38,8 +38,8 @@ fn has_number(bindings: &[Binding], number: u16) -> bool
 
 // Whether a binding of some event has the number.
 fn is_live(setup: &Setup, version: &Version, number: u16) -> bool
-    requires { IsSound (data_of setup.now) version.now }
-    ensures { result ≡ is_live_in version.now number }
+    requires { IsSoundVersion (data_of setup.now) version.now }
+    ensures { result ≡ is_live_in version.now.state number }
 {
     for event in 0..setup.events() {
         if has_number(version.bindings(event), number) {
@@ -51,8 +51,8 @@ fn is_live(setup: &Setup, version: &Version, number: u16) -> bool
 
 // How many bindings are live. It takes no memory, and so looks through them for each number up to the place.
 fn live_count(setup: &Setup, version: &Version) -> u16
-    requires { IsSound (data_of setup.now) version.now }
-    ensures { result ≡ length (live_numbers version.now) }
+    requires { IsSoundVersion (data_of setup.now) version.now }
+    ensures { result ≡ length (live_numbers version.now.state) }
 {
     let mut count = 0;
     for before in 0..version.place() {
@@ -69,10 +69,10 @@ pub(crate) fn live_below(
     setup: &Setup,
     version: &Version,
 ) -> Result<Numbers, RenewFault>
-    requires { IsSound (data_of setup.now) version.now }
+    requires { IsSoundVersion (data_of setup.now) version.now }
     ensures { MatchResult result
-        (λ live. (live ≡ live_numbers version.now) × (length live < MAX_PLACE))
-        (KeepsFrom version.now) }
+        (λ live. (live ≡ live_numbers version.now.state) × (length live < MAX_PLACE))
+        (KeepsFrom version.now.state) }
 {
     match version.live_numbers(alloc) {
         Ok(live) => {

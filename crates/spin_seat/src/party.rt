@@ -3,7 +3,7 @@
 ghost use Rattle.std.specs.Prelude.{◌≡◌, ◌<◌, ◌≤◌, ℕ, List, All, map, length, vec_capacity, IfOk, IfErr, IfSome, MatchResult};
 ghost use Rattle.spin_word.specs.declared.command.TheConstants.{MAX_LANES, MAX_PLACE};
 ghost use Rattle.spin_log.specs.Rows.{IsCommandBelow};
-ghost use Rattle.spin_log.specs.History.{Moment};
+ghost use Rattle.spin_log.specs.History.{LogAction};
 ghost use Rattle.spin_log.specs.Pens.{StandsIn, IsHistory, new_pens};
 ghost use Rattle.spin_table.specs.SetupOf.{data_of};
 ghost use Rattle.spin_table.specs.States.{State, start_of};
@@ -137,7 +137,7 @@ impl Party {
             → IfOk result (λ done. AnswersAreLegalFrom (data_of self.old.hub.setup) first seats done.rows) }
         ensures each { IfOk result (λ done. All (λ seat. StandsIn done.rows seat.pen) seats) }
         ensures history { let pens = map (λ seat. seat.pen) seats in
-            IfOk result (λ done. (moments : List Moment) × IsHistory done.rows pens moments) }
+            IfOk result (λ done. (moments : List LogAction) × IsHistory done.rows pens moments) }
         ensures rows { IfOk result (λ done.
             All (IsCommandBelow self.old.hub.log.lanes) done.rows × (length done.rows ≤ MAX_PLACE)) }
     {

@@ -3,7 +3,7 @@
 ghost use Rattle.std.specs.Prelude.{◌≡◌, ◌<◌, ◌≤◌, List, All, map, length, vec_capacity, IfOk};
 ghost use Rattle.spin_word.specs.declared.command.TheConstants.{MAX_LANES, MAX_PLACE};
 ghost use Rattle.spin_log.specs.Rows.{IsCommandBelow};
-ghost use Rattle.spin_log.specs.History.{Moment};
+ghost use Rattle.spin_log.specs.History.{LogAction};
 ghost use Rattle.spin_log.specs.Pens.{StandsIn, IsHistory, new_pens};
 ghost use Rattle.spin_table.specs.SetupOf.{data_of};
 ghost use Rattle.spin_table.specs.Renewals.{live_numbers, renewed};
@@ -96,7 +96,7 @@ impl Hub {
         ensures homes { (result.homes ≡ ready.homes) × (result.tickets ≡ ready.tickets) }
         ensures each { All (λ seat. StandsIn result.rows seat.pen) seats }
         ensures history { let pens = map (λ seat. seat.pen) seats in
-            (moments : List Moment) × IsHistory result.rows pens moments }
+            (moments : List LogAction) × IsHistory result.rows pens moments }
         ensures rows { All (IsCommandBelow self.old.log.lanes) result.rows
             × (length result.rows ≤ MAX_PLACE) }
     {

@@ -4,7 +4,7 @@ ghost use Rattle.std.specs.Prelude.{◌≡◌, ◌<◌, ◌≤◌, List, All, ma
 ghost use Rattle.std.specs.Prelude.{vec_capacity, IfOk, IfErr, OnOk, MatchResult};
 ghost use Rattle.spin_word.specs.declared.command.TheConstants.{MAX_PLACE};
 ghost use Rattle.spin_log.specs.Rows.{IsCommandBelow};
-ghost use Rattle.spin_log.specs.History.{Moment};
+ghost use Rattle.spin_log.specs.History.{LogAction};
 ghost use Rattle.spin_log.specs.Pens.{StandsIn, IsHistory, new_pens};
 ghost use Rattle.spin_table.specs.SetupOf.{data_of};
 ghost use Rattle.spin_table.specs.States.{State};
@@ -147,7 +147,7 @@ impl Hub {
             → IfOk result (λ done. AnswersAreLegalFrom (data_of self.old.setup) first seats done.rows) }
         ensures each { IfOk result (λ done. All (λ seat. StandsIn done.rows seat.pen) seats) }
         ensures history { let pens = map (λ seat. seat.pen) seats in
-            IfOk result (λ done. (moments : List Moment) × IsHistory done.rows pens moments) }
+            IfOk result (λ done. (moments : List LogAction) × IsHistory done.rows pens moments) }
         ensures rows { IfOk result (λ done.
             All (IsCommandBelow self.old.log.lanes) done.rows × (length done.rows ≤ MAX_PLACE)) }
     {
@@ -205,7 +205,7 @@ impl Hub {
             → IfOk result (λ done. AnswersAreLegalFrom (data_of self.setup) first seats done.rows) }
         ensures each { IfOk result (λ done. All (λ seat. StandsIn done.rows seat.pen) seats) }
         ensures history { let pens = map (λ seat. seat.pen) seats in
-            IfOk result (λ done. (moments : List Moment) × IsHistory done.rows pens moments) }
+            IfOk result (λ done. (moments : List LogAction) × IsHistory done.rows pens moments) }
         ensures rows { IfOk result (λ done.
             All (IsCommandBelow self.log.lanes) done.rows × (length done.rows ≤ MAX_PLACE)) }
     {

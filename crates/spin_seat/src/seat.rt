@@ -12,9 +12,9 @@ ghost use Rattle.spin_table.specs.SetupOf.{data_of};
 ghost use Rattle.spin_table.specs.Refusals.{refusal_of};
 ghost use Rattle.spin_table.specs.Steps.{IsAnswer, IsStep};
 ghost use Rattle.spin_table.specs.declared.refusal.Verdicted.TheVariants as verdicted;
-ghost use Rattle.spin_table.specs.Soundness.{IsSound};
+ghost use Rattle.spin_table.specs.Soundness.{IsSoundVersion};
 ghost use Rattle.spin_proto.specs.Replies.{BelongsTo, calls_left};
-ghost use Rattle.spin_seat.specs.Seats.{IsSeat};
+ghost use Rattle.spin_seat.specs.Seats.{IsSeat, version_of};
 ghost use Rattle.spin_seat.specs.Answers.{place_before};
 ghost use Rattle.spin_seat.specs.Calls.{ReadsOn, ReadsToPin, AddsAtMostAPin, GivesFrom};
 ghost use Rattle.spin_seat.specs.Places.{place_past};
@@ -40,7 +40,8 @@ use std::sync::ledger::{Blank, Ledger};
 pub type Seats = Sequence<Seat>;
 
 /// A lane's pen, with its own replica of the dispatcher. Contracts see the pen, the first state, on
-/// which the log follows, the state of its version, and the row that it has read and not yet applied.
+/// which the log follows, the state of its version and the tests of the guards over which the version's plans were
+/// compiled, and the row that it has read and not yet applied.
 ///
 /// What holds of every seat of a [`Hub`], and stays so through each call, whatever it answers: the
 /// first state is the same; the state is the replay of the pen's front from there, less that one row;
@@ -48,9 +49,9 @@ pub type Seats = Sequence<Seat>;
 #[derive(Drop)]
 pub struct Seat {
     pub(crate) pen: Pen,
-    pub(crate) first: Arc<Version>,
+    pub(crate) base: Arc<Version>,
     pub(crate) version: Arc<Version>,
-    pub(crate) kept: Option<Row>,
+    pub(crate) pending: Option<Row>,
 }
 
 impl Model for Seat {
@@ -63,7 +64,13 @@ impl Model for Seat {
 
     ghost coded = { Prim.hlevel (codes, test.the_row.coded) };
 
-    ghost view = { λ s. record { pen = s.pen; first = arc_value s.first; state = arc_value s.version; kept = s.kept } };
+    ghost view = { λ s. record {
+      pen = s.pen;
+      base = (arc_value s.base).state;
+      state = (arc_value s.version).state;
+      tests = (arc_value s.version).tests;
+      pending = s.pending;
+    } };
 }
 
 impl Seat {
@@ -90,63 +97,63 @@ impl Seat {
     /// [`Hub::meet`](crate::Hub::meet) of all seats, it is just that many. At 0 the seat's next command
     /// is answered [`Full`](SeatFault::Full). It reads no log, takes no memory and waits for nobody.
     pub fn room(&self) -> u16
-        ensures left { result ≡ MAX_PLACE - place_past self.now.first.place (length self.now.pen.front) }
+        ensures left { result ≡ MAX_PLACE - place_past self.now.base.place (length self.now.pen.front) }
         ensures front { length self.now.pen.front ≤ MAX_PLACE }
     {
         MAX_PLACE
-            .saturating_sub(self.first.place())
+            .saturating_sub(self.base.place())
             .saturating_sub(self.pen.front())
     }
 
     // The place of the front's end.
     pub(crate) fn place(&self) -> u16
-        requires fits { self.now.first.place ≤ MAX_PLACE }
-        ensures { result ≡ place_past self.now.first.place (length self.now.pen.front) }
+        requires fits { self.now.base.place ≤ MAX_PLACE }
+        ensures { result ≡ place_past self.now.base.place (length self.now.pen.front) }
     {
-        self.first.place() + self.pen.front()
+        self.base.place() + self.pen.front()
     }
 
     // Takes the version after the command of the row that it kept.
     fn accepted(&mut self, _hub: &Hub, _row: &Row, _c: &Command, after: Arc<Version>)
         requires seat { IsSeat (data_of _hub.now.setup) self.old }
-        requires kept { self.old.kept ≡ Some _row.now }
+        requires kept { self.old.pending ≡ Some _row.now }
         requires stands { StandsFor _row.now _c.now }
         requires step { let verdict = verdicted.Accepted in
-            IsStep (data_of _hub.now.setup) self.old.state _c.now verdict (arc_value after) }
-        requires sound { IsSound (data_of _hub.now.setup) (arc_value after) }
+            IsStep (data_of _hub.now.setup) self.old.state _c.now verdict (arc_value after).state }
+        requires sound { IsSoundVersion (data_of _hub.now.setup) (arc_value after) }
         ensures seat { IsSeat (data_of _hub.now.setup) self.new }
-        ensures first { self.new.first ≡ self.old.first }
+        ensures first { self.new.base ≡ self.old.base }
         ensures pen { self.new.pen ≡ self.old.pen }
-        ensures ok { self.new.kept ≡ None }
+        ensures ok { self.new.pending ≡ None }
     {
         self.version = after;
-        self.kept = None;
+        self.pending = None;
     }
 
     // Leaves its version, since the command of the row that it kept is refused.
     fn refused(&mut self, _hub: &Hub, _row: &Row, _c: &Command, _refusal: &Refusal)
         requires seat { IsSeat (data_of _hub.now.setup) self.old }
-        requires kept { self.old.kept ≡ Some _row.now }
+        requires kept { self.old.pending ≡ Some _row.now }
         requires stands { StandsFor _row.now _c.now }
         requires step { let verdict = verdicted.Refused _refusal.now in
             IsStep (data_of _hub.now.setup) self.old.state _c.now verdict self.old.state }
         ensures seat { IsSeat (data_of _hub.now.setup) self.new }
-        ensures first { self.new.first ≡ self.old.first }
+        ensures first { self.new.base ≡ self.old.base }
         ensures pen { self.new.pen ≡ self.old.pen }
-        ensures ok { self.new.kept ≡ None }
+        ensures ok { self.new.pending ≡ None }
     {
-        self.kept = None;
+        self.pending = None;
     }
 
     // Applies this row, which it keeps: another lane's, whose command may be refused.
     fn step(&mut self, alloc: Global, hub: &Hub, row: Row) -> Result<(), NoMemory>
         requires sincere { ⟦<Catalogue as Sincere>⟧.sincere hub.now.setup.catalogue }
         requires seat { IsSeat (data_of hub.now.setup) self.old }
-        requires kept { self.old.kept ≡ Some row }
+        requires kept { self.old.pending ≡ Some row }
         ensures seat { IsSeat (data_of hub.now.setup) self.new }
-        ensures first { self.new.first ≡ self.old.first }
+        ensures first { self.new.base ≡ self.old.base }
         ensures pen { self.new.pen ≡ self.old.pen }
-        ensures ok { OnOk result (self.new.kept ≡ None) }
+        ensures ok { OnOk result (self.new.pending ≡ None) }
         ensures err { OnErr result (self.new ≡ self.old) }
     {
         let _front = self.pen.front();
@@ -176,15 +183,15 @@ impl Seat {
         requires sincere { ⟦<Catalogue as Sincere>⟧.sincere hub.now.setup.catalogue }
         requires seat { IsSeat (data_of hub.now.setup) self.old }
         ensures seat { IsSeat (data_of hub.now.setup) self.new }
-        ensures first { self.new.first ≡ self.old.first }
+        ensures first { self.new.base ≡ self.old.base }
         ensures pen { self.new.pen ≡ self.old.pen }
-        ensures ok { OnOk result (self.new.kept ≡ None) }
+        ensures ok { OnOk result (self.new.pending ≡ None) }
         ensures err { OnErr result (self.new ≡ self.old) }
-        ensures kept { OnErr result (self.old.kept ≢ None) }
+        ensures kept { OnErr result (self.old.pending ≢ None) }
         ensures is_pen { IsPen self.new.pen }
     {
         let _front = self.pen.front();
-        match self.kept {
+        match self.pending {
             Some(row) => self.step(alloc, hub, row),
             None => Ok(()),
         }
@@ -195,16 +202,16 @@ impl Seat {
     fn read(&mut self, hub: &Hub) -> Look
         requires log { self.old.pen.log ≡ hub.now.log.id }
         requires seat { IsSeat (data_of hub.now.setup) self.old }
-        requires whole { self.old.kept ≡ None }
+        requires whole { self.old.pending ≡ None }
         ensures look { LooksSay self.old.pen result self.new.pen }
         ensures state { self.new.state ≡ self.old.state }
-        ensures kept { self.new.kept ≡ row_seen result }
+        ensures kept { self.new.pending ≡ row_seen result }
         ensures seat { IsSeat (data_of hub.now.setup) self.new }
-        ensures first { self.new.first ≡ self.old.first }
+        ensures first { self.new.base ≡ self.old.base }
     {
         match hub.log.look(&mut self.pen) {
             Look::Entry(row) => {
-                self.kept = Some(row);
+                self.pending = Some(row);
                 Look::Entry(row)
             }
             Look::Pinned => Look::Pinned,
@@ -224,8 +231,8 @@ impl Seat {
         requires log { self.old.pen.log ≡ hub.now.log.id }
         requires seat { IsSeat (data_of hub.now.setup) self.old }
         ensures seat { IsSeat (data_of hub.now.setup) self.new }
-        ensures first { self.new.first ≡ self.old.first }
-        ensures ok { OnOk result (ReadsToPin self.old.pen self.new.pen × (self.new.kept ≡ None)) }
+        ensures first { self.new.base ≡ self.old.base }
+        ensures ok { OnOk result (ReadsToPin self.old.pen self.new.pen × (self.new.pending ≡ None)) }
         ensures err { OnErr result (ReadsOn self.old.pen self.new.pen) }
         ensures turns { TurnsFor self.old.pen turns.old self.new.pen turns.new }
     {
@@ -253,8 +260,8 @@ impl Seat {
         requires parts { blank.parts ≡ L.parts }
         requires some { 0 < L.parts }
         ensures seat { IsSeat (data_of hub.now.setup) self.new }
-        ensures first { self.new.first ≡ self.old.first }
-        ensures ok { OnOk result (ReadsToPin self.old.pen self.new.pen × (self.new.kept ≡ None)) }
+        ensures first { self.new.base ≡ self.old.base }
+        ensures ok { OnOk result (ReadsToPin self.old.pen self.new.pen × (self.new.pending ≡ None)) }
         ensures err { OnErr result (ReadsOn self.old.pen self.new.pen) }
     {
         let mut turns = Steps::<L>::new(blank);
@@ -277,15 +284,15 @@ impl Seat {
         requires log { self.old.pen.log ≡ hub.now.log.id }
         requires seat { IsSeat (data_of hub.now.setup) self.old }
         ensures seat { IsSeat (data_of hub.now.setup) self.new }
-        ensures first { self.new.first ≡ self.old.first }
+        ensures first { self.new.base ≡ self.old.base }
         ensures same { IsSamePen self.old.pen self.new.pen }
         ensures answer { let d = data_of hub.now.setup in
-            let first = self.old.first in
+            let first = self.old.base in
             let pen = self.old.pen in
             IfOk result (λ raised.
             GivesFrom d first pen (reply_answer pen.lane deed.now raised.place raised.reply) self.new.pen) }
-        ensures whole { OnOk result (self.new.kept ≡ None) }
-        ensures pinned { IfOk result (λ raised. arc_value raised.pinned ≡ self.new.state) }
+        ensures whole { OnOk result (self.new.pending ≡ None) }
+        ensures pinned { IfOk result (λ raised. arc_value raised.pinned ≡ version_of self.new) }
         ensures calls { IfOk result (λ raised. All (BelongsTo self.new.state) (calls_left raised.reply)) }
         ensures err { OnErr result (AddsAtMostAPin self.old.pen self.new.pen) }
     {
@@ -305,14 +312,14 @@ impl Seat {
     fn publish(&mut self, hub: &Hub, c: &Command, next: Arc<Version>) -> Option<Judged>
         requires log { self.old.pen.log ≡ hub.now.log.id }
         requires seat { IsSeat (data_of hub.now.setup) self.old }
-        requires whole { self.old.kept ≡ None }
-        requires room { place_past self.old.first.place (length self.old.pen.front) < MAX_PLACE }
+        requires whole { self.old.pending ≡ None }
+        requires room { place_past self.old.base.place (length self.old.pen.front) < MAX_PLACE }
         requires valid { IsTrue (is_command c.now) }
         requires lane { c.now.lane ≡ self.old.pen.lane }
         requires step { IsAnswer (data_of hub.now.setup) self.old.state c.now (Ok (arc_value next)) }
-        requires sound { IsSound (data_of hub.now.setup) (arc_value next) }
+        requires sound { IsSoundVersion (data_of hub.now.setup) (arc_value next) }
         ensures seat { IsSeat (data_of hub.now.setup) self.new }
-        ensures first { self.new.first ≡ self.old.first }
+        ensures first { self.new.base ≡ self.old.base }
         ensures tries { Tries (data_of hub.now.setup) self.old c.now result self.new }
     {
         let place = self.place();
@@ -325,7 +332,7 @@ impl Seat {
                 })
             }
             Publish::Lost(other) => {
-                self.kept = Some(other);
+                self.pending = Some(other);
                 None
             }
             Publish::Full => unreachable!(),
@@ -336,12 +343,12 @@ impl Seat {
     fn refuse(&mut self, hub: &Hub, _c: &Command, refusal: Refusal) -> Option<Judged>
         requires log { self.old.pen.log ≡ hub.now.log.id }
         requires seat { IsSeat (data_of hub.now.setup) self.old }
-        requires whole { self.old.kept ≡ None }
-        requires room { place_past self.old.first.place (length self.old.pen.front) < MAX_PLACE }
+        requires whole { self.old.pending ≡ None }
+        requires room { place_past self.old.base.place (length self.old.pen.front) < MAX_PLACE }
         requires step { let verdict = verdicted.Refused refusal in
             IsStep (data_of hub.now.setup) self.old.state _c.now verdict self.old.state }
         ensures seat { IsSeat (data_of hub.now.setup) self.new }
-        ensures first { self.new.first ≡ self.old.first }
+        ensures first { self.new.base ≡ self.old.base }
         ensures tries { Tries (data_of hub.now.setup) self.old _c.now result self.new }
     {
         let place = self.place();
@@ -360,12 +367,12 @@ impl Seat {
         requires sincere { ⟦<Catalogue as Sincere>⟧.sincere hub.now.setup.catalogue }
         requires log { self.old.pen.log ≡ hub.now.log.id }
         requires seat { IsSeat (data_of hub.now.setup) self.old }
-        requires whole { self.old.kept ≡ None }
-        requires room { place_past self.old.first.place (length self.old.pen.front) < MAX_PLACE }
+        requires whole { self.old.pending ≡ None }
+        requires room { place_past self.old.base.place (length self.old.pen.front) < MAX_PLACE }
         requires valid { IsTrue (is_command c.now) }
         requires lane { c.now.lane ≡ self.old.pen.lane }
         ensures seat { IsSeat (data_of hub.now.setup) self.new }
-        ensures first { self.new.first ≡ self.old.first }
+        ensures first { self.new.base ≡ self.old.base }
         ensures tries { let d = data_of hub.now.setup in
             IfOk result (λ judged. Tries d self.old c.now judged self.new) }
         ensures err { OnErr result (self.new ≡ self.old) }
@@ -393,19 +400,19 @@ impl Seat {
         requires valid { IsTrue (is_command c.now) }
         requires lane { c.now.lane ≡ self.old.pen.lane }
         ensures seat { IsSeat (data_of hub.now.setup) self.new }
-        ensures first { self.new.first ≡ self.old.first }
+        ensures first { self.new.base ≡ self.old.base }
         ensures same { IsSamePen self.old.pen self.new.pen }
         ensures answer { let d = data_of hub.now.setup in
-            let first = self.old.first in
+            let first = self.old.base in
             let pen = self.old.pen in
             IfOk result (λ judged.
             GivesFrom d first pen (verdict_answer pen.lane c.now judged.place judged.verdict) self.new.pen) }
         ensures room { let lane = self.old.pen.lane in
             IfOk result (λ judged.
             place_before (verdict_answer lane c.now judged.place judged.verdict) < MAX_PLACE) }
-        ensures whole { OnOk result (self.new.kept ≡ None) }
+        ensures whole { OnOk result (self.new.pending ≡ None) }
         ensures read { OnErr result (ReadsOn self.old.pen self.new.pen) }
-        ensures fault { IfErr result (IsFaultAt self.old.first.place (length self.new.pen.front)) }
+        ensures fault { IfErr result (IsFaultAt self.old.base.place (length self.new.pen.front)) }
         ensures unrefused { IfErr result (IsUnrefused (data_of hub.now.setup) self.new c.now) }
         ensures turns { TurnsFor self.old.pen turns.old self.new.pen turns.new }
     {
@@ -436,19 +443,19 @@ impl Seat {
         requires parts { blank.parts ≡ L.parts }
         requires some { 0 < L.parts }
         ensures seat { IsSeat (data_of hub.now.setup) self.new }
-        ensures first { self.new.first ≡ self.old.first }
+        ensures first { self.new.base ≡ self.old.base }
         ensures same { IsSamePen self.old.pen self.new.pen }
         ensures answer { let d = data_of hub.now.setup in
-            let first = self.old.first in
+            let first = self.old.base in
             let pen = self.old.pen in
             IfOk result (λ judged.
             GivesFrom d first pen (verdict_answer pen.lane c.now judged.place judged.verdict) self.new.pen) }
         ensures room { let lane = self.old.pen.lane in
             IfOk result (λ judged.
             place_before (verdict_answer lane c.now judged.place judged.verdict) < MAX_PLACE) }
-        ensures whole { OnOk result (self.new.kept ≡ None) }
+        ensures whole { OnOk result (self.new.pending ≡ None) }
         ensures read { OnErr result (ReadsOn self.old.pen self.new.pen) }
-        ensures fault { IfErr result (IsFaultAt self.old.first.place (length self.new.pen.front)) }
+        ensures fault { IfErr result (IsFaultAt self.old.base.place (length self.new.pen.front)) }
         ensures unrefused { IfErr result (IsUnrefused (data_of hub.now.setup) self.new c.now) }
     {
         let mut turns = Steps::<L>::new(blank);
@@ -478,19 +485,19 @@ impl Seat {
         requires valid { IsTrue (is_command c.now) }
         requires lane { c.now.lane ≡ self.old.pen.lane }
         ensures seat { IsSeat (data_of hub.now.setup) self.new }
-        ensures first { self.new.first ≡ self.old.first }
+        ensures first { self.new.base ≡ self.old.base }
         ensures same { IsSamePen self.old.pen self.new.pen }
         ensures answer { let d = data_of hub.now.setup in
-            let first = self.old.first in
+            let first = self.old.base in
             let pen = self.old.pen in
             IfOk result (λ judged.
             GivesFrom d first pen (verdict_answer pen.lane c.now judged.place judged.verdict) self.new.pen) }
         ensures room { let lane = self.old.pen.lane in
             IfOk result (λ judged.
             place_before (verdict_answer lane c.now judged.place judged.verdict) < MAX_PLACE) }
-        ensures whole { OnOk result (self.new.kept ≡ None) }
+        ensures whole { OnOk result (self.new.pending ≡ None) }
         ensures read { OnErr result (ReadsOn self.old.pen self.new.pen) }
-        ensures fault { IfErr result (IsFaultAt self.old.first.place (length self.new.pen.front)) }
+        ensures fault { IfErr result (IsFaultAt self.old.base.place (length self.new.pen.front)) }
         ensures unrefused { IfErr result (IsUnrefused (data_of hub.now.setup) self.new c.now) }
     {
         self.command_counted::<Brand>(alloc, hub, c, Blank::new(1))
@@ -503,11 +510,11 @@ impl Seat {
         requires other_log { other.old.pen.log ≡ hub.now.log.id }
         requires seat { IsSeat (data_of hub.now.setup) self.old }
         requires other { IsSeat (data_of hub.now.setup) other.old }
-        requires whole { (self.old.kept ≡ None) × (other.old.kept ≡ None) }
+        requires whole { (self.old.pending ≡ None) × (other.old.pending ≡ None) }
         requires longer { length self.old.pen.front ≤ length other.old.pen.front }
-        requires one { other.old.first ≡ self.old.first }
+        requires one { other.old.base ≡ self.old.base }
         ensures seat { IsSeat (data_of hub.now.setup) self.new }
-        ensures first { self.new.first ≡ self.old.first }
+        ensures first { self.new.base ≡ self.old.base }
         ensures other { other.new ≡ other.old }
         ensures ok { let pen = with_front self.old.pen other.old.pen.front in
             OnOk result (self.new ≡ record other.old { pen = pen }) }

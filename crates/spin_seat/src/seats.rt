@@ -4,7 +4,7 @@ ghost use Rattle.std.specs.Prelude.{◌≡◌, ◌≤◌, [], All, IfOk, map, le
 ghost use Rattle.std.specs.Arc.{arc_value};
 ghost use Rattle.spin_word.specs.declared.command.TheConstants.{MAX_PLACE};
 ghost use Rattle.spin_table.specs.SetupOf.{data_of};
-ghost use Rattle.spin_table.specs.Soundness.{IsSound};
+ghost use Rattle.spin_table.specs.Soundness.{IsSoundVersion};
 ghost use Rattle.spin_table.specs.Renewals.{NameGiven};
 ghost use Rattle.spin_seat.specs.Seats.{IsSeatFrom};
 
@@ -23,12 +23,12 @@ pub(crate) fn seats_of(
     pens: Pens,
 ) -> Result<Seats, NoMemory>
     requires new { All (λ pen. pen.front ≡ []) pens }
-    requires fits { (arc_value first.now).place ≤ MAX_PLACE }
-    requires sound { IsSound (data_of _setup.now) (arc_value first.now) }
-    requires given { NameGiven (arc_value first.now) }
+    requires fits { (arc_value first.now).state.place ≤ MAX_PLACE }
+    requires sound { IsSoundVersion (data_of _setup.now) (arc_value first.now) }
+    requires given { NameGiven (arc_value first.now).state }
     ensures pens { IfOk result (λ seats. map (λ seat. seat.pen) seats ≡ pens) }
     ensures seats { IfOk result (λ seats.
-        All (IsSeatFrom (data_of _setup.now) (arc_value first.now)) seats) }
+        All (IsSeatFrom (data_of _setup.now) (arc_value first.now).state) seats) }
 {
     let mut pens = pens;
     let mut seats = Seats::new(alloc);
@@ -37,9 +37,9 @@ pub(crate) fn seats_of(
         let version = Arc::try_clone(&first)?;
         seats.push(Seat {
             pen,
-            first,
+            base: first,
             version,
-            kept: None,
+            pending: None,
         })?;
     }
     Ok(seats)
@@ -56,9 +56,9 @@ pub(crate) fn pens_of(room: Vec<Pen>, seats: Seats) -> Pens
     while let Some(seat) = seats.take_first() {
         let Seat {
             pen,
-            first: _first,
+            base: _first,
             version: _version,
-            kept: _,
+            pending: _,
         } = seat;
         pens.push_reserved(pen);
     }

@@ -18,7 +18,7 @@ use Rattle.spin_table.specs.declared.refusal.Refusal.{Refusal}
 use Rattle.spin_table.specs.declared.refusal.Refusal.TheVariants as refusal
 use Rattle.spin_table.specs.declared.refusal.Verdicted.TheVariants as verdicted
 use Rattle.spin_table.specs.Setups.{SetupData, rules_of}
-use Rattle.spin_table.specs.States.{State, EventState}
+use Rattle.spin_table.specs.States.{State, EventState, VersionValue}
 use Rattle.spin_table.specs.Verdicts.{answer_to}
 use Rattle.spin_table.specs.Refusals.{refusals_at, refusal_on, refusal_of}
 use Rattle.spin_table.specs.Steps.{replaced, replaced_at, bindings_after, default_after, event_after, events_after}
@@ -115,7 +115,6 @@ later_event d place event e t s = record {
   orderly = s.orderly;
   bindings = s.bindings;
   default = s.default;
-  tests = s.tests;
 }
 
 -- a number stands at an event that is there
@@ -266,17 +265,17 @@ change_fault d e t c new (fault.Refused (refusal.ForcedMode rule)) orderly h = a
 
 -- a default and a no-default change the default alone
 pub after_default : (policies : List (List Rule)) (e : EventDef) (place : ℕ) (c : Command) (t : EventState) → c.op ≡ op.Default
-    → event_after policies e place c t ≡ record { bindings = t.bindings; tests = t.tests; default = c.handler }
+    → event_after policies e place c t ≡ record { bindings = t.bindings; default = c.handler }
 after_default policies e place c t is =
     let state : Op → EventState =
-    λ o. record { bindings = bindings_after (rules_of policies e.authority) (answer_to policies e t.bindings c) place c o t.bindings; tests = t.tests; default = default_after c o t.default } in
+    λ o. record { bindings = bindings_after (rules_of policies e.authority) (answer_to policies e t.bindings c) place c o t.bindings; default = default_after c o t.default } in
     ap state is
 
 pub after_no_default : (policies : List (List Rule)) (e : EventDef) (place : ℕ) (c : Command) (t : EventState) → c.op ≡ op.NoDefault
-    → event_after policies e place c t ≡ record { bindings = t.bindings; tests = t.tests; default = 0 }
+    → event_after policies e place c t ≡ record { bindings = t.bindings; default = 0 }
 after_no_default policies e place c t is =
     let state : Op → EventState =
-    λ o. record { bindings = bindings_after (rules_of policies e.authority) (answer_to policies e t.bindings c) place c o t.bindings; tests = t.tests; default = default_after c o t.default } in
+    λ o. record { bindings = bindings_after (rules_of policies e.authority) (answer_to policies e t.bindings c) place c o t.bindings; default = default_after c o t.default } in
     ap state is
 
 -- an order is all that an install asks beside
@@ -295,7 +294,7 @@ answer_of_fault d s c e t read_e read_t none (fault.Refused r) h = conflict d s 
 answer_of_fault d s c e t read_e read_t none fault.NoMemory h = unrefused d s c e t read_e read_t none
 
 -- want of memory is an answer where the command isn't refused
-pub short_of_memory : (d : SetupData) (s : State) (c : Command) (r : Result State StepFault) → IsErrAnd r (λ f. f ≡ fault.NoMemory)
+pub short_of_memory : (d : SetupData) (s : State) (c : Command) (r : Result VersionValue StepFault) → IsErrAnd r (λ f. f ≡ fault.NoMemory)
     → refusal_of d s c ≡ None → IsAnswer d s c r
 short_of_memory d s c (Ok next) is none = absurd is
 short_of_memory d s c (Err f) is none = subst (λ (x : StepFault). IsAnswer d s c (Err x)) (sym is) none

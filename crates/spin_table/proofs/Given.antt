@@ -24,7 +24,7 @@ use Rattle.spin_table.specs.declared.refusal.Refusal.{Refusal}
 use Rattle.spin_table.specs.declared.refusal.Refusal.TheVariants as refusal
 use Rattle.spin_table.specs.declared.refusal.Verdicted.{Verdicted}
 use Rattle.spin_table.specs.declared.refusal.Verdicted.TheVariants as verdicted
-use Rattle.spin_table.specs.Setups.{SetupData, rules_of, tests_in}
+use Rattle.spin_table.specs.Setups.{SetupData, rules_of}
 use Rattle.spin_table.specs.States.{State, EventState, is_live, first_state, start_of}
 use Rattle.spin_table.specs.Verdicts.{answer_to}
 use Rattle.spin_table.specs.Refusals.{names_unknown, refusals_at, refusal_of}
@@ -164,7 +164,7 @@ given_step d s c v next sound given (Some r) is h = subst NameGiven (sym h.1) gi
 
 given_start : (d : SetupData) → NameGiven (start_of d)
 given_start d =
-    All-map (λ (u : EventState). All (NamesGiven 0) u.bindings) (first_state (tests_in d)) d.events (λ k x l i y m. absurd (omega arith))
+    All-map (λ (u : EventState). All (NamesGiven 0) u.bindings) first_state d.events (λ k x l i y m. absurd (omega arith))
 
 pub names_stay_given : NamesStayGiven
 names_stay_given d = (given_start d, λ s c v next sound given step. given_step d s c v next sound given (refusal_of d s c) refl step)

@@ -24,3 +24,4 @@ pub mod Renewing
 pub mod RenewalRows
 pub mod RenewalTables
 pub mod RenewedSlots
+pub mod Slots

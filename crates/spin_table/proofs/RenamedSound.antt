@@ -85,7 +85,6 @@ module _ (d : SetupData) (to : ℕ → ℕ) (rises : Rises to) (s t : State) (sa
       orderly = orderly_back to rises e.bindings f.bindings h.bindings there.orderly;
       bindings = fit_back;
       default = subst (λ n. IsTrue (is_fit_default d.handlers event def n)) h.default there.default;
-      tests = sym h.tests ∙ there.tests;
     }
 
   number_there : (event n : ℕ) → IsNumberAt s event n → IsNumberAt t event (to n)

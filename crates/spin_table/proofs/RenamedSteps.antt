@@ -123,7 +123,6 @@ module _ (to : ℕ → ℕ) (rises : Rises to) (c : Command) where
         bindings =
             subst (λ v. AreRenamed to (bindings_after rules (answer_to policies def e.bindings c) m c c.op e.bindings) (bindings_after rules v n (renamed_command to c) c.op f.bindings)) (sym same)
             (after_both rules (answer_to policies def e.bindings c) m n c.op e.bindings f.bindings number some named h.bindings);
-        tests = h.tests;
         default = default_both c to c.op f.default e.default h.default;
       }
 

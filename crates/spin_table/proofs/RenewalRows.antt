@@ -25,7 +25,7 @@ abbrev under : ℕ → Binding → Binding
 under handler b = record b { handler = handler }
 
 abbrev event : List Binding → ℕ → EventState
-event bindings default = record { bindings = bindings; tests = []; default = default }
+event bindings default = record { bindings = bindings; default = default }
 
 -- where nothing is bound the place is 0, and defaults stay
 nothing_bound : renewed (record { place = 6; events = event [] 3 ∷ event [] 0 ∷ [] }) ≡ record { place = 0; events = event [] 3 ∷ event [] 0 ∷ [] }

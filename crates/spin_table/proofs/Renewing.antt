@@ -83,7 +83,6 @@ module _ (d : SetupData) (s : State) (sound : IsSound d s) (given : NameGiven s)
       same_Some _ _ (sym (slice_get-map (renewed_event (live_numbers s)) s.events event ∙ ap (option_map (renewed_event (live_numbers s))) read_e) ∙ read_x) in
       subst (λ y. IsRenamedEvent (old_number (live_numbers s) s.place) y e) is (record {
         bindings = renewed_all s.place (live_numbers s) are e.bindings (can_renew event e read_e);
-        tests = refl;
         default = refl;
       })
 

@@ -73,7 +73,6 @@ IsSoundEvent-step d place e s c setup read sound none orderly =
       orderly = orderly;
       bindings = bindings.fit;
       default = fit_default_after d e s.bindings c s.default c.op refl (passes d e s.bindings c none) sound.default;
-      tests = sound.tests;
     }
 
 -- a guard that serves the event is there

@@ -1,8 +1,7 @@
--- The lists of an event: its bindings, and the order in which they run.
+-- The bindings of an event in the order in which they run.
 use Rattle.std.specs.Prelude.{ℕ, List}
 use Rattle.std.specs.List.{filter_map}
 use Rattle.spin_word.specs.declared.command.Command.{Command}
-use Rattle.spin_code.specs.declared.test.Test.{Test}
 use Rattle.spin_policy.specs.declared.rule.Rule.{Rule}
 use Rattle.spin_place.specs.declared.binding.Binding.{Binding}
 use Rattle.spin_place.specs.Precedence.{IsCycle, HasLawfulOrder}
@@ -12,11 +11,6 @@ use Rattle.spin_table.specs.declared.refusal.StepFault.{StepFault}
 use Rattle.spin_table.specs.declared.refusal.StepFault.TheVariants as fault
 use Rattle.spin_table.specs.States.{EventState, binding_of}
 use Rattle.spin_table.specs.Steps.{event_after, IsConflict}
-
--- an event's bindings, and the tests of the guards over which their plan was compiled
-pub record Listed : Type 0 where
-  pub bindings : List Binding
-  pub tests : List Test
 
 -- the bindings of these numbers, in the order of the numbers
 abbrev pub arranged : List Binding → List ℕ → List Binding

@@ -64,10 +64,9 @@ AreRenamed to [] [] = ⊤
 AreRenamed to (b ∷ bs) (c ∷ cs) = IsRenamedBinding to b c × AreRenamed to bs cs
 AreRenamed to bs cs = ⊥
 
--- the same of an event, which keeps tests and default
+-- the same of an event, which keeps its default
 pub record IsRenamedEvent (to : ℕ → ℕ) (e f : EventState) : Type 0 where
   pub bindings : AreRenamed to e.bindings f.bindings
-  pub tests : f.tests ≡ e.tests
   pub default : f.default ≡ e.default
 
 -- The second state is the first one under the other numbers. The numbers that are still to come, those after its place,

@@ -7,7 +7,7 @@ use Rattle.spin_place.specs.declared.binding.Binding.{Binding}
 use Rattle.spin_place.specs.Precedence.{numbers_of, HasLawfulOrder}
 use Rattle.spin_table.specs.declared.event.EventDef.{EventDef}
 use Rattle.spin_table.specs.Setups.{SetupData, tests_in}
-use Rattle.spin_table.specs.States.{State, EventState}
+use Rattle.spin_table.specs.States.{State, EventState, VersionValue}
 use Rattle.spin_table.specs.Units.{is_fit_handler, is_fit_guard, is_fit_own_guard, is_fit_default}
 
 -- the binding's handler and guards are there and serve the event
@@ -18,7 +18,7 @@ is_fit_binding d event e b =
     && list_all (is_fit_guard d.guards e) b.imposed
 
 -- the state of an event is sound at that place: its bindings rise by number from 1 to the place, are no more than the
--- limit, have a lawful order, and like its default serve the event, and its guards are those of the setup
+-- limit, have a lawful order, and like its default serve the event
 pub record IsSoundEvent (d : SetupData) (place event : ℕ) (e : EventDef) (s : EventState)
     : Type 0 where
   pub rising : IsStrictlyIncreasing (numbers_of s.bindings)
@@ -27,7 +27,6 @@ pub record IsSoundEvent (d : SetupData) (place event : ℕ) (e : EventDef) (s : 
   pub orderly : HasLawfulOrder s.bindings
   pub bindings : All (λ b. IsTrue (is_fit_binding d event e b)) s.bindings
   pub default : IsTrue (is_fit_default d.handlers event e s.default)
-  pub tests : s.tests ≡ tests_in d
 
 -- the event of that number has a binding of this number
 abbrev pub IsNumberAt : State → ℕ → ℕ → Type 0
@@ -43,3 +42,8 @@ pub record IsSound (d : SetupData) (s : State) : Type 0 where
       → slice_get d.events event ≡ Some e → slice_get s.events event ≡ Some t
       → IsSoundEvent d s.place event e t
   pub apart : (i j number : ℕ) → IsNumberAt s i number → IsNumberAt s j number → i ≡ j
+
+-- the version is sound for the setup: its state is, and its plans were compiled over the setup's guards
+pub record IsSoundVersion (d : SetupData) (v : VersionValue) : Type 0 where
+  pub state : IsSound d v.state
+  pub tests : v.tests ≡ tests_in d

@@ -25,7 +25,7 @@ use Rattle.spin_table.specs.declared.refusal.Verdicted.TheVariants as verdicted
 use Rattle.spin_table.specs.declared.refusal.StepFault.{StepFault}
 use Rattle.spin_table.specs.declared.refusal.StepFault.TheVariants as fault
 use Rattle.spin_table.specs.Setups.{SetupData, rules_of}
-use Rattle.spin_table.specs.States.{State, EventState}
+use Rattle.spin_table.specs.States.{State, EventState, VersionValue}
 use Rattle.spin_table.specs.Verdicts.{answer_to}
 use Rattle.spin_table.specs.Refusals.{refusal_of}
 
@@ -88,7 +88,6 @@ default_after c o default = default
 abbrev pub event_after : List (List Rule) → EventDef → ℕ → Command → EventState → EventState
 event_after policies e place c s = record {
   bindings = bindings_after (rules_of policies e.authority) (answer_to policies e s.bindings c) place c c.op s.bindings;
-  tests = s.tests;
   default = default_after c c.op s.default;
 }
 
@@ -139,10 +138,10 @@ IsStep d s c v next =
 abbrev pub MayConflict : SetupData → State → Command → List ℕ → Type 0
 MayConflict d s c cycle = IsStep d s c (verdicted.Refused (refusal.Conflict cycle)) s
 
--- the answer to a command at the state: the next state, or a refusal; want of memory comes only where none of the
--- refusals but a conflict applies
-abbrev pub IsAnswer : SetupData → State → Command → Result State StepFault → Type 0
-IsAnswer d s c (Ok next) = IsStep d s c verdicted.Accepted next
+-- the answer to a command at the state: the version that has the next state, or a refusal; want of memory comes only
+-- where none of the refusals but a conflict applies
+abbrev pub IsAnswer : SetupData → State → Command → Result VersionValue StepFault → Type 0
+IsAnswer d s c (Ok next) = IsStep d s c verdicted.Accepted next.state
 IsAnswer d s c (Err (fault.Refused r)) = IsStep d s c (verdicted.Refused r) s
 IsAnswer d s c (Err fault.NoMemory) = refusal_of d s c ≡ None
 

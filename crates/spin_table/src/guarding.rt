@@ -11,8 +11,8 @@ use std::marker::Model;
 use std::snapshot::Snapshot;
 use std::sync::Arc;
 
-// The tests of a catalogue's guards in the order of their numbers, as they stood. They say over which tests a plan
-// was compiled.
+// The tests of a catalogue's guards in the order of their numbers, as they stood. They say over which tests a version's
+// plans were compiled.
 //
 // Nothing is copied: an element has no bytes, and stands for a test in contracts alone.
 #[derive(Drop)]

@@ -2,7 +2,6 @@
 
 ghost use Rattle.std.specs.Prelude.{◌≡◌, ◌≤◌, ◌+◌, ◌++◌, ℕ, List, All, IfOk, OnOk};
 ghost use Rattle.std.specs.Prelude.{MatchResult, length};
-ghost use Rattle.std.specs.Arc.{arc_value};
 ghost use Rattle.std.specs.Option.{option_copied, option_to_list};
 ghost use Rattle.spin_place.specs.Orders.{AreDistinct};
 ghost use Rattle.spin_place.specs.Precedence.{numbers_of, IsTheOrder, HasLawfulOrder};
@@ -14,7 +13,6 @@ ghost use Rattle.spin_table.specs.Steps.{OnRefused};
 ghost use Rattle.spin_table.specs.declared.setup.TheConstants.{MAX_LIVE};
 
 use crate::changes::Bindings;
-use crate::guarding::{Tests, share_tests};
 use crate::live::find_binding;
 use crate::refusal::{Refusal, StepFault};
 use crate::setup::Setup;
@@ -23,35 +21,31 @@ use spin_plan::Plan;
 use spin_values::{NoMemory, Numbers, Sequence, Steps};
 use std::alloc::Global;
 use std::marker::Model;
-use std::sync::Arc;
 use std::sync::ledger::Ledger;
 
-// The live bindings of one event in rising order of number, and their plan. Contracts see the bindings, and the tests
-// over which the plan was compiled.
+// The live bindings of one event in rising order of number, and their plan.
 #[derive(Drop)]
 pub(crate) struct EventLists {
     bindings: Bindings,
     plan: Plan,
-    tests: Arc<Tests>,
 }
 
 impl Model for EventLists {
     ghost use Rattle.std.specs.Prelude.{List, ℕ, ◌≡◌};
-    ghost use Rattle.std.specs.Arc.{arc_value};
     ghost use Rattle.std.specs.Coded.{codes};
-    ghost use Rattle.spin_code.specs.contracts.test.Test as test;
+    ghost use Rattle.spin_code.specs.contracts.expr.Expr as expr;
     ghost use Rattle.spin_place.specs.Precedence.{IsTheOrder};
-    ghost use Rattle.spin_plan.specs.Planned.{IsOver};
-    ghost use Rattle.spin_table.specs.Orders.{Listed, arranged};
+    ghost use Rattle.spin_table.specs.Orders.{arranged};
+    ghost use Rattle.spin_table.specs.Inner.Slots.{Listed};
 
     ghost Value = { Listed };
 
-    ghost coded = { Prim.hlevel (codes, test.the_row.coded) };
+    ghost coded = { Prim.hlevel (codes, expr.the_row.coded) };
 
-    ghost view = { λ l. record { bindings = l.bindings; tests = arc_value l.tests } };
+    ghost view = { λ l. record { bindings = l.bindings; plan = l.plan } };
 
-    ghost invariant = { λ l. ((ns : List ℕ) → IsTheOrder l.bindings ns → l.plan.bindings ≡ arranged l.bindings ns)
-        × IsOver (arc_value l.tests) l.plan };
+    ghost invariant = { λ l.
+        (ns : List ℕ) → IsTheOrder l.bindings ns → l.plan.bindings ≡ arranged l.bindings ns };
 }
 
 // Adds the binding, if there is one.
@@ -144,34 +138,26 @@ impl EventLists {
     pub(crate) fn make<L: Ledger>(
         alloc: Global,
         setup: &Setup,
-        tests: &Arc<Tests>,
         bindings: Bindings,
         steps: &mut Steps<L>,
     ) -> Result<EventLists, StepFault>
-        requires tests { arc_value tests.now ≡ tests_of setup.now.catalogue }
         requires distinct { AreDistinct (numbers_of bindings) }
         requires few { length bindings ≤ MAX_LIVE }
         requires own { All (λ b. IsGuard (length (guards_of setup.now.catalogue)) b.own_guard) bindings }
         requires imposed { All (λ b. All (IsGuard (length (guards_of setup.now.catalogue))) b.imposed)
             bindings }
         ensures made { MatchResult result
-            (λ made.
-            (made ≡ record { bindings = bindings; tests = tests_of setup.now.catalogue })
-            × HasLawfulOrder bindings)
+            (λ made. (made.bindings ≡ bindings) × HasLawfulOrder bindings)
             (IsOrderFault bindings) }
+        ensures over { IfOk result (λ made. IsOver (tests_of setup.now.catalogue) made.plan) }
         ensures ticks { steps.new ≤ steps.old + length bindings }
         ensures refused { OnRefused result (steps.new ≡ steps.old) }
     {
-        let tests = share_tests(tests)?;
         let plan = match plan_of(alloc, setup, bindings.as_slice(), steps) {
             Ok(plan) => plan,
             Err(fault) => return Err(fault),
         };
-        Ok(EventLists {
-            bindings,
-            plan,
-            tests,
-        })
+        Ok(EventLists { bindings, plan })
     }
 
     pub(crate) fn bindings(&self) -> &[Binding]
@@ -180,16 +166,10 @@ impl EventLists {
         self.bindings.as_slice()
     }
 
-    pub(crate) fn tests(&self) -> &Arc<Tests>
-        ensures { arc_value result.now ≡ self.now.tests }
-    {
-        &self.tests
-    }
-
     pub(crate) fn plan(&self) -> &Plan
         ensures order { (ns : List ℕ) → IsTheOrder self.now.bindings ns
             → result.now.bindings ≡ arranged self.now.bindings ns }
-        ensures over { IsOver self.now.tests result.now }
+        ensures value { result.now ≡ self.now.plan }
     {
         &self.plan
     }

@@ -13,15 +13,17 @@ ghost use Rattle.spin_table.specs.Steps.{event_after, OnRefused, MayConflict};
 ghost use Rattle.spin_table.specs.Orders.{arranged, IsChangeFault};
 ghost use Rattle.spin_plan.specs.Planned.{IsOver};
 ghost use Rattle.spin_objects.specs.Units.{tests_of};
-ghost use Rattle.spin_table.specs.Soundness.{IsSound, IsSoundEvent};
+ghost use Rattle.spin_table.specs.Soundness.{IsSoundEvent, IsSoundVersion};
 ghost use Rattle.spin_table.specs.SetupOf.{data_of};
 ghost use Rattle.spin_table.specs.declared.setup.TheConstants.{MAX_LIVE};
-ghost use Rattle.spin_table.specs.States.{first_state, start_of};
+ghost use Rattle.spin_table.specs.States.{start_of};
+ghost use Rattle.spin_table.specs.Setups.{tests_in};
+ghost use Rattle.spin_table.specs.Inner.Slots.{IsSlotOver, first_slot};
 ghost use Rattle.std.specs.Arc.{arc_value};
 
 use crate::changes::{Bindings, bindings_after};
 use crate::event::EventDef;
-use crate::guarding::Tests;
+use crate::guarding::{Tests, share_tests};
 use crate::judging::{answer, is_install, refusal, rules};
 use crate::lists::EventLists;
 use crate::refusal::{Refusal, StepFault};
@@ -47,34 +49,46 @@ pub(crate) struct EventSlot {
 impl Model for EventSlot {
     ghost use Rattle.std.specs.Arc.{arc_value};
     ghost use Rattle.std.specs.Coded.{codes};
-    ghost use Rattle.spin_code.specs.contracts.test.Test as test;
-    ghost use Rattle.spin_table.specs.States.{EventState};
+    ghost use Rattle.spin_code.specs.contracts.expr.Expr as expr;
+    ghost use Rattle.spin_table.specs.Inner.Slots.{Slot};
 
-    ghost Value = { EventState };
+    ghost Value = { Slot };
 
-    ghost coded = { Prim.hlevel (codes, test.the_row.coded) };
+    ghost coded = { Prim.hlevel (codes, expr.the_row.coded) };
 
-    ghost view = { λ s.
-        record { bindings = (arc_value s.lists).bindings; tests = (arc_value s.lists).tests; default = s.default } };
+    ghost view = { λ s. record {
+      state = record { bindings = (arc_value s.lists).bindings; default = s.default };
+      plan = (arc_value s.lists).plan;
+    } };
 }
 
-/// The place, and the bindings and the default of each event. Contracts see the state.
+/// The place, and the bindings and the default of each event. Contracts see the state, and the tests of the guards
+/// over which the plans of all events were compiled.
 #[derive(Drop)]
 pub struct Version {
     pub(crate) place: u16,
     pub(crate) events: Sequence<EventSlot>,
+    pub(crate) tests: Arc<Tests>,
 }
 
 impl Model for Version {
+    ghost use Rattle.std.specs.Prelude.{All};
+    ghost use Rattle.std.specs.Arc.{arc_value};
     ghost use Rattle.std.specs.Coded.{codes};
     ghost use Rattle.spin_code.specs.contracts.test.Test as test;
-    ghost use Rattle.spin_table.specs.States.{State};
+    ghost use Rattle.spin_table.specs.States.{VersionValue};
+    ghost use Rattle.spin_table.specs.Inner.Slots.{states_of, IsSlotOver};
 
-    ghost Value = { State };
+    ghost Value = { VersionValue };
 
     ghost coded = { Prim.hlevel (codes, test.the_row.coded) };
 
-    ghost view = { λ v. record { place = v.place; events = v.events } };
+    ghost view = { λ v. record {
+      state = record { place = v.place; events = states_of v.events };
+      tests = arc_value v.tests;
+    } };
+
+    ghost invariant = { λ v. All (IsSlotOver (arc_value v.tests)) v.events };
 }
 
 // The default after the command.
@@ -99,12 +113,12 @@ impl EventSlot {
         c: &Command,
     ) -> Result<Bindings, NoMemory>
         requires room { place + 1 < no_number }
-        requires few { length self.now.bindings ≤ MAX_LIVE }
+        requires few { length self.now.state.bindings ≤ MAX_LIVE }
         requires there { IsTrue (has_authority (data_of setup.now).policies def.now.authority) }
         requires sincere { ⟦<Catalogue as Sincere>⟧.sincere setup.now.catalogue }
         ensures { IfOk result (λ after.
             after
-            ≡ (event_after (data_of setup.now).policies def.now (place + 1) c.now self.now).bindings) }
+            ≡ (event_after (data_of setup.now).policies def.now (place + 1) c.now self.now.state).bindings) }
     {
         let bindings = self.lists.bindings();
         let verdict = answer(setup, def, bindings, c);
@@ -124,20 +138,21 @@ impl EventSlot {
         requires sincere { ⟦<Catalogue as Sincere>⟧.sincere setup.now.catalogue }
         requires room { place + 1 < no_number }
         requires event { slice_get (data_of setup.now).events c.now.event ≡ Some def.now }
-        requires sound { IsSoundEvent (data_of setup.now) place c.now.event def.now self.now }
-        requires passed { first_of (refusals_at (data_of setup.now) def.now self.now.bindings c.now) ≡ None }
+        requires sound { IsSoundEvent (data_of setup.now) place c.now.event def.now self.now.state }
+        requires passed { first_of (refusals_at (data_of setup.now) def.now self.now.state.bindings c.now) ≡ None }
         ensures change { MatchResult result (λ next.
-            (next
+            (next.state
             ≡ event_after (data_of setup.now).policies def.now (place + 1) c.now
-            self.now) × HasLawfulOrder next.bindings)
-            (IsChangeFault (data_of setup.now).policies def.now (place + 1) c.now self.now) }
+            self.now.state) × HasLawfulOrder next.state.bindings)
+            (IsChangeFault (data_of setup.now).policies def.now (place + 1) c.now self.now.state) }
+        ensures over { IfOk result (IsSlotOver (tests_in (data_of setup.now))) }
         ensures ticks { steps.new
             ≤ steps.old + length
-            (event_after (data_of setup.now).policies def.now (place + 1) c.now self.now).bindings }
+            (event_after (data_of setup.now).policies def.now (place + 1) c.now self.now.state).bindings }
         ensures refused { OnRefused result (steps.new ≡ steps.old) }
     {
         let bindings = self.bindings_after(alloc, setup, def, place, c)?;
-        let lists = match EventLists::make(alloc, setup, self.lists.tests(), bindings, steps) {
+        let lists = match EventLists::make(alloc, setup, bindings, steps) {
             Ok(lists) => lists,
             Err(fault) => return Err(fault),
         };
@@ -161,16 +176,18 @@ impl EventSlot {
         requires sincere { ⟦<Catalogue as Sincere>⟧.sincere setup.now.catalogue }
         requires room { place + 1 < no_number }
         requires event { slice_get (data_of setup.now).events c.now.event ≡ Some def.now }
-        requires sound { IsSoundEvent (data_of setup.now) place c.now.event def.now self.now }
-        requires passed { first_of (refusals_at (data_of setup.now) def.now self.now.bindings c.now) ≡ None }
+        requires sound { IsSoundEvent (data_of setup.now) place c.now.event def.now self.now.state }
+        requires over { IsSlotOver (tests_in (data_of setup.now)) self.now }
+        requires passed { first_of (refusals_at (data_of setup.now) def.now self.now.state.bindings c.now) ≡ None }
         ensures change { MatchResult result (λ next.
-            (next
+            (next.state
             ≡ event_after (data_of setup.now).policies def.now (place + 1) c.now
-            self.now) × HasLawfulOrder next.bindings)
-            (IsChangeFault (data_of setup.now).policies def.now (place + 1) c.now self.now) }
+            self.now.state) × HasLawfulOrder next.state.bindings)
+            (IsChangeFault (data_of setup.now).policies def.now (place + 1) c.now self.now.state) }
+        ensures over { IfOk result (IsSlotOver (tests_in (data_of setup.now))) }
         ensures ticks { steps.new
             ≤ steps.old + length
-            (event_after (data_of setup.now).policies def.now (place + 1) c.now self.now).bindings }
+            (event_after (data_of setup.now).policies def.now (place + 1) c.now self.now.state).bindings }
         ensures refused { OnRefused result (steps.new ≡ steps.old) }
     {
         match c.op {
@@ -182,18 +199,16 @@ impl EventSlot {
 
     // The live bindings.
     pub(crate) fn bindings(&self) -> &[Binding]
-        ensures { result.now ≡ self.now.bindings }
+        ensures { result.now ≡ self.now.state.bindings }
     {
         self.lists.bindings()
     }
 
     // One more owner of the lists, with this default.
     pub(crate) fn with_default(&self, default: u16) -> Result<EventSlot, NoMemory>
-        ensures { IfOk result
-            (λ slot.
-            slot
-            ≡ record
-            { bindings = self.now.bindings; tests = self.now.tests; default = default }) }
+        ensures { IfOk result (λ slot. slot ≡ record self.now {
+          state = record { bindings = self.now.state.bindings; default = default };
+        }) }
     {
         Ok(EventSlot {
             default,
@@ -217,18 +232,16 @@ fn share(alloc: Global, slots: &[EventSlot]) -> Result<Sequence<EventSlot>, NoMe
 fn empty_lists<L: Ledger>(
     alloc: Global,
     setup: &Setup,
-    tests: &Arc<Tests>,
     blank: Blank,
 ) -> Result<EventLists, NoMemory>
-    requires tests { arc_value tests.now ≡ tests_of setup.now.catalogue }
     requires name { blank.name ≡ L.name }
     requires parts { blank.parts ≡ L.parts }
     requires some { 0 < L.parts }
-    ensures { IfOk result
-        (λ lists. lists ≡ record { bindings = []; tests = tests_of setup.now.catalogue }) }
+    ensures bindings { IfOk result (λ lists. lists.bindings ≡ []) }
+    ensures over { IfOk result (λ lists. IsOver (tests_of setup.now.catalogue) lists.plan) }
 {
     let mut steps = Steps::<L>::new(blank);
-    match EventLists::make(alloc, setup, tests, Sequence::new(alloc), &mut steps) {
+    match EventLists::make(alloc, setup, Sequence::new(alloc), &mut steps) {
         Ok(lists) => Ok(lists),
         Err(_) => Err(NoMemory),
     }
@@ -242,7 +255,7 @@ fn first_slots(
 ) -> Result<Sequence<EventSlot>, NoMemory>
     requires { (arc_value empty.now).bindings ≡ [] }
     ensures { IfOk result
-        (λ slots. slots ≡ map (first_state (arc_value empty.now).tests) events.now) }
+        (λ slots. slots ≡ map (first_slot (arc_value empty.now).plan) events.now) }
 {
     let mut slots = Sequence::new(alloc);
     for event in events {
@@ -257,36 +270,40 @@ fn first_slots(
 impl Version {
     /// The version at the start: no command was accepted, no binding is live, and each event has its first default.
     pub fn start(alloc: Global, setup: &Setup) -> Result<Version, NoMemory>
-        ensures start { IfOk result (λ v. v ≡ start_of (data_of setup.now)) }
-        ensures sound { IfOk result (λ v. IsSound (data_of setup.now) v) }
+        ensures start { IfOk result (λ v. v.state ≡ start_of (data_of setup.now)) }
+        ensures sound { IfOk result (λ v. IsSoundVersion (data_of setup.now) v) }
     {
         let tests = Arc::new(alloc, Tests::of(alloc, setup.catalogue())?)?;
-        let lists = empty_lists::<Brand>(alloc, setup, &tests, Blank::new(1))?;
+        let lists = empty_lists::<Brand>(alloc, setup, Blank::new(1))?;
         let empty = Arc::new(alloc, lists)?;
         let events = first_slots(alloc, setup.event_defs(), &empty)?;
-        Ok(Version { place: 0, events })
+        Ok(Version {
+            place: 0,
+            events,
+            tests,
+        })
     }
 
     /// The number of commands that were accepted since the start; since a renewal, that and the number of bindings that
     /// were live then.
     pub fn place(&self) -> u16
-        ensures { result ≡ self.now.place }
+        ensures { result ≡ self.now.state.place }
     {
         self.place
     }
 
     /// The live bindings of an event that is there, in rising order of number.
     pub fn bindings(&self, event: u8) -> &[Binding]
-        requires { event < length self.now.events }
-        ensures { IsSomeAnd (slice_get self.now.events event) (λ e. result.now ≡ e.bindings) }
+        requires { event < length self.now.state.events }
+        ensures { IsSomeAnd (slice_get self.now.state.events event) (λ e. result.now ≡ e.bindings) }
     {
         self.events.get(event as usize).lists.bindings()
     }
 
     /// The default of an event that is there, 0 being none.
     pub fn default_of(&self, event: u8) -> u16
-        requires { event < length self.now.events }
-        ensures { IsSomeAnd (slice_get self.now.events event) (λ e. result ≡ e.default) }
+        requires { event < length self.now.state.events }
+        ensures { IsSomeAnd (slice_get self.now.state.events event) (λ e. result ≡ e.default) }
     {
         self.events.get(event as usize).default
     }
@@ -294,11 +311,11 @@ impl Version {
     /// The plan of an event that is there: that of its bindings in the order in which they run, over the guards of the
     /// setup.
     pub fn plan(&self, event: u8) -> &Plan
-        requires { event < length self.now.events }
-        ensures order { IsSomeAnd (slice_get self.now.events event) (λ e.
+        requires { event < length self.now.state.events }
+        ensures order { IsSomeAnd (slice_get self.now.state.events event) (λ e.
             (ns : List ℕ) → IsTheOrder e.bindings ns
             → result.now.bindings ≡ arranged e.bindings ns) }
-        ensures over { IsSomeAnd (slice_get self.now.events event) (λ e. IsOver e.tests result.now) }
+        ensures over { IsOver self.now.tests result.now }
     {
         self.events.get(event as usize).lists.plan()
     }
@@ -307,18 +324,22 @@ impl Version {
 impl Version {
     // The next version, in which this slot is the event's.
     fn with_event(&self, alloc: Global, event: u8, slot: EventSlot) -> Result<Version, NoMemory>
-        requires there { event < length self.now.events }
-        requires room { self.now.place + 1 < no_number }
-        ensures { IfOk result (λ v.
-            v
-            ≡ record
-            { place = self.now.place + 1; events = slice_set self.now.events event slot }) }
+        requires there { event < length self.now.state.events }
+        requires room { self.now.state.place + 1 < no_number }
+        requires over { IsSlotOver self.now.tests slot }
+        ensures { IfOk result (λ v. v ≡ record self.now {
+          state = record {
+            place = self.now.state.place + 1;
+            events = slice_set self.now.state.events event slot.state;
+          };
+        }) }
     {
         let mut events = share(alloc, self.events.as_slice())?;
         events.replace(event as usize, slot);
         Ok(Version {
             place: self.place + 1,
             events,
+            tests: share_tests(&self.tests)?,
         })
     }
 
@@ -342,12 +363,12 @@ impl Version {
     ) -> Result<Version, StepFault>
         requires sincere { ⟦<Catalogue as Sincere>⟧.sincere setup.now.catalogue }
         requires valid { IsTrue (is_command c.now) }
-        requires room { self.now.place + 1 < no_number }
-        requires sound { IsSound (data_of setup.now) self.now }
-        ensures answer { specs.IsAnswer (data_of setup.now) self.now c.now result }
-        ensures sound { IfOk result (λ v. IsSound (data_of setup.now) v) }
+        requires room { self.now.state.place + 1 < no_number }
+        requires sound { IsSoundVersion (data_of setup.now) self.now }
+        ensures answer { specs.IsAnswer (data_of setup.now) self.now.state c.now result }
+        ensures sound { IfOk result (λ v. IsSoundVersion (data_of setup.now) v) }
         ensures ok { IfOk result
-            (λ v. steps.new ≤ steps.old + length (specs.bindings_at v c.now.event)) }
+            (λ v. steps.new ≤ steps.old + length (specs.bindings_at v.state c.now.event)) }
         ensures refused { OnRefused result (steps.new ≡ steps.old) }
         ensures no_more { steps.new ≤ steps.old + MAX_LIVE }
     {
@@ -381,10 +402,10 @@ impl Version {
         requires some { 0 < L.parts }
         requires sincere { ⟦<Catalogue as Sincere>⟧.sincere setup.now.catalogue }
         requires valid { IsTrue (is_command c.now) }
-        requires room { self.now.place + 1 < no_number }
-        requires sound { IsSound (data_of setup.now) self.now }
-        ensures answer { specs.IsAnswer (data_of setup.now) self.now c.now result }
-        ensures sound { IfOk result (λ v. IsSound (data_of setup.now) v) }
+        requires room { self.now.state.place + 1 < no_number }
+        requires sound { IsSoundVersion (data_of setup.now) self.now }
+        ensures answer { specs.IsAnswer (data_of setup.now) self.now.state c.now result }
+        ensures sound { IfOk result (λ v. IsSoundVersion (data_of setup.now) v) }
     {
         let mut steps = Steps::<L>::new(blank);
         self.after(alloc, setup, c, &mut steps)
@@ -394,10 +415,10 @@ impl Version {
     pub fn next(&self, alloc: Global, setup: &Setup, c: &Command) -> Result<Version, StepFault>
         requires sincere { ⟦<Catalogue as Sincere>⟧.sincere setup.now.catalogue }
         requires valid { IsTrue (is_command c.now) }
-        requires room { self.now.place + 1 < no_number }
-        requires sound { IsSound (data_of setup.now) self.now }
-        ensures answer { specs.IsAnswer (data_of setup.now) self.now c.now result }
-        ensures sound { IfOk result (λ v. IsSound (data_of setup.now) v) }
+        requires room { self.now.state.place + 1 < no_number }
+        requires sound { IsSoundVersion (data_of setup.now) self.now }
+        ensures answer { specs.IsAnswer (data_of setup.now) self.now.state c.now result }
+        ensures sound { IfOk result (λ v. IsSoundVersion (data_of setup.now) v) }
     {
         self.counted_after::<Brand>(alloc, setup, c, Blank::new(1))
     }
@@ -413,10 +434,10 @@ impl Version {
         cycle: &[u16],
     ) -> Result<bool, NoMemory>
         requires sincere { ⟦<Catalogue as Sincere>⟧.sincere setup.now.catalogue }
-        requires room { self.now.place + 1 < no_number }
-        requires sound { IsSound (data_of setup.now) self.now }
+        requires room { self.now.state.place + 1 < no_number }
+        requires sound { IsSoundVersion (data_of setup.now) self.now }
         ensures { IfOk result (λ told.
-            Decides told (MayConflict (data_of setup.now) self.now c.now cycle.now)) }
+            Decides told (MayConflict (data_of setup.now) self.now.state c.now cycle.now)) }
     {
         if c.event >= setup.events() {
             return Ok(false);

@@ -11,7 +11,7 @@ use Rattle.spin_table.specs.declared.refusal.Refusal.{Refusal}
 use Rattle.spin_table.specs.declared.refusal.Verdicted.{Verdicted}
 use Rattle.spin_table.specs.declared.refusal.Verdicted.TheVariants as verdicted
 use Rattle.spin_table.specs.Setups.{SetupData}
-use Rattle.spin_table.specs.States.{State}
+use Rattle.spin_table.specs.States.{State, VersionValue}
 use Rattle.spin_table.specs.Refusals.{refusal_of}
 use Rattle.spin_table.specs.Steps.{ChangesTo, IsAnswer}
 use Rattle.spin_table.specs.declared.refusal.StepFault.{StepFault}
@@ -91,5 +91,5 @@ pub all_commands : (script : ScriptData) (s : Segment) → is_suited script ≡ 
 all_commands script s e read = first_commands script.segments s (suited_parts script e).1 read
 
 -- a command that is refused has a verdict
-pub leads_refused : (d : SetupData) (s : State) (c : Command) (r : Result State StepFault) (e : StepFault) (f : Refusal) → r ≡ Err e → e ≡ fault.Refused f → IsAnswer d s c r → LeadsBy d s c s
+pub leads_refused : (d : SetupData) (s : State) (c : Command) (r : Result VersionValue StepFault) (e : StepFault) (f : Refusal) → r ≡ Err e → e ≡ fault.Refused f → IsAnswer d s c r → LeadsBy d s c s
 leads_refused d s c r e f is why h = (verdicted.Refused f, subst (λ (x : StepFault). IsAnswer d s c (Err x)) why (subst (IsAnswer d s c) is h))

@@ -4,8 +4,8 @@ use Rattle.std.specs.Prelude.{slice_get, slice_set, ◌==◌}
 use Rattle.spin_word.specs.declared.work.Deed.{Deed}
 use Rattle.spin_proto.specs.declared.reply.Reply.{Reply}
 use Rattle.spin_vm.specs.declared.line.Request.{Request}
-use Rattle.spin_vm.specs.declared.line.Said.{Said}
-use Rattle.spin_vm.specs.declared.line.Said.TheVariants as said
+use Rattle.spin_vm.specs.declared.line.Statement.{Statement}
+use Rattle.spin_vm.specs.declared.line.Statement.TheVariants as said
 use Rattle.spin_vm.specs.declared.line.TraceLine.{TraceLine}
 use Rattle.spin_vm.specs.declared.came.Came.{Came}
 use Rattle.spin_vm.specs.Spaces.{Space, empty_space, space_if, space_at, space_after, came_of, said_came, spaces_after, space_of, Answered, answered_if, answers}
@@ -62,7 +62,7 @@ other_came k line (Some c) apart = rw apart refl
 -- what a line comes to doesn't depend on its number
 came_alike : (k : ℕ) (a b : TraceLine) (o : Option Came) → a.said ≡ b.said → came_in k (answered_if a o) ≡ came_in k (answered_if b o)
 came_alike k a b None e = refl
-came_alike k a b (Some c) e = told c (space_of a.said == k) (space_of b.said == k) (ap (λ (w : Said). space_of w == k) e) where
+came_alike k a b (Some c) e = told c (space_of a.said == k) (space_of b.said == k) (ap (λ (w : Statement). space_of w == k) e) where
   told : (c : Came) (p q : Bool) → p ≡ q → map (λ (x : Answered). x.came) (cond p (record { number = a.number; space = space_of a.said; came = c } ∷ []) [])
       ≡ map (λ (x : Answered). x.came) (cond q (record { number = b.number; space = space_of b.said; came = c } ∷ []) [])
   told c true true e = refl
@@ -70,14 +70,14 @@ came_alike k a b (Some c) e = told c (space_of a.said == k) (space_of b.said == 
   told c true false e = absurd (search (rules, e))
   told c false true e = absurd (search (rules, e))
 
-abbrev said_of : List TraceLine → List Said
+abbrev said_of : List TraceLine → List Statement
 said_of lines = map (λ (line : TraceLine). line.said) lines
 
-abbrev head_or : Said → List Said → Said
+abbrev head_or : Statement → List Statement → Statement
 head_or d [] = d
 head_or d (w ∷ ws) = w
 
-abbrev tail_of : List Said → List Said
+abbrev tail_of : List Statement → List Statement
 tail_of [] = []
 tail_of (w ∷ ws) = ws
 
@@ -112,7 +112,7 @@ module _ (reply : Deed → Reply) (k : ℕ) where
       → came_in k (answers reply ss trace) ≡ came_in k (answers reply ts alone)
 
   -- a line that is kept stands first in the other trace
-  kept : (line : TraceLine) (w : Said) (trace alone : List TraceLine) (ss ts : List Space) → Isolated trace → said_of alone ≡ w ∷ without_others k trace
+  kept : (line : TraceLine) (w : Statement) (trace alone : List TraceLine) (ss ts : List Space) → Isolated trace → said_of alone ≡ w ∷ without_others k trace
       → ((b : TraceLine) → b.said ≡ w → came_in k (answered_if line (said_came reply ss w)) ≡ came_in k (answered_if b (said_came reply ts w)))
       → AreLike k (spaces_after reply ss w) (spaces_after reply ts w)
       → came_in k (answered_if line (said_came reply ss w) ++ answers reply (spaces_after reply ss w) trace) ≡ came_in k (answers reply ts alone)
@@ -128,9 +128,9 @@ module _ (reply : Deed → Reply) (k : ℕ) where
       ∙ ap (λ cs. cs ++ came_in k more) (heads b is)
       ∙ ap (λ cs. came_in k second ++ cs) (rest alone (spaces_after reply ss w) (spaces_after reply ts w) like others)
       ∙ sym (came_append k second less)
-      ∙ ap (λ (x : Said). came_in k (answered_if b (said_came reply ts x) ++ answers reply (spaces_after reply ts x) alone)) (sym is)
+      ∙ ap (λ (x : Statement). came_in k (answered_if b (said_came reply ts x) ++ answers reply (spaces_after reply ts x) alone)) (sym is)
 
-  step : (line : TraceLine) (trace alone : List TraceLine) (ss ts : List Space) → Isolated trace → AreLike k ss ts → (w : Said) → line.said ≡ w
+  step : (line : TraceLine) (trace alone : List TraceLine) (ss ts : List Space) → Isolated trace → AreLike k ss ts → (w : Statement) → line.said ≡ w
       → said_of alone ≡ filter (is_kept k) (w ∷ said_of trace)
       → came_in k (answered_if line (said_came reply ss w) ++ answers reply (spaces_after reply ss w) trace) ≡ came_in k (answers reply ts alone)
   step line trace alone ss ts rest like (said.Space n) is e = kept line (said.Space n) trace alone ss ts rest e (λ b same. refl) (like_push n ss ts like)
@@ -146,7 +146,7 @@ module _ (reply : Deed → Reply) (k : ℕ) where
         let first = answered_if line (said_came reply ss (said.At j asked)) in
         let more = answers reply (spaces_after reply ss (said.At j asked)) trace in
         came_append k first more
-        ∙ ap (λ cs. cs ++ came_in k more) (other_came k line (said_came reply ss (said.At j asked)) (ap (λ (x : Said). space_of x == k) is ∙ at))
+        ∙ ap (λ cs. cs ++ came_in k more) (other_came k line (said_came reply ss (said.At j asked)) (ap (λ (x : Statement). space_of x == k) is ∙ at))
         ∙ rest alone (spaces_after reply ss (said.At j asked)) ts (like_other j asked ss ts at like) e
 
   isolated : (trace : List TraceLine) → Isolated trace

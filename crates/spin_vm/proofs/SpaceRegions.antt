@@ -6,12 +6,12 @@ use Rattle.spin_values.specs.declared.no_memory.NoMemory.{NoMemory}
 use Rattle.spin_word.specs.declared.work.Deed.{Deed}
 use Rattle.spin_proto.specs.declared.reply.Reply.{Reply}
 use Rattle.spin_vm.specs.declared.came.Came.{Came}
-use Rattle.spin_vm.specs.declared.line.Said.{Said}
+use Rattle.spin_vm.specs.declared.line.Statement.{Statement}
 use Rattle.spin_values.specs.First.{first_of}
 use Rattle.spin_vm.specs.declared.cause.TraceCause.TheVariants as cause
 use Rattle.spin_vm.specs.declared.line.Region.{Region}
 use Rattle.spin_vm.specs.declared.line.Request.{Request}
-use Rattle.spin_vm.specs.declared.line.Said.TheVariants as said
+use Rattle.spin_vm.specs.declared.line.Statement.TheVariants as said
 use Rattle.spin_vm.specs.Traces.{regions_at, regions_with, regions_after, trace_checks, region_checks}
 use Rattle.spin_vm.specs.Spaces.{Space, space_at, space_after, came_of, said_came, spaces_after}
 use Rattle.spin_vm.specs.Inner.Lines.{regions_of}
@@ -57,7 +57,7 @@ regions_set spaces now k s asked is regions =
 
 -- ---- as the answer of a call
 
-module _ (reply : Deed → Reply) (spaces : List Space) (w : Said) (k : ℕ) (asked : Request) (s : Space) (is : w ≡ said.At k asked) (at : space_at spaces k ≡ s) where
+module _ (reply : Deed → Reply) (spaces : List Space) (w : Statement) (k : ℕ) (asked : Request) (s : Space) (is : w ≡ said.At k asked) (at : space_at spaces k ≡ s) where
   pub came_there : (r : Result (Option Came) NoMemory) → IfOk r (λ c. c ≡ came_of reply k s asked) → IfOk r (λ c. c ≡ said_came reply spaces w)
   came_there (Ok c) h = h ∙ ap (λ (x : Space). came_of reply k x asked) (sym at) ∙ ap (said_came reply spaces) (sym is)
   came_there (Err e) h = tt
@@ -66,7 +66,7 @@ module _ (reply : Deed → Reply) (spaces : List Space) (w : Said) (k : ℕ) (as
   spaces_there (Ok c) t h = ap (slice_set spaces k) (h ∙ ap (λ (x : Space). space_after reply k x asked) (sym at)) ∙ ap (spaces_after reply spaces) (sym is)
   spaces_there (Err e) t h = tt
 
-pub regions_there : (spaces : List Space) (w : Said) (k : ℕ) (asked : Request) (s : Space) → w ≡ said.At k asked
+pub regions_there : (spaces : List Space) (w : Statement) (k : ℕ) (asked : Request) (s : Space) → w ≡ said.At k asked
     → space_at spaces k ≡ s → (r : Result (Option Came) NoMemory) (t : Space) → IfOk r (λ _. t.regions ≡ regions_with s.regions asked)
     → IfOk r (λ _. regions_of (slice_set spaces k t) ≡ regions_after (regions_of spaces) w)
 regions_there spaces w k asked s is at (Ok c) t h =
@@ -74,8 +74,8 @@ regions_there spaces w k asked s is at (Ok c) t h =
 regions_there spaces w k asked s is at (Err e) t h = tt
 
 -- the space of a line that can stand
-pub there : (spaces : List Space) (w : Said) (k : ℕ) (asked : Request) (s : Space) → w ≡ said.At k asked
+pub there : (spaces : List Space) (w : Statement) (k : ℕ) (asked : Request) (s : Space) → w ≡ said.At k asked
     → first_of (trace_checks (regions_of spaces) w) ≡ None → s ≡ slice_index_or spaces k s → space_at spaces k ≡ s
 there spaces w k asked s is good at =
-    let lt = within (regions_of spaces) k asked (subst (λ (x : Said). first_of (trace_checks (regions_of spaces) x) ≡ None) is good) in
+    let lt = within (regions_of spaces) k asked (subst (λ (x : Statement). first_of (trace_checks (regions_of spaces) x) ≡ None) is good) in
     space_is spaces k s (omega (arith, lt, length-map spaces (λ (x : Space). x.regions))) at

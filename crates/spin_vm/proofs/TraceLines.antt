@@ -7,7 +7,7 @@ use Rattle.spin_grammar.specs.Words.{words}
 use Rattle.spin_script.specs.Language.{is_allowed}
 use Rattle.spin_vm.specs.declared.cause.TraceCause.{TraceCause}
 use Rattle.spin_vm.specs.declared.cause.TraceCause.TheVariants as cause
-use Rattle.spin_vm.specs.declared.line.Said.{Said}
+use Rattle.spin_vm.specs.declared.line.Statement.{Statement}
 use Rattle.spin_vm.specs.declared.line.TraceLine.{TraceLine}
 use Rattle.spin_vm.specs.Forms.{says, is_first}
 use Rattle.spin_vm.specs.Traces.{TraceState, AreGood, trace_checks, with_line, line_if, after_said, after_first, after_words, after_line}
@@ -25,7 +25,7 @@ same s t e = search (rules, e)
 never : (c : TraceCause) (t : TraceState) → Err c ≡ Ok t → ⊥
 never c t e = search (rules, e)
 
-goes_said : (s t : TraceState) (number : ℕ) (what : Option Said) → after_said s number what ≡ Ok t → GoesOn s → GoesOn t
+goes_said : (s t : TraceState) (number : ℕ) (what : Option Statement) → after_said s number what ≡ Ok t → GoesOn s → GoesOn t
 goes_said s t number None e on = absurd (never _ t e)
 goes_said s t number (Some what) e on = by_first (first_of (trace_checks s.spaces what)) refl e where
   by_first : (o : Option TraceCause) → first_of (trace_checks s.spaces what) ≡ o → line_if s number what o ≡ Ok t → GoesOn t

@@ -15,8 +15,8 @@ use Rattle.spin_vm.specs.declared.limits.TheConstants.{PAGE_SIZE, FRAMES}
 use Rattle.spin_vm.specs.declared.line.Region.{Region}
 use Rattle.spin_vm.specs.declared.line.Request.{Request}
 use Rattle.spin_vm.specs.declared.line.Request.TheVariants as request
-use Rattle.spin_vm.specs.declared.line.Said.{Said}
-use Rattle.spin_vm.specs.declared.line.Said.TheVariants as said
+use Rattle.spin_vm.specs.declared.line.Statement.{Statement}
+use Rattle.spin_vm.specs.declared.line.Statement.TheVariants as said
 use Rattle.spin_vm.specs.declared.line.TraceLine.{TraceLine}
 use Rattle.spin_vm.specs.declared.fault.Fault.{Fault}
 use Rattle.spin_vm.specs.declared.fault.Fault.TheVariants as fault
@@ -139,12 +139,12 @@ abbrev pub space_at : List Space → ℕ → Space
 space_at spaces space = space_if (slice_get spaces space)
 
 -- what a line comes to, if it is an access or takes a page out
-abbrev pub said_came : (Deed → Reply) → List Space → Said → Option Came
+abbrev pub said_came : (Deed → Reply) → List Space → Statement → Option Came
 said_came reply spaces (said.Space space) = None
 said_came reply spaces (said.At space asked) = came_of reply space (space_at spaces space) asked
 
 -- a line changes its own space alone
-abbrev pub spaces_after : (Deed → Reply) → List Space → Said → List Space
+abbrev pub spaces_after : (Deed → Reply) → List Space → Statement → List Space
 spaces_after reply spaces (said.Space space) = spaces ++ empty_space ∷ []
 spaces_after reply spaces (said.At space asked) =
     slice_set spaces space (space_after reply space (space_at spaces space) asked)
@@ -158,7 +158,7 @@ pub record Answered : Type 0 where
   pub came : Came
 
 -- the space that a line is about
-abbrev pub space_of : Said → ℕ
+abbrev pub space_of : Statement → ℕ
 space_of (said.Space space) = space
 space_of (said.At space asked) = space
 

@@ -14,8 +14,8 @@ use Rattle.spin_vm.specs.declared.cause.TraceCause.TheVariants as cause
 use Rattle.spin_vm.specs.declared.line.Region.{Region}
 use Rattle.spin_vm.specs.declared.line.Request.{Request}
 use Rattle.spin_vm.specs.declared.line.Request.TheVariants as request
-use Rattle.spin_vm.specs.declared.line.Said.{Said}
-use Rattle.spin_vm.specs.declared.line.Said.TheVariants as said
+use Rattle.spin_vm.specs.declared.line.Statement.{Statement}
+use Rattle.spin_vm.specs.declared.line.Statement.TheVariants as said
 use Rattle.spin_vm.specs.declared.line.TraceLine.{TraceLine}
 use Rattle.spin_vm.specs.Forms.{says, is_first}
 use Rattle.spin_vm.specs.Regions.{has_some, with_region}
@@ -37,7 +37,7 @@ regions_with regions (request.Region r) = with_region r regions
 regions_with regions other = regions
 
 -- the spaces after a line
-abbrev pub regions_after : List (List Region) → Said → List (List Region)
+abbrev pub regions_after : List (List Region) → Statement → List (List Region)
 regions_after spaces (said.Space space) = spaces ++ [] ∷ []
 regions_after spaces (said.At space asked) =
     slice_set spaces space (regions_with (regions_at spaces space) asked)
@@ -59,7 +59,7 @@ region_checks regions (request.Region r) =
 region_checks regions other = []
 
 -- the causes for which what a line says can't stand behind these spaces, in order, each with its condition
-abbrev pub trace_checks : List (List Region) → Said → List (Bool × TraceCause)
+abbrev pub trace_checks : List (List Region) → Statement → List (Bool × TraceCause)
 trace_checks spaces (said.Space space) =
     (not (space == length spaces) || nat_lt LAST_SPACE space, cause.Next) ∷ []
 trace_checks spaces (said.At space asked) =
@@ -85,19 +85,19 @@ abbrev pub start : TraceState
 start = record { begun = false; spaces = []; lines = [] }
 
 -- the trace with that line more, which has that number in the text
-abbrev pub with_line : TraceState → ℕ → Said → TraceState
+abbrev pub with_line : TraceState → ℕ → Statement → TraceState
 with_line s number what = record s {
   spaces = regions_after s.spaces what;
   lines = s.lines ++ record { number = number; said = what } ∷ [];
 }
 
 -- the trace with that line more, or the cause for which the line is bad, if there is one
-abbrev pub line_if : TraceState → ℕ → Said → Option TraceCause → Result TraceState TraceCause
+abbrev pub line_if : TraceState → ℕ → Statement → Option TraceCause → Result TraceState TraceCause
 line_if s number what None = Ok (with_line s number what)
 line_if s number what (Some c) = Err c
 
 -- the trace after a line that says this: 4 where it has no form, or else the first cause that applies
-abbrev pub after_said : TraceState → ℕ → Option Said → Result TraceState TraceCause
+abbrev pub after_said : TraceState → ℕ → Option Statement → Result TraceState TraceCause
 after_said s number None = Err cause.Form
 after_said s number (Some what) = line_if s number what (first_of (trace_checks s.spaces what))
 

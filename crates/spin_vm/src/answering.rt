@@ -4,7 +4,7 @@ ghost use Rattle.std.specs.Prelude.{◌≡◌, ◌+◌, ◌<◌, ◌≤◌, ◌^
 ghost use Rattle.spin_values.specs.First.{first_of};
 ghost use Rattle.spin_word.specs.declared.work.Deed.{Deed};
 ghost use Rattle.spin_table.specs.SetupOf.{data_of};
-ghost use Rattle.spin_table.specs.Soundness.{IsSound};
+ghost use Rattle.spin_table.specs.Soundness.{IsSoundVersion};
 ghost use Rattle.spin_proto.specs.declared.reply.Reply.{Reply};
 ghost use Rattle.spin_vm.specs.Traces.{trace_checks, region_checks, regions_with, regions_after};
 ghost use Rattle.spin_vm.specs.Scripts.{AreReplies};
@@ -14,7 +14,7 @@ ghost use Rattle.spin_vm.specs.Inner.Lines.{regions_of};
 
 use crate::came::Came;
 use crate::limits::PAGE_SIZE;
-use crate::line::{Request, Said};
+use crate::line::{Request, Statement};
 use crate::raises::{frame_given, raise};
 use crate::space::Space;
 use spin_code::Sincere;
@@ -34,11 +34,11 @@ fn access(
     write: bool,
 ) -> Result<Came, NoMemory>
     requires sincere { ⟦<Catalogue as Sincere>⟧.sincere setup.now.catalogue }
-    requires sound { IsSound (data_of setup.now) version.now }
-    ensures came { (reply : Deed → Reply) → AreReplies (data_of setup.now) version.now reply
+    requires sound { IsSoundVersion (data_of setup.now) version.now }
+    ensures came { (reply : Deed → Reply) → AreReplies (data_of setup.now) version.now.state reply
         → IfOk result (λ came. came ≡ access_came reply number (page_of address) write
         (look_up space.old (page_of address) write)) }
-    ensures space { (reply : Deed → Reply) → AreReplies (data_of setup.now) version.now reply
+    ensures space { (reply : Deed → Reply) → AreReplies (data_of setup.now) version.now.state reply
         → IfOk result (λ came. space.new
         ≡ after_access reply number space.old (page_of address) write) }
     ensures regions { IfOk result (λ came. space.new.regions ≡ space.old.regions) }
@@ -65,11 +65,11 @@ fn asked(
     request: &Request,
 ) -> Result<Option<Came>, NoMemory>
     requires sincere { ⟦<Catalogue as Sincere>⟧.sincere setup.now.catalogue }
-    requires sound { IsSound (data_of setup.now) version.now }
+    requires sound { IsSoundVersion (data_of setup.now) version.now }
     requires good { first_of (region_checks space.old.regions request.now) ≡ None }
-    ensures came { (reply : Deed → Reply) → AreReplies (data_of setup.now) version.now reply
+    ensures came { (reply : Deed → Reply) → AreReplies (data_of setup.now) version.now.state reply
         → IfOk result (λ came. came ≡ came_of reply number space.old request.now) }
-    ensures space { (reply : Deed → Reply) → AreReplies (data_of setup.now) version.now reply
+    ensures space { (reply : Deed → Reply) → AreReplies (data_of setup.now) version.now.state reply
         → IfOk result (λ came. space.new ≡ space_after reply number space.old request.now) }
     ensures regions { IfOk result (λ came. space.new.regions
         ≡ regions_with space.old.regions request.now) }
@@ -94,14 +94,14 @@ pub(crate) fn answer(
     setup: &Setup,
     version: &Version,
     spaces: &mut Vec<Space>,
-    said: &Said,
+    said: &Statement,
 ) -> Result<Option<Came>, NoMemory>
     requires sincere { ⟦<Catalogue as Sincere>⟧.sincere setup.now.catalogue }
-    requires sound { IsSound (data_of setup.now) version.now }
+    requires sound { IsSoundVersion (data_of setup.now) version.now }
     requires good { first_of (trace_checks (regions_of spaces.old.items) said.now) ≡ None }
-    ensures came { (reply : Deed → Reply) → AreReplies (data_of setup.now) version.now reply
+    ensures came { (reply : Deed → Reply) → AreReplies (data_of setup.now) version.now.state reply
         → IfOk result (λ came. came ≡ said_came reply spaces.old.items said.now) }
-    ensures spaces { (reply : Deed → Reply) → AreReplies (data_of setup.now) version.now reply
+    ensures spaces { (reply : Deed → Reply) → AreReplies (data_of setup.now) version.now.state reply
         → IfOk result (λ came. spaces.new.items
         ≡ spaces_after reply spaces.old.items said.now) }
     ensures regions { IfOk result (λ came. regions_of spaces.new.items
@@ -110,11 +110,11 @@ pub(crate) fn answer(
         ≤ mapped_pages spaces.old.items + 1) }
 {
     match said {
-        Said::Space(_) => {
+        Statement::Space(_) => {
             spaces.push(Space::new(alloc))?;
             Ok(None)
         }
-        Said::At { space, request } => {
+        Statement::At { space, request } => {
             let at = &mut spaces[*space as usize];
             asked(alloc, setup, version, *space, at, request)
         }

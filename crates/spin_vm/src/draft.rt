@@ -7,7 +7,7 @@ ghost use Rattle.spin_vm.specs.Traces.{trace_checks, region_checks, regions_afte
 
 use crate::cause::TraceCause;
 use crate::limits::{LAST_SPACE, MAX_REGIONS, PAGES};
-use crate::line::{Region, Request, Said, Trace, TraceLine};
+use crate::line::{Region, Request, Statement, Trace, TraceLine};
 use crate::regions::Regions;
 use spin_values::NoMemory;
 use std::alloc::Global;
@@ -67,17 +67,17 @@ impl Draft {
     }
 
     // Why a line can't stand here, if it can't.
-    pub(crate) fn cause(&self, said: &Said) -> Option<TraceCause>
+    pub(crate) fn cause(&self, said: &Statement) -> Option<TraceCause>
         ensures { result ≡ first_of (trace_checks self.now.spaces said.now) }
     {
         match said {
-            Said::Space(space) => {
+            Statement::Space(space) => {
                 if *space != self.spaces.len() as u64 || *space > LAST_SPACE {
                     return Some(TraceCause::Next);
                 }
                 None
             }
-            Said::At { space, request } => {
+            Statement::At { space, request } => {
                 if *space >= self.spaces.len() as u64 {
                     return Some(TraceCause::Undeclared);
                 }
@@ -88,17 +88,17 @@ impl Draft {
 
     // Adds a line that can stand here to the spaces.
     #[tactic(auto, using(crate::proofs::SpaceRegions::keeps))]
-    fn add_to_spaces(&mut self, alloc: Global, said: &Said) -> Result<(), NoMemory>
+    fn add_to_spaces(&mut self, alloc: Global, said: &Statement) -> Result<(), NoMemory>
         requires { first_of (trace_checks self.old.spaces said.now) ≡ None }
         ensures { OnOk result (self.new
             ≡ record self.old { spaces = regions_after self.old.spaces said.now }) }
     {
         match said {
-            Said::Space(_) => {
+            Statement::Space(_) => {
                 self.spaces.push(Regions::new(alloc))?;
                 Ok(())
             }
-            Said::At { space, request } => match request {
+            Statement::At { space, request } => match request {
                 Request::Region(region) => self.spaces[*space as usize].insert(*region),
                 Request::Unmap(_) | Request::Access { .. } => Ok(()),
             },
@@ -106,7 +106,12 @@ impl Draft {
     }
 
     // Adds a line that can stand here.
-    pub(crate) fn add(&mut self, alloc: Global, number: u32, said: Said) -> Result<(), NoMemory>
+    pub(crate) fn add(
+        &mut self,
+        alloc: Global,
+        number: u32,
+        said: Statement,
+    ) -> Result<(), NoMemory>
         requires { first_of (trace_checks self.old.spaces said) ≡ None }
         ensures { OnOk result (self.new ≡ with_line self.old number said) }
     {

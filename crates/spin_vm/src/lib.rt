@@ -36,7 +36,7 @@ pub use end::VmEnd;
 pub use fault::Fault;
 pub use laws::spaces_are_isolated;
 pub use limits::{FRAMES, LAST_SPACE, MAX_REGIONS, PAGE_SIZE, PAGES, limits_are_stated};
-pub use line::{Region, Request, Said, Trace, TraceLine};
+pub use line::{Region, Request, Statement, Trace, TraceLine};
 pub use read::{TraceFault, read_trace};
 pub use run::run_trace;
 pub use suited::is_suited;

@@ -31,7 +31,7 @@ pub enum Request {
 
 /// What a line says.
 #[derive(Clone, Copy, PartialEq, Eq, Drop, Debug)]
-pub enum Said {
+pub enum Statement {
     /// There is a space of this number.
     Space(u64),
     /// Something is asked of a space.
@@ -49,7 +49,7 @@ pub struct TraceLine {
     /// Its number in the text, counted from 1.
     pub number: u32,
     /// What it says.
-    pub said: Said,
+    pub said: Statement,
 }
 
 /// The lines of a trace behind the first, but for those that are skipped, in the order of the text.

@@ -2,7 +2,7 @@
 
 ghost use Rattle.std.specs.Prelude.{◌≡◌, IfOk};
 ghost use Rattle.spin_table.specs.SetupOf.{data_of};
-ghost use Rattle.spin_table.specs.Soundness.{IsSound};
+ghost use Rattle.spin_table.specs.Soundness.{IsSoundVersion};
 ghost use Rattle.spin_proto.specs.Replies.{IsDeedReply};
 ghost use Rattle.spin_vm.specs.Spaces as specs;
 ghost use Rattle.spin_vm.specs.Spaces.{raise_of};
@@ -29,9 +29,9 @@ pub(crate) fn raise(
     write: bool,
 ) -> Result<Reply, NoMemory>
     requires sincere { ⟦<Catalogue as Sincere>⟧.sincere setup.now.catalogue }
-    requires sound { IsSound (data_of setup.now) version.now }
+    requires sound { IsSoundVersion (data_of setup.now) version.now }
     ensures { IfOk result
-        (IsDeedReply (data_of setup.now) version.now (raise_of fault space page write)) }
+        (IsDeedReply (data_of setup.now) version.now.state (raise_of fault space page write)) }
 {
     let mut args = Args::new(alloc);
     args.push(Value::Word(space))?;

@@ -8,7 +8,7 @@ ghost use Rattle.spin_vm.specs.Inner.States.{GivesState};
 
 use crate::cause::TraceCause;
 use crate::draft::Draft;
-use crate::line::{Said, Trace};
+use crate::line::{Statement, Trace};
 use crate::words::{is_first, says};
 use spin_grammar::{Lines, MAX_TEXT, Words};
 use spin_script::all_allowed;
@@ -64,7 +64,7 @@ fn add_said(
     alloc: Global,
     draft: &mut Draft,
     number: u32,
-    said: Option<Said>,
+    said: Option<Statement>,
 ) -> Result<(), LineFault>
     ensures { GivesState (after_said draft.old number said) result draft.new }
 {

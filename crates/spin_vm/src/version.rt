@@ -4,7 +4,7 @@ ghost use Rattle.std.specs.Prelude.{◌≡◌, ◌+◌, ◌<◌, ◌≤◌, leng
 ghost use Rattle.spin_word.specs.declared.command.TheConstants.{MAX_PLACE};
 ghost use Rattle.spin_word.specs.Commands.{is_command};
 ghost use Rattle.spin_table.specs.SetupOf.{data_of};
-ghost use Rattle.spin_table.specs.Soundness.{IsSound};
+ghost use Rattle.spin_table.specs.Soundness.{IsSoundVersion};
 ghost use Rattle.spin_table.specs.States.{start_of};
 ghost use Rattle.spin_script.specs.Scripts.{script_seen};
 ghost use Rattle.spin_script.specs.Soundness.{AreValid, IsValidWork, command_lines, is_command_work};
@@ -28,10 +28,10 @@ fn step(
 ) -> Result<Version, NoMemory>
     requires sincere { ⟦<Catalogue as Sincere>⟧.sincere setup.now.catalogue }
     requires valid { IsTrue (is_command command.now) }
-    requires room { version.place < MAX_PLACE }
-    requires sound { IsSound (data_of setup.now) version }
-    ensures leads { IfOk result (LeadsBy (data_of setup.now) version command.now) }
-    ensures sound { IfOk result (λ next. IsSound (data_of setup.now) next) }
+    requires room { version.state.place < MAX_PLACE }
+    requires sound { IsSoundVersion (data_of setup.now) version }
+    ensures leads { IfOk result (λ next. LeadsBy (data_of setup.now) version.state command.now next.state) }
+    ensures sound { IfOk result (λ next. IsSoundVersion (data_of setup.now) next) }
 {
     match version.next(alloc, setup, command) {
         Ok(next) => Ok(next),
@@ -50,10 +50,10 @@ fn after_work(
     requires command { IsTrue (is_command_work work.now) }
     requires sincere { ⟦<Catalogue as Sincere>⟧.sincere setup.now.catalogue }
     requires valid { IsValidWork work.now }
-    requires room { version.place < MAX_PLACE }
-    requires sound { IsSound (data_of setup.now) version }
-    ensures leads { IfOk result (Leads (data_of setup.now) version work.now) }
-    ensures sound { IfOk result (λ next. IsSound (data_of setup.now) next) }
+    requires room { version.state.place < MAX_PLACE }
+    requires sound { IsSoundVersion (data_of setup.now) version }
+    ensures leads { IfOk result (λ next. Leads (data_of setup.now) version.state work.now next.state) }
+    ensures sound { IfOk result (λ next. IsSoundVersion (data_of setup.now) next) }
 {
     match work {
         Work::Command(command) => step(alloc, setup, version, command),
@@ -68,8 +68,8 @@ fn after_lines(alloc: Global, setup: &Setup, lines: &[Line]) -> Result<Version, 
     requires few { length lines.now ≤ MAX_PLACE }
     requires sincere { ⟦<Catalogue as Sincere>⟧.sincere setup.now.catalogue }
     ensures last { IfOk result
-        (AllLead (data_of setup.now) (start_of (data_of setup.now)) lines.now) }
-    ensures sound { IfOk result (λ version. IsSound (data_of setup.now) version) }
+        (λ last. AllLead (data_of setup.now) (start_of (data_of setup.now)) lines.now last.state) }
+    ensures sound { IfOk result (λ version. IsSoundVersion (data_of setup.now) version) }
 {
     let mut version = Version::start(alloc, setup)?;
     for line in lines {
@@ -84,8 +84,8 @@ pub(crate) fn last_version(alloc: Global, script: &Script) -> Result<Version, No
     requires valid { AreValid script.now.segments }
     requires few { command_lines script.now.segments ≤ MAX_PLACE }
     requires sincere { ⟦<Catalogue as Sincere>⟧.sincere script.now.setup.catalogue }
-    ensures last { IfOk result (IsLast (script_seen script.now)) }
-    ensures sound { IfOk result (λ version. IsSound (data_of script.now.setup) version) }
+    ensures last { IfOk result (λ last. IsLast (script_seen script.now) last.state) }
+    ensures sound { IfOk result (λ version. IsSoundVersion (data_of script.now.setup) version) }
 {
     after_lines(alloc, &script.setup, &script.segments.get(0).lines)
 }

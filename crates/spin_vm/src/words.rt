@@ -3,7 +3,7 @@
 ghost use Rattle.std.specs.Prelude.{◌≡◌, [], Some, None, MatchOption};
 ghost use Rattle.spin_vm.specs.Forms as specs;
 
-use crate::line::{Region, Request, Said};
+use crate::line::{Region, Request, Statement};
 use spin_grammar::{Words, look_up, number_of};
 
 // The end of a line.
@@ -36,15 +36,15 @@ fn kind_of(word: &[u8]) -> Option<bool>
     look_up(word, KINDS.as_slice())
 }
 
-fn space_form(words: &mut Words) -> Option<Said>
+fn space_form(words: &mut Words) -> Option<Statement>
     ensures { result ≡ specs.space_form words.old }
 {
     let space = words.next()?;
     ended(words)?;
-    Some(Said::Space(number_of(space)?))
+    Some(Statement::Space(number_of(space)?))
 }
 
-fn region_form(words: &mut Words) -> Option<Said>
+fn region_form(words: &mut Words) -> Option<Statement>
     ensures { result ≡ specs.region_form words.old }
 {
     let space = words.next()?;
@@ -58,13 +58,13 @@ fn region_form(words: &mut Words) -> Option<Said>
         pages: number_of(pages)?,
         writable: rights_of(rights)?,
     };
-    Some(Said::At {
+    Some(Statement::At {
         space,
         request: Request::Region(region),
     })
 }
 
-fn unmap_form(words: &mut Words) -> Option<Said>
+fn unmap_form(words: &mut Words) -> Option<Statement>
     ensures { result ≡ specs.unmap_form words.old }
 {
     let space = words.next()?;
@@ -72,13 +72,13 @@ fn unmap_form(words: &mut Words) -> Option<Said>
     ended(words)?;
     let space = number_of(space)?;
     let page = number_of(page)?;
-    Some(Said::At {
+    Some(Statement::At {
         space,
         request: Request::Unmap(page),
     })
 }
 
-fn access_form(words: &mut Words) -> Option<Said>
+fn access_form(words: &mut Words) -> Option<Statement>
     ensures { result ≡ specs.access_form words.old }
 {
     let space = words.next()?;
@@ -88,14 +88,14 @@ fn access_form(words: &mut Words) -> Option<Said>
     let space = number_of(space)?;
     let address = number_of(address)?;
     let write = kind_of(kind)?;
-    Some(Said::At {
+    Some(Statement::At {
         space,
         request: Request::Access { address, write },
     })
 }
 
 // What the words of a line say behind the first line, where they have one of the forms.
-pub(crate) fn says(words: &mut Words) -> Option<Said>
+pub(crate) fn says(words: &mut Words) -> Option<Statement>
     ensures { result ≡ specs.says words.old }
 {
     let first = words.next()?;

@@ -5,7 +5,7 @@ ghost use Rattle.spin_values.specs.First.{first_of};
 ghost use Rattle.spin_text.specs.Words.{spaced, line_of, ended};
 ghost use Rattle.spin_word.specs.declared.work.Deed.{Deed};
 ghost use Rattle.spin_table.specs.SetupOf.{data_of};
-ghost use Rattle.spin_table.specs.Soundness.{IsSound};
+ghost use Rattle.spin_table.specs.Soundness.{IsSoundVersion};
 ghost use Rattle.spin_proto.specs.declared.reply.Reply.{Reply};
 ghost use Rattle.spin_vm.specs.Traces.{trace_checks, regions_after, AreGood};
 ghost use Rattle.spin_vm.specs.Scripts.{AreReplies};
@@ -143,12 +143,12 @@ fn write_line<K: Sink>(
     out: &mut K,
 ) -> Result<(), Stop>
     requires sincere { ⟦<Catalogue as Sincere>⟧.sincere setup.now.catalogue }
-    requires sound { IsSound (data_of setup.now) version.now }
+    requires sound { IsSoundVersion (data_of setup.now) version.now }
     requires good { first_of (trace_checks (regions_of spaces.old.items) line.now.said) ≡ None }
-    ensures written { (reply : Deed → Reply) → AreReplies (data_of setup.now) version.now reply
+    ensures written { (reply : Deed → Reply) → AreReplies (data_of setup.now) version.now.state reply
         → Wrote (K.seen out.old) (K.seen out.new)
         (text_if line.now (said_came reply spaces.old.items line.now.said)) result }
-    ensures spaces { (reply : Deed → Reply) → AreReplies (data_of setup.now) version.now reply
+    ensures spaces { (reply : Deed → Reply) → AreReplies (data_of setup.now) version.now.state reply
         → IfOk result (λ _. spaces.new.items
         ≡ spaces_after reply spaces.old.items line.now.said) }
     ensures regions { IfOk result (λ _. regions_of spaces.new.items
@@ -170,9 +170,9 @@ fn write_lines<K: Sink>(
     out: &mut K,
 ) -> Result<(), Stop>
     requires sincere { ⟦<Catalogue as Sincere>⟧.sincere setup.now.catalogue }
-    requires sound { IsSound (data_of setup.now) version.now }
+    requires sound { IsSoundVersion (data_of setup.now) version.now }
     requires good { AreGood [] trace.now }
-    ensures written { (reply : Deed → Reply) → AreReplies (data_of setup.now) version.now reply
+    ensures written { (reply : Deed → Reply) → AreReplies (data_of setup.now) version.now.state reply
         → WroteWithin (K.seen out.old) (K.seen out.new) (text_behind reply [] trace.now) result }
     ensures counts { IfOk result (λ _. (K.seen out.new).faults ≡ (K.seen out.old).faults) }
 {
@@ -193,9 +193,9 @@ pub(crate) fn write_output<K: Sink>(
     out: &mut K,
 ) -> Result<(), Stop>
     requires sincere { ⟦<Catalogue as Sincere>⟧.sincere setup.now.catalogue }
-    requires sound { IsSound (data_of setup.now) version.now }
+    requires sound { IsSoundVersion (data_of setup.now) version.now }
     requires good { AreGood [] trace.now }
-    ensures written { (reply : Deed → Reply) → AreReplies (data_of setup.now) version.now reply
+    ensures written { (reply : Deed → Reply) → AreReplies (data_of setup.now) version.now.state reply
         → WroteWithin (K.seen out.old) (K.seen out.new) (output reply trace.now) result }
     ensures counts { IfOk result (λ _. (K.seen out.new).faults ≡ (K.seen out.old).faults) }
 {

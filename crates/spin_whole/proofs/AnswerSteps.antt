@@ -6,8 +6,8 @@ use Rattle.std.proofs.lemmas.List.{append-nil, map-append, drop_all}
 use Rattle.std.proofs.lemmas.List.Sums.{sum_by-cons}
 use Rattle.spin_word.specs.declared.command.TheConstants.{MAX_PLACE}
 use Rattle.spin_table.specs.Setups.{SetupData}
-use Rattle.spin_table.specs.States.{State}
-use Rattle.spin_table.specs.Soundness.{IsSound}
+use Rattle.spin_table.specs.States.{State, VersionValue}
+use Rattle.spin_table.specs.Soundness.{IsSoundVersion}
 use Rattle.spin_text.specs.Words.{ended, text_of}
 use Rattle.spin_script.specs.declared.script.Line.{Line}
 use Rattle.spin_report.specs.declared.entry.Entry.{Entry}
@@ -34,7 +34,7 @@ one_answered d old mid new entry next text sends owed job_sends adds =
     record {
       entries = entry ∷ [];
       jobs = own;
-      done = (state_of mid, own, [], next, adds.jobs.1, (refl, ap (λ v. arc_value v) adds.version), sym (append-nil own));
+      done = (state_of mid, own, [], next, adds.jobs.1, (refl, ap (λ (v : VersionValue). v.state) (ap (λ v. arc_value v) adds.version)), sym (append-nil own));
       asked_are = refl;
       text = adds.text ∙ (λ i. text i ++ sym (append-nil (ended (entry_line entry))) i);
       sends = adds.sends ∙ (λ i. sends i ++ sym (append-nil (sends_of entry.what)) i);
@@ -112,15 +112,15 @@ pub record IsGone (d : SetupData) (whole rest : List Numbered) (start now : Part
   pub first : List Numbered
   pub split : whole ≡ first ++ rest
   pub answers : Answers d first start now
-  pub sound : IsSound d (state_of now)
+  pub sound : IsSoundVersion d (arc_value now.version)
 
-pub gone_none : (d : SetupData) (whole : List Numbered) (part : Part) → IsSound d (state_of part) → IsGone d whole whole part part
+pub gone_none : (d : SetupData) (whole : List Numbered) (part : Part) → IsSoundVersion d (arc_value part.version) → IsGone d whole whole part part
 gone_none d whole part sound = record { first = []; split = refl; answers = answers_nothing d part; sound = sound }
 
 pub gone_same : (d : SetupData) (whole rest next : List Numbered) (start now : Part) → rest ≡ next → IsGone d whole rest start now → IsGone d whole next start now
 gone_same d whole rest next start now is gone = subst (λ r. IsGone d whole r start now) is gone
 
-pub gone_more : (d : SetupData) (whole rest own next : List Numbered) (start now after : Part) → rest ≡ own ++ next → Answers d own now after → IsSound d (state_of after)
+pub gone_more : (d : SetupData) (whole rest own next : List Numbered) (start now after : Part) → rest ≡ own ++ next → Answers d own now after → IsSoundVersion d (arc_value after.version)
     → IsGone d whole rest start now → IsGone d whole next start after
 gone_more d whole rest own next start now after is answers sound gone = record {
   first = gone.first ++ own;

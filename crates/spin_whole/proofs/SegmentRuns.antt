@@ -6,8 +6,8 @@ use Rattle.std.proofs.lemmas.List.{length-drop}
 use Rattle.spin_endpoint.specs.Named.{NamedEnd}
 use Rattle.spin_endpoint.specs.Sends.{SentSeen, all_received, all_retired}
 use Rattle.spin_table.specs.Setups.{SetupData}
-use Rattle.spin_table.specs.States.{State}
-use Rattle.spin_table.specs.Soundness.{IsSound}
+use Rattle.spin_table.specs.States.{State, VersionValue}
+use Rattle.spin_table.specs.Soundness.{IsSoundVersion}
 use Rattle.spin_text.specs.Words.{ended, text_of}
 use Rattle.spin_script.specs.declared.script.Segment.{Segment}
 use Rattle.spin_report.specs.declared.entry.Entry.{Entry}
@@ -35,7 +35,7 @@ pub record IsBegun (version : State) (part : Part) : Type 0 where
   pub owed : part.owed ≡ []
   pub job_sends : part.job_sends ≡ []
 
-module _ (d : SetupData) (lanes : ℕ) (segment : Segment) (before : Standing) (start part : Part) (begun : IsBegun (arc_value before.version) start)
+module _ (d : SetupData) (lanes : ℕ) (segment : Segment) (before : Standing) (start part : Part) (begun : IsBegun (arc_value before.version).state start)
     (answers : Answers d (by_lane lanes (asked_in segment.lines before.left.now)) start part) where
   abbrev entries : List Entry
   entries = answers.entries
@@ -60,7 +60,7 @@ module _ (d : SetupData) (lanes : ℕ) (segment : Segment) (before : Standing) (
 
   -- what the part has come to is taken over where the endpoints are retired and the head is written
   pub runs_one : (names : List (List ℕ)) (number place : ℕ) (ends : List NamedEnd) (retires : List ℕ) (head : List ℕ) (mid after : Standing)
-      → AllPairs (λ line later. line.number < later.number) segment.lines → place ≡ (arc_value before.version).place → retires ≡ segment.retires
+      → AllPairs (λ line later. line.number < later.number) segment.lines → place ≡ (arc_value before.version).state.place → retires ≡ segment.retires
       → head ≡ before.report ++ text_of (map retire_line (retirements names retires ends))
       → mid.report ≡ head ++ ended (segment_line number place) → mid.sends ≡ before.sends → mid.left.now ≡ drop (wanted_by segment.lines) before.left.now
       → AreFlags names (all_retired names retires ends) mid.flags.items → TakesPart names (all_retired names segment.retires ends) part mid after
@@ -69,8 +69,8 @@ module _ (d : SetupData) (lanes : ℕ) (segment : Segment) (before : Standing) (
       let standing = all_retired names segment.retires ends in
       let lost = lost_counts names standing sent in
       let retired = retirements names segment.retires ends in
-      let seen : SegmentSeen = record { retired = retired; start = (arc_value before.version).place; entries = entries; jobs = jobs; lost = lost } in
-      let last : state_of part ≡ arc_value after.version = ap (λ v. arc_value v) (sym takes.rest.version) in
+      let seen : SegmentSeen = record { retired = retired; start = (arc_value before.version).state.place; entries = entries; jobs = jobs; lost = lost } in
+      let last : state_of part ≡ (arc_value after.version).state = ap (λ (v : VersionValue). v.state) (ap (λ v. arc_value v) (sym takes.rest.version)) in
       let whole = woven d lanes segment.lines before.left.now (state_of start) (state_of part) entries jobs rise answers.done answers.asked_are in
       let tail : part.text ++ (part.owed ++ text_of (lost_lines (lost_counts names standing (part.sends ++ part.job_sends))))
       ≡ text_of (map entry_line entries) ++ (text_of (map job_line jobs) ++ text_of (lost_lines lost)) =
@@ -102,14 +102,14 @@ module _ (d : SetupData) (lanes : ℕ) (segment : Segment) (before : Standing) (
       }
 
   -- and the next segment has what it needs
-  pub is_good : (after : Standing) → IsSound d (state_of part) → after.version ≡ part.version → length after.flags.items ≡ length before.flags.items
+  pub is_good : (after : Standing) → IsSoundVersion d (arc_value part.version) → after.version ≡ part.version → length after.flags.items ≡ length before.flags.items
       → after.left.now ≡ drop (wanted_by segment.lines) before.left.now → IsGood d segment before after
   is_good after sound version flags left =
-      let state : state_of part ≡ arc_value after.version = ap (λ v. arc_value v) (sym version) in
+      let state : state_of part ≡ (arc_value after.version).state = ap (λ (v : VersionValue). v.state) (ap (λ v. arc_value v) (sym version)) in
       let place = answers_place d (by_lane lanes (asked_in segment.lines before.left.now)) start part answers in
       let few = lanes_few lanes segment.lines before.left.now in
       record {
-        sound = subst (IsSound d) state sound;
+        sound = subst (IsSoundVersion d) (ap (λ v. arc_value v) (sym version)) sound;
         place = omega (arith, place, few, ap (λ (s : State). s.place) state, ap (λ (s : State). s.place) begun.state);
         flags = flags;
         left = omega (arith, ap length left, length-drop (wanted_by segment.lines) before.left.now);

@@ -10,7 +10,7 @@ use Rattle.std.proofs.lemmas.List.Sums.{sum_by-append}
 use Rattle.spin_endpoint.specs.Named.{NamedEnd}
 use Rattle.spin_endpoint.specs.Sends.{SentSeen, all_received, all_retired}
 use Rattle.spin_table.specs.Setups.{SetupData}
-use Rattle.spin_table.specs.Soundness.{IsSound}
+use Rattle.spin_table.specs.Soundness.{IsSoundVersion}
 use Rattle.spin_text.specs.Words.{ended, text_of}
 use Rattle.spin_script.specs.declared.script.Line.{Line}
 use Rattle.spin_script.specs.declared.script.Segment.{Segment}
@@ -181,16 +181,16 @@ commands_next segments k segment lt is =
 -- before segment k there is room for the commands that are left, the state is sound, and flags and records are as many
 -- as they may be
 pub record IsOnWay (d : SetupData) (segments : List Segment) (start : Standing) (k : ℕ) (now : Standing) : Type 0 where
-  pub sound : IsSound d (arc_value now.version)
-  pub room : (arc_value now.version).place + command_lines (drop k segments) ≤ (arc_value start.version).place + command_lines segments
+  pub sound : IsSoundVersion d (arc_value now.version)
+  pub room : (arc_value now.version).state.place + command_lines (drop k segments) ≤ (arc_value start.version).state.place + command_lines segments
   pub long : length now.flags.items ≡ length start.flags.items
   pub left : length now.left.now ≤ length start.left.now
 
-pub on_way_none : (d : SetupData) (segments : List Segment) (start : Standing) → IsSound d (arc_value start.version) → IsOnWay d segments start 0 start
+pub on_way_none : (d : SetupData) (segments : List Segment) (start : Standing) → IsSoundVersion d (arc_value start.version) → IsOnWay d segments start 0 start
 on_way_none d segments start sound = record { sound = sound; room = omega arith; long = refl; left = omega arith }
 
 pub room_here : (d : SetupData) (segments : List Segment) (start : Standing) (k : ℕ) (now : Standing) (segment : Segment) → k < length segments → get_or segments k segment ≡ segment
-    → IsOnWay d segments start k now → (arc_value now.version).place + commands_in segment.lines ≤ (arc_value start.version).place + command_lines segments
+    → IsOnWay d segments start k now → (arc_value now.version).state.place + commands_in segment.lines ≤ (arc_value start.version).state.place + command_lines segments
 room_here d segments start k now segment lt is way = omega (arith, way.room, commands_next segments k segment lt is)
 
 pub on_way_more : (d : SetupData) (segments : List Segment) (start : Standing) (k : ℕ) (now next : Standing) (segment : Segment) → k < length segments → get_or segments k segment ≡ segment
@@ -207,13 +207,13 @@ on_way_more d segments start k now next segment lt is good way = record {
 pub is_ran : (script : ScriptData) (capture : Option CaptureSeen) (ends : List NamedEnd) (start now : Standing) (ran : Ran)
     → point start ends ≡ start_with script (frames_of capture) ends → start.report ≡ ended first_line → start.sends ≡ []
     → RunsAll script ends start now
-    → ran.report ≡ now.report ++ ended (end_line (arc_value now.version).place (option_map (counts_of now.left.now) capture)) → ran.sends ≡ now.sends
+    → ran.report ≡ now.report ++ ended (end_line (arc_value now.version).state.place (option_map (counts_of now.left.now) capture)) → ran.sends ≡ now.sends
     → IsRanAs script capture ends ran
 is_ran script capture ends start now ran at begins none all report sends =
     let last = point now all.ends_after in
     let counts = option_map (counts_of now.left.now) capture in
-    let ending = end_line (arc_value now.version).place counts in
-    let history : HistorySeen = record { segments = all.parts; end = (arc_value now.version).place; capture = counts } in (
+    let ending = end_line (arc_value now.version).state.place counts in
+    let history : HistorySeen = record { segments = all.parts; end = (arc_value now.version).state.place; capture = counts } in (
       history,
       last,
       record {

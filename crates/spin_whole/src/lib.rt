@@ -9,10 +9,10 @@ mod flags;
 mod jobs;
 mod part;
 mod ran;
+mod run;
 mod segment;
 mod sends;
-mod whole;
 
 pub use ran::{Ran, Sending, Sendings};
+pub use run::run_text;
 pub use spin_pcap::Captured;
-pub use whole::run_text;

@@ -7,7 +7,7 @@ ghost use Rattle.spin_word.specs.declared.command.TheConstants.{MAX_PLACE};
 ghost use Rattle.spin_word.specs.declared.work.Work.TheVariants as work;
 ghost use Rattle.spin_table.specs.SetupOf.{data_of};
 ghost use Rattle.spin_table.specs.declared.refusal.Verdicted.TheVariants as verdicted;
-ghost use Rattle.spin_table.specs.Soundness.{IsSound};
+ghost use Rattle.spin_table.specs.Soundness.{IsSoundVersion};
 ghost use Rattle.spin_table.specs.Steps.{IsStep};
 ghost use Rattle.spin_proto.specs.Replies.{BelongsTo};
 ghost use Rattle.spin_script.specs.Soundness.{IsValidWork};
@@ -68,9 +68,9 @@ fn refused(
     refusal: Refusal,
 ) -> Result<Judged, NoMemory>
     requires step { let d = data_of _setup.now in
-        IsStep d (arc_value version.now) _command.now (verdicted.Refused refusal) (arc_value version.now) }
+        IsStep d (arc_value version.now).state _command.now (verdicted.Refused refusal) (arc_value version.now).state }
     ensures step { let d = data_of _setup.now in
-        IfOk result (λ judged. IsStep d (arc_value version.now) _command.now judged.verdict (arc_value judged.version)) }
+        IfOk result (λ judged. IsStep d (arc_value version.now).state _command.now judged.verdict (arc_value judged.version).state) }
     ensures same { IfOk result (λ judged. arc_value judged.version ≡ arc_value version.now) }
 {
     Ok(Judged {
@@ -88,11 +88,11 @@ fn judge(
 ) -> Result<Judged, NoMemory>
     requires sincere { ⟦<Catalogue as Sincere>⟧.sincere setup.now.catalogue }
     requires valid { IsTrue (is_command command.now) }
-    requires room { (arc_value version.now).place < MAX_PLACE }
-    requires sound { IsSound (data_of setup.now) (arc_value version.now) }
+    requires room { (arc_value version.now).state.place < MAX_PLACE }
+    requires sound { IsSoundVersion (data_of setup.now) (arc_value version.now) }
     ensures step { let d = data_of setup.now in
-        IfOk result (λ judged. IsStep d (arc_value version.now) command.now judged.verdict (arc_value judged.version)) }
-    ensures sound { IfOk result (λ judged. IsSound (data_of setup.now) (arc_value judged.version)) }
+        IfOk result (λ judged. IsStep d (arc_value version.now).state command.now judged.verdict (arc_value judged.version).state) }
+    ensures sound { IfOk result (λ judged. IsSoundVersion (data_of setup.now) (arc_value judged.version)) }
 {
     match version.next(alloc, setup, command) {
         Ok(next) => Ok(Judged {
@@ -125,7 +125,7 @@ impl Part {
     // Adds an entry, at the version that it leads to, and does its jobs.
     fn add(&mut self, alloc: Global, setup: &Setup, entry: &EntryView<'_>) -> Result<(), NoMemory>
         requires sincere { ⟦<Catalogue as Sincere>⟧.sincere setup.now.catalogue }
-        requires sound { IsSound (data_of setup.now) (state_of self.old) }
+        requires sound { IsSoundVersion (data_of setup.now) (arc_value self.old.version) }
         requires belong { All (BelongsTo (state_of self.old)) (answer_calls entry.now.what) }
         requires few { length (answer_calls entry.now.what) < 2 ^ 32 }
         ensures { OnOk result (AddsEntry (data_of setup.now) entry.now self.old self.new) }
@@ -153,10 +153,10 @@ impl Part {
         requires sincere { ⟦<Catalogue as Sincere>⟧.sincere setup.now.catalogue }
         requires valid { IsTrue (is_command command.now) }
         requires room { (state_of self.old).place < MAX_PLACE }
-        requires sound { IsSound (data_of setup.now) (state_of self.old) }
+        requires sound { IsSoundVersion (data_of setup.now) (arc_value self.old.version) }
         ensures answers { let asked = alone line.now 0 (work.Command command.now) in
             OnOk result (Answers (data_of setup.now) asked self.old self.new) }
-        ensures sound { OnOk result (IsSound (data_of setup.now) (state_of self.new)) }
+        ensures sound { OnOk result (IsSoundVersion (data_of setup.now) (arc_value self.new.version)) }
     {
         let Judged { verdict, version } = judge(alloc, setup, &self.version, command)?;
         self.version = version;
@@ -181,10 +181,10 @@ impl Part {
         deed: &Deed,
     ) -> Result<(), NoMemory>
         requires sincere { ⟦<Catalogue as Sincere>⟧.sincere setup.now.catalogue }
-        requires sound { IsSound (data_of setup.now) (state_of self.old) }
+        requires sound { IsSoundVersion (data_of setup.now) (arc_value self.old.version) }
         ensures answers { let asked = alone line.now part (work.Deed deed.now) in
             OnOk result (Answers (data_of setup.now) asked self.old self.new) }
-        ensures sound { OnOk result (IsSound (data_of setup.now) (state_of self.new)) }
+        ensures sound { OnOk result (IsSoundVersion (data_of setup.now) (arc_value self.new.version)) }
     {
         let reply = path(alloc, &self.version, setup, deed)?;
         let what = answered(deed, &reply);
@@ -208,11 +208,11 @@ impl Part {
         records: &[Octets],
     ) -> Result<(), NoMemory>
         requires sincere { ⟦<Catalogue as Sincere>⟧.sincere setup.now.catalogue }
-        requires sound { IsSound (data_of setup.now) (state_of self.old) }
+        requires sound { IsSoundVersion (data_of setup.now) (arc_value self.old.version) }
         requires few { length records.now < 2 ^ 32 }
         ensures answers { let asked = packets line.now event 1 records.now in
             OnOk result (Answers (data_of setup.now) asked self.old self.new) }
-        ensures sound { OnOk result (IsSound (data_of setup.now) (state_of self.new)) }
+        ensures sound { OnOk result (IsSoundVersion (data_of setup.now) (arc_value self.new.version)) }
     {
         let mut part = 0;
         for frame in records {
@@ -233,14 +233,14 @@ impl Part {
         records: &[Octets],
     ) -> Result<(), NoMemory>
         requires sincere { ⟦<Catalogue as Sincere>⟧.sincere setup.now.catalogue }
-        requires sound { IsSound (data_of setup.now) (state_of self.old) }
+        requires sound { IsSoundVersion (data_of setup.now) (arc_value self.old.version) }
         requires valid { IsValidWork line.now.work }
         requires room { let asked = asked_at line.now records.now in
             (state_of self.old).place + commands_asked asked ≤ MAX_PLACE }
         requires few { length records.now < 2 ^ 32 }
         ensures answers { let asked = asked_at line.now records.now in
             OnOk result (Answers (data_of setup.now) asked self.old self.new) }
-        ensures sound { OnOk result (IsSound (data_of setup.now) (state_of self.new)) }
+        ensures sound { OnOk result (IsSoundVersion (data_of setup.now) (arc_value self.new.version)) }
     {
         match &line.work {
             Work::Command(command) => self.answer_command(alloc, setup, line, command),
@@ -261,13 +261,13 @@ impl Part {
         records: &[Octets],
     ) -> Result<(), NoMemory>
         requires sincere { ⟦<Catalogue as Sincere>⟧.sincere setup.now.catalogue }
-        requires sound { IsSound (data_of setup.now) (state_of self.old) }
+        requires sound { IsSoundVersion (data_of setup.now) (arc_value self.old.version) }
         requires valid { All (λ line. IsValidWork line.work) lines.now }
         requires room { let asked = asked_of_lane lane (asked_in lines.now records.now) in
             (state_of self.old).place + commands_asked asked ≤ MAX_PLACE }
         ensures answers { let asked = asked_of_lane lane (asked_in lines.now records.now) in
             OnOk result (Answers (data_of setup.now) asked self.old self.new) }
-        ensures sound { OnOk result (IsSound (data_of setup.now) (state_of self.new)) }
+        ensures sound { OnOk result (IsSoundVersion (data_of setup.now) (arc_value self.new.version)) }
     {
         let mut left = records;
         for line in lines {
@@ -290,13 +290,13 @@ impl Part {
         records: &[Octets],
     ) -> Result<(), NoMemory>
         requires sincere { ⟦<Catalogue as Sincere>⟧.sincere setup.now.catalogue }
-        requires sound { IsSound (data_of setup.now) (state_of self.old) }
+        requires sound { IsSoundVersion (data_of setup.now) (arc_value self.old.version) }
         requires valid { All (λ line. IsValidWork line.work) lines.now }
         requires room { let asked = by_lane lanes (asked_in lines.now records.now) in
             (state_of self.old).place + commands_asked asked ≤ MAX_PLACE }
         ensures answers { let asked = by_lane lanes (asked_in lines.now records.now) in
             OnOk result (Answers (data_of setup.now) asked self.old self.new) }
-        ensures sound { OnOk result (IsSound (data_of setup.now) (state_of self.new)) }
+        ensures sound { OnOk result (IsSoundVersion (data_of setup.now) (arc_value self.new.version)) }
     {
         for lane in 0..lanes {
             self.answer_lane(alloc, setup, lane, lines, records)?;

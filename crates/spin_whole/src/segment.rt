@@ -6,7 +6,7 @@ ghost use Rattle.spin_word.specs.declared.command.TheConstants.{MAX_PLACE};
 ghost use Rattle.spin_endpoint.specs.Named.{NamedEnd};
 ghost use Rattle.spin_endpoint.specs.declared.ends.TheConstants.{MAX_ENDPOINTS};
 ghost use Rattle.spin_table.specs.SetupOf.{data_of};
-ghost use Rattle.spin_table.specs.Soundness.{IsSound};
+ghost use Rattle.spin_table.specs.Soundness.{IsSoundVersion};
 ghost use Rattle.spin_script.specs.Soundness.{IsValidWork, commands_in};
 ghost use Rattle.spin_report.specs.Segments.{wanted_by};
 ghost use Rattle.spin_check.specs.Inner.Standings.{AreFlags};
@@ -88,12 +88,12 @@ impl<'a> Standing<'a> {
         segment: &Segment,
     ) -> Result<(), NoMemory>
         requires sincere { ⟦<Catalogue as Sincere>⟧.sincere setup.now.catalogue }
-        requires sound { IsSound (data_of setup.now) (arc_value self.old.version) }
+        requires sound { IsSoundVersion (data_of setup.now) (arc_value self.old.version) }
         requires rise { AllPairs (λ line later. line.number < later.number) segment.now.lines }
         requires valid { All (λ line. IsValidWork line.work) segment.now.lines }
         requires retired { All (λ number. number < length self.old.flags.items) segment.now.retires }
         requires few { length self.old.flags.items ≤ MAX_ENDPOINTS }
-        requires room { (arc_value self.old.version).place + commands_in segment.now.lines ≤ MAX_PLACE }
+        requires room { (arc_value self.old.version).state.place + commands_in segment.now.lines ≤ MAX_PLACE }
         ensures runs { (names : List (List ℕ)) (ends : List NamedEnd) → AreFlags names ends self.old.flags.items
             → OnOk result (RunsOne (data_of setup.now) lanes names number segment.now ends self.old self.new) }
         ensures good { OnOk result (IsGood (data_of setup.now) segment.now self.old self.new) }

@@ -2,13 +2,10 @@
 //! that puts what is raised into a channel, and two threads of Rust's own raise side by side.
 
 use plain_std::alloc::Global;
-use spin_code::{Act, Steplist, argument_word};
-use spin_objects::{Handler, Natives, Outcome};
-use spin_proto::Deed;
-use spin_script::read_script;
-use spin_seat::{Hub, Seat, Seats};
-use spin_values::{Args, EventType, Kind, NoMemory, Param, Params, Text, Value};
-use spin_word::{Command, Op};
+use spin::{
+    Act, Args, Command, Deed, EventType, Handler, Hub, Kind, Natives, NoMemory, Op, Outcome, Param, Params, Seat, Seats,
+    Steplist, Text, Value, argument_word, read_script,
+};
 use std::sync::mpsc::channel;
 use std::thread;
 

@@ -1,8 +1,8 @@
 use Rattle.std.proofs.Common.{rules, ◌≡◌, ◌∷◌, [], subst, sym, List}
 use Rattle.std.specs.Prelude.{All}
 use Rattle.std.proofs.lemmas.List.Elements.{All-cons, All-nil}
-use Rattle.spin_table.specs.SetupOf.{data_of}
-use Rattle.spin_seat.specs.Seats.{IsSeat, SeatValue}
+use Rattle.spin.specs.SetupOf.{data_of}
+use Rattle.spin.specs.Seats.{IsSeat, SeatValue}
 use Rattle.host_plugins.proofs.close.Goals as goal
 
 pub close-requires-clause-seats : goal.close-requires-clause-seats

@@ -1,6 +1,6 @@
-use Rattle.spin_log.specs.Pens.{IsSamePen}
-use Rattle.spin_table.specs.SetupOf.{data_of}
-use Rattle.spin_seat.specs.Seats.{IsSeatOf}
+use Rattle.spin.specs.Pens.{IsSamePen}
+use Rattle.spin.specs.SetupOf.{data_of}
+use Rattle.spin.specs.Seats.{IsSeatOf}
 use Rattle.host_plugins.proofs.raise.Given as goal
 
 -- it is still that seat of that hub

@@ -1,9 +1,9 @@
 use Rattle.std.proofs.Common.{arith, refl, subst}
 use Rattle.std.specs.Prelude.{All}
 use Rattle.std.proofs.lemmas.List.Elements.{All-head}
-use Rattle.spin_table.specs.SetupOf.{data_of}
-use Rattle.spin_seat.specs.Seats.{IsSeatOf}
-use Rattle.spin_seat.proofs.SeatPairs.{new_are_all, both_taken, both_still}
+use Rattle.spin.specs.SetupOf.{data_of}
+use Rattle.spin.specs.Seats.{IsSeatOf}
+use Rattle.spin.proofs.SeatPairs.{new_are_all, both_taken, both_still}
 use Rattle.host_renewal.proofs.open.Goals as goal
 
 pub returns-clause-sincere : goal.returns-clause-sincere

@@ -1,6 +1,6 @@
 use Rattle.std.proofs.Common.{◌≡◌, [], ◌∷◌}
-use Rattle.spin_table.specs.SetupOf.{data_of}
-use Rattle.spin_seat.specs.RenewedHubs.{AreAllSeats}
+use Rattle.spin.specs.SetupOf.{data_of}
+use Rattle.spin.specs.RenewedHubs.{AreAllSeats}
 use Rattle.host_renewal.proofs.play.Given as goal
 
 -- both seats are all of the hub, whose setup stays

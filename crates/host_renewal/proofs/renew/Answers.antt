@@ -1,7 +1,7 @@
 use Rattle.std.proofs.Common.{rules, ◌≡◌, ◌∷◌, [], List, sym, subst}
-use Rattle.spin_table.specs.SetupOf.{data_of}
-use Rattle.spin_seat.specs.Seats.{SeatValue}
-use Rattle.spin_seat.specs.RenewedHubs.{AreAllSeats}
+use Rattle.spin.specs.SetupOf.{data_of}
+use Rattle.spin.specs.Seats.{SeatValue}
+use Rattle.spin.specs.RenewedHubs.{AreAllSeats}
 use Rattle.host_renewal.proofs.renew.Goals as goal
 
 pub renew-requires-clause-all : goal.renew-requires-clause-all

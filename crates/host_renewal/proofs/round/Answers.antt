@@ -1,9 +1,9 @@
 use Rattle.std.proofs.Common.{arith, ◌≡◌, ℕ, subst}
 use Rattle.std.specs.Prelude.{IfOk}
-use Rattle.spin_log.specs.Pens.{IsSamePen}
-use Rattle.spin_table.specs.SetupOf.{data_of}
-use Rattle.spin_seat.specs.Seats.{SeatValue, IsSeat}
-use Rattle.spin_seat.proofs.SeatPairs.{both_still}
+use Rattle.spin.specs.Pens.{IsSamePen}
+use Rattle.spin.specs.SetupOf.{data_of}
+use Rattle.spin.specs.Seats.{SeatValue, IsSeat}
+use Rattle.spin.proofs.SeatPairs.{both_still}
 use Rattle.host_renewal.proofs.round.Goals as goal
 
 pub take_turns-bound-requires-clause-logs : goal.take_turns-bound-requires-clause-logs
@@ -21,7 +21,7 @@ take_turns-bound-requires-clause-lane g c κs within = c.requires.all.order.0
 pub renew-requires-clause-all : goal.renew-requires-clause-all
 renew-requires-clause-all g c =
     let d = data_of c.args.course.hub.setup in
-    let P = λ (before after : SeatValue). IsSamePen before.pen after.pen × (after.first ≡ before.first) × IsSeat d after in
+    let P = λ (before after : SeatValue). IsSamePen before.pen after.pen × (after.base ≡ before.base) × IsSeat d after in
     let a = c.args.course.a in
     let b = c.args.course.b in
     let bound = subst (λ r. IfOk r (λ (after : SeatValue). P a after)) c.in_ok-a.ensures.a c.take_turns-bound.ensures.a in

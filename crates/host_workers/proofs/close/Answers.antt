@@ -1,5 +1,5 @@
 use Rattle.std.proofs.Common.{◌≡◌, ◌∙◌, ℕ, zero, suc, List, [], ◌∷◌, ◌++◌, refl, ap, sym, subst, arith}
-use Rattle.spin_later.specs.Parties.{PartyValue, AreAll}
+use Rattle.spin.specs.Parties.{PartyValue, AreAll}
 use Rattle.host_workers.proofs.close.Goals as goal
 
 both : (n : ℕ) (p q : PartyValue) → n ≡ 2 → p.number ≡ 0 → q.number ≡ 1 → AreAll n (p ∷ q ∷ [])

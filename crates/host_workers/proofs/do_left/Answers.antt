@@ -1,7 +1,7 @@
 use Rattle.std.proofs.Common.{sym, subst}
 use Rattle.std.specs.Prelude.{All}
-use Rattle.spin_table.specs.SetupOf.{data_of}
-use Rattle.spin_later.specs.Agreements.{CanDoTask}
+use Rattle.spin.specs.SetupOf.{data_of}
+use Rattle.spin.specs.Agreements.{CanDoTask}
 use Rattle.host_workers.proofs.do_left.Goals as goal
 
 pub do_task-requires-clause-can : goal.do_task-requires-clause-can

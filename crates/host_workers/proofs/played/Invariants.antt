@@ -1,5 +1,5 @@
-use Rattle.spin_table.specs.SetupOf.{data_of}
-use Rattle.spin_later.specs.Agreements.{CanDoTask}
+use Rattle.spin.specs.SetupOf.{data_of}
+use Rattle.spin.specs.Agreements.{CanDoTask}
 use Rattle.host_workers.proofs.played.Given as goal
 
 -- the parties agree on what can be done at the host's setup

@@ -1,4 +1,4 @@
-use Rattle.spin_later.specs.Parties.{IsSameParty}
+use Rattle.spin.specs.Parties.{IsSameParty}
 use Rattle.host_workers.proofs.work.Given as goal
 
 -- it is still that party

@@ -1,7 +1,7 @@
 -- The reply to the job at an index of those that a reply leaves, and why there is none.
 use Rattle.std.specs.Prelude.{◌≡◌, ℕ, Option, None, Some, slice_get}
 use Rattle.spin_table.specs.Setups.{SetupData}
-use Rattle.spin_table.specs.States.{State}
+use Rattle.spin_table.specs.States.{VersionValue}
 use Rattle.spin_proto.specs.declared.deed.JobCall.{JobCall}
 use Rattle.spin_proto.specs.declared.reply.Reply.{Reply}
 use Rattle.spin_proto.specs.Replies.{IsJobReply, calls_left}
@@ -15,14 +15,14 @@ pub record IsCallAt (left : Option Left) (index : ℕ) (call : JobCall) : Type 0
   pub kept : left ≡ Some (replied to)
   pub there : slice_get (calls_left to.reply) index ≡ Some call
 
--- that call comes to this reply, on the state of this place that the raise pinned
+-- that call comes to this reply, on the version of this place that the raise pinned
 pub record IsJobAt (d : SetupData) (left : Option Left) (index place : ℕ) (reply : Reply) : Type 0 where
   pub call : JobCall
   pub at : IsCallAt left index call
-  pub state : State
-  pub pinned : at.to.pinned ≡ Some state
-  pub place_is : place ≡ state.place
-  pub is : IsJobReply d state call reply
+  pub version : VersionValue
+  pub pinned : at.to.pinned ≡ Some version
+  pub place_is : place ≡ version.state.place
+  pub is : IsJobReply d version.state call reply
 
 -- why there is none: no reply is kept; it leaves no call at that index; or it does, and there was no memory
 abbrev pub IsNoJobAt : Option Left → ℕ → Outcome → Type 0

@@ -5,7 +5,7 @@ use Rattle.spin_word.specs.declared.command.Command.{Command}
 use Rattle.spin_word.specs.declared.work.Work.{Work}
 use Rattle.spin_table.specs.Setups.{SetupData}
 use Rattle.spin_table.specs.States.{State}
-use Rattle.spin_table.specs.Soundness.{IsSound}
+use Rattle.spin_table.specs.Soundness.{IsSoundVersion}
 use Rattle.spin_table.specs.Steps.{IsStep, MayConflict}
 use Rattle.spin_table.specs.declared.refusal.Refusal.{Refusal}
 use Rattle.spin_table.specs.declared.refusal.Refusal.TheVariants as refusal
@@ -42,8 +42,8 @@ abbrev pub IsJudged : SetupData → State → Command → List ℕ → Option Ju
 IsJudged d state c report None =
     (v : Verdicted) (next : State) → IsStep d state c v next → TellsVerdict report v → ⊥
 IsJudged d state c report (Some judged) =
-    IsStep d state c judged.verdict (arc_value judged.version)
-    × IsSound d (arc_value judged.version)
+    IsStep d state c judged.verdict (arc_value judged.version).state
+    × IsSoundVersion d (arc_value judged.version)
     × ((v : Verdicted) (next : State) → IsStep d state c v next → TellsVerdict report v → v ≡ judged.verdict)
 
 -- Of the answers that may be given to this, the report tells this one alone, or none.
@@ -52,12 +52,12 @@ IsDone d state asked report None =
     (e : Entry) (next : State) → IsNextEntry d state e next → asked ≡ asked_by e.what
     → Begins report e → ⊥
 IsDone d state asked report (Some done) =
-    Answers d state done.what (arc_value done.version)
+    Answers d state done.what (arc_value done.version).state
     × (asked ≡ asked_by done.what)
-    × IsSound d (arc_value done.version)
-    × All (BelongsTo (arc_value done.version)) (answer_calls done.what)
+    × IsSoundVersion d (arc_value done.version)
+    × All (BelongsTo (arc_value done.version).state) (answer_calls done.what)
     × ((e : Entry) (next : State) → IsNextEntry d state e next → asked ≡ asked_by e.what
-    → Begins report e → (e.what ≡ done.what) × (next ≡ arc_value done.version))
+    → Begins report e → (e.what ≡ done.what) × (next ≡ (arc_value done.version).state))
 
 -- Of the entries that may answer this, the report begins with the line of this one alone, or of none.
 abbrev pub IsAnswered : SetupData → State → Ask → List ℕ → Option Answered → Type 0
@@ -65,9 +65,9 @@ IsAnswered d state ask report None =
     (e : Entry) (next : State) → IsNextEntry d state e next → numbered ask ≡ asked_of e
     → Begins report e → ⊥
 IsAnswered d state ask report (Some answered) =
-    IsNextEntry d state answered.entry (arc_value answered.version)
+    IsNextEntry d state answered.entry (arc_value answered.version).state
     × (numbered ask ≡ asked_of answered.entry)
-    × IsSound d (arc_value answered.version)
-    × All (BelongsTo (arc_value answered.version)) (answer_calls answered.entry.what)
+    × IsSoundVersion d (arc_value answered.version)
+    × All (BelongsTo (arc_value answered.version).state) (answer_calls answered.entry.what)
     × ((e : Entry) (next : State) → IsNextEntry d state e next → numbered ask ≡ asked_of e
-    → Begins report e → (e ≡ answered.entry) × (next ≡ arc_value answered.version))
+    → Begins report e → (e ≡ answered.entry) × (next ≡ (arc_value answered.version).state))

@@ -5,9 +5,10 @@ use denote.Ref.{Bor}
 use Rattle.std.specs.Arc.{arc_value}
 use Rattle.std.specs.List.{flat_map}
 use Rattle.std.specs.Ordering.{is_lt}
+use Rattle.spin_code.specs.declared.test.Test.{Test}
 use Rattle.spin_table.specs.Setups.{SetupData}
-use Rattle.spin_table.specs.States.{State}
-use Rattle.spin_table.specs.Soundness.{IsSound}
+use Rattle.spin_table.specs.States.{State, VersionValue}
+use Rattle.spin_table.specs.Soundness.{IsSoundVersion}
 use Rattle.spin_text.specs.Words.{ended, text_of}
 use Rattle.spin_proto.specs.Replies.{BelongsTo}
 use Rattle.spin_report.specs.declared.entry.Entry.{Entry}
@@ -22,16 +23,22 @@ use Rattle.spin_check.specs.declared.answer.Answered.{Answered}
 use Rattle.spin_check.specs.Inner.Asks.{numbered, queue_of, left_of, commands_left}
 use Rattle.spin_check.specs.Inner.Standings.{numbers_of}
 
--- Where a replay stands: the state, what the lanes are still to do, where the last entry stood in the order, what is
--- left of the report, the lines that are owed behind the entries, and the endpoints that entries and jobs sent to.
+-- Where a replay stands: the state and the tests of its version, what the lanes are still to do, where the last entry
+-- stood in the order, what is left of the report, the lines that are owed behind the entries, and the endpoints that
+-- entries and jobs sent to.
 pub record At : Type 0 where
   pub state : State
+  pub tests : List Test
   pub queues : List (List Ask)
   pub last : Option (ℕ × Bool × ℕ × ℕ × ℕ)
   pub rest : List ℕ
   pub owed : List ℕ
   pub sends : List ℕ
   pub job_sends : List ℕ
+
+-- its version
+abbrev pub version_at : At → VersionValue
+version_at at = record { state = at.state; tests = at.tests }
 
 -- The entry doesn't stand before that one.
 abbrev pub Follows : Option (ℕ × Bool × ℕ × ℕ × ℕ) → Entry → Type 0
@@ -129,12 +136,13 @@ GoesOn d at None =
     → AreLonger (length more) at.owed own
 GoesOn d at (Some after) =
     (entry : Entry) × (own : List JobSeen) × Replays d at entry own after × IsOnlyNext d at entry after
-    × IsSound d after.state
+    × IsSoundVersion d (version_at after)
 
 -- a replay that stands at this version, with this left to do and to read, and these numbers and lines collected
-abbrev pub at_of : State → List (List Ask) → Option (ℕ × Bool × ℕ × ℕ × ℕ) → List ℕ → List ℕ → List ℕ → List ℕ → At
-at_of state queues last rest owed sends job_sends = record {
-  state = state;
+abbrev pub at_of : VersionValue → List (List Ask) → Option (ℕ × Bool × ℕ × ℕ × ℕ) → List ℕ → List ℕ → List ℕ → List ℕ → At
+at_of version queues last rest owed sends job_sends = record {
+  state = version.state;
+  tests = version.tests;
   queues = queues;
   last = last;
   rest = rest;
@@ -147,12 +155,12 @@ at_of state queues last rest owed sends job_sends = record {
 abbrev pub IsFound : SetupData → At → List (List Ask) → Option (Answered × Bor (List ℕ)) → Type 0
 IsFound d at queues None = HasNoNext d at
 IsFound d at queues (Some found) =
-    IsNext d at found.0.entry (arc_value found.0.version) found.1.now
+    IsNext d at found.0.entry (arc_value found.0.version).state found.1.now
     × (queues ≡ queues_after found.0.entry at.queues)
-    × IsSound d (arc_value found.0.version)
-    × All (BelongsTo (arc_value found.0.version)) (answer_calls found.0.entry.what)
+    × IsSoundVersion d (arc_value found.0.version)
+    × All (BelongsTo (arc_value found.0.version).state) (answer_calls found.0.entry.what)
     × ((e : Entry) (next : State) (more : List ℕ) → IsNext d at e next more
-    → (e ≡ found.0.entry) × (next ≡ arc_value found.0.version) × (more ≡ found.1.now))
+    → (e ≡ found.0.entry) × (next ≡ (arc_value found.0.version).state) × (more ≡ found.1.now))
 
 -- No entry was replayed yet.
 pub record IsFresh (at : At) : Type 0 where
@@ -169,4 +177,4 @@ EndsAt d start None =
     → (jobs : List JobSeen) → AreJobs d start.state entries jobs → AreLonger (length more) [] jobs
 EndsAt d start (Some at) =
     (entries : List Entry) × (jobs : List JobSeen) × HasReplayed d start entries jobs at
-    × IsSound d at.state × (at.state.place ≤ start.state.place + commands_left start.queues)
+    × IsSoundVersion d (version_at at) × (at.state.place ≤ start.state.place + commands_left start.queues)

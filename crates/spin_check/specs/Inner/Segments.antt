@@ -1,8 +1,9 @@
 -- One segment of a report.
 use Rattle.std.specs.Prelude.{◌≡◌, ◌≤◌, ◌+◌, ℕ, List, ◌++◌, map, Bool, true, false, Option, None, Some, length, ⊤}
+use Rattle.spin_code.specs.declared.test.Test.{Test}
 use Rattle.spin_table.specs.Setups.{SetupData}
-use Rattle.spin_table.specs.States.{State}
-use Rattle.spin_table.specs.Soundness.{IsSound}
+use Rattle.spin_table.specs.States.{State, VersionValue}
+use Rattle.spin_table.specs.Soundness.{IsSoundVersion}
 use Rattle.spin_endpoint.specs.Named.{NamedEnd}
 use Rattle.spin_script.specs.declared.script.Segment.{Segment}
 use Rattle.spin_text.specs.Words.{ended, text_of}
@@ -15,13 +16,18 @@ use Rattle.spin_check.specs.Inner.Standings.{AreFlags}
 abbrev pub head_text : ℕ → ℕ → List Retirement → List ℕ
 head_text number start retired = text_of (map retire_line retired) ++ ended (segment_line number start)
 
--- Where a check stands between two segments: the state, the records of the capture that are left, which endpoints
--- stand, and what is left of the report.
+-- Where a check stands between two segments: the state and the tests of its version, the records of the capture that
+-- are left, which endpoints stand, and what is left of the report.
 pub record Mark : Type 0 where
   pub state : State
+  pub tests : List Test
   pub left : List (List ℕ)
   pub flags : List Bool
   pub rest : List ℕ
+
+-- its version
+abbrev pub version_of : Mark → VersionValue
+version_of mark = record { state = mark.state; tests = mark.tests }
 
 abbrev pub standing : Mark → List NamedEnd → RunPoint
 standing mark ends = record { state = mark.state; left = mark.left; ends = ends }
@@ -53,12 +59,12 @@ Goes d lanes names number segment mark ends None =
 Goes d lanes names number segment mark ends (Some next) =
     Passes d lanes names number segment mark ends next
 
--- What the next segment needs: a sound state, no more commands than this one has, the same endpoints, and no more
+-- What the next segment needs: a sound version, no more commands than this one has, the same endpoints, and no more
 -- records left than before.
 abbrev pub IsGoodMark : SetupData → Segment → Mark → Option Mark → Type 0
 IsGoodMark d segment mark None = ⊤
 IsGoodMark d segment mark (Some next) =
-    IsSound d next.state × (next.state.place ≤ mark.state.place + commands_in segment.lines)
+    IsSoundVersion d (version_of next) × (next.state.place ≤ mark.state.place + commands_in segment.lines)
     × (length next.flags ≡ length mark.flags)
     × (length next.left ≤ length mark.left)
 

@@ -10,11 +10,11 @@ use Rattle.spin_grammar.specs.declared.cause.Cause.{Cause}
 use Rattle.spin_grammar.specs.declared.cause.Cause.TheVariants as cause
 use Rattle.spin_grammar.specs.declared.fault.Fault.{Fault}
 use Rattle.spin_grammar.specs.declared.fault.Fault.TheVariants as fault
-use Rattle.spin_grammar.specs.declared.heads.StepWord.{StepWord}
+use Rattle.spin_grammar.specs.declared.keywords.StepWord.{StepWord}
 use Rattle.spin_grammar.specs.Spelling.{number, within}
 use Rattle.spin_grammar.specs.Grammar as grammar
 use Rattle.spin_grammar.specs.Grammar.{Atom, Fixed, Want, reads, then_read}
-use Rattle.spin_grammar.specs.Inner.Heads.{Next, step_next}
+use Rattle.spin_grammar.specs.Inner.Keywords.{Next, step_next}
 use Rattle.spin_grammar.specs.Lines.{IsKept}
 use Rattle.spin_grammar.specs.Forms.{test_form, part_form, step_form}
 

@@ -1,7 +1,7 @@
 use Rattle.std.proofs.Common.{inl, refl}
 use Rattle.spin_natives.specs.Natives.{natives}
-use Rattle.spin_stages.specs.declared.end.End.TheVariants.{NoMemory}
-use Rattle.spin_top.proofs.StatusCauses.{with_natives}
+use Rattle.spin_inputs.specs.declared.end.End.TheVariants.{NoMemory}
+use Rattle.spin_cli.proofs.StatusCauses.{with_natives}
 use Rattle.spin_main.proofs.run_with_natives.Goals as goal
 
 pub returns-in-Err : goal.returns-in-Err

@@ -5,7 +5,7 @@ use Rattle.spin_pcap.specs.declared.fault.BadRecord.TheVariants as bad
 use Rattle.spin_pcap.specs.declared.fault.PcapFault.{PcapFault}
 use Rattle.spin_pcap.specs.declared.next.Next.{Next}
 use Rattle.spin_pcap.specs.declared.order.Order.{Order}
-use Rattle.spin_pcap.specs.declared.whole.Captured.{Captured}
+use Rattle.spin_pcap.specs.declared.captured.Captured.{Captured}
 use Rattle.spin_pcap.specs.Captures.{IsBody}
 use Rattle.spin_pcap.specs.Passing.{fault_number}
 use Rattle.spin_pcap.specs.Whole.{cut_of}

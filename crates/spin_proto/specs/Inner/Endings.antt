@@ -1,8 +1,8 @@
 -- What a buffer holds.
 use Rattle.std.specs.Prelude.{List}
 use Rattle.spin_proto.specs.declared.deed.JobCall.{JobCall}
-use Rattle.spin_proto.specs.declared.lent.Ending.{Ending}
-use Rattle.spin_proto.specs.declared.lent.Ending.TheVariants as ending
+use Rattle.spin_proto.specs.declared.reply_buffer.Ending.{Ending}
+use Rattle.spin_proto.specs.declared.reply_buffer.Ending.TheVariants as ending
 use Rattle.spin_proto.specs.declared.reply.Reply.{Reply}
 use Rattle.spin_proto.specs.declared.reply.Reply.TheVariants as reply
 use Rattle.spin_proto.specs.declared.reply.Step.{Step}

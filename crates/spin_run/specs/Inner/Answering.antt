@@ -4,7 +4,7 @@ use Rattle.std.specs.List.{enumerate_from}
 use Rattle.std.specs.Arc.{arc_value}
 use Rattle.spin_log.specs.Pens.{PenValue, IsSamePen}
 use Rattle.spin_table.specs.Setups.{SetupData}
-use Rattle.spin_table.specs.States.{State}
+use Rattle.spin_table.specs.States.{State, VersionValue}
 use Rattle.spin_proto.specs.declared.deed.JobCall.{JobCall}
 use Rattle.spin_proto.specs.declared.deed.Job.{Job}
 use Rattle.spin_proto.specs.Replies.{BelongsTo}
@@ -35,10 +35,10 @@ pub record Answers (d : SetupData) (asked : List Numbered) (old new : Lane) : Ty
   pub added : List Entry
   pub asked_are : map asked_of added ≡ asked
   pub count : length new.trail.marks ≡ length old.trail.marks + length added
-  pub first : new.seat.first ≡ old.seat.first
+  pub first : new.seat.base ≡ old.seat.base
   pub kept : new.entries ≡ kept_with old.entries added
   pub goes_on : (before : PenValue) (given : List Entry)
-      → HasAnswered d old.seat.first before given old → HasAnswered d old.seat.first before (given ++ added) new
+      → HasAnswered d old.seat.base before given old → HasAnswered d old.seat.base before (given ++ added) new
 
 -- The lane answers the first of these, and ends before a command, since no place is left in the log.
 pub record EndsFull (d : SetupData) (asked : List Numbered) (old new : Lane) : Type 0 where
@@ -46,7 +46,7 @@ pub record EndsFull (d : SetupData) (asked : List Numbered) (old new : Lane) : T
   pub left : List Numbered
   pub parts : asked ≡ first ++ left
   pub answers : Answers d first old new
-  pub full : IsFaultAt old.seat.first.place (length new.seat.pen.front) fault.Full
+  pub full : IsFaultAt old.seat.base.place (length new.seat.pen.front) fault.Full
   pub next : BeginsWithCommand left
 
 -- The lane answers the first of these, and then there is no memory for the next one.
@@ -57,7 +57,7 @@ pub record EndsShort (d : SetupData) (asked : List Numbered) (old new : Lane) : 
   pub next : Numbered
   pub left : List Numbered
   pub parts : asked ≡ first ++ next ∷ left
-  pub lacks : LacksFor d old.seat.first middle.seat.pen next.asked new.seat
+  pub lacks : LacksFor d old.seat.base middle.seat.pen next.asked new.seat
 
 -- what becomes of a lane that is asked these
 abbrev pub Comes : SetupData → List Numbered → Lane → Result (Unit {0}) SeatFault → Lane → Type 0
@@ -67,18 +67,18 @@ Comes d asked old (Err fault.NoMemory) new = EndsShort d asked old new
 
 -- the lane's seat is still that of its lane
 abbrev pub Stays : SetupData → Lane → Lane → Type 0
-Stays d old new = IsSeatFrom d old.seat.first new.seat × IsSamePen old.seat.pen new.seat.pen
+Stays d old new = IsSeatFrom d old.seat.base new.seat × IsSamePen old.seat.pen new.seat.pen
 
 -- ---- jobs
 
 -- the job is left by that entry, on that version, to which its call belongs
-pub record IsLeftBy (entry : Entry) (version : State) (job : Job) : Type 0 where
+pub record IsLeftBy (entry : Entry) (version : VersionValue) (job : Job) : Type 0 where
   pub place : job.place ≡ entry.place
   pub version_is : arc_value job.version ≡ version
-  pub call : BelongsTo version job.call
+  pub call : BelongsTo version.state job.call
 
 -- jobs with these calls are added, with indexes from 0
-pub record AddsJobs (entry : Entry) (version : State) (calls : List JobCall) (old new : List Job) : Type 0 where
+pub record AddsJobs (entry : Entry) (version : VersionValue) (calls : List JobCall) (old new : List Job) : Type 0 where
   pub added : List Job
   pub jobs_are : new ≡ old ++ added
   pub asked : map job_asked added ≡ jobs_from entry 0 calls

@@ -26,12 +26,12 @@ use Rattle.spin_run.specs.Inner.Reading.{given_by, IsGoing, IsCaptureRefused, Ha
 -- ---- moments between segments
 
 -- the state of the lanes, the capture, and what is seen outside
-pub record Moment : Type 0 where
+pub record RunState : Type 0 where
   pub state : State
   pub capture : Option ReaderState
   pub outside : RunSeen
 
-abbrev pub moment : State → Option ReaderState → SourceSeen → SinkSeen → List NamedEnd → Moment
+abbrev pub moment : State → Option ReaderState → SourceSeen → SinkSeen → List NamedEnd → RunState
 moment state capture source sink ends = record {
   state = state;
   capture = capture;
@@ -39,7 +39,7 @@ moment state capture source sink ends = record {
 }
 
 -- as a standing, where these records are left
-abbrev pub standing : Moment → List (List ℕ) → RunPoint
+abbrev pub standing : RunState → List (List ℕ) → RunPoint
 standing now left = record { state = now.state; left = left; ends = now.outside.ends }
 
 -- ---- one segment
@@ -57,12 +57,12 @@ abbrev pub setting_of : ScriptData → Setting
 setting_of script = setting script.setup script.lanes script.endpoints
 
 -- The segment was run from the moment on: this is its part of the history, and so it leaves the standing.
-abbrev pub RunsFrom : Setting → Segment → Moment → List (List ℕ) → SegmentSeen → RunPoint → Type 0
+abbrev pub RunsFrom : Setting → Segment → RunState → List (List ℕ) → SegmentSeen → RunPoint → Type 0
 RunsFrom s segment before left part next =
     IsSegmentRun s.setup s.lanes s.endpoints segment (standing before left) part next
 
 -- It was run, and its text was appended; of the records that were left these are left then.
-pub record HasRunOne (s : Setting) (number : ℕ) (segment : Segment) (before after : Moment)
+pub record HasRunOne (s : Setting) (number : ℕ) (segment : Segment) (before after : RunState)
     (left next : List (List ℕ)) : Type 0 where
   pub part : SegmentSeen
   pub run : RunsFrom s segment before left part (standing after next)
@@ -72,11 +72,11 @@ pub record HasRunOne (s : Setting) (number : ℕ) (segment : Segment) (before af
       → IsGoing before.capture
       × (given_by after.capture ≡ given_by before.capture + wanted_by segment.lines)
 
-abbrev pub retired_for : Setting → Segment → Moment → List NamedEnd
+abbrev pub retired_for : Setting → Segment → RunState → List NamedEnd
 retired_for s segment before = all_retired s.endpoints segment.retires before.outside.ends
 
 -- how it stopped
-abbrev pub StopsOne : Setting → ℕ → Segment → Moment → Moment → List (List ℕ)
+abbrev pub StopsOne : Setting → ℕ → Segment → RunState → RunState → List (List ℕ)
     → Option (Result Next PcapFault) → RunEnd → Type 0
 StopsOne s number segment before after left rest (end.Capture record_number reason) =
     IsCaptureRefused before.capture left rest record_number reason
@@ -105,13 +105,13 @@ StopsOne s number segment before after left rest (end.Endpoint endpoint) =
 StopsOne s number segment before after left rest end.Whole = ⊥
 
 -- It was run and told, and its entries were counted, where they are.
-pub record HasTold (s : Setting) (number : ℕ) (segment : Segment) (before after : Moment)
+pub record HasTold (s : Setting) (number : ℕ) (segment : Segment) (before after : RunState)
     (tally tally' : Option Counts) (left next : List (List ℕ)) : Type 0 where
   pub one : HasRunOne s number segment before after left next
   pub counted : TalliesOn tally tally' (counts_in one.part.entries)
 
 -- of these records, and of their rest, where the others are left then
-abbrev pub OneBy : Setting → ℕ → Segment → Moment → Moment → Option Counts → Option Counts
+abbrev pub OneBy : Setting → ℕ → Segment → RunState → RunState → Option Counts → Option Counts
     → Result (Unit {0}) RunEnd → List (List ℕ) → List (List ℕ) → Option (Result Next PcapFault)
     → Type 0
 OneBy s number segment before after tally tally' (Ok done) left next rest =
@@ -129,7 +129,7 @@ ResultCounts names before after (Err stop) = CountsBy names before after stop
 -- So many segments were run, from the start on, where the capture had this reader and these records, to this moment,
 -- where the others are left.
 pub record Stands (script : ScriptData) (reader : Option ReaderState) (frames left : List (List ℕ))
-    (start : RunSeen) (count : ℕ) (now : Moment) : Type 0 where
+    (start : RunSeen) (count : ℕ) (now : RunState) : Type 0 where
   pub parts : List SegmentSeen
   pub run : HasRun script frames start.ends count parts (standing now left)
   pub text : Writes start now.outside (front_text parts)
@@ -141,7 +141,7 @@ pub record Stands (script : ScriptData) (reader : Option ReaderState) (frames le
 
 -- So many were run and told, and their entries were counted, where they are.
 pub record HasToldAll (script : ScriptData) (reader : Option ReaderState) (frames left : List (List ℕ))
-    (start : RunSeen) (count : ℕ) (now : Moment) (tally tally' : Option Counts) : Type 0 where
+    (start : RunSeen) (count : ℕ) (now : RunState) (tally tally' : Option Counts) : Type 0 where
   pub stands : Stands script reader frames left start count now
   pub counted : TalliesOn tally tally' (counts_in (flat_map (λ part. part.entries) stands.parts))
 
@@ -178,7 +178,7 @@ script_in s segments version = record {
 
 -- From a moment at which none was run, all were run, and the log has that length; or it stopped so: whatever the
 -- script's version is, and wherever the run began that came to the moment.
-abbrev pub RunsAll : Setting → List Segment → Moment → Option Counts → Option ReaderState → RunSeen
+abbrev pub RunsAll : Setting → List Segment → RunState → Option Counts → Option ReaderState → RunSeen
     → Option Counts → Result ℕ RunEnd → Type 0
 RunsAll s segments now counted capture after tally' result =
     Reads now.capture now.outside.source capture after.source result (λ frames left rest.

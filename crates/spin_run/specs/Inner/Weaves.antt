@@ -5,7 +5,7 @@ use Rattle.std.specs.declared.cmp.Ordering.{Ordering}
 use Rattle.std.specs.List.Sorted.{IsSortedByKey}
 use Rattle.spin_proto.specs.declared.deed.Job.{Job}
 use Rattle.spin_report.specs.Segments.{moment_cmp}
-use Rattle.spin_run.specs.declared.trail.Mark.{Mark}
+use Rattle.spin_run.specs.declared.trail.EntryIndex.{EntryIndex}
 use Rattle.spin_run.specs.declared.trail.Trail.{Trail}
 use Rattle.spin_run.specs.declared.lane.Lane.{Lane}
 use Rattle.spin_run.specs.Trails.{mark_moment, IsNew}
@@ -27,7 +27,7 @@ pub record IsInterleaving {X : Type 0} (lane : X → ℕ) (lists : List (List X)
 -- ---- the order of marks and of jobs
 
 -- the marks stand in the order of their moments
-abbrev pub AreMarksInOrder : List Mark → Type 0
+abbrev pub AreMarksInOrder : List EntryIndex → Type 0
 AreMarksInOrder marks = IsSortedByKey mark_moment moment_cmp marks
 
 -- where a job stands among those of its segment: where its entry does
@@ -48,7 +48,7 @@ AreJobsInOrder jobs = IsSortedByKey job_moment job_moment_cmp jobs
 abbrev pub unmarked : Lane → Trail
 unmarked lane = record { text = lane.trail.text; sends = lane.trail.sends; marks = [] }
 
-abbrev pub marks_by_lane : List Lane → List (List Mark)
+abbrev pub marks_by_lane : List Lane → List (List EntryIndex)
 marks_by_lane lanes = map (λ lane. lane.trail.marks) lanes
 
 abbrev pub jobs_by_lane : List Lane → List (List Job)

@@ -4,7 +4,7 @@ use Rattle.spin_grammar.specs.declared.cause.Cause.{Cause}
 use Rattle.spin_grammar.specs.declared.fault.Fault.{Fault}
 use Rattle.spin_grammar.specs.declared.fault.Fault.TheVariants as fault
 use Rattle.spin_grammar.specs.declared.kind.Kind.{Kind}
-use Rattle.spin_grammar.specs.declared.line.Said.{Said}
+use Rattle.spin_grammar.specs.declared.line.Statement.{Statement}
 use Rattle.spin_script.specs.declared.head.Found.{Found}
 use Rattle.spin_script.specs.declared.head.Found.TheVariants as found
 use Rattle.spin_grammar.specs.Lines.{LineMeaning, Stands}
@@ -35,7 +35,7 @@ Adds n s number l (Ok a) t = (first_of (checks n s l) ≡ None) × (t ≡ after 
 Adds n s number l (Err f) t = (c : Cause) → f ≡ fault.Bad c → first_of (checks n s l) ≡ Some c
 
 -- whatever the line is that was read so, it was added
-abbrev pub AddsSaid : {A : Type 0} → NativeData → ScriptState → ℕ → Said → Result A Fault → ScriptState → Type 0
+abbrev pub AddsSaid : {A : Type 0} → NativeData → ScriptState → ℕ → Statement → Result A Fault → ScriptState → Type 0
 AddsSaid n s number said r t = (l : LineMeaning) → Stands said l → Adds n s number l r t
 
 -- the words of a line were read, and it was added

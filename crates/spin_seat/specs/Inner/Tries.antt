@@ -20,10 +20,10 @@ row_seen Pinned = None
 -- what `command` says of a verdict
 pub record Judges (d : SetupData) (old : SeatValue) (c : Command) (judged : Judged)
     (new : SeatValue) : Type 0 where
-  pub gives : GivesFrom d old.first old.pen
+  pub gives : GivesFrom d old.base old.pen
       (verdict_answer old.pen.lane c judged.place judged.verdict) new.pen
   pub room : place_before (verdict_answer old.pen.lane c judged.place judged.verdict) < MAX_PLACE
-  pub whole : new.kept ≡ None
+  pub whole : new.pending ≡ None
 
 -- one try of a command, by a seat that keeps no row: there is a verdict, or the seat has read one
 -- row

@@ -57,7 +57,7 @@ DidJobs d state entry before after =
 
 -- the state that a segment has come to
 abbrev pub state_of : Part → State
-state_of part = arc_value part.version
+state_of part = (arc_value part.version).state
 
 -- The entry is added, at the version that it leads to, and its jobs are done.
 pub record AddsEntry (d : SetupData) (entry : Entry) (before after : Part) : Type 0 where

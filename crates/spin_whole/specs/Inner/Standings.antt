@@ -5,7 +5,7 @@ use Rattle.std.specs.List.{enumerate_from, flat_map}
 use Rattle.spin_endpoint.specs.Named.{NamedEnd}
 use Rattle.spin_endpoint.specs.Sends.{all_retired}
 use Rattle.spin_table.specs.Setups.{SetupData}
-use Rattle.spin_table.specs.Soundness.{IsSound}
+use Rattle.spin_table.specs.Soundness.{IsSoundVersion}
 use Rattle.spin_text.specs.Words.{text_of}
 use Rattle.spin_script.specs.declared.script.Segment.{Segment}
 use Rattle.spin_script.specs.Soundness.{commands_in}
@@ -20,7 +20,7 @@ use Rattle.spin_whole.specs.declared.segment.Standing.{Standing}
 -- where a run stands, with these endpoints
 abbrev pub point : Standing → List NamedEnd → RunPoint
 point standing ends =
-    record { state = arc_value standing.version; left = standing.left.now; ends = ends }
+    record { state = (arc_value standing.version).state; left = standing.left.now; ends = ends }
 
 -- The segment of that number was run from where the run stood with these endpoints: this is its part of the history.
 -- Its text is added to the report, and what is received of its sends to those of the run.
@@ -34,11 +34,11 @@ pub record RunsOne (d : SetupData) (lanes : ℕ) (names : List (List ℕ)) (numb
       ++ filter (is_received names (all_retired names segment.retires ends)) (segment_sends part)
   pub flags : AreFlags names ends_after after.flags.items
 
--- What the next segment needs: a sound state, no more commands than this one has, as many flags, and no more records
+-- What the next segment needs: a sound version, no more commands than this one has, as many flags, and no more records
 -- left than before.
 pub record IsGood (d : SetupData) (segment : Segment) (before after : Standing) : Type 0 where
-  pub sound : IsSound d (arc_value after.version)
-  pub place : (arc_value after.version).place ≤ (arc_value before.version).place + commands_in segment.lines
+  pub sound : IsSoundVersion d (arc_value after.version)
+  pub place : (arc_value after.version).state.place ≤ (arc_value before.version).state.place + commands_in segment.lines
   pub flags : length after.flags.items ≡ length before.flags.items
   pub left : length after.left.now ≤ length before.left.now
 

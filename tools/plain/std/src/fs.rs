@@ -21,6 +21,16 @@ impl OpenOptions {
         self
     }
 
+    pub fn write(mut self, is_asked: bool) -> Self {
+        self.0.write(is_asked);
+        self
+    }
+
+    pub fn truncate(mut self, is_asked: bool) -> Self {
+        self.0.truncate(is_asked);
+        self
+    }
+
     pub fn append(mut self, is_asked: bool) -> Self {
         self.0.append(is_asked);
         self
@@ -53,7 +63,10 @@ mod tests {
         }
         let mut text = String::new();
         open(&HostRuntime, name).unwrap().read_to_string(&mut text).unwrap();
-        std::fs::remove_file(&path).unwrap();
         assert_eq!(text, "onetwo");
+        let mut file = OpenOptions::new().create(true).write(true).truncate(true).open(&HostRuntime, name).unwrap();
+        file.write_all(b"three").unwrap();
+        assert_eq!(std::fs::read(&path).unwrap(), b"three");
+        std::fs::remove_file(&path).unwrap();
     }
 }

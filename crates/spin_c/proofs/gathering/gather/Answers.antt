@@ -10,7 +10,7 @@ pub returns-clause-taken : goal.returns-clause-taken
 returns-clause-taken g c =
     let l = c.args.lane.now in
     let p = arc_value l.party in
-    let first = l.away.seat.first in
+    let first = l.away.seat.base in
     let new = c.take_all_in.new.slots in
     let old = c.as_mut_slice.ensures.value ∙ c.into_vec-slots.ensures ∙ c.replace.ensures.value in
     let t = rw c.deref.ensures at (c.take_all_in.ensures first (rw c.deref.ensures c.requires.well.0.party)) in
@@ -28,4 +28,4 @@ returns-clause-well g c = takes_well c.args.lane.now c.from_vec.result c.require
 pub returns-clause-places : goal.returns-clause-places
 returns-clause-places g c =
     let l = c.args.lane.now in
-    taken_length (IsAwayAt (arc_value l.party) l.away.seat.first) 0 l.waiting c.from_vec.result (returns-clause-taken g c).waiting
+    taken_length (IsAwayAt (arc_value l.party) l.away.seat.base) 0 l.waiting c.from_vec.result (returns-clause-taken g c).waiting

@@ -19,7 +19,7 @@ returns-in-Ok-new-clause-share_well g c =
 pub returns-in-Ok-new-clause-shares : goal.returns-in-Ok-new-clause-shares
 returns-in-Ok-new-clause-shares g c =
     let l = c.args.lane.now in
-    let is = waits_at (IsAwayAt (arc_value l.party) l.away.seat.first) l.waiting c.from-at.result c.in_ok-away.away c.requires.well.0.others c.in_ok-away.ensures.taken in
+    let is = waits_at (IsAwayAt (arc_value l.party) l.away.seat.base) l.waiting c.from-at.result c.in_ok-away.away c.requires.well.0.others c.in_ok-away.ensures.taken in
     rw c.in-Ok-new.ensures.ok (record {
       waited = rw c.from-at.ensures at c.in_ok-away.ensures.taken;
       left = ap (λ w. record l { waiting = w }) (rw c.from-at.ensures at c.in_ok-away.ensures.left);

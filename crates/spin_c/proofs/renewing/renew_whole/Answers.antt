@@ -9,7 +9,7 @@ renew_apart-laid-requires-clause-sincere g c = rw c.in-Some.ensures.value c.requ
 pub renew_apart-laid-requires-clause-well : goal.renew_apart-laid-requires-clause-well
 renew_apart-laid-requires-clause-well g c =
     let there = all_there c.args.lane c.requires.well c.requires.home in
-    (c.args.lane.away.seat.first, rw c.in-Some.ensures.value c.requires.well.0.party, rw c.take_apart.ensures.seats there.from)
+    (c.args.lane.away.seat.base, rw c.in-Some.ensures.value c.requires.well.0.party, rw c.take_apart.ensures.seats there.from)
 
 pub renew_apart-laid-requires-clause-all : goal.renew_apart-laid-requires-clause-all
 renew_apart-laid-requires-clause-all g c =

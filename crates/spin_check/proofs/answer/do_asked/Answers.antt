@@ -17,9 +17,9 @@ do_command-requires-clause-room g c = c.requires.room (ap (λ (a : Asked). is_co
 
 pub returns-in-Command : goal.returns-in-Command
 returns-in-Command g c =
-    subst (λ (w : Work). IfOk c.do_command.result (IsDone (data_of c.args.setup.now) (arc_value c.args.version.now) w c.args.report.now)) (sym (ap work_of c.in-Command.is)) c.do_command.ensures
+    subst (λ (w : Work). IfOk c.do_command.result (IsDone (data_of c.args.setup.now) (arc_value c.args.version.now).state w c.args.report.now)) (sym (ap work_of c.in-Command.is)) c.do_command.ensures
 
 pub returns-in_ok-done-in-Deed : goal.returns-in_ok-done-in-Deed
 returns-in_ok-done-in-Deed g c =
-    subst (λ (w : Work). IsDone (data_of c.args.setup.now) (arc_value c.args.version.now) w c.args.report.now (Some c.in_ok-done-in-Deed.done))
+    subst (λ (w : Work). IsDone (data_of c.args.setup.now) (arc_value c.args.version.now).state w c.args.report.now (Some c.in_ok-done-in-Deed.done))
     (sym (ap work_of c.in-Deed.is)) (c.in_ok-done-in-Deed.ensures c.args.report.now)

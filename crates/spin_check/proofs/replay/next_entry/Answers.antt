@@ -15,13 +15,13 @@ use Rattle.spin_check.proofs.replay.next_entry.Goals as goal
 pub returns-in_default : goal.returns-in_default
 returns-in_default g c = λ owed sends job_sends.
     let d = data_of c.args.setup.now in
-    let now : At = record { state = arc_value c.args.version.now; queues = c.args.deeds.now; last = c.args.last.now; rest = c.args.report.now; owed = owed; sends = sends; job_sends = job_sends } in
+    let now : At = record { state = (arc_value c.args.version.now).state; tests = (arc_value c.args.version.now).tests; queues = c.args.deeds.now; last = c.args.last.now; rest = c.args.report.now; owed = owed; sends = sends; job_sends = job_sends } in
     no_lane d now c.requires.lanes c.in_default.ensures
 
 pub returns-in_default-take_next : goal.returns-in_default-take_next
 returns-in_default-take_next g c = λ owed sends job_sends.
     let d = data_of c.args.setup.now in
-    let now : At = record { state = arc_value c.args.version.now; queues = c.args.deeds.now; last = c.args.last.now; rest = c.args.report.now; owed = owed; sends = sends; job_sends = job_sends } in
+    let now : At = record { state = (arc_value c.args.version.now).state; tests = (arc_value c.args.version.now).tests; queues = c.args.deeds.now; last = c.args.last.now; rest = c.args.report.now; owed = owed; sends = sends; job_sends = job_sends } in
     let lane = c.in-Some.lane in
     let told : (entry : Entry) → entry.lane < 10 → Begins now.rest entry → ◌≡◌ {A = Option ℕ} (Some lane) (Some entry.lane) = c.in-Some.ensures in
     no_ask d now c.requires.lanes lane told c.in_default-take_next.ensures
@@ -29,7 +29,7 @@ returns-in_default-take_next g c = λ owed sends job_sends.
 pub answer-requires-clause-valid : goal.answer-requires-clause-valid
 answer-requires-clause-valid g c =
     let d = data_of c.args.setup.now in
-    let now : At = record { state = arc_value c.args.version.now; queues = c.args.deeds.now; last = c.args.last.now; rest = c.args.report.now; owed = []; sends = []; job_sends = [] } in
+    let now : At = record { state = (arc_value c.args.version.now).state; tests = (arc_value c.args.version.now).tests; queues = c.args.deeds.now; last = c.args.last.now; rest = c.args.report.now; owed = []; sends = []; job_sends = [] } in
     let lane = c.in-Some.lane in
     let told : (entry : Entry) → entry.lane < 10 → Begins now.rest entry → ◌≡◌ {A = Option ℕ} (Some lane) (Some entry.lane) = c.in-Some.ensures in
     let ask = c.in-Some-take_next.ask in
@@ -39,7 +39,7 @@ answer-requires-clause-valid g c =
 pub answer-requires-clause-room : goal.answer-requires-clause-room
 answer-requires-clause-room g c =
     let d = data_of c.args.setup.now in
-    let now : At = record { state = arc_value c.args.version.now; queues = c.args.deeds.now; last = c.args.last.now; rest = c.args.report.now; owed = []; sends = []; job_sends = [] } in
+    let now : At = record { state = (arc_value c.args.version.now).state; tests = (arc_value c.args.version.now).tests; queues = c.args.deeds.now; last = c.args.last.now; rest = c.args.report.now; owed = []; sends = []; job_sends = [] } in
     let lane = c.in-Some.lane in
     let told : (entry : Entry) → entry.lane < 10 → Begins now.rest entry → ◌≡◌ {A = Option ℕ} (Some lane) (Some entry.lane) = c.in-Some.ensures in
     let ask = c.in-Some-take_next.ask in
@@ -49,7 +49,7 @@ answer-requires-clause-room g c =
 pub returns-in_default-answered : goal.returns-in_default-answered
 returns-in_default-answered g c = λ owed sends job_sends.
     let d = data_of c.args.setup.now in
-    let now : At = record { state = arc_value c.args.version.now; queues = c.args.deeds.now; last = c.args.last.now; rest = c.args.report.now; owed = owed; sends = sends; job_sends = job_sends } in
+    let now : At = record { state = (arc_value c.args.version.now).state; tests = (arc_value c.args.version.now).tests; queues = c.args.deeds.now; last = c.args.last.now; rest = c.args.report.now; owed = owed; sends = sends; job_sends = job_sends } in
     let lane = c.in-Some.lane in
     let told : (entry : Entry) → entry.lane < 10 → Begins now.rest entry → ◌≡◌ {A = Option ℕ} (Some lane) (Some entry.lane) = c.in-Some.ensures in
     let ask = c.in-Some-take_next.ask in
@@ -60,7 +60,7 @@ returns-in_default-answered g c = λ owed sends job_sends.
 pub returns-in_default-2 : goal.returns-in_default-2
 returns-in_default-2 g c = λ owed sends job_sends.
     let d = data_of c.args.setup.now in
-    let now : At = record { state = arc_value c.args.version.now; queues = c.args.deeds.now; last = c.args.last.now; rest = c.args.report.now; owed = owed; sends = sends; job_sends = job_sends } in
+    let now : At = record { state = (arc_value c.args.version.now).state; tests = (arc_value c.args.version.now).tests; queues = c.args.deeds.now; last = c.args.last.now; rest = c.args.report.now; owed = owed; sends = sends; job_sends = job_sends } in
     let lane = c.in-Some.lane in
     let told : (entry : Entry) → entry.lane < 10 → Begins now.rest entry → ◌≡◌ {A = Option ℕ} (Some lane) (Some entry.lane) = c.in-Some.ensures in
     let ask = c.in-Some-take_next.ask in
@@ -73,7 +73,7 @@ returns-in_default-2 g c = λ owed sends job_sends.
 pub returns-then-not-follows : goal.returns-then-not-follows
 returns-then-not-follows g c = λ owed sends job_sends.
     let d = data_of c.args.setup.now in
-    let now : At = record { state = arc_value c.args.version.now; queues = c.args.deeds.now; last = c.args.last.now; rest = c.args.report.now; owed = owed; sends = sends; job_sends = job_sends } in
+    let now : At = record { state = (arc_value c.args.version.now).state; tests = (arc_value c.args.version.now).tests; queues = c.args.deeds.now; last = c.args.last.now; rest = c.args.report.now; owed = owed; sends = sends; job_sends = job_sends } in
     let lane = c.in-Some.lane in
     let told : (entry : Entry) → entry.lane < 10 → Begins now.rest entry → ◌≡◌ {A = Option ℕ} (Some lane) (Some entry.lane) = c.in-Some.ensures in
     let ask = c.in-Some-take_next.ask in
@@ -86,7 +86,7 @@ returns-then-not-follows g c = λ owed sends job_sends.
 pub returns : goal.returns
 returns g c = λ owed sends job_sends.
     let d = data_of c.args.setup.now in
-    let now : At = record { state = arc_value c.args.version.now; queues = c.args.deeds.now; last = c.args.last.now; rest = c.args.report.now; owed = owed; sends = sends; job_sends = job_sends } in
+    let now : At = record { state = (arc_value c.args.version.now).state; tests = (arc_value c.args.version.now).tests; queues = c.args.deeds.now; last = c.args.last.now; rest = c.args.report.now; owed = owed; sends = sends; job_sends = job_sends } in
     let lane = c.in-Some.lane in
     let told : (entry : Entry) → entry.lane < 10 → Begins now.rest entry → ◌≡◌ {A = Option ℕ} (Some lane) (Some entry.lane) = c.in-Some.ensures in
     let ask = c.in-Some-take_next.ask in

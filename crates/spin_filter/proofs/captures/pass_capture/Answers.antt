@@ -9,7 +9,7 @@ use Rattle.spin_filter.proofs.captures.pass_capture.Goals as goal
 
 pub returns-clause-passed : goal.returns-clause-passed
 returns-clause-passed g c =
-    capture-whole (data_of c.args.passing.now.setup.now) c.args.passing.now.version.now c.args.passing.now.round.now c.args.passing.now.names.now c.args.passing.now.capture (g.S.Source.seen c.args.source.now).left _
+    capture-whole (data_of c.args.passing.now.setup.now) c.args.passing.now.version.now.state c.args.passing.now.round.now c.args.passing.now.names.now c.args.passing.now.capture (g.S.Source.seen c.args.source.now).left _
     c.in_ok-head.head c.in_ok-cut.cut _ _ c.in_ok-head.ensures.head c.in_ok-cut.ensures.passed
 
 pub returns-in_err-head-clause-passed : goal.returns-in_err-head-clause-passed

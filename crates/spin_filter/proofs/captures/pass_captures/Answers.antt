@@ -10,14 +10,14 @@ use Rattle.spin_filter.proofs.captures.pass_captures.Goals as goal
 
 pub loop-name-init : goal.loop-name-init
 loop-name-init g c = record {
-  passed = captures-none (data_of c.args.passing.now.setup.now) c.args.passing.now.version.now c.args.passing.now.round.now (g.F.Shelf.seen c.args.shelf.now).files c.args.passing.now.names.now c.args.passing.now.capture _;
+  passed = captures-none (data_of c.args.passing.now.setup.now) c.args.passing.now.version.now.state c.args.passing.now.round.now (g.F.Shelf.seen c.args.shelf.now).files c.args.passing.now.names.now c.args.passing.now.capture _;
   stood = record { faults = refl; absences = refl };
   files = refl;
 }
 
 pub loop-name-preserved : goal.loop-name-preserved
 loop-name-preserved g c = record {
-  passed = captures-more (data_of c.args.passing.now.setup.now) c.args.passing.now.version.now c.args.passing.now.round.now (g.F.Shelf.seen c.args.shelf.now).files (g.F.Shelf.seen c.loop-name.shelf).files
+  passed = captures-more (data_of c.args.passing.now.setup.now) c.args.passing.now.version.now.state c.args.passing.now.round.now (g.F.Shelf.seen c.args.shelf.now).files (g.F.Shelf.seen c.loop-name.shelf).files
       c.args.captures.now c.args.passing.now.names.now c.args.passing.now.capture c.loop-name.name-index c.name-item.result c.loop-name.cut c.in_ok-more.more c.more_by-cut.result _ _ _ (omega arith) c.name-item.is
       c.loop-name.invariant.files c.loop-name.invariant.passed c.more_by-cut.ensures c.in_ok-more.ensures.passed;
   stood = record {
@@ -29,7 +29,7 @@ loop-name-preserved g c = record {
 
 pub returns-clause-passed : goal.returns-clause-passed
 returns-clause-passed g c =
-    captures-all (data_of c.args.passing.now.setup.now) c.args.passing.now.version.now c.args.passing.now.round.now (g.F.Shelf.seen c.args.shelf.now).files c.args.captures.now c.args.passing.now.names.now
+    captures-all (data_of c.args.passing.now.setup.now) c.args.passing.now.version.now.state c.args.passing.now.round.now (g.F.Shelf.seen c.args.shelf.now).files c.args.captures.now c.args.passing.now.names.now
     c.args.passing.now.capture c.loop-name.name-index c.loop-name.cut _ _ (omega arith) c.loop-name.invariant.passed
 
 pub returns-in_err-more-clause-passed : goal.returns-in_err-more-clause-passed

@@ -13,7 +13,7 @@ invariant-loop-name g l =
     (with_waiting (g.W.Sink.seen o.file.sink) o.file.waiting) o.counts in
     let seen = g.F.Shelf.seen in
     record {
-      passed : HasFound (data_of l.passing.setup.now) l.passing.version.now l.passing.round.now (seen l.fn.shelf).files (take l.name-index l.captures) l.passing.names.now l.passing.capture l.cut
+      passed : HasFound (data_of l.passing.setup.now) l.passing.version.now.state l.passing.round.now (seen l.fn.shelf).files (take l.name-index l.captures) l.passing.names.now l.passing.capture l.cut
           (at l.fn.outlets) (at l.outlets);
       stood : StandsStill (seen l.fn.shelf) (seen l.shelf);
       files : (seen l.shelf).files ≡ (seen l.fn.shelf).files;

@@ -16,5 +16,5 @@ pub returns-in-Err-Refused-clause-given : goal.returns-in-Err-Refused-clause-giv
 returns-in-Err-Refused-clause-given g c =
     let d = data_of c.args.setup.now in
     given-one d c.args.command.now (verdicted.Refused c.in-Err-Refused._refusal) c.args.so_far _
-    (subst (λ (f : StepFault). IsAnswer d c.args.so_far.version c.args.command.now (Err f)) c.in-Err-Refused.field-0-is c.in-Err-Refused.ensures.answer)
+    (subst (λ (f : StepFault). IsAnswer d c.args.so_far.version.state c.args.command.now (Err f)) c.in-Err-Refused.field-0-is c.in-Err-Refused.ensures.answer)
     (λ n is. c.one_more.ensures n is)

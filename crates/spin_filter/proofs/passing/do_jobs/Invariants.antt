@@ -12,5 +12,5 @@ abbrev pub invariant-loop-call : goal.invariant-loop-call
 invariant-loop-call g l =
     let at = λ (o : _). outlets_at (map (view_of (λ e. (goal.Endpoint-dyn g (e.object.vtable, e.object.value)).seen e.object.value)) o.ends.ends.items)
     (with_waiting (g.W.Sink.seen o.file.sink) o.file.waiting) o.counts in
-    (replies : List Reply) × AreJobReplies (data_of l.passing.setup.now) l.passing.version.now (take l.call-index l.calls) replies
+    (replies : List Reply) × AreJobReplies (data_of l.passing.setup.now) l.passing.version.now.state (take l.call-index l.calls) replies
     × IsDone l.passing.names.now l.passing.capture (happened_in_jobs l.taken replies) (at l.fn.outlets) (at l.outlets)

@@ -11,7 +11,7 @@ use Rattle.spin_filter.proofs.passing.pass_record.Goals as goal
 
 pub returns : goal.returns
 returns g c =
-    record-whole c.args.passing.now.names.now c.args.passing.now.capture c.args.taken.now (data_of c.args.passing.now.setup.now) c.args.passing.now.version.now c.args.event c.in_ok-args.args c.path_into.new.buffer c.view-view.result
+    record-whole c.args.passing.now.names.now c.args.passing.now.capture c.args.taken.now (data_of c.args.passing.now.setup.now) c.args.passing.now.version.now.state c.args.event c.in_ok-args.args c.path_into.new.buffer c.view-view.result
     c.outcome_of.result c.trace-steps.result.now c.calls-calls.result.now _ _ _ _ (c.in_ok-args.ensures ∙ ap (λ f. value.Bytes f ∷ []) c.frame.ensures) c.in_ok-path_into.ensures.reply c.view-view.ensures c.outcome_of.ensures
     c.trace-steps.ensures c.calls-calls.ensures (done-outcome c.args.passing.now.names.now c.args.passing.now.capture c.outcome_of.result _ _ refl refl c.note_outcome.ensures)
     c.in_ok-do_steps.ensures c.in_ok-do_jobs.ensures

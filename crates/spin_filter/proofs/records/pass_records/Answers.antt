@@ -15,26 +15,26 @@ use Rattle.spin_filter.proofs.records.pass_records.Goals as goal
 
 pub loop-number-init : goal.loop-number-init
 loop-number-init g c = record {
-  passed = records-none (data_of c.args.passing.now.setup.now) c.args.passing.now.version.now c.args.passing.now.round.now c.args.head c.args.passing.now.names.now c.args.passing.now.capture _ _;
+  passed = records-none (data_of c.args.passing.now.setup.now) c.args.passing.now.version.now.state c.args.passing.now.round.now c.args.head c.args.passing.now.names.now c.args.passing.now.capture _ _;
   faults = refl;
   keep = refl;
 }
 
 pub returns-in-Ok-End-clause-passed : goal.returns-in-Ok-End-clause-passed
 returns-in-Ok-End-clause-passed g c =
-    records-end (data_of c.args.passing.now.setup.now) c.args.passing.now.version.now c.args.passing.now.round.now c.args.head c.args.passing.now.names.now c.args.passing.now.capture c.loop-number.number _
+    records-end (data_of c.args.passing.now.setup.now) c.args.passing.now.version.now.state c.args.passing.now.round.now c.args.head c.args.passing.now.names.now c.args.passing.now.capture c.loop-number.number _
     c.loop-number.window c.find_record.new.window (g.S.Source.seen c.loop-number.source) (g.S.Source.seen c.find_record.new.source) c.in-Ok-End.field-0 _ _ c.loop-number.invariant.passed
     c.in-Ok-End.field-0-is c.in-Ok-End.ensures.finds c.find_record.ensures.passed
 
 pub returns-in-Ok-Cut-clause-passed : goal.returns-in-Ok-Cut-clause-passed
 returns-in-Ok-Cut-clause-passed g c =
-    records-cut (data_of c.args.passing.now.setup.now) c.args.passing.now.version.now c.args.passing.now.round.now c.args.head c.args.passing.now.names.now c.args.passing.now.capture c.loop-number.number _
+    records-cut (data_of c.args.passing.now.setup.now) c.args.passing.now.version.now.state c.args.passing.now.round.now c.args.head c.args.passing.now.names.now c.args.passing.now.capture c.loop-number.number _
     c.loop-number.window c.find_record.new.window (g.S.Source.seen c.loop-number.source) (g.S.Source.seen c.find_record.new.source) c.in-Ok-Cut.field-0 c.in-Ok-Cut.count _ _ c.loop-number.invariant.passed
     c.in-Ok-Cut.field-0-is c.in-Ok-Cut.ensures.finds c.find_record.ensures.passed
 
 pub loop-number-preserved : goal.loop-number-preserved
 loop-number-preserved g c = record {
-  passed = records-more (data_of c.args.passing.now.setup.now) c.args.passing.now.version.now c.args.passing.now.round.now c.args.head c.args.passing.now.names.now c.args.passing.now.capture c.loop-number.number _
+  passed = records-more (data_of c.args.passing.now.setup.now) c.args.passing.now.version.now.state c.args.passing.now.round.now c.args.head c.args.passing.now.names.now c.args.passing.now.capture c.loop-number.number _
       c.loop-number.window c.find_record.new.window c.skip.new.self (g.S.Source.seen c.loop-number.source) (g.S.Source.seen c.find_record.new.source) c.in-Ok-Record.field-0 c.in-Ok-Record.size
       c.event_at-event.result _ _ _ c.loop-number.invariant.passed c.in-Ok-Record.field-0-is
       c.in-Ok-Record.ensures.finds c.find_record.ensures.passed c.skip.ensures.skipped c.event_at-event.ensures c.front-taken.result c.front-taken.ensures c.in_ok-pass_record.ensures;

@@ -13,7 +13,7 @@ invariant-loop-number g l =
     (with_waiting (g.W.Sink.seen o.file.sink) o.file.waiting) o.counts in
     let seen = g.S.Source.seen in
     record {
-      passed : HasPassed (data_of l.passing.setup.now) l.passing.version.now l.passing.round.now l.head l.passing.names.now l.passing.capture l.number
+      passed : HasPassed (data_of l.passing.setup.now) l.passing.version.now.state l.passing.round.now l.head l.passing.names.now l.passing.capture l.number
           (left_for l.fn.window (seen l.fn.source).left) (left_for l.window (seen l.source).left) (at l.fn.outlets) (at l.outlets);
       faults : (seen l.source).faults ≡ (seen l.fn.source).faults;
       keep : (seen l.source).keep ≡ (seen l.fn.source).keep;

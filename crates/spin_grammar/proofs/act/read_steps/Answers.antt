@@ -4,9 +4,9 @@ use Rattle.std.proofs.lemmas.List.{append-nil}
 use Rattle.std.proofs.lemmas.Result.{err_from_is_err_and}
 use Rattle.spin_code.specs.declared.act.ActStep.{ActStep}
 use Rattle.spin_code.specs.Size.{is_step_deep}
-use Rattle.spin_grammar.specs.declared.heads.StepWord.{StepWord}
+use Rattle.spin_grammar.specs.declared.keywords.StepWord.{StepWord}
 use Rattle.spin_grammar.specs.Grammar.{Atom, Steps}
-use Rattle.spin_grammar.specs.Inner.Heads.{step_next}
+use Rattle.spin_grammar.specs.Inner.Keywords.{step_next}
 use Rattle.spin_grammar.specs.Forms.{step_form, steps_form}
 use Rattle.spin_grammar.specs.Inner.Reading.{Leads}
 use Rattle.spin_grammar.proofs.ReadingParts.{leads_then, leads_over, fails_then}

@@ -1,31 +1,35 @@
-use Rattle.std.proofs.Common.{◌≡◌, refl, ℕ, ◌+◌, ◌<◌, ◌++◌, ◌∷◌, [], List, length, get_or, count_by, take, sym, ap, ◌∙◌, arith}
-use Rattle.std.specs.List.{All}
-use Rattle.std.proofs.lemmas.List.{take_more, map_push}
-use Rattle.std.proofs.lemmas.List.Elements.{All-push, All-same}
+use Rattle.std.proofs.Common.{◌≡◌, ℕ, ◌++◌, List, length, take, drop, map, refl, ap, sym, subst, ◌∙◌, arith}
+use Rattle.std.specs.List.Sorted.{IsPermutation}
+use Rattle.std.proofs.lemmas.List.{take_at, length-map}
 use Rattle.spin_place.specs.declared.binding.Binding.{Binding}
 use Rattle.spin_place.specs.declared.candidate.Candidate.{Candidate}
-use Rattle.spin_place.specs.Precedence.{must_precede}
-use Rattle.spin_place.specs.Inner.Candidates.{bindings_of}
+use Rattle.spin_place.specs.declared.links.Link.{Link}
+use Rattle.spin_place.specs.Inner.Candidates.{bindings_of, numbers_left, held}
+use Rattle.spin_place.proofs.CandidateLists.{bindings-kept, rising-kept, counted_held}
 use Rattle.spin_place.proofs.candidate.candidates.Goals as goal
 
--- one more binding with its count
-counted_more : (bs : List Binding) (at : ℕ) (rest pushed : List Candidate) (x : Candidate) (b : Binding) → pushed ≡ rest ++ x ∷ [] → x.binding.now ≡ b → at < length bs → b ≡ get_or bs at b
-    → x.waits ≡ count_by (λ a. must_precede a b) bs
-    → bindings_of rest ≡ take at bs
-    → All (λ c. c.waits ≡ count_by (λ a. must_precede a c.binding.now) bs) rest
-    → (bindings_of pushed ≡ take (at + 1) bs) × All (λ c. c.waits ≡ count_by (λ a. must_precede a c.binding.now) bs) pushed
-counted_more bs at rest pushed x b is same l item waits before all =
-    let Counted : Candidate → Type 0 = λ c. c.waits ≡ count_by (λ a. must_precede a c.binding.now) bs in
-    let last : x.binding.now ≡ get_or bs at b = same ∙ item in
-    let here : Counted x = waits ∙ ap (λ (a : Binding). count_by (λ (e : Binding). must_precede e a) bs) (sym same) in (
-      ap bindings_of is ∙ map_push (λ (c : Candidate). c.binding.now) rest x ∙ ap (λ (cs : List Binding). cs ++ x.binding.now ∷ []) before
-          ∙ ap (λ (a : Binding). take at bs ++ a ∷ []) last ∙ sym (take_more bs at b l),
-      All-same Counted pushed (rest ++ x ∷ []) is (All-push Counted rest x all here),
-    )
+-- what stands in the list after it was lent
+written : (rest lent new : List Candidate) (links : List Link) (size : ℕ) → length rest ≡ size → lent ≡ rest → new ≡ map (held (numbers_left lent) links) lent
+    → take size (new ++ drop (length new) rest) ≡ map (held (numbers_left rest) links) rest
+written rest lent new links size e is held_all =
+    let all : new ≡ map (held (numbers_left rest) links) rest = held_all ∙ ap (λ (cs : List Candidate). map (held (numbers_left cs) links) cs) is in
+    take_at new (drop (length new) rest) size (ap length all ∙ length-map rest (held (numbers_left rest) links) ∙ e) ∙ all
 
-pub loop-binding-preserved : goal.loop-binding-preserved
-loop-binding-preserved c =
-    let counted : c.count_before.result ≡ count_by (λ b. must_precede b c.binding-item.result) c.args.bindings.now = c.count_before.ensures in
-    let more = counted_more c.args.bindings.now c.loop-binding.binding-index c.loop-binding.rest.items c.push.new.self.items _ c.binding-item.result c.in_ok-push.ensures.items refl
-    (omega arith) c.binding-item.is counted c.loop-binding.invariant.bindings c.loop-binding.invariant.counted in
-    record { bindings = more.0; counted = more.1 }
+pub returns-clause-bindings : goal.returns-clause-bindings
+returns-clause-bindings c =
+    let rest = c.in_ok-rest.rest.items in
+    let is = written rest c.deref_mut.result.now c.hold.new.rest c.args.links.now c.in_ok-rest.rest.len (omega arith) c.deref_mut.ensures.value c.hold.ensures in
+    subst (λ (cs : List Candidate). IsPermutation c.args.bindings.now (bindings_of cs)) (sym is)
+    (subst (λ (bs : List Binding). IsPermutation c.args.bindings.now bs) (sym (bindings-kept (held (numbers_left rest) c.args.links.now) (λ x. refl) rest)) c.in_ok-rest.ensures.bindings)
+
+pub returns-clause-rising : goal.returns-clause-rising
+returns-clause-rising c =
+    let rest = c.in_ok-rest.rest.items in
+    let is = written rest c.deref_mut.result.now c.hold.new.rest c.args.links.now c.in_ok-rest.rest.len (omega arith) c.deref_mut.ensures.value c.hold.ensures in
+    rising-kept (held (numbers_left rest) c.args.links.now) (λ x. refl) rest _ is c.in_ok-rest.ensures.rising
+
+pub returns-clause-counted : goal.returns-clause-counted
+returns-clause-counted c =
+    let rest = c.in_ok-rest.rest.items in
+    let is = written rest c.deref_mut.result.now c.hold.new.rest c.args.links.now c.in_ok-rest.rest.len (omega arith) c.deref_mut.ensures.value c.hold.ensures in
+    counted_held c.args.links.now rest _ is

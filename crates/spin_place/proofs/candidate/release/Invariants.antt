@@ -1,7 +1,7 @@
-use Rattle.std.proofs.Common.{◌≡◌, ◌++◌, map, take, drop}
+use Rattle.std.proofs.Common.{◌≡◌, map, take}
 use Rattle.spin_place.specs.Inner.Candidates.{released}
 use Rattle.spin_place.proofs.candidate.release.Given as goal
 
-abbrev pub invariant-loop-candidate : goal.invariant-loop-candidate
-invariant-loop-candidate l =
-    l.rest ≡ map (released l.placed) (take l.candidate-index l.initial.rest) ++ drop l.candidate-index l.initial.rest
+-- each is released from the links so far
+abbrev pub invariant-loop-link : goal.invariant-loop-link
+invariant-loop-link l = l.rest ≡ map (released (take l.link-index l.links)) l.initial.rest

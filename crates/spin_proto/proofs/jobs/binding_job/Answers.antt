@@ -18,40 +18,40 @@ use Rattle.spin_proto.proofs.jobs.binding_job.Goals as goal
 pub run_handler-requires-clause-first : goal.run_handler-requires-clause-first
 run_handler-requires-clause-first g c =
     let a = c.args in
-    let job = job_found (data_of a.setup.now) a.version.now a.event a.number c.handler_of-handler.result c.bindings.result.now
-    a.setup.now.sound c.requires.sound c.requires.belongs c.bindings.ensures c.handler_of-handler.ensures in
+    let job = job_found (data_of a.setup.now) a.version.now.state a.event a.number c.handler_of-handler.result c.bindings.result.now
+    a.setup.now.sound c.requires.sound.state c.requires.belongs c.bindings.ensures c.handler_of-handler.ensures in
     job.fits.first
 
 pub run_handler-requires-clause-last : goal.run_handler-requires-clause-last
 run_handler-requires-clause-last g c =
     let a = c.args in
-    let job = job_found (data_of a.setup.now) a.version.now a.event a.number c.handler_of-handler.result c.bindings.result.now
-    a.setup.now.sound c.requires.sound c.requires.belongs c.bindings.ensures c.handler_of-handler.ensures in
+    let job = job_found (data_of a.setup.now) a.version.now.state a.event a.number c.handler_of-handler.result c.bindings.result.now
+    a.setup.now.sound c.requires.sound.state c.requires.belongs c.bindings.ensures c.handler_of-handler.ensures in
     subst (λ cat. c.handler_of-handler.result ≤ length (acts_of cat)) (sym c.catalogue-cat.ensures) job.fits.last
 
 pub follow-requires-clause-rise : goal.follow-requires-clause-rise
 follow-requires-clause-rise g c =
     let a = c.args in
     let d = data_of a.setup.now in
-    let s = a.version.now in
+    let s = a.version.now.state in
     let handler = c.handler_of-handler.result in
-    let job = job_found d s a.event a.number handler c.bindings.result.now a.setup.now.sound c.requires.sound c.requires.belongs c.bindings.ensures c.handler_of-handler.ensures in
+    let job = job_found d s a.event a.number handler c.bindings.result.now a.setup.now.sound c.requires.sound.state c.requires.belongs c.bindings.ensures c.handler_of-handler.ensures in
     let steps = steps_at (units_in d) handler in
     let given : c.run_handler.new.out ≡ item.Ran a.number ∷ items_of steps a.args =
     (subst (λ cat. c.run_handler.new.out ≡ c.new-given.result ++ item.Ran a.number ∷ items_of (steps_at (units_of cat) handler) a.args) c.catalogue-cat.ensures c.in_ok-word.ensures.out)
     ∙ ap (λ o. o ++ item.Ran a.number ∷ items_of steps a.args) c.new-given.ensures in
     let rises = items_rise (length d.events) a.event steps a.args job.fits.rises in
-    subst (λ n. UpsRise n a.event (ups_of c.run_handler.new.out)) (sym c.requires.sound.events)
+    subst (λ n. UpsRise n a.event (ups_of c.run_handler.new.out)) (sym c.requires.sound.state.events)
     (subst (λ (given : List Item). UpsRise (length d.events) a.event (ups_of given)) (sym given) rises)
 
 pub returns-then-not-branch : goal.returns-then-not-branch
 returns-then-not-branch g c = λ bounds are.
     let a = c.args in
     let d = data_of a.setup.now in
-    let s = a.version.now in
+    let s = a.version.now.state in
     let u = units_in d in
     let handler = c.handler_of-handler.result in
-    let job = job_found d s a.event a.number handler c.bindings.result.now a.setup.now.sound c.requires.sound c.requires.belongs c.bindings.ensures c.handler_of-handler.ensures in
+    let job = job_found d s a.event a.number handler c.bindings.result.now a.setup.now.sound c.requires.sound.state c.requires.belongs c.bindings.ensures c.handler_of-handler.ensures in
     let steps = steps_at u handler in
     let given : c.run_handler.new.out ≡ item.Ran a.number ∷ items_of steps a.args =
     (subst (λ cat. c.run_handler.new.out ≡ c.new-given.result ++ item.Ran a.number ∷ items_of (steps_at (units_of cat) handler) a.args) c.catalogue-cat.ensures c.in_ok-word.ensures.out)
@@ -68,10 +68,10 @@ pub returns : goal.returns
 returns g c = λ bounds are.
     let a = c.args in
     let d = data_of a.setup.now in
-    let s = a.version.now in
+    let s = a.version.now.state in
     let u = units_in d in
     let handler = c.handler_of-handler.result in
-    let job = job_found d s a.event a.number handler c.bindings.result.now a.setup.now.sound c.requires.sound c.requires.belongs c.bindings.ensures c.handler_of-handler.ensures in
+    let job = job_found d s a.event a.number handler c.bindings.result.now a.setup.now.sound c.requires.sound.state c.requires.belongs c.bindings.ensures c.handler_of-handler.ensures in
     let steps = steps_at u handler in
     let given : c.run_handler.new.out ≡ item.Ran a.number ∷ items_of steps a.args =
     (subst (λ cat. c.run_handler.new.out ≡ c.new-given.result ++ item.Ran a.number ∷ items_of (steps_at (units_of cat) handler) a.args) c.catalogue-cat.ensures c.in_ok-word.ensures.out)

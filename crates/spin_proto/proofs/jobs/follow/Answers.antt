@@ -16,14 +16,14 @@ loop-up-init g c =
     let notes = rw c.if-not-branch.false at c.in_ok-note_items.ensures in
     let waiting = c.from-queue.ensures.0 ∙ c.into_vec.ensures in (
       (λ bounds are. follow_waits a.event (raised_after a.runner (units_in (data_of a.setup.now)) bounds a.event) a.given.now _ _ _ _ waiting notes),
-      follow_rises (length a.version.now.events) a.event a.given.now _ _ waiting notes.0 c.requires.rise,
+      follow_rises (length a.version.now.state.events) a.event a.given.now _ _ waiting notes.0 c.requires.rise,
     )
 
 pub returns-in-None : goal.returns-in-None
 returns-in-None g c = λ bounds are.
     let a = c.args in
     let came = rw c.in-None.is at c.in_ok-raise_event.ensures in
-    follow_spent a.runner (units_in (data_of a.setup.now)) bounds (length a.version.now.events) a.event _ c.in-Some.up _ c.pop_front.new.self.items _ _ _ c.raise_event.new.walk
+    follow_spent a.runner (units_in (data_of a.setup.now)) bounds (length a.version.now.state.events) a.event _ c.in-Some.up _ c.pop_front.new.self.items _ _ _ c.raise_event.new.walk
     c.in-Some.ensures.items c.loop-up.invariant.1 (c.loop-up.invariant.0 bounds are) c.in_ok-note.ensures (came bounds are)
 
 pub loop-up-preserved : goal.loop-up-preserved
@@ -31,7 +31,7 @@ loop-up-preserved g c =
     let a = c.args in
     let came = rw c.in-Some-2.is at c.in_ok-raise_event.ensures in (
       (λ bounds are.
-          follow_on a.runner (units_in (data_of a.setup.now)) bounds (length a.version.now.events) a.event _ c.in-Some.up _ c.pop_front.new.self.items c.in-Some-2.answer _ _ _ _ _
+          follow_on a.runner (units_in (data_of a.setup.now)) bounds (length a.version.now.state.events) a.event _ c.in-Some.up _ c.pop_front.new.self.items c.in-Some-2.answer _ _ _ _ _
           c.in-Some.ensures.items c.loop-up.invariant.1 (c.loop-up.invariant.0 bounds are) c.in_ok-note.ensures (came bounds are) c.in_ok-note-in-Some-2.ensures),
-      rest_rises (length a.version.now.events) a.event c.in-Some.up _ c.pop_front.new.self.items c.in-Some.ensures.items c.loop-up.invariant.1,
+      rest_rises (length a.version.now.state.events) a.event c.in-Some.up _ c.pop_front.new.self.items c.in-Some.ensures.items c.loop-up.invariant.1,
     )

@@ -4,6 +4,7 @@ use Rattle.spin_proto.specs.declared.deed.Job.{Job}
 use Rattle.spin_proto.specs.Replies.{BelongsTo}
 use Rattle.spin_report.specs.declared.entry.Entry.{Entry}
 use Rattle.spin_report.specs.Jobs.{answer_calls}
+use Rattle.spin_seat.specs.Seats.{version_of}
 use Rattle.spin_run.specs.Inner.Answering.{AddsJobs}
 use Rattle.spin_run.proofs.EntryJobs.{adds_one}
 use Rattle.spin_run.proofs.jobs_left.leave_jobs.Goals as goal
@@ -13,7 +14,7 @@ loop-call-preserved c =
     let entry = c.args.entry.now in
     let numbers = c.entry.view_is in
     let own : c.calls-call-items.result.now ≡ answer_calls entry.what = c.calls-call-items.ensures ∙ ap (λ (e : Entry). answer_calls e.what) numbers in
-    let version = c.args.seat.now.state in
+    let version = version_of c.args.seat.now in
     let calls = answer_calls entry.what in
     let i = c.loop-call.call-index in
     let test = c.loop-call-test.true in
@@ -31,7 +32,7 @@ loop-call-preserved c =
       part = c.entry.inside.part;
       index = c.loop-call.index;
     } in
-    let belongs : BelongsTo version job.call = subst (BelongsTo version) same (c.requires.belong i c.call-item.result lt) in
+    let belongs : BelongsTo version.state job.call = subst (BelongsTo version.state) same (c.requires.belong i c.call-item.result lt) in
     let one : AddsJobs entry version (take i calls ++ job.call ∷ []) c.args.jobs.now c.push.new.self =
     adds_one entry version
     (take i calls) c.args.jobs.now c.loop-call.jobs c.push.new.self job c.loop-call.invariant.0 c.in_ok-push.ensures.ok

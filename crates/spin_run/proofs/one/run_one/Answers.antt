@@ -12,7 +12,7 @@ use Rattle.spin_report.specs.Segments.{wanted_by}
 use Rattle.spin_report.specs.Runs.{retirements, sends_of_reply}
 use Rattle.spin_run.specs.declared.end.RunEnd.TheVariants as end
 use Rattle.spin_run.specs.Segments.{state_of, jobs_seen}
-use Rattle.spin_run.specs.declared.trail.Mark.{Mark}
+use Rattle.spin_run.specs.declared.trail.EntryIndex.{EntryIndex}
 use Rattle.spin_run.specs.declared.trail.Trail.{Trail}
 use Rattle.spin_run.specs.Inner.Marks.{IsInTrails, sends_in}
 use Rattle.spin_run.specs.Inner.Lining.{counts_to}
@@ -31,7 +31,7 @@ run_segment-requires-clause-ready g c κs within = rest_of_ready (data_of c.args
 pub send_all-requires-clause-lie : goal.send_all-requires-clause-lie
 send_all-requires-clause-lie g c =
     let w = c.in_ok-woven.woven in
-    subst (λ (x : List Trail × List Mark). All (IsInTrails x.0) x.1) (λ i. (sym c.as_slice-trails.ensures i, sym c.as_slice-marks.ensures i))
+    subst (λ (x : List Trail × List EntryIndex). All (IsInTrails x.0) x.1) (λ i. (sym c.as_slice-trails.ensures i, sym c.as_slice-marks.ensures i))
     (woven_lie (length c.args.lanes.now) w.trails w.marks c.in_ok-woven.ensures.woven.entries c.in_ok-woven.ensures.woven.trail_count
     c.in_ok-woven.ensures.woven.marks_are c.in_ok-woven.ensures.woven.answers.lanes_are)
 

@@ -1,6 +1,6 @@
 use Rattle.std.proofs.Common.{◌≡◌, ℕ, Result, sym, subst}
 use Rattle.spin_grammar.specs.declared.fault.Fault.{Fault}
-use Rattle.spin_grammar.specs.declared.line.Said.{Said}
+use Rattle.spin_grammar.specs.declared.line.Statement.{Statement}
 use Rattle.spin_grammar.specs.Lines.{LineMeaning}
 use Rattle.spin_script.specs.States.{NativeData, ScriptState, natives_seen}
 use Rattle.spin_script.specs.Inner.Drafts.{so_far}
@@ -11,8 +11,8 @@ use Rattle.spin_script.proofs.read.add.Goals as goal
 adds_as : {A : Type 0} (n : NativeData) (s t : ScriptState) (number : ℕ) (l m : LineMeaning) (r : Result A Fault) → l ≡ m → Adds n s number m r t → Adds n s number l r t
 adds_as n s t number l m r is adds = subst (λ (z : LineMeaning). Adds n s number z r t) (sym is) adds
 
-said_as : {A : Type 0} (n : NativeData) (s t : ScriptState) (number : ℕ) (what known : Said) (r : Result A Fault) → what ≡ known → AddsSaid n s number known r t → AddsSaid n s number what r t
-said_as n s t number what known r is adds = subst (λ (z : Said). AddsSaid n s number z r t) (sym is) adds
+said_as : {A : Type 0} (n : NativeData) (s t : ScriptState) (number : ℕ) (what known : Statement) (r : Result A Fault) → what ≡ known → AddsSaid n s number known r t → AddsSaid n s number what r t
+said_as n s t number what known r is adds = subst (λ (z : Statement). AddsSaid n s number z r t) (sym is) adds
 
 pub returns-in-Handler-clause-adds : goal.returns-in-Handler-clause-adds
 returns-in-Handler-clause-adds g c =

@@ -6,7 +6,7 @@ use Rattle.spin_seat.proofs.live.live_count.Goals.{then-is_live, else-is_live}
 
 pub loop-before-preserved : goal.loop-before-preserved
 loop-before-preserved g c =
-    let p = is_live_in c.args.version.now in
+    let p = is_live_in c.args.version.now.state in
     let before = c.loop-before.before in
     let count = c.loop-before.count in
     let so_far = c.loop-before.invariant in

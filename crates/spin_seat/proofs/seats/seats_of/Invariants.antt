@@ -7,7 +7,7 @@ use Rattle.spin_seat.specs.Seats.{SeatValue, IsSeatFrom}
 use Rattle.spin_seat.proofs.seats.seats_of.Given as goal
 
 abbrev pub invariant-loop-pen : goal.invariant-loop-pen
-invariant-loop-pen g l = (map (λ (s : SeatValue). s.pen) l.seats ++ l.pens ≡ l.fn.pens) × All (IsSeatFrom (data_of l._setup) (arc_value l.first)) l.seats × All (λ (p : PenValue). p.front ≡ []) l.pens
+invariant-loop-pen g l = (map (λ (s : SeatValue). s.pen) l.seats ++ l.pens ≡ l.fn.pens) × All (IsSeatFrom (data_of l._setup) (arc_value l.first).state) l.seats × All (λ (p : PenValue). p.front ≡ []) l.pens
 
 abbrev pub decreases-loop-pen : goal.decreases-loop-pen
 decreases-loop-pen g l = length l.pens

@@ -11,7 +11,7 @@ returns-clause-came g c reply are =
     let page = page_of c.args.address in
     let f = c.in-Err.fault in
     let asked = raise_of f c.args.number page c.args.write in
-    let same = one_reply (data_of c.args.setup.now) c.args.version.now asked c.in_ok-reply.reply (reply asked) c.in_ok-reply.ensures (are asked) in
+    let same = one_reply (data_of c.args.setup.now) c.args.version.now.state asked c.in_ok-reply.reply (reply asked) c.in_ok-reply.ensures (are asked) in
     ap (came.Faulted f c.in_ok-reply.reply) c.frame_given-frame.ensures
     ∙ ap (faulted f) same
     ∙ ap (access_came reply c.args.number page c.args.write) c.in-Err.ensures

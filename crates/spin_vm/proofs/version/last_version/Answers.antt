@@ -3,7 +3,7 @@ use Rattle.spin_script.specs.declared.script.Line.{Line}
 use Rattle.spin_script.specs.Scripts.{script_seen}
 use Rattle.spin_script.specs.Soundness.{IsValidWork, is_command_work, command_lines}
 use Rattle.spin_table.specs.SetupOf.{data_of}
-use Rattle.spin_table.specs.States.{start_of}
+use Rattle.spin_table.specs.States.{VersionValue, start_of}
 use Rattle.spin_vm.specs.Scripts.{AllLead, are_commands}
 use Rattle.spin_vm.proofs.Commands.{one_segment, all_commands, lines_are, count_is}
 use Rattle.spin_vm.proofs.version.last_version.Goals as goal
@@ -30,5 +30,5 @@ pub returns-clause-last : goal.returns-clause-last
 returns-clause-last g c =
     let one = one_segment (script_seen c.args.script.now) c.requires.suited in
     let d = data_of c.args.script.now.setup in
-    subst (λ (lines : List Line). IfOk c.after_lines.result (AllLead d (start_of d) lines))
+    subst (λ (lines : List Line). IfOk c.after_lines.result (λ (v : VersionValue). AllLead d (start_of d) lines v.state))
     (c.deref.ensures ∙ sym (lines_are c.args.script.now.segments c.get.result.now one c.get.ensures)) c.after_lines.ensures.last

@@ -2,7 +2,7 @@ use Rattle.std.proofs.Common.{◌≡◌, ◌+◌, ◌<◌, ◌++◌, ◌∙◌, 
 use Rattle.std.proofs.lemmas.Result.{err_from_is_err_and}
 use Rattle.spin_text.specs.Words.{ended}
 use Rattle.spin_vm.specs.declared.line.Region.{Region}
-use Rattle.spin_vm.specs.declared.line.Said.TheVariants as said
+use Rattle.spin_vm.specs.declared.line.Statement.TheVariants as said
 use Rattle.spin_vm.specs.declared.line.TraceLine.{TraceLine}
 use Rattle.spin_vm.specs.Traces.{AreGood}
 use Rattle.spin_vm.specs.Spaces.{said_came, mapped_pages}

@@ -12,7 +12,7 @@ use Rattle.spin_vm.proofs.writing.write_lines.Given as goal
 -- what was written stands before the text of the lines that are left
 abbrev pub invariant-loop-line : goal.invariant-loop-line
 invariant-loop-line g l = record {
-  written : (reply : Deed → Reply) → AreReplies (data_of l.setup) l.version reply
+  written : (reply : Deed → Reply) → AreReplies (data_of l.setup) l.version.state reply
       → (done : List ℕ) × (text_behind reply [] l.trace ≡ done ++ text_behind reply l.spaces.items (drop l.line-index l.trace))
       × Appends (g.K.Sink.seen l.fn.out).told (g.K.Sink.seen l.out).told done;
   good : AreGood (regions_of l.spaces.items) (drop l.line-index l.trace);

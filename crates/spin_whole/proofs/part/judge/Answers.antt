@@ -5,8 +5,8 @@ use Rattle.std.proofs.lemmas.Result.{IfOk-weaker}
 use Rattle.spin_table.specs.declared.refusal.StepFault.{StepFault}
 use Rattle.spin_table.specs.declared.refusal.Verdicted.TheVariants as verdicted
 use Rattle.spin_table.specs.SetupOf.{data_of}
-use Rattle.spin_table.specs.Soundness.{IsSound}
-use Rattle.spin_table.specs.States.{State}
+use Rattle.spin_table.specs.Soundness.{IsSoundVersion}
+use Rattle.spin_table.specs.States.{VersionValue}
 use Rattle.spin_table.specs.Steps.{IsStep, IsAnswer}
 use Rattle.spin_whole.specs.declared.part.Judged.{Judged}
 use Rattle.spin_whole.proofs.part.judge.Goals as goal
@@ -15,17 +15,17 @@ pub refused-requires : goal.refused-requires
 refused-requires g c =
     let d = data_of c.args.setup.now in
     let command = c.args.command.now in
-    let step = subst (λ (t : State). IsStep d t command (verdicted.Refused c.in-Err-Refused.refusal) t) c.deref.ensures
-    (subst (λ (f : StepFault). IsAnswer d c.deref.result.now command (Err f)) c.in-Err-Refused.field-0-is c.in-Err-Refused.ensures.answer) in
+    let step = subst (λ (t : VersionValue). IsStep d t.state command (verdicted.Refused c.in-Err-Refused.refusal) t.state) c.deref.ensures
+    (subst (λ (f : StepFault). IsAnswer d c.deref.result.now.state command (Err f)) c.in-Err-Refused.field-0-is c.in-Err-Refused.ensures.answer) in
     rw c.in-Err-Refused.field-0-is (record { step = step })
 
 pub returns-in_ok-new-in-Ok-clause-step : goal.returns-in_ok-new-in-Ok-clause-step
 returns-in_ok-new-in-Ok-clause-step g c =
     let d = data_of c.args.setup.now in
-    subst (λ (x : State × State). IsStep d x.0 c.args.command.now verdicted.Accepted x.1) (λ i. (c.deref.ensures i, sym c.in_ok-new-in-Ok.ensures.ok i)) c.in-Ok.ensures.answer
+    subst (λ (x : VersionValue × VersionValue). IsStep d x.0.state c.args.command.now verdicted.Accepted x.1.state) (λ i. (c.deref.ensures i, sym c.in_ok-new-in-Ok.ensures.ok i)) c.in-Ok.ensures.answer
 
 pub returns-in-Err-Refused-clause-sound : goal.returns-in-Err-Refused-clause-sound
 returns-in-Err-Refused-clause-sound g c =
     let d = data_of c.args.setup.now in
-    IfOk-weaker c.refused.result (λ (j : Judged). arc_value j.version ≡ arc_value c.args.version.now) (λ (j : Judged). IsSound d (arc_value j.version))
-    (λ j h. subst (IsSound d) (sym h) c.requires.sound) c.refused.ensures.same
+    IfOk-weaker c.refused.result (λ (j : Judged). arc_value j.version ≡ arc_value c.args.version.now) (λ (j : Judged). IsSoundVersion d (arc_value j.version))
+    (λ j h. subst (IsSoundVersion d) (sym h) c.requires.sound) c.refused.ensures.same

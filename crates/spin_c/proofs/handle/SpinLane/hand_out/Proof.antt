@@ -121,7 +121,7 @@ hand_out_spec 𝓤 𝓛 𝓜 𝓡 wired =
     sets ! (of_opd ! (get ! refl)) refl (Ptr-Good p') $ sets ! (agg ! (and_then ! (get ! refl) (and_then ! (get ! refl) (no_more !)))) refl good $
     sets ! (of_opd ! (get ! refl)) refl (Ptr-Good p₂') $ sets ! (agg ! (and_then ! (get ! refl) (and_then ! (get ! refl) (no_more !)))) refl good₂ $ sets ! (of_opd ! (get ! refl)) refl go $
     sets ! (agg ! (and_then ! (get ! refl) (and_then ! (get ! refl) (and_then ! (get ! refl) (no_more !))))) refl goods $
-    let Said : Type 0 = Shares d.kept d₂.kept q.number r.0.value r.1.value r.2 in
-    use0 𝓛 (raw (fact 𝓤 Said)) (fact_i 𝓤 Said (emp 𝓤) shares) $
+    let Claim : Type 0 = Shares d.kept d₂.kept q.number r.0.value r.1.value r.2 in
+    use0 𝓛 (raw (fact 𝓤 Claim)) (fact_i 𝓤 Claim (emp 𝓤) shares) $
     nothing ! $ nothing ! $ fjoin ! $ nothing ! $ fjoin ! $ nothing ! $ fjoin ! $ returns ! (look_at ! 0 refl) $ free_all ! refl $ keep ! (3 ∷ 0 ∷ 2 ∷ 1 ∷ []) $
     by ! (leaves 𝓛 En hs c z (three w' w₂' o) (after, after₂, r.2) (tt, (tt, (tt, tt))) (tt, (tt, (tt, tt)))))))))))))))))))

@@ -167,7 +167,7 @@ turn_spec 𝓤 𝓛 𝓜 𝓡 wired =
     sets ! (of_opd ! (get_in ! (fld ! refl (stop !)) (sub ! 0 refl (whole !)))) refl (Ptr-Good p') $ sets ! (of_opd ! (get_in ! (fld ! refl (stop !)) (sub ! 1 refl (whole !)))) refl fits' $
     sets ! (of_opd ! (get ! refl)) refl (Ptr-Good p') $ sets ! (agg ! (and_then ! (get ! refl) (and_then ! (get ! refl) (no_more !)))) refl good $ sets ! (of_opd ! (get ! refl)) refl go $
     sets ! (agg ! (and_then ! (get ! refl) (and_then ! (get ! refl) (no_more !)))) refl goods $
-    let Said : Type 0 = Turns no_natives d.kept q.ask r.0.value r.1 in
-    use0 𝓛 (raw (fact 𝓤 Said)) (fact_i 𝓤 Said (emp 𝓤) (subst (λ (s : NativeData). Turns s d.kept q.ask r.0.value r.1) (none_seen n) does)) $
+    let Claim : Type 0 = Turns no_natives d.kept q.ask r.0.value r.1 in
+    use0 𝓛 (raw (fact 𝓤 Claim)) (fact_i 𝓤 Claim (emp 𝓤) (subst (λ (s : NativeData). Turns s d.kept q.ask r.0.value r.1) (none_seen n) does)) $
     nothing ! $ nothing ! $ fjoin ! $ nothing ! $ fjoin ! $ nothing ! $ fjoin ! $ returns ! (look_at ! 0 refl) $ free_all ! refl $ keep ! (3 ∷ 0 ∷ 2 ∷ 1 ∷ []) $
     by ! (leaves 𝓛 En hs c z (both w' o) (after, r.1) (tt, (tt, (rest (Call.exit yes) q, tt))) (tt, (tt, (tt, tt)))))))))))))))))))

@@ -16,7 +16,7 @@ returns-in-Ok g c =
     record {
       call = call;
       at = at;
-      state = arc_value c.in-Some-pinned.version;
+      version = arc_value c.in-Some-pinned.version;
       pinned = pinned_beside inside.last inside.buffer (option_map (λ v. arc_value v) inside.pinned) inside.job at.to (c.self.view_is ∙ at.kept)
           ∙ ap (option_map (λ v. arc_value v)) c.in-Some-pinned.is;
       place_is = rw c.deref-in-Ok.ensures at c.place.ensures;

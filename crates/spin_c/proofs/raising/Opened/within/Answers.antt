@@ -27,5 +27,5 @@ returns-in-Err-clause-opens g c =
     λ bounds sig e are typed read.
     match_map (within_fault (setup_of o) o.raise.top.frame.event (is_some (due_in e o.raise.top.frame)) c.args.event c.args.args)
     ((rw c.deref.ensures at (rw c.setup.ensures at c.in-Err.ensures.fault)) bounds sig e are typed read)
-    (λ none. inr (c.in-Err.ensures.kept, told ∙ ap (refusal_told (arc_value o.raise.version).place) none))
-    (λ why is. (is.1, told ∙ ap (refusal_told (arc_value o.raise.version).place) (same_err c.in-Err.fault why is.0)))
+    (λ none. inr (c.in-Err.ensures.kept, told ∙ ap (refusal_told (arc_value o.raise.version).state.place) none))
+    (λ why is. (is.1, told ∙ ap (refusal_told (arc_value o.raise.version).state.place) (same_err c.in-Err.fault why is.0)))

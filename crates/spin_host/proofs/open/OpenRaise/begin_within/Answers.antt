@@ -5,7 +5,7 @@ use Rattle.spin_table.specs.SetupOf.{data_of}
 use Rattle.spin_host.specs.declared.open.OpenRaise.{OpenRaise}
 use Rattle.spin_host.specs.Frames.{due_in}
 use Rattle.spin_host.specs.Opening.{within_fault}
-use Rattle.spin_table.specs.States.{State}
+use Rattle.spin_table.specs.States.{VersionValue}
 use Rattle.spin_host.specs.Levels.{OnEvent, IsOpen, IsWithin}
 use Rattle.spin_host.proofs.FoundEvents.{there_if_fit}
 use Rattle.spin_host.proofs.NestedLevels.{puts_on}
@@ -28,7 +28,7 @@ returns-clause-fault g c =
     let d = data_of c.args.setup.now in
     let o = c.args.self.now in
     let b = as_found c.bound_at-bound.result in
-    let found = subst (λ (s : State). OnEvent d s o.top.frame.event (λ sig x. x ≡ b)) c.deref.ensures c.bound_at-bound.ensures.found in
+    let found = subst (λ (v : VersionValue). OnEvent d v.state o.top.frame.event (λ sig x. x ≡ b)) c.deref.ensures c.bound_at-bound.ensures.found in
     λ bounds sig e are typed read.
     no_fault (within_fault d o.top.frame.event (is_some (due_in e o.top.frame)) c.args.event c.args.args) _ _
     (within_is d o.top.frame.event c.args.event (is_some (due_in e o.top.frame)) c.args.args

@@ -2,7 +2,7 @@ use Rattle.std.proofs.Common.{◌≡◌, subst, refl, length}
 use Rattle.std.specs.Arc.{arc_value}
 use Rattle.spin_raise.specs.Firing.{as_found}
 use Rattle.spin_table.specs.SetupOf.{data_of}
-use Rattle.spin_table.specs.States.{State}
+use Rattle.spin_table.specs.States.{VersionValue}
 use Rattle.spin_host.specs.Levels.{OnEvent}
 use Rattle.spin_host.proofs.FoundEvents.{on_found}
 use Rattle.spin_host.proofs.NestedLevels.{goes_on}
@@ -22,5 +22,5 @@ returns-clause-told g c =
     let d = data_of c.args.setup.now in
     let o = c.args.self.now in
     let b = as_found c.bound_at-bound.result in
-    let found = subst (λ (s : State). OnEvent d s o.top.frame.event (λ sig x. x ≡ b)) c.deref.ensures c.bound_at-bound.ensures.found in
-    on_found d (arc_value o.version) o.top.frame.event b _ found (λ sig typed. (rw c.catalogue.ensures at c.in_ok-do_act.ensures.told) sig)
+    let found = subst (λ (v : VersionValue). OnEvent d v.state o.top.frame.event (λ sig x. x ≡ b)) c.deref.ensures c.bound_at-bound.ensures.found in
+    on_found d (arc_value o.version).state o.top.frame.event b _ found (λ sig typed. (rw c.catalogue.ensures at c.in_ok-do_act.ensures.told) sig)

@@ -2,7 +2,7 @@ use Rattle.std.proofs.Common.{◌≡◌, subst, Err}
 use Rattle.std.specs.Arc.{arc_value}
 use Rattle.spin_raise.specs.Firing.{as_found}
 use Rattle.spin_table.specs.SetupOf.{data_of}
-use Rattle.spin_table.specs.States.{State}
+use Rattle.spin_table.specs.States.{VersionValue}
 use Rattle.spin_proto.specs.Replies.{units_in}
 use Rattle.spin_proto.proofs.ReplyLemmas.{on_ok_map}
 use Rattle.std.specs.Prelude.{IfErr}
@@ -24,16 +24,16 @@ returns-clause-told g c =
     let d = data_of c.args.setup.now in
     let o = c.args.self.now in
     let b = as_found c.bound_at-bound.result in
-    let found = subst (λ (s : State). OnEvent d s o.top.frame.event (λ sig x. x ≡ b)) c.deref.ensures c.bound_at-bound.ensures.found in
-    on_ok_map c.gave.result _ _ (λ h. on_typed d (arc_value o.version) o.top.frame.event b c.event.result.now _ found c.event.ensures (h (units_in d))) c.gave.ensures.told
+    let found = subst (λ (v : VersionValue). OnEvent d v.state o.top.frame.event (λ sig x. x ≡ b)) c.deref.ensures c.bound_at-bound.ensures.found in
+    on_ok_map c.gave.result _ _ (λ h. on_typed d (arc_value o.version).state o.top.frame.event b c.event.result.now _ found c.event.ensures (h (units_in d))) c.gave.ensures.told
 
 pub returns-clause-fault : goal.returns-clause-fault
 returns-clause-fault g c =
     let d = data_of c.args.setup.now in
     let o = c.args.self.now in
     let b = as_found c.bound_at-bound.result in
-    let found = subst (λ (s : State). OnEvent d s o.top.frame.event (λ sig x. x ≡ b)) c.deref.ensures c.bound_at-bound.ensures.found in
-    on_typed d (arc_value o.version) o.top.frame.event b c.event.result.now _ found c.event.ensures
+    let found = subst (λ (v : VersionValue). OnEvent d v.state o.top.frame.event (λ sig x. x ≡ b)) c.deref.ensures c.bound_at-bound.ensures.found in
+    on_typed d (arc_value o.version).state o.top.frame.event b c.event.result.now _ found c.event.ensures
     (gave_fault (answer_fault c.event.result.now.sig (due_in b o.top.frame) c.args.gift.now) c.gave.result Err (IfErr c.gave.result (λ why. why ≡ fault.NoMemory)) o c.gave.new.self c.gave.new.out c.args.gift.now c.gave.new.gift c.gave.ensures.fault)
 
 pub returns-clause-kept : goal.returns-clause-kept

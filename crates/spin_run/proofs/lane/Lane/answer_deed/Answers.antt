@@ -7,6 +7,7 @@ use Rattle.spin_report.specs.declared.entry.What.{What}
 use Rattle.spin_report.specs.Jobs.{answer_calls}
 use Rattle.spin_report.specs.declared.entry.What.TheVariants as what
 use Rattle.spin_report.specs.declared.entry.Entry.{Entry}
+use Rattle.spin_seat.specs.Seats.{version_of}
 use Rattle.spin_run.specs.Lanes.{kept_with}
 use Rattle.spin_run.specs.declared.lane.Lane.{Lane}
 use Rattle.spin_run.specs.Trails.{AddsTo}
@@ -33,11 +34,11 @@ returns-clause-ok g c =
     let entry : Entry = record { place = c.in_ok-place.place; lane = old.seat.pen.lane; line = c.args.line; part = c.args.part; what = what.Deed c.args.deed.now c.raise_into.new.buffer } in
     let lent : Entry = record entry { lane = c.lane-lane.result; what = c.answered-what.result } in
     let same : lent ≡ entry = λ i. record entry { lane = c.lane-lane.ensures.lane i; what = c.answered-what.ensures i } in
-    let adds : AddsJobs entry new.seat.state (answer_calls entry.what) old.jobs new.jobs =
-    subst (λ (e : Entry). AddsJobs e new.seat.state (answer_calls e.what) old.jobs new.jobs) same c.in_ok-leave_jobs.ensures in
+    let adds : AddsJobs entry (version_of new.seat) (answer_calls entry.what) old.jobs new.jobs =
+    subst (λ (e : Entry). AddsJobs e (version_of new.seat) (answer_calls e.what) old.jobs new.jobs) same c.in_ok-leave_jobs.ensures in
     let kept = subst (λ (e : Entry). new.entries ≡ kept_with old.entries (e ∷ [])) same c.in_ok-keep.ensures in
     on_ok_weaker c.add.result
     (λ (added : AddsTo old.trail lent new.trail).
-    reply_more d old new entry new.seat.state (subst (λ (e : Entry). AddsTo old.trail e new.trail) same added)
+    reply_more d old new entry (version_of new.seat) (subst (λ (e : Entry). AddsTo old.trail e new.trail) same added)
     c.in_ok-place.ensures.answer (c.raise_into.ensures.seat, c.raise_into.ensures.first) c.in_ok-place.ensures.whole refl kept adds)
     c.add.ensures

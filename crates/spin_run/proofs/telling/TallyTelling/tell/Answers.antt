@@ -1,5 +1,5 @@
 use Rattle.std.proofs.Common.{List, Some, ap, ◌∙◌}
-use Rattle.spin_run.specs.declared.trail.Mark.{Mark}
+use Rattle.spin_run.specs.declared.trail.EntryIndex.{EntryIndex}
 use Rattle.spin_run.specs.Inner.Marks.{counts_by}
 use Rattle.spin_run.specs.Inner.Tallies.{plus}
 use Rattle.spin_run.proofs.KeptMarks.{counts_are}
@@ -9,5 +9,5 @@ pub returns-clause-counts : goal.returns-clause-counts
 returns-clause-counts c = λ entries marked.
     let old = c.args.self.now in
     ap Some (c.in_ok-add_marks.ensures
-    ∙ ap (λ (marks : List Mark). plus old (counts_by marks)) c.as_slice.ensures
+    ∙ ap (λ (marks : List EntryIndex). plus old (counts_by marks)) c.as_slice.ensures
     ∙ ap (plus old) (counts_are c.args.woven.now.trails c.args.woven.now.marks entries marked))

@@ -19,12 +19,12 @@ returns-clause-each g c =
 
 pub returns-clause-clean : goal.returns-clause-clean
 returns-clause-clean g c = λ first are.
-    let nobody : SeatValue = record { pen = record { log = c.args.self.log.id; lanes = 0; lane = 0; front = []; own = []; pins = [] }; first = first; state = first; kept = None } in
+    let nobody : SeatValue = record { pen = record { log = c.args.self.log.id; lanes = 0; lane = 0; front = []; own = []; pins = [] }; base = first; state = first; tests = []; pending = None } in
     closed_clean (data_of c.args.self.setup) first c.args.self.log.lanes c.args.seats c.close_into.result nobody c.requires.seats are
     (record { all = c.requires.all; order = c.requires.order; each = returns-clause-each g c; rows = c.close_into.ensures.rows.0 })
 
 pub returns-clause-legal : goal.returns-clause-legal
 returns-clause-legal g c = λ first are.
-    let nobody : SeatValue = record { pen = record { log = c.args.self.log.id; lanes = 0; lane = 0; front = []; own = []; pins = [] }; first = first; state = first; kept = None } in
+    let nobody : SeatValue = record { pen = record { log = c.args.self.log.id; lanes = 0; lane = 0; front = []; own = []; pins = [] }; base = first; state = first; tests = []; pending = None } in
     closed_legal (data_of c.args.self.setup) first c.args.self.log.lanes c.args.seats c.close_into.result nobody c.requires.seats are
     (record { all = c.requires.all; order = c.requires.order; each = returns-clause-each g c; rows = c.close_into.ensures.rows.0 })

@@ -5,8 +5,8 @@ use Rattle.std.proofs.lemmas.List.{length-map}
 use Rattle.spin_log.specs.Pens.{PenValue}
 use Rattle.spin_word.specs.declared.command.TheConstants.{MAX_PLACE}
 use Rattle.spin_table.specs.SetupOf.{data_of}
-use Rattle.spin_table.specs.States.{State, start_of}
-use Rattle.spin_table.specs.Soundness.{IsSound}
+use Rattle.spin_table.specs.States.{State, VersionValue, start_of}
+use Rattle.spin_table.specs.Soundness.{IsSoundVersion}
 use Rattle.spin_table.specs.Renewals.{NameGiven}
 use Rattle.spin_table.proofs.Given.{names_stay_given}
 use Rattle.spin_seat.specs.Seats.{SeatValue, IsSeatFrom}
@@ -19,20 +19,20 @@ seats_of-requires-clause-new g c = subst (λ (pens : List PenValue). All (λ (p 
 
 pub seats_of-requires-clause-fits : goal.seats_of-requires-clause-fits
 seats_of-requires-clause-fits g c =
-    let is : arc_value c.in_ok-first.first ≡ start_of (data_of c.args.setup) = c.in_ok-first.ensures.ok ∙ c.in_ok-start.ensures.start in
+    let is : (arc_value c.in_ok-first.first).state ≡ start_of (data_of c.args.setup) = ap (λ (v : VersionValue). v.state) c.in_ok-first.ensures.ok ∙ c.in_ok-start.ensures.start in
     subst (λ (s : State). s.place ≤ MAX_PLACE) (sym is) (omega arith)
 
 pub seats_of-requires-clause-sound : goal.seats_of-requires-clause-sound
-seats_of-requires-clause-sound g c = subst (λ (s : State). IsSound (data_of c.args.setup) s) (sym c.in_ok-first.ensures.ok) c.in_ok-start.ensures.sound
+seats_of-requires-clause-sound g c = subst (IsSoundVersion (data_of c.args.setup)) (sym c.in_ok-first.ensures.ok) c.in_ok-start.ensures.sound
 
 pub seats_of-requires-clause-given : goal.seats_of-requires-clause-given
 seats_of-requires-clause-given g c =
-    let is : arc_value c.in_ok-first.first ≡ start_of (data_of c.args.setup) = c.in_ok-first.ensures.ok ∙ c.in_ok-start.ensures.start in
+    let is : (arc_value c.in_ok-first.first).state ≡ start_of (data_of c.args.setup) = ap (λ (v : VersionValue). v.state) c.in_ok-first.ensures.ok ∙ c.in_ok-start.ensures.start in
     subst NameGiven (sym is) (names_stay_given (data_of c.args.setup)).0
 
 pub returns-clause-seats : goal.returns-clause-seats
 returns-clause-seats g c =
-    let is : arc_value c.in_ok-first.first ≡ start_of (data_of c.args.setup) = c.in_ok-first.ensures.ok ∙ c.in_ok-start.ensures.start in
+    let is : (arc_value c.in_ok-first.first).state ≡ start_of (data_of c.args.setup) = ap (λ (v : VersionValue). v.state) c.in_ok-first.ensures.ok ∙ c.in_ok-start.ensures.start in
     subst (λ (s : State). All (IsSeatFrom (data_of c.args.setup) s) c.in_ok-seats.seats) is c.in_ok-seats.ensures.seats
 
 pub returns-clause-own : goal.returns-clause-own

@@ -26,9 +26,10 @@ returns-in-Ok-clause-all g c =
     let d = data_of c.args.self.now.setup in
     let nobody : SeatValue = record {
       pen = record { log = c.args.self.now.log.id; lanes = 0; lane = 0; front = []; own = []; pins = [] };
-      first = c.requires.all.first;
+      base = c.requires.all.first;
       state = c.requires.all.first;
-      kept = None;
+      tests = [];
+      pending = None;
     } in
     let ready = c.in-Ok.ready in
     let done = c.go_on.result in
@@ -50,9 +51,10 @@ returns-in-Ok-clause-renewed g c = λ first from.
     let know : KnowMore d c.args.seats c.from_vec-seats.result = know_taken d c.args.seats c.as_mut_slice.result.now c.prepare-ready.new.seats c.from_vec-seats.result now same more in
     let nobody : SeatValue = record {
       pen = record { log = c.args.self.now.log.id; lanes = 0; lane = 0; front = []; own = []; pins = [] };
-      first = c.requires.all.first;
+      base = c.requires.all.first;
       state = c.requires.all.first;
-      kept = None;
+      tests = [];
+      pending = None;
     } in
     let all = c.requires.all in
     let some = all.some in
@@ -77,9 +79,10 @@ returns-in-Ok-clause-clean g c = λ first from.
     let know : KnowMore d c.args.seats c.from_vec-seats.result = know_taken d c.args.seats c.as_mut_slice.result.now c.prepare-ready.new.seats c.from_vec-seats.result now same more in
     let nobody : SeatValue = record {
       pen = record { log = c.args.self.now.log.id; lanes = 0; lane = 0; front = []; own = []; pins = [] };
-      first = c.requires.all.first;
+      base = c.requires.all.first;
       state = c.requires.all.first;
-      kept = None;
+      tests = [];
+      pending = None;
     } in
     let all = c.requires.all in
     let rows = c.go_on.result.rows in
@@ -100,9 +103,10 @@ returns-in-Ok-clause-legal g c = λ first from.
     let know : KnowMore d c.args.seats c.from_vec-seats.result = know_taken d c.args.seats c.as_mut_slice.result.now c.prepare-ready.new.seats c.from_vec-seats.result now same more in
     let nobody : SeatValue = record {
       pen = record { log = c.args.self.now.log.id; lanes = 0; lane = 0; front = []; own = []; pins = [] };
-      first = c.requires.all.first;
+      base = c.requires.all.first;
       state = c.requires.all.first;
-      kept = None;
+      tests = [];
+      pending = None;
     } in
     let all = c.requires.all in
     let rows = c.go_on.result.rows in
@@ -178,9 +182,10 @@ returns-in-Ok-clause-key g c = λ first from.
     let d = data_of c.args.self.now.setup in
     let nobody : SeatValue = record {
       pen = record { log = c.args.self.now.log.id; lanes = 0; lane = 0; front = []; own = []; pins = [] };
-      first = c.requires.all.first;
+      base = c.requires.all.first;
       state = c.requires.all.first;
-      kept = None;
+      tests = [];
+      pending = None;
     } in
     let is = c.go_on.ensures in
     let s = renewed (get_or c.prepare-ready.new.seats 0 nobody).state in

@@ -13,10 +13,11 @@ pub returns-clause-seat : goal.returns-clause-seat
 returns-clause-seat g c =
     let is : ◌≡◌ {A = SeatValue} (record {
       pen = c.self.inside.pen;
-      first = arc_value c.self.inside.first;
-      state = arc_value c.self.inside.version;
-      kept = c.self.inside.kept;
+      base = (arc_value c.self.inside.base).state;
+      state = (arc_value c.self.inside.version).state;
+      tests = (arc_value c.self.inside.version).tests;
+      pending = c.self.inside.pending;
     }) c.args.self.now = c.self.view_is in
-    subst (λ (x : PenValue × State). IsSeat (data_of c.args._hub.now.setup) (record { pen = x.0; first = x.1; state = arc_value c.args.after; kept = None })) (λ i. ((sym is i).pen, (sym is i).first))
+    subst (λ (x : PenValue × State). IsSeat (data_of c.args._hub.now.setup) (record { pen = x.0; base = x.1; state = (arc_value c.args.after).state; tests = (arc_value c.args.after).tests; pending = None })) (λ i. ((sym is i).pen, (sym is i).base))
     (applies (data_of c.args._hub.now.setup) c.args.self.now c.args._row.now c.args._c.now verdicted.Accepted
     (arc_value c.args.after) c.requires.seat c.requires.kept c.requires.stands c.requires.step c.requires.sound)

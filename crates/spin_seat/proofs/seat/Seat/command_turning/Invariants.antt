@@ -7,7 +7,7 @@ use Rattle.spin_seat.proofs.seat.Seat.command_turning.Given as goal
 
 abbrev pub invariant-loop-alloc : goal.invariant-loop-alloc
 invariant-loop-alloc g l =
-    ReadsOn l.initial.self.pen l.self.pen × IsSeat (data_of l.hub.setup) l.self × (l.self.first ≡ l.initial.self.first)
+    ReadsOn l.initial.self.pen l.self.pen × IsSeat (data_of l.hub.setup) l.self × (l.self.base ≡ l.initial.self.base)
     × (l.turns + length l.initial.self.pen.front ≤ l.initial.turns + length l.self.pen.front)
 
 abbrev pub decreases-loop-alloc : goal.decreases-loop-alloc

@@ -7,7 +7,7 @@ use Rattle.spin_seat.proofs.seat.Seat.pin.Given as goal
 
 abbrev pub invariant-loop-self : goal.invariant-loop-self
 invariant-loop-self g l =
-    ReadsOn l.initial.self.pen l.self.pen × IsSeat (data_of l.hub.setup) l.self × (l.self.first ≡ l.initial.self.first)
+    ReadsOn l.initial.self.pen l.self.pen × IsSeat (data_of l.hub.setup) l.self × (l.self.base ≡ l.initial.self.base)
     × (l.turns + length l.initial.self.pen.front ≤ l.initial.turns + length l.self.pen.front)
 
 abbrev pub decreases-loop-self : goal.decreases-loop-self

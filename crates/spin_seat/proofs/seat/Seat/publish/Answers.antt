@@ -20,14 +20,15 @@ pub returns-in-Done-clause-seat : goal.returns-in-Done-clause-seat
 returns-in-Done-clause-seat g c =
     let is : ◌≡◌ {A = SeatValue} (record {
       pen = c.self.inside.pen;
-      first = arc_value c.self.inside.first;
-      state = arc_value c.self.inside.version;
-      kept = c.self.inside.kept;
+      base = (arc_value c.self.inside.base).state;
+      state = (arc_value c.self.inside.version).state;
+      tests = (arc_value c.self.inside.version).tests;
+      pending = c.self.inside.pending;
     }) c.args.self.now = c.self.view_is in
-    let none : c.self.inside.kept ≡ None = ap (λ (s : SeatValue). s.kept) is ∙ c.requires.whole in
+    let none : c.self.inside.pending ≡ None = ap (λ (s : SeatValue). s.pending) is ∙ c.requires.whole in
     let pen = c.in-Done.ensures.answer.0 ∙ (ap (λ r. written c.self.inside.pen r) c.pack.ensures.row ∙ ap (λ (s : SeatValue). written s.pen (row_of c.args.c.now)) is) in
     let d = data_of c.args.hub.now.setup in
-    subst (λ (x : State × Option Row). IsSeat d (record { pen = c.publish.new.pen; first = x.0; state = arc_value c.args.next; kept = x.1 })) (λ i. ((sym is i).first, sym none i))
+    subst (λ (x : State × Option Row). IsSeat d (record { pen = c.publish.new.pen; base = x.0; state = (arc_value c.args.next).state; tests = (arc_value c.args.next).tests; pending = x.1 })) (λ i. ((sym is i).base, sym none i))
     (publishes d c.args.self.now c.publish.new.pen c.args.c.now
     (arc_value c.args.next) c.requires.seat c.requires.whole pen (c.requires.valid, refl) c.requires.step c.requires.sound)
 
@@ -37,15 +38,16 @@ returns-in-Done-clause-tries g c =
     let row = row_of c.args.c.now in
     let is : ◌≡◌ {A = SeatValue} (record {
       pen = c.self.inside.pen;
-      first = arc_value c.self.inside.first;
-      state = arc_value c.self.inside.version;
-      kept = c.self.inside.kept;
+      base = (arc_value c.self.inside.base).state;
+      state = (arc_value c.self.inside.version).state;
+      tests = (arc_value c.self.inside.version).tests;
+      pending = c.self.inside.pending;
     }) c.args.self.now = c.self.view_is in
-    let none : c.self.inside.kept ≡ None = ap (λ (s : SeatValue). s.kept) is ∙ c.requires.whole in
+    let none : c.self.inside.pending ≡ None = ap (λ (s : SeatValue). s.pending) is ∙ c.requires.whole in
     let pen : c.publish.new.pen ≡ written c.args.self.now.pen row =
     c.in-Done.ensures.answer.0 ∙ (ap (λ r. written c.self.inside.pen r) c.pack.ensures.row ∙ ap (λ (s : SeatValue). written s.pen row) is) in
-    let first = c.args.self.now.first in
-    let new : SeatValue = record { pen = c.publish.new.pen; first = first; state = arc_value c.args.next; kept = None } in
+    let first = c.args.self.now.base in
+    let new : SeatValue = record { pen = c.publish.new.pen; base = first; state = (arc_value c.args.next).state; tests = (arc_value c.args.next).tests; pending = None } in
     let seat : IsSeat d new =
     publishes d c.args.self.now c.publish.new.pen c.args.c.now (arc_value c.args.next) c.requires.seat c.requires.whole pen (c.requires.valid, refl) c.requires.step c.requires.sound in
     let before : c.place-place.result ≡ place_past first.place (length c.args.self.now.pen.front) = c.place-place.ensures in
@@ -56,7 +58,7 @@ returns-in-Done-clause-tries g c =
     let room = c.requires.room in
     record {
       gives = gives_here d c.args.self.now c.publish.new.pen (verdict_answer c.args.self.now.pen.lane c.args.c.now (c.place-place.result + 1) verdicted.Accepted)
-          (arc_value c.args.next) c.requires.seat c.requires.whole c.requires.step refl place
+          (arc_value c.args.next).state c.requires.seat c.requires.whole c.requires.step refl place
           pen (lane_field c.args.c.now row (c.requires.valid, refl) ∙ c.requires.lane) (whole_applied d new seat refl);
       room = omega (arith, before);
       whole = none;
@@ -64,8 +66,8 @@ returns-in-Done-clause-tries g c =
 
 pub returns-in-Lost-clause-seat : goal.returns-in-Lost-clause-seat
 returns-in-Lost-clause-seat g c =
-    let seat : SeatValue = record { pen = c.self.inside.pen; first = arc_value c.self.inside.first; state = arc_value c.self.inside.version; kept = c.self.inside.kept } in
+    let seat : SeatValue = record { pen = c.self.inside.pen; base = (arc_value c.self.inside.base).state; state = (arc_value c.self.inside.version).state; tests = (arc_value c.self.inside.version).tests; pending = c.self.inside.pending } in
     let is : seat ≡ c.args.self.now = c.self.view_is in
-    let none : seat.kept ≡ None = ap (λ (s : SeatValue). s.kept) is ∙ c.requires.whole in
+    let none : seat.pending ≡ None = ap (λ (s : SeatValue). s.pending) is ∙ c.requires.whole in
     keeps (data_of c.args.hub.now.setup) seat c.publish.new.pen c.in-Lost.other
     (subst (IsSeat (data_of c.args.hub.now.setup)) (sym is) c.requires.seat) none c.in-Lost.ensures.answer.0 c.in-Lost.ensures.answer.1.1

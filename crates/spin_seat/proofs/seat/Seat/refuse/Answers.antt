@@ -13,7 +13,7 @@ pub returns-in-Pinned-clause-tries : goal.returns-in-Pinned-clause-tries
 returns-in-Pinned-clause-tries g c =
     let d = data_of c.args.hub.now.setup in
     let front = ap (λ (p : PenValue). p.front) c.in-Pinned.ensures.look in
-    let first = c.args.self.now.first in
+    let first = c.args.self.now.base in
     let before : c.place-place.result ≡ place_past first.place (length c.args.self.now.pen.front) = c.place-place.ensures in
     let place = before ∙ ap (λ rows. place_past first.place (length rows)) (sym front) in
     let room = c.requires.room in

@@ -3,7 +3,7 @@ use Rattle.std.specs.Prelude.{None}
 use Rattle.std.specs.Arc.{arc_value}
 use Rattle.spin_table.specs.declared.refusal.Verdicted.TheVariants as verdicted
 use Rattle.spin_table.specs.SetupOf.{data_of}
-use Rattle.spin_seat.specs.Seats.{SeatValue, IsSeat}
+use Rattle.spin_seat.specs.Seats.{SeatValue, IsSeat, version_of}
 use Rattle.spin_seat.proofs.SeatInvariants.{applies}
 use Rattle.spin_seat.proofs.seat.Seat.refused.Goals as goal
 
@@ -11,10 +11,11 @@ pub returns-clause-seat : goal.returns-clause-seat
 returns-clause-seat g c =
     let is : ◌≡◌ {A = SeatValue} (record {
       pen = c.self.inside.pen;
-      first = arc_value c.self.inside.first;
-      state = arc_value c.self.inside.version;
-      kept = c.self.inside.kept;
+      base = (arc_value c.self.inside.base).state;
+      state = (arc_value c.self.inside.version).state;
+      tests = (arc_value c.self.inside.version).tests;
+      pending = c.self.inside.pending;
     }) c.args.self.now = c.self.view_is in
-    subst (λ (x : SeatValue). IsSeat (data_of c.args._hub.now.setup) (record { pen = x.pen; first = x.first; state = x.state; kept = None })) (sym is)
+    subst (λ (x : SeatValue). IsSeat (data_of c.args._hub.now.setup) (record { pen = x.pen; base = x.base; state = x.state; tests = x.tests; pending = None })) (sym is)
     (applies (data_of c.args._hub.now.setup) c.args.self.now c.args._row.now c.args._c.now
-    (verdicted.Refused c.args._refusal.now) c.args.self.now.state c.requires.seat c.requires.kept c.requires.stands c.requires.step c.requires.seat.sound)
+    (verdicted.Refused c.args._refusal.now) (version_of c.args.self.now) c.requires.seat c.requires.kept c.requires.stands c.requires.step c.requires.seat.sound)

@@ -5,7 +5,7 @@ use Rattle.std.proofs.lemmas.List.{with_items_is}
 use Rattle.std.proofs.lemmas.Result.{on_ok_weaker}
 use Rattle.spin_endpoint.specs.Sends.{all_retired}
 use Rattle.spin_table.specs.SetupOf.{data_of}
-use Rattle.spin_table.specs.States.{State}
+use Rattle.spin_table.specs.States.{State, VersionValue}
 use Rattle.spin_script.specs.declared.script.Line.{Line}
 use Rattle.spin_script.specs.Soundness.{commands_in}
 use Rattle.spin_report.specs.Segments.{asked_in, wanted_by}
@@ -19,7 +19,7 @@ use Rattle.spin_whole.proofs.segment.Standing.run_segment.Goals as goal
 
 pub answer_lanes-requires-clause-room : goal.answer_lanes-requires-clause-room
 answer_lanes-requires-clause-room g c =
-    let state : state_of c.new-part.result ≡ arc_value c.args.self.now.version = ap (λ v. arc_value v) c.new-part.ensures.version ∙ c.in_ok-try_clone.ensures in
+    let state : state_of c.new-part.result ≡ (arc_value c.args.self.now.version).state = ap (λ (v : VersionValue). v.state) (ap (λ v. arc_value v) c.new-part.ensures.version ∙ c.in_ok-try_clone.ensures) in
     let few = lanes_few c.args.lanes c.as_slice-lines.result.now c.args.self.now.left.now in
     let same : commands_in c.as_slice-lines.result.now ≡ commands_in c.args.segment.now.lines = ap commands_in c.as_slice-lines.ensures in
     omega (arith, ap (λ (s : State). s.place) state, few, same, c.requires.room)
@@ -31,8 +31,8 @@ returns-clause-runs g c = λ names ends are.
     let segment = c.args.segment.now in
     let start = c.new-part.result in
     let part = c.answer_lanes.new.self in
-    let state : state_of start ≡ arc_value old.version = ap (λ v. arc_value v) c.new-part.ensures.version ∙ c.in_ok-try_clone.ensures in
-    let begun : IsBegun (arc_value old.version) start =
+    let state : state_of start ≡ (arc_value old.version).state = ap (λ (v : VersionValue). v.state) (ap (λ v. arc_value v) c.new-part.ensures.version ∙ c.in_ok-try_clone.ensures) in
+    let begun : IsBegun (arc_value old.version).state start =
     record { state = state; text = c.new-part.ensures.text; sends = c.new-part.ensures.sends; owed = c.new-part.ensures.owed; job_sends = c.new-part.ensures.job_sends } in
     let answers = subst (λ (ls : List Line). Answers d (by_lane c.args.lanes (asked_in ls old.left.now)) start part) c.as_slice-lines.ensures c.in_ok-answer_lanes.ensures.answers in
     let retired = c.in_ok-retire_all.ensures names ends (subst (AreFlags names ends) (sym c.as_mut_slice.ensures.value) are) in
@@ -44,7 +44,7 @@ returns-clause-runs g c = λ names ends are.
     subst (AreFlags names (all_retired names c.as_slice.result.now ends)) (sym kept) retired.1 in
     let standing = all_retired names segment.retires ends in
     let flags_now = subst (λ (rs : List ℕ). AreFlags names (all_retired names rs ends) mid.flags.items) c.as_slice.ensures flags in
-    let at = c.place.ensures ∙ ap (λ (s : State). s.place) c.deref.ensures in
+    let at = c.place.ensures ∙ ap (λ (s : VersionValue). s.state.place) c.deref.ensures in
     let left = c.behind-self.ensures ∙ ap (λ (ls : List Line). drop (wanted_by ls) old.left.now) c.as_slice-lines.ensures in
     on_ok_weaker c.take.result
     (λ (takes : TakesPart names standing part mid c.take.new.self).
@@ -57,8 +57,8 @@ returns-clause-good g c =
     let old = c.args.self.now in
     let start = c.new-part.result in
     let part = c.answer_lanes.new.self in
-    let state : state_of start ≡ arc_value old.version = ap (λ v. arc_value v) c.new-part.ensures.version ∙ c.in_ok-try_clone.ensures in
-    let begun : IsBegun (arc_value old.version) start =
+    let state : state_of start ≡ (arc_value old.version).state = ap (λ (v : VersionValue). v.state) (ap (λ v. arc_value v) c.new-part.ensures.version ∙ c.in_ok-try_clone.ensures) in
+    let begun : IsBegun (arc_value old.version).state start =
     record { state = state; text = c.new-part.ensures.text; sends = c.new-part.ensures.sends; owed = c.new-part.ensures.owed; job_sends = c.new-part.ensures.job_sends } in
     let answers = subst (λ (ls : List Line). Answers d (by_lane c.args.lanes (asked_in ls old.left.now)) start part) c.as_slice-lines.ensures c.in_ok-answer_lanes.ensures.answers in
     let flags = with_items old.flags c.retire_all.new.flags in

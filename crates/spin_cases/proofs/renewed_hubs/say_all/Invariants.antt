@@ -1,9 +1,0 @@
-use Rattle.std.proofs.Common.{◌≡◌}
-use Rattle.spin_log.specs.Pens.{IsSamePen}
-use Rattle.spin_table.specs.SetupOf.{data_of}
-use Rattle.spin_seat.specs.Seats.{IsSeat}
-use Rattle.spin_cases.proofs.renewed_hubs.say_all.Given as goal
-
--- it is still that seat of that hub
-abbrev pub invariant-loop-line : goal.invariant-loop-line
-invariant-loop-line g l = IsSamePen l.fn.seat.pen l.seat.pen × (l.seat.first ≡ l.fn.seat.first) × IsSeat (data_of l.hub.setup) l.seat

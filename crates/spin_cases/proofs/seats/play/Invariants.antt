@@ -1,8 +1,0 @@
-use Rattle.spin_log.specs.Pens.{IsSamePen}
-use Rattle.spin_table.specs.SetupOf.{data_of}
-use Rattle.spin_seat.specs.Seats.{IsSeatOf}
-use Rattle.spin_cases.proofs.seats.play.Given as goal
-
--- it is still that seat of that hub
-abbrev pub invariant-loop : goal.invariant-loop
-invariant-loop g l = IsSamePen l.fn.seat.pen l.seat.pen × IsSeatOf (data_of l.hub.setup) l.seat

@@ -1,9 +1,0 @@
-use Rattle.spin_counts.proofs.HistoryCounts.{counts_same}
-use Rattle.spin_counts.proofs.SummaryLemmas.{summaries_same}
-use Rattle.spin_counts.proofs.law.counts_are_one.Goals as goal
-
-pub returns-clause-histories : goal.returns-clause-histories
-returns-clause-histories c = counts_same
-
-pub returns-clause-summaries : goal.returns-clause-summaries
-returns-clause-summaries c = summaries_same

@@ -1,5 +1,0 @@
-use Rattle.spin_grammar.proofs.NumberRanges.{reads_bindings}
-use Rattle.spin_grammar.proofs.leaves.bindings_count.Goals as goal
-
-pub returns-clause-opens : goal.returns-clause-opens
-returns-clause-opens c = reads_bindings c.read_number.result _ _ c.read_number.ensures.reads
