@@ -1,0 +1,5 @@
+pub mod EntryOrder
+pub mod CommandEntries
+pub mod SendOrder
+pub mod RecordRuns
+pub mod FilterRun
