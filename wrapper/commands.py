@@ -47,7 +47,7 @@ WRAPPER = [
             "picture run examples/first.spin examples/first.report"),
     Command("filter", "SCRIPT CAPTURE.. [-e EXPRESSION] [-w FILE] [--script] [--jobs N] [--out FOLDER] [--pcap] [--piece N]"
             " [--part K/N] [--convert] [--counts [--json]]",
-            "runs a script over captures of any length, in pieces side by side",
+            "filters captures of any length by a script, in pieces side by side",
             "filter examples/packets.spin examples/packets.pcap"),
     Command("help", "[COMMAND]", "tells of the commands, or of one", "help run"),
     Command("version", "", "tells what this is, and which program would run", "version"),

@@ -1,17 +1,14 @@
 """`filter -e`: filters captures by an expression of tcpdump's, by way of a script whose guards say what the expression says."""
 
 import argparse
-import os
 import shutil
-import struct
 import sys
 import tempfile
 from collections.abc import Callable, Iterable
 from pathlib import Path
 
-from wrapper import bpf, one_pass
-from wrapper.counts import summary
-from wrapper.pieces import Refused, find_capture
+from wrapper import bpf
+from wrapper.pieces import Refused, find_capture, header_of
 
 PACKETS = 1000
 
@@ -31,8 +28,7 @@ def script(expression: str) -> str:
 def empty_capture(captures: Iterable[str]) -> bytes:
     """A capture without records, as the frames of these would be written."""
     found = [find_capture(name) for name in captures]
-    magic = 0xA1B23C4D if any(it.second == 1_000_000_000 for it in found) else 0xA1B2C3D4
-    return struct.pack("<IHHIIII", magic, 2, 4, 0, 0, max(it.snapped for it in found), 1)
+    return header_of(max(it.second for it in found), max(it.snapped for it in found))
 
 
 def run(options: argparse.Namespace, run_filter: Callable[[argparse.Namespace], list[str]]) -> list[str]:
@@ -48,9 +44,6 @@ def run(options: argparse.Namespace, run_filter: Callable[[argparse.Namespace], 
         options.pcap, target = True, options.write
         if target is None:
             return run_filter(options)
-        lines = in_one_pass(options, target)
-        if lines is not None:
-            return lines
         options.out = Path(f"{target}.pieces")
         lines = run_filter(options)
     if options.part is None:
@@ -61,24 +54,6 @@ def run(options: argparse.Namespace, run_filter: Callable[[argparse.Namespace], 
             target.write_bytes(empty_capture(options.captures))
         shutil.rmtree(options.out)
     return lines
-
-
-def in_one_pass(options: argparse.Namespace, target: Path) -> list[str] | None:
-    """Writes the capture in one pass, and answers the lines to be written; None where that can't be done."""
-    if options.part or options.counts or options.json or not one_pass.is_there():
-        return None
-    captures = [find_capture(name) for name in options.captures]
-    if any(capture.second != 1_000_000 or capture.snapped != one_pass.SNAPPED for capture in captures):
-        return None
-    making = target.with_name(f"{target.name}.part")
-    try:
-        counts = one_pass.run(options.script, captures, making)
-        if counts is None:
-            return None
-        os.replace(making, target)
-    finally:
-        making.unlink(missing_ok=True)
-    return summary(counts, {0: "out0"})
 
 
 def read_words(words: list[str], parser: argparse.ArgumentParser) -> argparse.Namespace:

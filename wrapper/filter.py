@@ -1,4 +1,4 @@
-"""filter: runs a script over captures of any length and number, in pieces side by side, and joins what the pieces leave."""
+"""filter: filters captures of any length and number by a script, in pieces side by side, and joins what the pieces leave."""
 
 import argparse
 import contextlib
@@ -6,31 +6,33 @@ import fcntl
 import hashlib
 import json
 import os
-import queue
 import shutil
 import struct
 import subprocess
 import sys
 import tempfile
-import threading
 import time
 from collections import Counter
-from collections.abc import Iterator
+from collections.abc import Iterator, Mapping
+from concurrent.futures import FIRST_COMPLETED, Future, ThreadPoolExecutor, wait
 from pathlib import Path
-from typing import NoReturn
+from typing import BinaryIO, NoReturn
 
-from wrapper import commands, convert, expression, hits, outputs, reasons, usage
+from wrapper import commands, convert, expression, hits, outputs, program, reasons, usage
 from wrapper.bindings import Bindings
-from wrapper.counts import summary
+from wrapper.counts import read_counts, summary
 from wrapper.keeping import PIECES, Made
-from wrapper.pieces import Piece, Refused, Walk, find_capture
-from wrapper.program import NOT_RUN, TOP, command, tell
+from wrapper.one_pass import DONE, PLAIN_NAMES, Calls, Key, Task
+from wrapper.pieces import HEADER, RECORD_HEADER, Piece, Refused, Walk, find_capture, header_of
+from wrapper.program import FILTER, NOT_RUN, tell
 from wrapper.reading import read_line, read_script
-from wrapper.rounds import InTheWay, read_rounds
-from wrapper.worker import DONE, PLAIN_NAMES, Answer, Key, Task
+from wrapper.rounds import Rounds, in_the_way, read_rounds, without_barriers
 
-PIECE = 32_768
+# Where it isn't said, captures of up to so many bytes are a piece each, and others are cut into pieces of so many records.
+WHOLE, PIECE = 268_435_456, 250_000
 INTERRUPTED = 130
+
+BAD_SCRIPT, UNSUITED = 2, 12
 
 
 class Words(argparse.ArgumentParser):
@@ -64,7 +66,7 @@ def read_words(words: list[str]) -> argparse.Namespace:
     parser.add_argument("--jobs", type=positive, default=len(os.sched_getaffinity(0)))
     parser.add_argument("--out", type=Path, default=Path("filtered"))
     parser.add_argument("--pcap", action="store_true")
-    parser.add_argument("--piece", type=positive, default=PIECE)
+    parser.add_argument("--piece", type=positive)
     parser.add_argument("--part", type=part)
     parser.add_argument("--counts", action="store_true")
     parser.add_argument("--json", action="store_true")
@@ -88,12 +90,11 @@ class Progress:
         """A piece was done by an earlier call."""
         self.left -= piece.end - piece.start
 
-    def add(self, task: Task) -> None:
+    def add(self, piece: Piece, records: int) -> None:
         """A piece is done."""
-        size = task["end"] - task["start"]
-        self.left -= size
-        self.done += size
-        self.records += task["records"]
+        self.pass_over(piece)
+        self.done += piece.end - piece.start
+        self.records += records
         now = time.monotonic()
         if now - self.told >= (1 if self.is_terminal else 10):
             self.told = now
@@ -114,200 +115,184 @@ class Progress:
             print(file=sys.stderr)
 
 
-class Workers:
-    """So many workers, each a process, that run tasks side by side."""
-
-    def __init__(self, jobs: int) -> None:
-        self.tasks: queue.Queue[Task | None] = queue.Queue(1)
-        self.answers: queue.Queue[tuple[Task, Answer]] = queue.Queue()
-        self.is_stopped = False
-        self.threads = [threading.Thread(target=self.work, daemon=True) for _ in range(jobs)]
-        for thread in self.threads:
-            thread.start()
-
-    def work(self) -> None:
-        """Hands tasks to one process, which is begun at the first of them, one after another."""
-        worker = None
-        while task := self.tasks.get():
-            if self.is_stopped:
-                continue
-            try:
-                worker = worker or self.begin()
-                assert worker.stdin and worker.stdout
-                print(json.dumps(task), file=worker.stdin, flush=True)
-                answer: Answer = json.loads(worker.stdout.readline())
-            except (OSError, ValueError) as error:
-                answer = {"status": NOT_RUN, "why": f"a worker didn't do its piece: {error}"}
-            self.answers.put((task, answer))
-        if worker:
-            worker.communicate()
-
-    @staticmethod
-    def begin() -> subprocess.Popen[str]:
-        """Begins a process that does pieces."""
-        flags = ["-ISB" if sys.dont_write_bytecode else "-IS", "-X", f"pycache_prefix={TOP / 'out' / 'python'}"]
-        words = [sys.executable, *flags, str(TOP / "wrapper" / "worker.py")]
-        return subprocess.Popen(words, stdin=subprocess.PIPE, stdout=subprocess.PIPE, text=True)
-
-    def stop(self) -> None:
-        """Ends each worker when its piece is done."""
-        self.is_stopped = True
-        for _ in self.threads:
-            self.tasks.put(None)
-        for thread in self.threads:
-            thread.join()
-
-
 class Filter:
     """One call: its script, its captures, and what is known of their pieces."""
 
     def __init__(self, options: argparse.Namespace) -> None:
-        begin = command()
+        begin = program.command(FILTER)
         if begin is None:
             raise Refused(NOT_RUN, "the program isn't built, and a trial keeps no endpoint's file; build it first")
-        self.options, self.command = options, begin
-        text, self.report = self.read_script()
-        accepted = int(self.report.split()[-1])
+        self.options, self.calls = options, Calls(begin)
+        text = self.read_text()
         self.checksum = hashlib.sha256(text).hexdigest()
-        self.text, self.has_hits = text.decode(), options.counts or options.json
-        try:
-            self.rounds = read_rounds(self.text)
-        except InTheWay as found:
-            raise Refused(2, f"{options.script} can't be run in pieces: {found}") from None
-        self.counts: Counter[str] = Counter(accepted=accepted, refused=self.rounds.commands - accepted)
+        self.rounds, self.given = self.read_rounds(text)
+        self.bindings = self.read_bindings() if options.counts or options.json else None
         self.captures = [find_capture(name) for name in options.captures]
-        self.pieces: list[int] = []  # how many each capture has
         self.folder, self.made = options.out.absolute() / PIECES, Made(options.out)
-        self.second = max(capture.second for capture in self.captures) if options.pcap else None
+        # of the endpoints whose frames are asked for, those that received what is no frame
+        self.plain: set[str] = set()
+        self.pieces: list[int] = []  # how many each capture has
+        self.counts: Counter[str] = Counter()
 
-    def read_script(self) -> tuple[bytes, str]:
-        """The script's text, and the report of a run without a capture, which tells what its commands come to."""
+    def read_text(self) -> bytes:
+        """The script's bytes."""
         name = self.options.script
         try:
-            text = Path(name).read_bytes()
+            return Path(name).read_bytes()
         except FileNotFoundError:
             raise Refused(6, f"there is no script {name}") from None
         except OSError as error:
             raise Refused(4, f"{name} can't be read: {error.strerror}") from None
+
+    def read_rounds(self, text: bytes) -> tuple[Rounds, Counter[str]]:
+        """The script as the program takes it, and what its commands come to."""
+        name, ended = self.options.script, self.calls.over_nothing(text)
+        if ended.lines == [f"stop {UNSUITED} segments"]:
+            text = without_barriers(text.decode()).encode()
+            ended = self.calls.over_nothing(text)
+        if ended.status == BAD_SCRIPT:
+            raise Refused(BAD_SCRIPT, *reasons.of(program.command(), ["run", name], BAD_SCRIPT))
+        if ended.status == UNSUITED:
+            why = in_the_way(text.decode(), ended.lines[0].split()[2:])
+            raise Refused(BAD_SCRIPT, f"{name} is no script for a filter: {why}")
+        if ended.status:
+            raise Refused(ended.status, f"on {name} the program ended with status {ended.status}: {' '.join(ended.lines)}")
+        counts = read_counts(ended.lines)
+        return read_rounds(text.decode()), Counter({it: counts[it] for it in ("accepted", "refused")})
+
+    def read_bindings(self) -> Bindings:
+        """The bindings that the script's commands leave, by the report of a run without a capture."""
+        script = read_script(self.rounds.text)
+        bindings = Bindings(script)
         with tempfile.TemporaryDirectory() as folder:
-            (Path(folder) / "script").write_bytes(text)
-            words = [*self.command, "run", "script"]
-            ran = subprocess.run(words, cwd=folder, stdin=subprocess.DEVNULL, stdout=subprocess.PIPE)
-        if ran.returncode:
-            raise Refused(ran.returncode, *reasons.of(self.command, ["run", name], ran.returncode))
-        return text, ran.stdout.decode()
+            (Path(folder) / "script").write_text(self.rounds.text)
+            ran = program.run(["run", "script"], cwd=folder, stdin=subprocess.DEVNULL, stdout=subprocess.PIPE)
+        for line in map(read_line, ran.stdout.decode().splitlines()):
+            if line.kind == "entry" and line.words[1] == "ok":
+                bindings.take(line.place, script.deeds[line.line].words)
+        return bindings
 
     def key(self, piece: Piece) -> Key:
         """What a finished piece must have been made of, to be kept."""
-        programs = [[word, os.stat(word).st_size, os.stat(word).st_mtime_ns] for word in self.command if os.path.isfile(word)]
+        called = self.calls.command
+        programs = [[word, os.stat(word).st_size, os.stat(word).st_mtime_ns] for word in called if os.path.isfile(word)]
         return {
             "script": self.checksum, "program": programs, "capture": piece.capture.identity(),
-            "range": [piece.start, piece.end, piece.records], "second": self.second, "hits": self.has_hits,
+            "range": [piece.start, piece.end, piece.records], "pcap": self.options.pcap,
         }
 
     def task(self, piece: Piece, folder: Path) -> Task:
-        """What a worker is said of a piece."""
-        return {
-            "folder": str(folder), "key": self.key(piece), "command": self.command,
-            "script": self.rounds.script(piece.records),
-            "names": {str(at): name for at, name in self.rounds.endpoints.items()},
-            "capture": piece.capture.path, "order": piece.capture.order, "captured_second": piece.capture.second,
-            "start": piece.start, "end": piece.end, "records": piece.records, "second": self.second,
-            "hits": self.has_hits,
-        }
+        """What is to be done of a piece."""
+        declared = set(self.rounds.endpoints.values()) & set(PLAIN_NAMES)
+        captured = frozenset(declared - self.plain if self.options.pcap else ())
+        return Task(piece, folder, self.key(piece), self.rounds, captured)
 
-    def folders(self) -> Iterator[Path]:
-        """The folders of all pieces, in the captures' order."""
+    def folders(self) -> Iterator[tuple[int, Path]]:
+        """The folders of all pieces, in the captures' order, each with how many parts of a second its capture counts."""
         for at, pieces in enumerate(self.pieces):
             for number in range(pieces):
-                yield self.folder / f"{at + 1}-{number + 1}"
+                yield self.captures[at].second, self.folder / f"{at + 1}-{number + 1}"
 
     def cut(self) -> Iterator[tuple[Piece, Path]]:
         """The pieces of all captures, each with its folder; those of another part are left out."""
-        most, which = self.rounds.most(self.options.piece), 0
+        which, (part, parts) = 0, self.options.part or (1, 1)
+        self.pieces = []
         for at, capture in enumerate(self.captures):
-            walk = Walk(capture)
             self.pieces.append(0)
-            for piece in walk.pieces(most):
+            for piece in self.pieces_of(Walk(capture)):
                 self.pieces[at] += 1
                 which += 1
-                if not self.options.part or which % self.options.part[1] == self.options.part[0] % self.options.part[1]:
+                if which % parts == part % parts:
                     yield piece, self.folder / f"{at + 1}-{self.pieces[at]}"
-            self.counts.update({"captures": 1, "records": walk.records, "cut": capture.size - walk.end})
 
-    def kept(self, piece: Piece, folder: Path) -> dict[str, int] | None:
+    def pieces_of(self, walk: Walk) -> Iterator[Piece]:
+        """The pieces of a capture: one, where that has too few bytes for two, and else whole rounds."""
+        most, capture = self.options.piece, walk.capture
+        if capture.size <= (HEADER + RECORD_HEADER * most if most else WHOLE):
+            yield Piece(capture, HEADER, capture.size, None)
+            return
+        rounds = max(1, (most or PIECE) // self.rounds.step)
+        yield from walk.pieces(rounds * self.rounds.step)
+        self.counts["cut"] += capture.size - walk.end
+
+    def kept(self, task: Task) -> dict[str, int] | None:
         """The counts of a piece that an earlier call finished; None where it has to be done, also if it is stale."""
         with contextlib.suppress(FileNotFoundError, ValueError):
-            done = json.loads((folder / DONE).read_text())
-            if done["key"] == json.loads(json.dumps(self.key(piece))):
+            done = json.loads((task.folder / DONE).read_text())
+            is_stale = any((task.folder / f"{name}.pcap").exists() for name in self.plain)
+            if done["key"] == json.loads(json.dumps(task.key)) and not is_stale:
                 counts: dict[str, int] = done["counts"]
                 return counts
-        shutil.rmtree(folder, ignore_errors=True)
+        shutil.rmtree(task.folder, ignore_errors=True)
         return None
 
     def run_pieces(self) -> None:
         """Runs each piece that isn't kept, side by side."""
+        self.counts = Counter(captures=len(self.captures)) + self.given
         progress = Progress(sum(capture.size for capture in self.captures))
-        workers, under_way = Workers(self.options.jobs), 0
-        try:
-            for piece, folder in self.cut():
-                found = self.kept(piece, folder)
-                if found is not None:
-                    self.counts.update(found)
-                    progress.pass_over(piece)
-                    continue
-                workers.tasks.put(self.task(piece, folder))
-                under_way += 1
-                while not workers.answers.empty():
-                    self.take(*workers.answers.get(), progress)
-                    under_way -= 1
-            for _ in range(under_way):
-                self.take(*workers.answers.get(), progress)
-        finally:
-            progress.end()
-            workers.stop()
+        under_way: dict[Future[Mapping[str, int]], Task] = {}
+        with ThreadPoolExecutor(self.options.jobs) as pool:
+            try:
+                for task in (self.task(*cut) for cut in self.cut()):
+                    found = self.kept(task)
+                    if found is not None:
+                        self.take(task, found)
+                        progress.pass_over(task.piece)
+                        continue
+                    under_way[pool.submit(task.run, self.calls)] = task
+                    if len(under_way) > self.options.jobs:
+                        self.take_done(under_way, progress)
+                while under_way:
+                    self.take_done(under_way, progress)
+            except BaseException:
+                self.calls.stop()
+                raise
+            finally:
+                progress.end()
 
-    def take(self, task: Task, answer: Answer, progress: Progress) -> None:
-        """Takes what a worker answers to a task."""
-        if "why" in answer:
-            raise Refused(answer["status"], answer["why"])
-        self.counts.update(answer["counts"])
-        progress.add(task)
+    def take_done(self, under_way: dict[Future[Mapping[str, int]], Task], progress: Progress) -> None:
+        """Waits for a piece, and takes what is done."""
+        for one in wait(under_way, return_when=FIRST_COMPLETED).done:
+            task, counts = under_way.pop(one), one.result()
+            self.take(task, counts)
+            progress.add(task.piece, counts["records"])
+
+    def take(self, task: Task, counts: Mapping[str, int]) -> None:
+        """Takes what a piece left."""
+        self.counts.update({name: count for name, count in counts.items() if name not in self.given})
+        if self.options.pcap:
+            self.plain.update(name for name in PLAIN_NAMES if (task.folder / f"{name}.bin").exists())
 
     def join(self) -> None:
         """Joins what the endpoints received in the pieces, in the captures' order."""
         for capture in self.captures:
             if find_capture(capture.name) != capture:
                 raise Refused(4, f"{capture.name} changed while it was read")
-        for name in (*PLAIN_NAMES, "echo"):
-            found = [folder for folder in self.folders() if (folder / f"{name}.bin").exists()]
-            is_pcap = self.options.pcap and all((folder / f"{name}.pcap").exists() for folder in found)
-            if self.options.pcap and not is_pcap and name in PLAIN_NAMES:
+        for name in PLAIN_NAMES:
+            if name in self.plain:
                 tell(f"not all that {name} received is a frame of the capture, so it stands in {name}.bin")
-            for suffix, is_wanted in (("pcap", is_pcap), ("bin", not is_pcap)):
-                self.join_files(f"{name}.{suffix}", found if is_wanted else [])
+            self.join_files(f"{name}.pcap")
+        for name in outputs.NAMES:
+            self.join_files(f"{name}.bin")
         shutil.rmtree(self.folder, ignore_errors=True)
         self.made.end()
 
-    def join_files(self, name: str, folders: list[Path]) -> None:
-        """Writes the files of that name in the folders as one; without folders there is none."""
-        whole = self.folder / name
-        if not folders:
+    def join_files(self, name: str) -> None:
+        """Writes the files of that name in the pieces' folders as one; where there are none, there is none."""
+        found = [(second, folder / name) for second, folder in self.folders() if (folder / name).exists()]
+        if not found:
             self.made.take_away(name)
             return
+        whole, second = self.folder / name, max(capture.second for capture in self.captures)
         with open(whole, "wb") as out:
             if name.endswith(".pcap"):
-                out.write(self.header())
-            for folder in folders:
-                with open(folder / name, "rb") as file:
+                out.write(header_of(second, max(capture.snapped for capture in self.captures)))
+            for its_second, piece in found:
+                with open(piece, "rb") as file:
+                    if name.endswith(".pcap"):
+                        copy_scaled(file, out, second // its_second)
                     shutil.copyfileobj(file, out)
         self.made.put(whole, name)
-
-    def header(self) -> bytes:
-        """The header of a capture of frames that were received."""
-        magic = 0xA1B23C4D if self.second == 1_000_000_000 else 0xA1B2C3D4
-        snapped = max(capture.snapped for capture in self.captures)
-        return struct.pack("<IHHIIII", magic, 2, 4, 0, 0, snapped, 1)
 
     def run(self) -> list[str]:
         """Runs the pieces and, if not only a part of them is asked for, joins them; the lines to be written."""
@@ -317,26 +302,34 @@ class Filter:
                 fcntl.flock(lock, (fcntl.LOCK_SH if self.options.part else fcntl.LOCK_EX) | fcntl.LOCK_NB)
             except BlockingIOError:
                 raise Refused(NOT_RUN, f"another call works in {self.options.out}") from None
-            self.made.begin(f"{name}.{suffix}" for name in (*PLAIN_NAMES, "echo") for suffix in ("bin", "pcap"))
+            self.made.begin([*(f"{name}.bin" for name in outputs.NAMES), *(f"{name}.pcap" for name in PLAIN_NAMES)])
             self.folder.mkdir(exist_ok=True)
             self.run_pieces()
             if self.options.part:
                 return []
+            while any((folder / f"{name}.pcap").exists() for name in self.plain for _, folder in self.folders()):
+                self.run_pieces()
             self.join()
             outputs.tell_lost(["run", self.options.script])
             return self.told()
 
     def told(self) -> list[str]:
         """The lines that tell the counts: of packets alone, or of all that is counted, as a table or as JSON."""
-        if not self.has_hits:
+        if self.bindings is None:
             return summary(self.counts, self.rounds.endpoints)
-        script, bindings = read_script(self.text), Bindings(read_script(self.text))
-        for line in map(read_line, self.report.splitlines()):
-            if line.kind == "entry" and line.words[1] == "ok":
-                bindings.take(line.place, script.deeds[line.line].words)
-        hits.add_guards(bindings, self.counts)
-        told: hits.Told = {"captures": self.counts["captures"], **hits.found(script, bindings, self.counts)}
+        script = self.bindings.script
+        hits.add_lets(self.bindings, self.counts)
+        told: hits.Told = {"captures": self.counts["captures"], **hits.found(script, self.bindings, self.counts)}
         return (hits.as_json(told) if self.options.json else hits.as_table(script, told)).splitlines()
+
+
+def copy_scaled(file: BinaryIO, out: BinaryIO, scale: int) -> None:
+    """Passes the header of a capture, and copies its records where each part of a second is several of those that are written."""
+    file.seek(HEADER)
+    fields = struct.Struct("<IIII")
+    while scale > 1 and (header := file.read(RECORD_HEADER)):
+        seconds, parts, captured, original = fields.unpack(header)
+        out.write(fields.pack(seconds, parts * scale % 2**32, captured, original) + file.read(captured))
 
 
 def main(words: list[str]) -> int:

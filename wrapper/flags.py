@@ -37,7 +37,7 @@ FLAGS = {
         ("--jobs N", "so many pieces side by side; else as many as there are processors"),
         ("--out FOLDER", "where the endpoints' files are written; else filtered"),
         ("--pcap", "frames that endpoints received are written as captures"),
-        ("--piece N", "a piece has at most N records; else 32,768"),
+        ("--piece N", "a piece has at most N records; else captures up to 256 MiB are one each, others cut at 250,000"),
         ("--part K/N", "every Nth piece alone, from the Kth on, and nothing is joined"),
         ("--convert", "as under run"),
         ("--counts", "as under run, in the place of the counts of packets"),

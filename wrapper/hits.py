@@ -1,6 +1,6 @@
 """How often bindings and guards were hit, how raises were answered, what was dropped, and what endpoints were sent.
 
-The counts of a run are taken from its report, line by line; those of `filter` by its workers. Either way they come as a
+The counts of a run are taken from its report, line by line; those of `filter` are its program's. Either way they come as a
 table or as JSON. A guard's count is how often a binding that it guards was let run. Nothing is proved of them.
 """
 
@@ -76,13 +76,14 @@ def hits_of(script: Script, lines: Iterable[Line]) -> Told:
     return found(script, hits.bindings, hits.counts)
 
 
-def add_guards(bindings: Bindings, counts: Counter[str]) -> None:
-    """Adds the hits of guards to the counts of bindings that didn't change meanwhile."""
+def add_lets(bindings: Bindings, counts: Counter[str]) -> None:
+    """Adds to the counts of bindings that didn't change meanwhile what hangs on how often their guards let them run."""
     for number, past in bindings.past.items():
         one = past[-1][1]
-        name = f"{one.event} {number}"
-        hits = counts[f"run {name}"] + counts[f"left {name}"] - counts[f"again {name}"]
-        counts.update({f"guard {guard}": hits for guard in one.guards})
+        lets = counts[f"let {one.event} {number}"]
+        counts.update({f"guard {guard}": lets for guard in one.guards})
+        if one.mode == "async":
+            counts[f"left {one.event} {number}"] = lets
 
 
 def of_binding(one: Binding, counts: Counter[str]) -> dict[str, int | list[int]]:

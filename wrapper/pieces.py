@@ -19,7 +19,8 @@ LONGEST = 262_144
 BLOCK = 4_194_304
 
 # The numbers that a capture may begin with, and how many parts of a second its records then count.
-MAGICS = {0xA1B2C3D4: 1_000_000, 0xA1B23C4D: 1_000_000_000}
+MICROSECONDS, NANOSECONDS = 1_000_000, 1_000_000_000
+MAGICS = {0xA1B2C3D4: MICROSECONDS, 0xA1B23C4D: NANOSECONDS}
 
 
 class Refused(Exception):
@@ -48,12 +49,23 @@ class Capture(NamedTuple):
 
 
 class Piece(NamedTuple):
-    """So many records of a capture, from one place of its file up to another."""
+    """So many records of a capture, from one place of its file up to another; None where they weren't counted."""
 
     capture: Capture
     start: int
     end: int
-    records: int
+    records: int | None
+
+    @property
+    def is_whole(self) -> bool:
+        """Whether it is the whole capture."""
+        return self.start == HEADER and self.end == self.capture.size
+
+
+def header_of(second: int, snapped: int) -> bytes:
+    """The header of a capture whose records count so many parts of a second, and have at most so many bytes of a frame."""
+    magic = next(magic for magic, parts in MAGICS.items() if parts == second)
+    return struct.pack("<IHHIIII", magic, 2, 4, 0, 0, snapped, 1)
 
 
 def order_of(header: bytes) -> str | None:
@@ -131,12 +143,3 @@ class Walk:
         self.end += at
         self.records += count
         return count
-
-
-def places(file: FileIO, order: str, at: int, count: int) -> Iterator[tuple[int, int]]:
-    """Where so many records of a capture stand from a place on, each with its captured length."""
-    length_of = struct.Struct(f"{order}8xI4x").unpack
-    for _ in range(count):
-        (length,) = length_of(os.pread(file.fileno(), RECORD_HEADER, at))
-        yield at, length
-        at += RECORD_HEADER + length

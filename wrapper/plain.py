@@ -1,4 +1,4 @@
-"""The plain program: the sources as ordinary Rust, as tools/plain writes them, built by cargo. Nothing of it is proved.
+"""The plain programs: the sources as ordinary Rust, as tools/plain writes them, built by cargo. Nothing of them is proved.
 
 Where there is rustc and no cargo, rustc builds all crates one after another, each time anew.
 
@@ -13,7 +13,7 @@ from collections.abc import Iterator
 from pathlib import Path
 from types import ModuleType
 
-from wrapper.program import NOT_RUN, TOP, crates_listed, stands_on, tell
+from wrapper.program import CRATE, NOT_RUN, PROGRAMS, TOP, crates_listed, stands_on, tell
 
 TOOL = TOP / "tools" / "plain"
 OUT = TOP / "out" / "plain"
@@ -22,12 +22,12 @@ KEPT = 3
 # A host in ordinary Rust, over the sources as `write_sources` leaves them.
 HOST = TOP / "examples" / "plain_host"
 
-# What the files are called from which the plain program is made.
+# What the files are called from which the plain programs are made.
 SUFFIXES = (".rt", ".rs", ".toml", ".py")
 
 
 def inputs() -> list[str | Path]:
-    """The files from which the plain program is made, in a fixed order."""
+    """The files from which the plain programs are made, in a fixed order."""
     folders = [TOOL, *(TOP / "crates" / name / "src" for name in stands_on(crates_listed()))]
     found = [(at, name) for folder in folders for at, _, names in os.walk(folder) for name in names]
     ours = [os.path.join(*it) for it in found if it[1].endswith(SUFFIXES) and not it[1].startswith(".")]
@@ -46,16 +46,16 @@ def checksum() -> str:
     return summed.hexdigest()[:16]
 
 
-def program() -> Path | None:
-    """The file of the plain program, which is built where it isn't there; None where it can't be built on this machine."""
-    file = OUT / checksum() / "spin_main"
+def program(name: str = CRATE.name) -> Path | None:
+    """The file of a plain program, which is built where it isn't there; None where it can't be built on this machine."""
+    file = OUT / checksum() / name
     if os.access(file, os.X_OK):
         return file
     if not builder():
         return None
     try:
         with locked():
-            return build()
+            return build() / name
     except OSError as fault:
         tell(f"the plain program can't be built: {fault.filename or OUT}: {fault.strerror}")
         return None
@@ -84,20 +84,20 @@ def locked() -> Iterator[None]:
 
 
 def build() -> Path:
-    """Builds the plain program, unless another build has just done so, and answers its file."""
+    """Builds the plain programs, unless another build has just done so, and answers their folder."""
     told = False
     while True:
         key = checksum()
-        file = OUT / key / "spin_main"
-        if os.access(file, os.X_OK):
-            return file
+        folder = OUT / key
+        if all(os.access(folder / name, os.X_OK) for name in PROGRAMS):
+            return folder
         if not told:
-            tell(f"nothing is built: {builder()} builds the plain program, which takes some ten seconds")
+            tell(f"{builder()} builds the plain programs, which takes some ten seconds")
             told = True
         erase = write_sources()
         built = by_cargo() if builder() == "cargo" else by_rustc(erase)
         if checksum() == key:
-            keep(built, file)
+            keep(built, folder)
 
 
 def write_sources() -> ModuleType:
@@ -114,10 +114,10 @@ def write_sources() -> ModuleType:
 
 
 def by_cargo() -> Path:
-    """Has cargo build the program, and answers where it lies."""
-    words = ["--quiet", "--offline", "--target-dir", str(OUT / "target"), "--package", "spin_main"]
-    call(["cargo", "build", *words])
-    return OUT / "target" / "debug" / "spin_main"
+    """Has cargo build the programs, and answers where they lie."""
+    words = ["--quiet", "--offline", "--target-dir", str(OUT / "target")]
+    call(["cargo", "build", *words, *(f"--package={name}" for name in PROGRAMS)])
+    return OUT / "target" / "debug"
 
 
 def host() -> Path:
@@ -147,12 +147,12 @@ def library_for_c(sanitiser: str | None = None) -> Path:
 
 
 def by_rustc(erase: ModuleType) -> Path:
-    """Has rustc build the program, and answers where it lies."""
+    """Has rustc build the programs, and answers where they lie."""
     target = OUT / "target" / "rustc"
     target.mkdir(parents=True, exist_ok=True)
     for words in erase.calls_of_rustc(OUT / "work", target):
         call(words)
-    return target / "spin_main"
+    return target
 
 
 def call(words: list[str], **variables: str) -> None:
@@ -168,16 +168,18 @@ def call(words: list[str], **variables: str) -> None:
         sys.exit(NOT_RUN)
 
 
-def keep(built: Path, file: Path) -> None:
-    """Puts what was built under its name, whole or not at all, and drops all but the latest few."""
+def keep(built: Path, folder: Path) -> None:
+    """Puts what was built under the name of a folder, whole or not at all, and drops all but the latest few."""
     import shutil
 
     making = OUT / "making"
-    shutil.rmtree(making, ignore_errors=True)
+    for old in (making, folder):
+        shutil.rmtree(old, ignore_errors=True)
     making.mkdir()
-    shutil.copy2(built, making / file.name)
-    os.rename(making, file.parent)
-    os.utime(file.parent)
+    for name in PROGRAMS:
+        shutil.copy2(built / name, making / name)
+    os.rename(making, folder)
+    os.utime(folder)
     others = sorted(OUT.glob("[0-9a-f]" * 16), key=lambda it: it.stat().st_mtime)
     for old in others[:-KEPT]:
         shutil.rmtree(old, ignore_errors=True)

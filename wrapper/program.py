@@ -18,10 +18,11 @@ CRATE = TOP / "crates" / "spin_main"
 PROGRAM = CRATE / "out" / "spin_main"
 
 # The crates of the programs that a build makes.
-PROGRAMS = (CRATE.name, "spinfilter")
+FILTER = "spinfilter"
+PROGRAMS = (CRATE.name, FILTER)
 NOT_RUN = 126
 
-# Where this is installed there are no sources, and the program lies beside the wrapper.
+# Where this is installed there are no sources, and the programs lie beside the wrapper, that of the filter by its name.
 INSTALLED = TOP / "program"
 NAME, CALLED = ("codzvregi", "codzvregi") if INSTALLED.is_file() else ("spin", "./spin")
 
@@ -68,7 +69,7 @@ def crates_listed() -> Crates:
     return listed
 
 
-def stands_on(crates: Crates, tops: Iterable[str] = ("spin_main",)) -> list[str]:
+def stands_on(crates: Crates, tops: Iterable[str] = PROGRAMS) -> list[str]:
     """The names of the crates that these stand on, and their own, lowest first."""
     wanted = set(tops)
     for name in reversed(list(crates)):
@@ -102,21 +103,21 @@ def is_built(name: str = CRATE.name) -> bool:
     return all(os.stat(it).st_mtime <= since for crate in stands_on(crates_listed(), (name,)) for it in sources(crate))
 
 
-def command() -> list[str] | None:
-    """The words that begin the command line of the program to run; None where only a trial is left.
+def command(name: str = CRATE.name) -> list[str] | None:
+    """The words that begin the command line of the program of this crate; None where only a trial is left.
 
     It is the one that is installed with this, or the proved program where that is built, else the plain one, which is
     built first if need be. Where the sources can't be built the process ends, with a clear line.
     """
     if INSTALLED.is_file():
-        return [str(INSTALLED)]
-    if is_built():
-        return [str(PROGRAM)]
+        return [str(INSTALLED if name == CRATE.name else TOP / name)]
+    if is_built(name):
+        return [str(place_of(name))]
     if "no plain program" in told:
         return None
     from wrapper import plain
 
-    file = plain.program()
+    file = plain.program(name)
     if file is None:
         told.add("no plain program")
         return None

@@ -8,6 +8,7 @@ import unittest
 from pathlib import Path
 
 from wrapper import build
+from wrapper.program import PROGRAMS
 from wrapper.tests import TOP, make_repository, stand_in
 
 sys.path.insert(0, str(TOP / "tools" / "plain"))
@@ -19,8 +20,10 @@ if [ -n "$FAILS" ]; then echo "error at crates/spin_main/src/main.rs:3" >&2; exi
 sleep "${SLEEP:-0}"
 while [ "$1" != --target-dir ]; do shift; done
 mkdir -p "$2/debug"
-printf '#!/bin/sh\\necho "the program on $*"\\n' > "$2/debug/spin_main"
-chmod +x "$2/debug/spin_main"
+for name in spin_main spinfilter; do
+  printf '#!/bin/sh\\necho "the program on $*"\\n' > "$2/debug/$name"
+  chmod +x "$2/debug/$name"
+done
 """
 
 RUSTC = """#!/bin/sh
@@ -107,7 +110,7 @@ class Plain(unittest.TestCase):
     def setUp(self) -> None:
         self.top = Path(tempfile.mkdtemp())
         self.addCleanup(shutil.rmtree, self.top)
-        crates: dict[str, list[str]] = {name: [] for name in ("spin_main", *build.HOSTS)}
+        crates: dict[str, list[str]] = {name: [] for name in (*PROGRAMS, *build.HOSTS)}
         make_repository(self.top, crates)
         stand_in(self.top, "cargo", CARGO, "sh", "env", "python3", "dirname", "mkdir", "chmod", "sleep")
 
@@ -154,7 +157,7 @@ class Plain(unittest.TestCase):
         (self.top / "bin" / "rustc").write_text(RUSTC)
         (self.top / "bin" / "rustc").chmod(0o755)
         self.assertEqual(self.spin()[:2], (0, "the program on run x\n"))
-        self.assertEqual((self.top / "journal").read_text(), "rustc libplain_std.rlib\nrustc spin_main\n")
+        self.assertEqual((self.top / "journal").read_text(), "rustc libplain_std.rlib\nrustc spin_main\nrustc spinfilter\n")
 
     def test_two_builds_wait_for_each_other(self) -> None:
         first = self.begin(SLEEP="2")
