@@ -39,3 +39,4 @@ pub mod SegmentRuns
 pub mod CaptureBytes
 pub mod Told
 pub mod FaultCounts
+pub mod HeldReferences

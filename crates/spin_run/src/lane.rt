@@ -4,7 +4,6 @@ ghost use Rattle.std.specs.Prelude.{◌≡◌, ◌+◌, ◌<◌, ◌≤◌, List
 ghost use Rattle.spin_word.specs.Commands.{is_command};
 ghost use Rattle.spin_values.specs.declared.values.Value.TheVariants as value;
 ghost use Rattle.spin_word.specs.declared.work.Work.TheVariants as work;
-ghost use Rattle.spin_word.specs.declared.work.Deed.TheVariants as deed;
 ghost use Rattle.spin_table.specs.SetupOf.{data_of};
 ghost use Rattle.spin_seat.specs.Seats.{IsSeat};
 ghost use Rattle.spin_script.specs.Soundness.{IsValidWork};
@@ -47,6 +46,14 @@ pub struct Lane {
     pub entries: Option<Entries>,
 }
 
+// What a lane does its deeds by: its memory, the hub of its seat, and the gate that it passes before each.
+#[derive(Drop)]
+struct Answering<'a, G> {
+    alloc: Global,
+    hub: &'a Hub,
+    gate: &'a G,
+}
+
 // A deed, and what it came to, which the buffer has.
 fn answered<'a>(deed: &'a Deed, buffer: &'a ReplyBuffer) -> WhatView<'a>
     ensures { result ≡ what.Deed deed.now buffer.now }
@@ -70,6 +77,13 @@ fn refilled(alloc: Global, args: Args, frame: &[u8]) -> Result<Args, NoMemory>
     bytes.extend_from_slice(frame)?;
     args.push(Value::Bytes(bytes))?;
     Ok(args)
+}
+
+// The arguments of a deed that is done.
+fn args_of(deed: Deed) -> Args {
+    match deed {
+        Deed::Raise { args, .. } | Deed::Later { args, .. } => args,
+    }
 }
 
 impl Lane {
@@ -139,13 +153,14 @@ impl Lane {
             let own = asked_of_lane self.old.seat.pen.lane asked in
             Comes (data_of hub.now.setup) own self.old result self.new }
     {
+        let by = Answering { alloc, hub, gate };
         let mut buffer = ReplyBuffer::new(alloc);
         let mut left = frames.as_slice();
         for line in segment.lines.as_slice() {
             let (records, others) = split_records(&line.work, left);
             left = others;
             if line.lane == self.seat.lane() {
-                self.answer_line(alloc, hub, line, records, gate, &mut buffer)?;
+                self.answer_line(&by, line, records, &mut buffer)?;
             }
         }
         Ok(())
@@ -154,37 +169,27 @@ impl Lane {
     // Does the deeds of a line, whose records these are.
     fn answer_line<G: Gate>(
         &mut self,
-        alloc: Global,
-        hub: &Hub,
+        by: &Answering<G>,
         line: &Line,
         records: &[Octets],
-        gate: &G,
         buffer: &mut ReplyBuffer,
     ) -> Result<(), SeatFault>
-        requires sincere { ⟦<Catalogue as Sincere>⟧.sincere hub.now.setup.catalogue }
-        requires log { self.old.seat.pen.log ≡ hub.now.log.id }
-        requires seat { IsSeat (data_of hub.now.setup) self.old.seat }
+        requires sincere { ⟦<Catalogue as Sincere>⟧.sincere by.now.hub.now.setup.catalogue }
+        requires log { self.old.seat.pen.log ≡ by.now.hub.now.log.id }
+        requires seat { IsSeat (data_of by.now.hub.now.setup) self.old.seat }
         requires lane { line.now.lane ≡ self.old.seat.pen.lane }
         requires own { IsOfLane line.now.lane line.now.work }
         requires valid { IsValidWork line.now.work }
         requires few { length self.old.trail.marks + length (asked_at line.now records.now) ≤ MAX_DEEDS }
-        ensures stays { Stays (data_of hub.now.setup) self.old self.new }
+        ensures stays { Stays (data_of by.now.hub.now.setup) self.old self.new }
         ensures comes { let asked = asked_at line.now records.now in
-            Comes (data_of hub.now.setup) asked self.old result self.new }
+            Comes (data_of by.now.hub.now.setup) asked self.old result self.new }
     {
         match &line.work {
-            Work::Command(command) => self.answer_command(alloc, hub, line.number, command, gate),
-            Work::Deed(deed) => Ok(self.answer_deed(
-                alloc,
-                hub,
-                line.number,
-                0,
-                deed,
-                gate,
-                buffer,
-            )?),
+            Work::Command(command) => self.answer_command(by, line.number, command),
+            Work::Deed(deed) => Ok(self.answer_deed(by, line.number, 0, deed, buffer)?),
             Work::Packet { event, .. } => {
-                Ok(self.answer_packets(alloc, hub, line.number, *event, records, gate, buffer)?)
+                Ok(self.answer_packets(by, line.number, *event, records, buffer)?)
             }
         }
     }
@@ -192,26 +197,24 @@ impl Lane {
     // Gives a command.
     fn answer_command<G: Gate>(
         &mut self,
-        alloc: Global,
-        hub: &Hub,
+        by: &Answering<G>,
         line: u32,
         command: &Command,
-        gate: &G,
     ) -> Result<(), SeatFault>
-        requires sincere { ⟦<Catalogue as Sincere>⟧.sincere hub.now.setup.catalogue }
-        requires log { self.old.seat.pen.log ≡ hub.now.log.id }
-        requires seat { IsSeat (data_of hub.now.setup) self.old.seat }
+        requires sincere { ⟦<Catalogue as Sincere>⟧.sincere by.now.hub.now.setup.catalogue }
+        requires log { self.old.seat.pen.log ≡ by.now.hub.now.log.id }
+        requires seat { IsSeat (data_of by.now.hub.now.setup) self.old.seat }
         requires valid { IsTrue (is_command command.now) }
         requires lane { command.now.lane ≡ self.old.seat.pen.lane }
         requires few { length self.old.trail.marks < MAX_DEEDS }
-        ensures stays { Stays (data_of hub.now.setup) self.old self.new }
-        ensures comes { let d = data_of hub.now.setup in
+        ensures stays { Stays (data_of by.now.hub.now.setup) self.old self.new }
+        ensures comes { let d = data_of by.now.hub.now.setup in
             let asked = asked_alone self.old.seat.pen.lane line 0 (work.Command command.now) in
             Comes d asked self.old result self.new }
     {
         let lane = self.seat.lane();
-        gate.pass(lane, self.trail.marks.len() as u32);
-        let Judged { place, verdict } = self.seat.command(alloc, hub, command)?;
+        by.gate.pass(lane, self.trail.marks.len() as u32);
+        let Judged { place, verdict } = self.seat.command(by.alloc, by.hub, command)?;
         let lent = LentWhat::Command(command, &verdict);
         let what = WhatView { lent };
         let entry = EntryView {
@@ -221,7 +224,7 @@ impl Lane {
             part: 0,
             what,
         };
-        keep(alloc, &mut self.entries, &entry)?;
+        keep(by.alloc, &mut self.entries, &entry)?;
         self.trail.add(&entry)?;
         Ok(())
     }
@@ -229,87 +232,57 @@ impl Lane {
     // Raises an event with each of these records.
     fn answer_packets<G: Gate>(
         &mut self,
-        alloc: Global,
-        hub: &Hub,
+        by: &Answering<G>,
         line: u32,
         event: u8,
         records: &[Octets],
-        gate: &G,
         buffer: &mut ReplyBuffer,
     ) -> Result<(), NoMemory>
-        requires sincere { ⟦<Catalogue as Sincere>⟧.sincere hub.now.setup.catalogue }
-        requires log { self.old.seat.pen.log ≡ hub.now.log.id }
-        requires seat { IsSeat (data_of hub.now.setup) self.old.seat }
+        requires sincere { ⟦<Catalogue as Sincere>⟧.sincere by.now.hub.now.setup.catalogue }
+        requires log { self.old.seat.pen.log ≡ by.now.hub.now.log.id }
+        requires seat { IsSeat (data_of by.now.hub.now.setup) self.old.seat }
         requires few { length self.old.trail.marks + length records.now ≤ MAX_DEEDS }
-        ensures stays { Stays (data_of hub.now.setup) self.old self.new }
-        ensures ok { let d = data_of hub.now.setup in
+        ensures stays { Stays (data_of by.now.hub.now.setup) self.old self.new }
+        ensures ok { let d = data_of by.now.hub.now.setup in
             let asked = asked_packets self.old.seat.pen.lane line event 1 records.now in
             OnOk result (Answers d asked self.old self.new) }
-        ensures err { let d = data_of hub.now.setup in
+        ensures err { let d = data_of by.now.hub.now.setup in
             let asked = asked_packets self.old.seat.pen.lane line event 1 records.now in
             OnErr result (EndsShort d asked self.old self.new) }
     {
         let mut part = 0;
-        let mut room = Args::new(alloc);
+        let mut room = Args::new(by.alloc);
         for frame in records {
             part += 1;
-            let args = refilled(alloc, room, frame)?;
-            room = self.answer_raise(alloc, hub, line, part, event, args, gate, buffer)?;
+            let args = refilled(by.alloc, room, frame)?;
+            let deed = Deed::Raise { event, args };
+            self.answer_deed(by, line, part, &deed, buffer)?;
+            room = args_of(deed);
         }
         Ok(())
-    }
-
-    // Raises an event with these arguments, and gives them back.
-    fn answer_raise<G: Gate>(
-        &mut self,
-        alloc: Global,
-        hub: &Hub,
-        line: u32,
-        part: u32,
-        event: u8,
-        args: Args,
-        gate: &G,
-        buffer: &mut ReplyBuffer,
-    ) -> Result<Args, NoMemory>
-        requires sincere { ⟦<Catalogue as Sincere>⟧.sincere hub.now.setup.catalogue }
-        requires log { self.old.seat.pen.log ≡ hub.now.log.id }
-        requires seat { IsSeat (data_of hub.now.setup) self.old.seat }
-        requires few { length self.old.trail.marks < MAX_DEEDS }
-        ensures stays { Stays (data_of hub.now.setup) self.old self.new }
-        ensures ok { let d = data_of hub.now.setup in
-            let asked = asked_alone self.old.seat.pen.lane line part (work.Deed (deed.Raise event args)) in
-            OnOk result (Answers d asked self.old self.new) }
-    {
-        let deed = Deed::Raise { event, args };
-        self.answer_deed(alloc, hub, line, part, &deed, gate, buffer)?;
-        match deed {
-            Deed::Raise { args, .. } | Deed::Later { args, .. } => Ok(args),
-        }
     }
 
     // Does a deed.
     fn answer_deed<G: Gate>(
         &mut self,
-        alloc: Global,
-        hub: &Hub,
+        by: &Answering<G>,
         line: u32,
         part: u32,
         deed: &Deed,
-        gate: &G,
         buffer: &mut ReplyBuffer,
     ) -> Result<(), NoMemory>
-        requires sincere { ⟦<Catalogue as Sincere>⟧.sincere hub.now.setup.catalogue }
-        requires log { self.old.seat.pen.log ≡ hub.now.log.id }
-        requires seat { IsSeat (data_of hub.now.setup) self.old.seat }
+        requires sincere { ⟦<Catalogue as Sincere>⟧.sincere by.now.hub.now.setup.catalogue }
+        requires log { self.old.seat.pen.log ≡ by.now.hub.now.log.id }
+        requires seat { IsSeat (data_of by.now.hub.now.setup) self.old.seat }
         requires few { length self.old.trail.marks < MAX_DEEDS }
-        ensures stays { Stays (data_of hub.now.setup) self.old self.new }
-        ensures ok { let d = data_of hub.now.setup in
+        ensures stays { Stays (data_of by.now.hub.now.setup) self.old self.new }
+        ensures ok { let d = data_of by.now.hub.now.setup in
             let asked = asked_alone self.old.seat.pen.lane line part (work.Deed deed.now) in
             OnOk result (Answers d asked self.old self.new) }
     {
         let lane = self.seat.lane();
-        gate.pass(lane, self.trail.marks.len() as u32);
-        let place = self.seat.raise_into(alloc, hub, deed, buffer)?;
+        by.gate.pass(lane, self.trail.marks.len() as u32);
+        let place = self.seat.raise_into(by.alloc, by.hub, deed, buffer)?;
         let what = answered(deed, buffer);
         let entry = EntryView {
             place,
@@ -319,7 +292,7 @@ impl Lane {
             what,
         };
         leave_jobs(&mut self.jobs, &entry, &self.seat)?;
-        keep(alloc, &mut self.entries, &entry)?;
+        keep(by.alloc, &mut self.entries, &entry)?;
         self.trail.add(&entry)
     }
 }

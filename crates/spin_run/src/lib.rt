@@ -8,6 +8,7 @@
 //! - `jobs_left` notes the jobs that an answer leaves, and `copying` makes entries of their own of those that are lent;
 //! - `records` reads what a segment's packet lines take of a capture, `retiring` retires endpoints, `sends` delivers;
 //! - `lines` makes a segment's lines, `writing` writes them, `one` runs a segment with all this, `ending` ends a run;
+//! - `outside` is what a run reads, tells and sends to, `course` what doesn't change in it;
 //! - `telling` has what becomes of a segment: it is written, or counted by `tally`;
 //! - `script` runs a whole script, `summary` with a summary in place of the report, `end` has how a run ends;
 //! - `law` says that the place of ready lanes is the number of rows that they know, and that a source that tells what
@@ -16,6 +17,7 @@
 #![tactic(auto)]
 
 mod copying;
+mod course;
 mod end;
 mod ending;
 mod entries;
@@ -27,6 +29,7 @@ mod limits;
 mod lines;
 mod meeting;
 mod one;
+mod outside;
 mod place;
 mod records;
 mod retiring;

@@ -6,31 +6,29 @@ ghost use Rattle.spin_endpoint.specs.declared.ends.TheConstants.{MAX_ENDPOINTS};
 ghost use Rattle.spin_table.specs.SetupOf.{data_of};
 ghost use Rattle.spin_script.specs.Segments.{SendsBelow};
 ghost use Rattle.spin_report.specs.Segments as specs;
-ghost use Rattle.spin_run.specs.Segments.{AreReady, IsFitSegment, place_of, state_of};
+ghost use Rattle.spin_run.specs.Segments.{IsFitSegment, place_of, state_of};
 ghost use Rattle.spin_script.specs.States.{deed_count};
 ghost use Rattle.spin_script.specs.Checks.{most_deeds};
 ghost use Rattle.spin_script.specs.Soundness.{commands_in};
-ghost use Rattle.spin_run.specs.Inner.Reading.{Reads, TakesFrames};
-ghost use Rattle.spin_run.specs.Ends.{seen};
-ghost use Rattle.spin_run.specs.Inner.Steps.{moment, setting, OneBy, ResultCounts};
+ghost use Rattle.spin_run.specs.Inner.Steps.{RunsOne, ResultCounts};
+ghost use Rattle.spin_run.specs.Inner.Course.{AreReadyIn, setting_in};
+ghost use Rattle.spin_run.specs.Inner.Outside.{seen_by, moment_by, HoldsSame};
 
+use crate::course::Course;
 use crate::end::RunEnd;
 use crate::lanes::Lanes;
+use crate::outside::Outside;
 use crate::records::read_records;
 use crate::retiring::retire;
 use crate::segment::run_segment;
 use crate::sends::send_all;
-use crate::telling::Telling;
+use crate::telling::{Part, Telling};
 use spin_code::Sincere;
 use spin_endpoint::{Ends, EndsSeen};
 use spin_objects::Catalogue;
 use spin_outside::{Gate, Source};
-use spin_pcap::Reader;
 use spin_report::records_wanted;
 use spin_script::{Line, Segment};
-use spin_seat::Hub;
-use spin_values::Text;
-use std::alloc::Global;
 use std::thread::Threads;
 
 // How many records the packet lines want.
@@ -48,59 +46,53 @@ fn wanted_by(lines: &[Line]) -> u32
 // Runs a segment: its endpoints are retired, the records that it wants are read, its lanes are run, its sends are
 // made, and it is told.
 pub(crate) fn run_one<R: Threads + Sync, S: Source, T: Telling, G: Gate>(
-    rt: &R,
-    alloc: Global,
-    hub: &Hub,
+    course: &Course<R, G>,
     lanes: &mut Lanes,
-    names: &[Text],
+    outside: &mut Outside<S, T>,
     number: usize,
     segment: &Segment,
-    capture: &mut Option<Reader>,
-    source: &mut S,
-    out: &mut T,
-    ends: &mut Ends,
-    gate: &G,
 ) -> Result<(), RunEnd>
-    requires sincere { ⟦<Catalogue as Sincere>⟧.sincere hub.now.setup.catalogue }
-    requires ready { let d = data_of hub.now.setup in
-        AreReady d hub.now.log.id hub.now.log.lanes lanes.old }
+    requires sincere { ⟦<Catalogue as Sincere>⟧.sincere course.now.hub.now.setup.catalogue }
+    requires ready { AreReadyIn course.now lanes.old }
     requires lines { IsFitSegment (length lanes.old) segment.now.lines }
-    requires room { let d = data_of hub.now.setup in
+    requires room { let d = data_of course.now.hub.now.setup in
         place_of d lanes.old + commands_in segment.now.lines ≤ MAX_PLACE }
-    requires few { length names.now ≤ MAX_ENDPOINTS }
-    requires retired { All (λ endpoint. endpoint < length names.now) segment.now.retires }
-    requires sent { let d = data_of hub.now.setup in
-        All (SendsBelow (length names.now)) d.handlers }
-    ensures one { let d = data_of hub.now.setup in
-        let before = moment (state_of d lanes.old) capture.old (S.seen source.old) (T.seen out.old)
-        (⟦<Ends as EndsSeen>⟧.all ends.old) in
-        let after = moment (state_of d lanes.new) capture.new (S.seen source.new) (T.seen out.new)
-        (⟦<Ends as EndsSeen>⟧.all ends.new) in
-        Reads capture.old (S.seen source.old) capture.new (S.seen source.new) result
-        (λ left next rest. OneBy (setting d (length lanes.old) names.now) number segment.now before after
-        (T.counts out.old) (T.counts out.new) result left next rest
-        × TakesFrames (specs.wanted_by segment.now.lines)
-        capture.old capture.new (S.seen source.old) (S.seen source.new) result left) }
-    ensures ready { let d = data_of hub.now.setup in
-        OnOk result (AreReady d hub.now.log.id hub.now.log.lanes lanes.new) }
-    ensures taken { let d = data_of hub.now.setup in
+    requires few { length course.now.names.now ≤ MAX_ENDPOINTS }
+    requires retired { All (λ endpoint. endpoint < length course.now.names.now) segment.now.retires }
+    requires sent { let d = data_of course.now.hub.now.setup in
+        All (SendsBelow (length course.now.names.now)) d.handlers }
+    ensures one { let s = setting_in course.now (length lanes.old) in
+        let look = moment_by S.seen T.seen ⟦<Ends as EndsSeen>⟧.all in
+        let before = look (state_of s.setup lanes.old) outside.old in
+        let after = look (state_of s.setup lanes.new) outside.new in
+        RunsOne s number segment.now before (T.counts outside.old.out.now) after (T.counts outside.new.out.now) result }
+    ensures ready { OnOk result (AreReadyIn course.now lanes.new) }
+    ensures taken { let d = data_of course.now.hub.now.setup in
         let most = place_of d lanes.old + commands_in segment.now.lines in
         OnOk result (place_of d lanes.new ≤ most) }
-    ensures keep { (S.seen source.new).keep ≡ (S.seen source.old).keep }
-    ensures same { T.reference out.new ≡ T.reference out.old }
-    ensures counts { let before = seen (S.seen source.old) (T.seen out.old)
-        (⟦<Ends as EndsSeen>⟧.all ends.old) in
-        let after = seen (S.seen source.new) (T.seen out.new)
-        (⟦<Ends as EndsSeen>⟧.all ends.new) in
-        ResultCounts names.now before after result }
+    ensures keep { (S.seen outside.new.source.now).keep ≡ (S.seen outside.old.source.now).keep }
+    ensures same { HoldsSame T.reference outside.old outside.new }
+    ensures counts { let look = seen_by S.seen T.seen ⟦<Ends as EndsSeen>⟧.all in
+        ResultCounts course.now.names.now (look outside.old) (look outside.new) result }
 {
-    let retired = retire(alloc, ends, names, segment.retires.as_slice())?;
+    let alloc = course.alloc;
+    let hub = course.hub;
+    let names = course.names;
+    let retired = retire(alloc, outside.ends, names, segment.retires.as_slice())?;
     let wanted = wanted_by(segment.lines.as_slice());
-    let frames = read_records(alloc, capture, source, wanted)?;
+    let frames = read_records(alloc, outside.capture, outside.source, wanted)?;
     let start = lanes.place(hub);
-    let woven = run_segment(rt, alloc, hub, lanes, segment, &frames, gate)?;
+    let woven = run_segment(course.rt, alloc, hub, lanes, segment, &frames, course.gate)?;
     let trails = woven.trails.as_slice();
     let marks = woven.marks.as_slice();
-    let lost = send_all(alloc, ends, names, trails, marks, woven.replies.as_slice())?;
-    out.tell(retired, number, start, &woven, &lost, names.len() as u8)
+    let replies = woven.replies.as_slice();
+    let lost = send_all(alloc, outside.ends, names, trails, marks, replies)?;
+    outside.out.tell(Part {
+        retired,
+        number,
+        start,
+        woven,
+        lost,
+        endpoints: names.len() as u8,
+    })
 }

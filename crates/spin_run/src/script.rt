@@ -9,14 +9,17 @@ ghost use Rattle.spin_script.specs.Segments.{IsOrderly};
 ghost use Rattle.spin_script.specs.Soundness.{AreValid, command_lines};
 ghost use Rattle.spin_run.specs.Ends.{seen, EndsBy, CountsBy};
 ghost use Rattle.spin_run.specs.Records.{room_of, HasRecords};
-ghost use Rattle.spin_run.specs.Inner.Reading.{Reads};
-ghost use Rattle.spin_run.specs.Segments.{AreReady, place_of, state_of};
-ghost use Rattle.spin_run.specs.Inner.Steps.{moment, setting, script_in, AllBy, RunsAll, WalksBy, ResultCounts};
+ghost use Rattle.spin_run.specs.Segments.{place_of, state_of};
+ghost use Rattle.spin_run.specs.Inner.Steps.{setting, script_in, RunsAll, RunsScript, WalksBy, ResultCounts};
+ghost use Rattle.spin_run.specs.Inner.Course.{AreReadyIn, setting_in};
+ghost use Rattle.spin_run.specs.Inner.Outside.{seen_by, moment_by, HoldsSame};
 
+use crate::course::{Course, Means};
 use crate::end::RunEnd;
 use crate::ending::finish;
 use crate::lanes::Lanes;
 use crate::one::run_one;
+use crate::outside::Outside;
 use crate::telling::{Report, Telling};
 use spin_code::Sincere;
 use spin_endpoint::{Ends, EndsSeen};
@@ -31,129 +34,98 @@ use std::alloc::Global;
 use std::thread::Threads;
 
 // Runs the segments one after another over lanes that are ready and know no row, and tells each. It answers how many
-// commands were accepted. The names are those of the endpoints by number.
+// commands were accepted.
 fn run_each<R: Threads + Sync, S: Source, T: Telling, G: Gate>(
-    rt: &R,
-    alloc: Global,
-    hub: &Hub,
+    course: &Course<R, G>,
     lanes: &mut Lanes,
-    names: &[Text],
+    outside: &mut Outside<S, T>,
     segments: &Segments,
-    capture: &mut Option<Reader>,
-    source: &mut S,
-    out: &mut T,
-    ends: &mut Ends,
-    gate: &G,
 ) -> Result<u16, RunEnd>
-    requires sincere { ⟦<Catalogue as Sincere>⟧.sincere hub.now.setup.catalogue }
-    requires ready { let d = data_of hub.now.setup in
-        AreReady d hub.now.log.id hub.now.log.lanes lanes.old }
-    requires start { place_of (data_of hub.now.setup) lanes.old ≡ 0 }
+    requires sincere { ⟦<Catalogue as Sincere>⟧.sincere course.now.hub.now.setup.catalogue }
+    requires ready { AreReadyIn course.now lanes.old }
+    requires start { place_of (data_of course.now.hub.now.setup) lanes.old ≡ 0 }
     requires valid { AreValid segments.now }
     requires commands { command_lines segments.now ≤ MAX_PLACE }
-    requires orderly { let s = setting (data_of hub.now.setup) (length lanes.old) names.now in
+    requires orderly { let s = setting_in course.now (length lanes.old) in
         IsOrderly (script_in s segments.now 0) }
-    ensures end { let d = data_of hub.now.setup in
-        let before = moment (state_of d lanes.old) capture.old (S.seen source.old) (T.seen out.old)
-        (⟦<Ends as EndsSeen>⟧.all ends.old) in
-        let after = seen (S.seen source.new) (T.seen out.new)
-        (⟦<Ends as EndsSeen>⟧.all ends.new) in
-        RunsAll (setting d (length lanes.old) names.now) segments.now before (T.counts out.old)
-        capture.new after (T.counts out.new) result }
-    ensures keep { (S.seen source.new).keep ≡ (S.seen source.old).keep }
-    ensures same { T.reference out.new ≡ T.reference out.old }
-    ensures counts { let before = seen (S.seen source.old) (T.seen out.old)
-        (⟦<Ends as EndsSeen>⟧.all ends.old) in
-        let after = seen (S.seen source.new) (T.seen out.new)
-        (⟦<Ends as EndsSeen>⟧.all ends.new) in
-        ResultCounts names.now before after result }
+    ensures end { let s = setting_in course.now (length lanes.old) in
+        let all = ⟦<Ends as EndsSeen>⟧.all in
+        let before = moment_by S.seen T.seen all (state_of s.setup lanes.old) outside.old in
+        let after = seen_by S.seen T.seen all outside.new in
+        RunsAll s segments.now before (T.counts outside.old.out.now)
+        outside.new.capture.now after (T.counts outside.new.out.now) result }
+    ensures keep { (S.seen outside.new.source.now).keep ≡ (S.seen outside.old.source.now).keep }
+    ensures same { HoldsSame T.reference outside.old outside.new }
+    ensures counts { let look = seen_by S.seen T.seen ⟦<Ends as EndsSeen>⟧.all in
+        ResultCounts course.now.names.now (look outside.old) (look outside.new) result }
 {
     for number in 0..segments.len() {
         let segment = segments.get(number);
-        run_one(
-            rt, alloc, hub, lanes, names, number, segment, capture, source, out, ends, gate,
-        )?;
+        run_one(course, lanes, outside, number, segment)?;
     }
-    Ok(lanes.place(hub))
+    Ok(lanes.place(course.hub))
 }
 
 // Begins, makes a lane for each of so many seats, and runs the segments over them. It answers how many commands were
-// accepted. After want of memory nothing but the beginning was told.
+// accepted. After want of memory nothing but the beginning was told. The names are those of the endpoints by number.
 fn run_over<R: Threads + Sync, S: Source, T: Telling, G: Gate>(
-    rt: &R,
-    alloc: Global,
+    means: &Means<R, G>,
     setup: Setup,
     lane_count: u8,
     names: &[Text],
     segments: &Segments,
-    capture: &mut Option<Reader>,
-    source: &mut S,
-    out: &mut T,
-    ends: &mut Ends,
-    gate: &G,
+    outside: &mut Outside<S, T>,
 ) -> Result<u16, RunEnd>
     requires sincere { ⟦<Catalogue as Sincere>⟧.sincere setup.catalogue }
     requires valid { AreValid segments.now }
     requires commands { command_lines segments.now ≤ MAX_PLACE }
     requires orderly { let s = setting (data_of setup) lane_count names.now in
         IsOrderly (script_in s segments.now 0) }
-    requires fresh { IfSome capture.old IsFresh }
+    requires fresh { IfSome outside.old.capture.now IsFresh }
     ensures end { let s = setting (data_of setup) lane_count names.now in
-        let before = seen (S.seen source.old) (T.seen out.old)
-        (⟦<Ends as EndsSeen>⟧.all ends.old) in
-        let after = seen (S.seen source.new) (T.seen out.new)
-        (⟦<Ends as EndsSeen>⟧.all ends.new) in
-        (version : ℕ) → Reads capture.old (S.seen source.old) capture.new (S.seen source.new) result
-        (AllBy (script_in s segments.now version) capture.old before (T.counts out.old)
-        capture.new after (T.counts out.new) result) }
-    ensures keep { (S.seen source.new).keep ≡ (S.seen source.old).keep }
-    ensures same { T.reference out.new ≡ T.reference out.old }
-    ensures counts { let before = seen (S.seen source.old) (T.seen out.old)
-        (⟦<Ends as EndsSeen>⟧.all ends.old) in
-        let after = seen (S.seen source.new) (T.seen out.new)
-        (⟦<Ends as EndsSeen>⟧.all ends.new) in
-        ResultCounts names.now before after result }
+        let look = seen_by S.seen T.seen ⟦<Ends as EndsSeen>⟧.all in
+        (version : ℕ) → RunsScript (script_in s segments.now version)
+        outside.old.capture.now (look outside.old) (T.counts outside.old.out.now)
+        outside.new.capture.now (look outside.new) (T.counts outside.new.out.now) result }
+    ensures keep { (S.seen outside.new.source.now).keep ≡ (S.seen outside.old.source.now).keep }
+    ensures same { HoldsSame T.reference outside.old outside.new }
+    ensures counts { let look = seen_by S.seen T.seen ⟦<Ends as EndsSeen>⟧.all in
+        ResultCounts names.now (look outside.old) (look outside.new) result }
 {
-    if let Err(_) = out.begin() {
+    if let Err(_) = outside.out.begin() {
         return Err(RunEnd::WriteFault);
     }
-    let (hub, seats) = Hub::new(alloc, setup, lane_count)?;
-    let mut lanes = Lanes::of_seats(alloc, &hub, seats)?;
-    run_each(
-        rt, alloc, &hub, &mut lanes, names, segments, capture, source, out, ends, gate,
-    )
+    let (hub, seats) = Hub::new(means.alloc, setup, lane_count)?;
+    let mut lanes = Lanes::of_seats(means.alloc, &hub, seats)?;
+    let course = Course {
+        rt: means.rt,
+        alloc: means.alloc,
+        gate: means.gate,
+        hub: &hub,
+        names,
+    };
+    run_each(&course, &mut lanes, outside, segments)
 }
 
 // Takes the script apart, and runs its segments. It answers how many commands were accepted.
 fn run_segments<R: Threads + Sync, S: Source, T: Telling, G: Gate>(
-    rt: &R,
-    alloc: Global,
+    means: &Means<R, G>,
     script: Script,
-    capture: &mut Option<Reader>,
-    source: &mut S,
-    out: &mut T,
-    ends: &mut Ends,
-    gate: &G,
+    outside: &mut Outside<S, T>,
 ) -> Result<u16, RunEnd>
     requires sincere { ⟦<Catalogue as Sincere>⟧.sincere script.setup.catalogue }
     requires valid { AreValid script.segments }
     requires commands { command_lines script.segments ≤ MAX_PLACE }
     requires orderly { IsOrderly (script_seen script) }
-    requires fresh { IfSome capture.old IsFresh }
-    ensures end { let before = seen (S.seen source.old) (T.seen out.old)
-        (⟦<Ends as EndsSeen>⟧.all ends.old) in
-        let after = seen (S.seen source.new) (T.seen out.new)
-        (⟦<Ends as EndsSeen>⟧.all ends.new) in
-        Reads capture.old (S.seen source.old) capture.new (S.seen source.new) result
-        (AllBy (script_seen script) capture.old before (T.counts out.old)
-        capture.new after (T.counts out.new) result) }
-    ensures keep { (S.seen source.new).keep ≡ (S.seen source.old).keep }
-    ensures same { T.reference out.new ≡ T.reference out.old }
-    ensures counts { let before = seen (S.seen source.old) (T.seen out.old)
-        (⟦<Ends as EndsSeen>⟧.all ends.old) in
-        let after = seen (S.seen source.new) (T.seen out.new)
-        (⟦<Ends as EndsSeen>⟧.all ends.new) in
-        ResultCounts (script_seen script).endpoints before after result }
+    requires fresh { IfSome outside.old.capture.now IsFresh }
+    ensures end { let look = seen_by S.seen T.seen ⟦<Ends as EndsSeen>⟧.all in
+        RunsScript (script_seen script)
+        outside.old.capture.now (look outside.old) (T.counts outside.old.out.now)
+        outside.new.capture.now (look outside.new) (T.counts outside.new.out.now) result }
+    ensures keep { (S.seen outside.new.source.now).keep ≡ (S.seen outside.old.source.now).keep }
+    ensures same { HoldsSame T.reference outside.old outside.new }
+    ensures counts { let look = seen_by S.seen T.seen ⟦<Ends as EndsSeen>⟧.all in
+        ResultCounts (script_seen script).endpoints (look outside.old) (look outside.new) result }
 {
     let Script {
         setup,
@@ -162,43 +134,67 @@ fn run_segments<R: Threads + Sync, S: Source, T: Telling, G: Gate>(
         segments,
         ..
     } = script;
-    run_over(
-        rt,
-        alloc,
-        setup,
-        lanes,
-        endpoints.as_slice(),
-        &segments,
-        capture,
-        source,
-        out,
-        ends,
-        gate,
-    )
+    let names = endpoints.as_slice();
+    run_over(means, setup, lanes, names, &segments, outside)
 }
 
-// Runs a script whole, and tells what it comes to.
-pub(crate) fn walk<R: Threads + Sync, S: Source, T: Telling, G: Gate>(
-    rt: &R,
-    alloc: Global,
+// Runs a script whole, reads the capture to its end, and tells what it comes to.
+fn run_whole<R: Threads + Sync, S: Source, T: Telling, G: Gate>(
+    means: &Means<R, G>,
     script: Script,
-    capture: Option<Reader>,
-    source: &mut S,
-    out: &mut T,
-    ends: &mut Ends,
-    gate: &G,
+    outside: &mut Outside<S, T>,
 ) -> RunEnd
     requires sincere { ⟦<Catalogue as Sincere>⟧.sincere script.setup.catalogue }
     requires valid { AreValid script.segments }
     requires commands { command_lines script.segments ≤ MAX_PLACE }
     requires orderly { IsOrderly (script_seen script) }
-    requires fresh { IfSome capture IsFresh }
+    requires fresh { IfSome outside.old.capture.now IsFresh }
+    ensures end { let look = seen_by S.seen T.seen ⟦<Ends as EndsSeen>⟧.all in
+        let capture = outside.old.capture.now in
+        HasRecords capture (S.seen outside.old.source.now)
+        (λ frames rest. WalksBy (script_seen script) (room_of capture) frames rest
+        (look outside.old) (T.counts outside.old.out.now)
+        (look outside.new) (T.counts outside.new.out.now) result) }
+    ensures keep { (S.seen outside.new.source.now).keep ≡ (S.seen outside.old.source.now).keep }
+    ensures same { HoldsSame T.reference outside.old outside.new }
+    ensures counts { let look = seen_by S.seen T.seen ⟦<Ends as EndsSeen>⟧.all in
+        CountsBy (script_seen script).endpoints (look outside.old) (look outside.new) result }
+{
+    match run_segments(means, script, outside) {
+        Ok(length) => match finish(
+            means.alloc,
+            length,
+            outside.capture,
+            outside.source,
+            outside.out,
+        ) {
+            Ok(()) => RunEnd::Whole,
+            Err(end) => end,
+        },
+        Err(end) => end,
+    }
+}
+
+// The same, where what is outside is handed in one by one.
+pub(crate) fn walk<R: Threads + Sync, S: Source, T: Telling, G: Gate>(
+    means: &Means<R, G>,
+    script: Script,
+    capture: &mut Option<Reader>,
+    source: &mut S,
+    out: &mut T,
+    ends: &mut Ends,
+) -> RunEnd
+    requires sincere { ⟦<Catalogue as Sincere>⟧.sincere script.setup.catalogue }
+    requires valid { AreValid script.segments }
+    requires commands { command_lines script.segments ≤ MAX_PLACE }
+    requires orderly { IsOrderly (script_seen script) }
+    requires fresh { IfSome capture.old IsFresh }
     ensures end { let before = seen (S.seen source.old) (T.seen out.old)
         (⟦<Ends as EndsSeen>⟧.all ends.old) in
         let after = seen (S.seen source.new) (T.seen out.new)
         (⟦<Ends as EndsSeen>⟧.all ends.new) in
-        HasRecords capture (S.seen source.old)
-        (λ frames rest. WalksBy (script_seen script) (room_of capture) frames rest
+        HasRecords capture.old (S.seen source.old)
+        (λ frames rest. WalksBy (script_seen script) (room_of capture.old) frames rest
         before (T.counts out.old) after (T.counts out.new) result) }
     ensures keep { (S.seen source.new).keep ≡ (S.seen source.old).keep }
     ensures same { T.reference out.new ≡ T.reference out.old }
@@ -208,14 +204,13 @@ pub(crate) fn walk<R: Threads + Sync, S: Source, T: Telling, G: Gate>(
         (⟦<Ends as EndsSeen>⟧.all ends.new) in
         CountsBy (script_seen script).endpoints before after result }
 {
-    let mut capture = capture;
-    match run_segments(rt, alloc, script, &mut capture, source, out, ends, gate) {
-        Ok(length) => match finish(alloc, length, &mut capture, source, out) {
-            Ok(()) => RunEnd::Whole,
-            Err(end) => end,
-        },
-        Err(end) => end,
-    }
+    let mut outside = Outside {
+        capture,
+        source,
+        out,
+        ends,
+    };
+    run_whole(means, script, &mut outside)
 }
 
 /// Runs a script whole: writes the report's first line; then segment by segment retires its endpoints, reads the
@@ -266,6 +261,8 @@ pub fn run_script<R: Threads + Sync, S: Source, K: Sink, G: Gate>(
         (⟦<Ends as EndsSeen>⟧.all ends.new) in
         CountsBy (script_seen script).endpoints before after result }
 {
+    let means = Means { rt, alloc, gate };
+    let mut capture = capture;
     let mut report = Report { out };
-    walk(rt, alloc, script, capture, source, &mut report, ends, gate)
+    walk(&means, script, &mut capture, source, &mut report, ends)
 }

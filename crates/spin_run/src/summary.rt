@@ -12,6 +12,7 @@ ghost use Rattle.spin_run.specs.Records.{room_of, HasRecords};
 ghost use Rattle.spin_run.specs.Summaries.{SumsUpBy, summary_lines};
 ghost use Rattle.spin_run.specs.Inner.Tallies.{Tells, TellsByCount};
 
+use crate::course::Means;
 use crate::end::RunEnd;
 use crate::script::walk;
 use crate::tally::Tally;
@@ -82,8 +83,10 @@ pub fn run_summary<R: Threads + Sync, S: Source, K: Sink, G: Gate>(
         (⟦<Ends as EndsSeen>⟧.all ends.new) in
         CountsBy (script_seen script).endpoints before after result }
 {
+    let means = Means { rt, alloc, gate };
+    let mut capture = capture;
     let mut tally = Tally::new();
-    let ended = walk(rt, alloc, script, capture, source, &mut tally, ends, gate);
+    let ended = walk(&means, script, &mut capture, source, &mut tally, ends);
     if ended != RunEnd::Whole {
         return ended;
     }

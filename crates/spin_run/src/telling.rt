@@ -1,20 +1,15 @@
 //! What becomes of the segments of a run: a report of them, or a count.
 
-ghost use Rattle.std.specs.Prelude.{◌≡◌, ◌<◌, ◌≤◌, ◌-◌, ◌^◌, ◌++◌, ◌∷◌, ℕ, map, length, min, sum_by, take};
-ghost use Rattle.std.specs.Prelude.{List, OnOk, IfOk, MatchResult, Option, None, Some, All};
+ghost use Rattle.std.specs.Prelude.{◌≡◌, ◌<◌, ◌-◌, ◌^◌, ℕ, length, min, sum_by, take};
+ghost use Rattle.std.specs.Prelude.{List, OnOk, IfOk, MatchResult, Option, None, Some};
 ghost use Rattle.std.specs.Io.KnownBytes.{Appends};
-ghost use Rattle.spin_endpoint.specs.declared.ends.TheConstants.{MAX_ENDPOINTS};
 ghost use Rattle.spin_outside.specs.Counts.{FailsByCount};
 ghost use Rattle.spin_outside.specs.Seen.{SinkSeen};
 ghost use Rattle.spin_text.specs.Words.{ended};
 ghost use Rattle.spin_report.specs.declared.entry.Entry.{Entry};
-ghost use Rattle.spin_report.specs.Lines.{entry_line, job_line};
-ghost use Rattle.spin_report.specs.Histories.{first_line, segment_line, lost_lines, end_line};
-ghost use Rattle.spin_run.specs.Trails.{AreMarksOf};
-ghost use Rattle.spin_run.specs.Segments.{jobs_seen};
-ghost use Rattle.spin_run.specs.Inner.Marks.{IsInTrails};
+ghost use Rattle.spin_report.specs.Histories.{first_line, end_line};
 ghost use Rattle.spin_run.specs.Summaries.{Counts, counts_in};
-ghost use Rattle.spin_run.specs.Inner.Lining.{counts_to};
+ghost use Rattle.spin_run.specs.Inner.Parts.{AreEntriesOf, CanBeTold, part_text};
 ghost use Rattle.spin_run.specs.Inner.Writing.{joined};
 ghost use Rattle.spin_run.specs.Inner.Tallies.{TalliesOn, Tells, TellsByCount};
 
@@ -29,6 +24,23 @@ use spin_outside::{Failed, Sink, write_all};
 use spin_report::{CaptureCounts, end_text};
 use spin_values::{NoMemory, Octets};
 use std::alloc::Global;
+
+// What a segment came to, as it is told.
+#[derive(Drop)]
+pub(crate) struct Part {
+    // The lines of its retired endpoints.
+    pub(crate) retired: TextLines,
+    // Its number.
+    pub(crate) number: usize,
+    // How many commands were accepted when it began.
+    pub(crate) start: u16,
+    // What its lanes and jobs came to.
+    pub(crate) woven: Woven,
+    // How many of its sends were lost.
+    pub(crate) lost: Lost,
+    // How many endpoints are declared.
+    pub(crate) endpoints: u8,
+}
 
 // What is told the segments of a run, one after another.
 pub(crate) trait Telling {
@@ -51,27 +63,12 @@ pub(crate) trait Telling {
         ensures same { reference self.new ≡ reference self.old }
         ensures cause { FailsByCount (seen self.old).faults (seen self.new).faults result };
 
-    // Tells the segment of that number, which began when so many commands were accepted. The lines are those of its
-    // retired endpoints, and so many endpoints are declared.
-    fn tell(
-        &mut self,
-        retired: TextLines,
-        number: usize,
-        start: u16,
-        woven: &Woven,
-        lost: &Lost,
-        endpoints: u8,
-    ) -> Result<(), RunEnd>
-        requires replies { length woven.now.replies ≡ length woven.now.jobs }
-        requires few { endpoints ≤ MAX_ENDPOINTS }
-        requires lie { All (IsInTrails woven.now.trails) woven.now.marks }
-        ensures told { (entries : List Entry) → AreMarksOf woven.now.trails woven.now.marks entries
-            → Tells (seen self.old) (seen self.new)
-            (joined (retired ++ map ended (
-            segment_line number start ∷ map entry_line entries
-            ++ map job_line (jobs_seen woven.now.jobs woven.now.replies)
-            ++ lost_lines (counts_to lost.now endpoints)))) result }
-        ensures counts { (entries : List Entry) → AreMarksOf woven.now.trails woven.now.marks entries
+    // Tells what a segment came to.
+    fn tell(&mut self, part: Part) -> Result<(), RunEnd>
+        requires { CanBeTold part }
+        ensures told { (entries : List Entry) → AreEntriesOf part entries
+            → Tells (seen self.old) (seen self.new) (part_text part entries) result }
+        ensures counts { (entries : List Entry) → AreEntriesOf part entries
             → OnOk result (TalliesOn (counts self.old) (counts self.new) (counts_in entries)) }
         ensures same { reference self.new ≡ reference self.old }
         ensures cause { TellsByCount (seen self.old).faults (seen self.new).faults result };
@@ -109,29 +106,24 @@ fn text_bytes(trails: &[Trail]) -> usize
 
 // The text of a segment's part of the report, in pieces: the lines of its retired endpoints, the line that begins it,
 // and all that stands behind that, in one.
-fn part_pieces(
-    retired: TextLines,
-    number: usize,
-    start: u16,
-    woven: &Woven,
-    lost: &Lost,
-    endpoints: u8,
-) -> Result<TextLines, NoMemory>
-    requires replies { length woven.now.replies ≡ length woven.now.jobs }
-    requires few { endpoints ≤ MAX_ENDPOINTS }
-    requires lie { All (IsInTrails woven.now.trails) woven.now.marks }
-    ensures { (entries : List Entry) → AreMarksOf woven.now.trails woven.now.marks entries
-        → IfOk result (λ pieces. joined pieces ≡ joined (retired ++ map ended (
-        segment_line number start ∷ map entry_line entries
-        ++ map job_line (jobs_seen woven.now.jobs woven.now.replies)
-        ++ lost_lines (counts_to lost.now endpoints)))) }
+fn part_pieces(part: Part) -> Result<TextLines, NoMemory>
+    requires { CanBeTold part }
+    ensures { (entries : List Entry) → AreEntriesOf part entries
+        → IfOk result (λ pieces. joined pieces ≡ part_text part entries) }
 {
-    let mut pieces = retired;
+    let Part {
+        retired: mut pieces,
+        number,
+        start,
+        woven,
+        lost,
+        endpoints,
+    } = part;
     add_segment(&mut pieces, number, start)?;
     let mut text = Octets::with_capacity(pieces.allocator(), text_bytes(&woven.trails))?;
     put_entries(&mut text, woven.trails.as_slice(), woven.marks.as_slice())?;
     put_jobs(&mut text, woven.jobs.as_slice(), woven.replies.as_slice())?;
-    put_lost(&mut text, lost, endpoints)?;
+    put_lost(&mut text, &lost, endpoints)?;
     pieces.push(text)?;
     Ok(pieces)
 }
@@ -158,16 +150,8 @@ impl<K: Sink> Telling for Report<'_, K> {
 
     /// Makes the segment's text in memory, and then writes it: the line that begins it by one call, and all its
     /// entries, jobs and lost sends by another.
-    fn tell(
-        &mut self,
-        retired: TextLines,
-        number: usize,
-        start: u16,
-        woven: &Woven,
-        lost: &Lost,
-        endpoints: u8,
-    ) -> Result<(), RunEnd> {
-        let pieces = part_pieces(retired, number, start, woven, lost, endpoints)?;
+    fn tell(&mut self, part: Part) -> Result<(), RunEnd> {
+        let pieces = part_pieces(part)?;
         match write_pieces(self.out, pieces.as_slice()) {
             Ok(()) => Ok(()),
             Err(_) => Err(RunEnd::WriteFault),
@@ -201,16 +185,8 @@ impl Telling for Tally {
     }
 
     /// Counts the segment's entries.
-    fn tell(
-        &mut self,
-        _retired: TextLines,
-        _number: usize,
-        _start: u16,
-        woven: &Woven,
-        _lost: &Lost,
-        _endpoints: u8,
-    ) -> Result<(), RunEnd> {
-        self.add_marks(woven.marks.as_slice())?;
+    fn tell(&mut self, part: Part) -> Result<(), RunEnd> {
+        self.add_marks(part.woven.marks.as_slice())?;
         Ok(())
     }
 

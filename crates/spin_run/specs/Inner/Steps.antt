@@ -21,7 +21,7 @@ use Rattle.spin_run.specs.Records.{room_of}
 use Rattle.spin_run.specs.Ends.{RunSeen, HasRun, segment_text, wanted_to, Writes, WritesInto, IsWhole, EndsBy, CountsBy}
 use Rattle.spin_run.specs.Summaries.{Counts, counts_in}
 use Rattle.spin_run.specs.Inner.Tallies.{TalliesOn}
-use Rattle.spin_run.specs.Inner.Reading.{given_by, IsGoing, IsCaptureRefused, HasTaken, Reads}
+use Rattle.spin_run.specs.Inner.Reading.{given_by, IsGoing, IsCaptureRefused, HasTaken, Reads, TakesFrames}
 
 -- ---- moments between segments
 
@@ -119,6 +119,15 @@ OneBy s number segment before after tally tally' (Ok done) left next rest =
 OneBy s number segment before after tally tally' (Err stop) left next rest =
     StopsOne s number segment before after left rest stop
 
+-- One segment was run and told from one moment to the next, or it stopped so; and so much was taken of the capture.
+abbrev pub RunsOne : Setting → ℕ → Segment → RunState → Option Counts → RunState → Option Counts
+    → Result (Unit {0}) RunEnd → Type 0
+RunsOne s number segment before tally after tally' result =
+    Reads before.capture before.outside.source after.capture after.outside.source result (λ left next rest.
+    OneBy s number segment before after tally tally' result left next rest
+    × TakesFrames (wanted_by segment.lines) before.capture after.capture
+    before.outside.source after.outside.source result left)
+
 -- which counts rose
 abbrev pub ResultCounts : {T : Type 0} → List (List ℕ) → RunSeen → RunSeen → Result T RunEnd → Type 0
 ResultCounts names before after (Ok done) = CountsBy names before after end.Whole
@@ -165,6 +174,13 @@ AllBy script reader start tally capture after tally' (Ok end_length) frames left
     (record { state = state; capture = capture; outside = after }) tally tally'
 AllBy script reader start tally capture after tally' (Err stop) frames left rest =
     WalksBy script (room_of reader) frames rest start tally after tally' stop
+
+-- so it is of the records that the reader has at the start
+abbrev pub RunsScript : ScriptData → Option ReaderState → RunSeen → Option Counts → Option ReaderState
+    → RunSeen → Option Counts → Result ℕ RunEnd → Type 0
+RunsScript script reader start tally capture after tally' result =
+    Reads reader start.source capture after.source result
+    (AllBy script reader start tally capture after tally' result)
 
 -- the script of that version whose segments run in the setting
 abbrev pub script_in : Setting → List Segment → ℕ → ScriptData

@@ -6,29 +6,30 @@ use Rattle.spin_script.specs.Soundness.{command_lines}
 use Rattle.spin_run.specs.Ends.{RunSeen, faults_of}
 use Rattle.spin_run.specs.Summaries.{Counts}
 use Rattle.spin_run.specs.Segments.{AreReady, place_of, state_of}
-use Rattle.spin_run.specs.Inner.Steps.{moment, setting, script_in, HasToldAll}
+use Rattle.spin_run.specs.Inner.Outside.{moment_by, HoldsSame}
+use Rattle.spin_run.specs.Inner.Steps.{setting, script_in, HasToldAll}
 use Rattle.spin_run.proofs.SegmentRuns.{KeepsRecords}
 use Rattle.spin_run.proofs.script.run_each.Given as goal
 
 -- the segments so far were run
 abbrev pub invariant-loop-number : goal.invariant-loop-number
 invariant-loop-number g l =
-    let all = λ (ends : _). map (view_of (λ e. (goal.Endpoint-dyn g (e.object.vtable, e.object.value)).seen e.object.value)) ends in
-    let source = g.S.Source.seen in
-    let sink = g.T.Telling.seen in
-    let d = data_of l.hub.setup in
-    let s = setting d (length l.fn.lanes) l.names in
+    let all = λ (ends : _). map (view_of (λ e. (goal.Endpoint-dyn g (e.object.vtable, e.object.value)).seen e.object.value)) ends.ends.items in
+    let d = data_of l.course.hub.now.setup in
+    let s = setting d (length l.fn.lanes) l.course.names.now in
+    let before = moment_by g.S.Source.seen g.T.Telling.seen all (state_of d l.fn.lanes) l.fn.outside in
+    let now = moment_by g.S.Source.seen g.T.Telling.seen all (state_of d l.lanes) l.outside in
+    let counted = g.T.Telling.counts l.fn.outside.out.now in
+    let counted' = g.T.Telling.counts l.outside.out.now in
     record {
-      stands : KeepsRecords l.fn.capture (source l.fn.source) l.capture (source l.source) (λ frames left rest. (version : ℕ) (reader : Option ReaderState) (start : RunSeen) (tally : Option Counts)
-          → HasToldAll (script_in s l.segments version) reader frames frames start 0
-          (moment (state_of d l.fn.lanes) l.fn.capture (source l.fn.source) (sink l.fn.out) (all l.fn.ends.ends.items)) tally (g.T.Telling.counts l.fn.out)
-          → HasToldAll (script_in s l.segments version) reader frames left start l.number
-          (moment (state_of d l.lanes) l.capture (source l.source) (sink l.out) (all l.ends.ends.items)) tally (g.T.Telling.counts l.out));
-      ready : AreReady d l.hub.log.id l.hub.log.lanes l.lanes;
+      stands : KeepsRecords before.capture before.outside.source now.capture now.outside.source (λ frames left rest. (version : ℕ) (reader : Option ReaderState) (start : RunSeen) (tally : Option Counts)
+          → HasToldAll (script_in s l.segments version) reader frames frames start 0 before tally counted
+          → HasToldAll (script_in s l.segments version) reader frames left start l.number now tally counted');
+      ready : AreReady d l.course.hub.now.log.id l.course.hub.now.log.lanes l.lanes;
       room : place_of d l.lanes ≤ command_lines (take l.number l.segments);
-      keep : (source l.source).keep ≡ (source l.fn.source).keep;
-      same : g.T.Telling.reference l.out ≡ g.T.Telling.reference l.fn.out;
-      reads : (source l.source).faults ≡ (source l.fn.source).faults;
-      writes : (sink l.out).faults ≡ (sink l.fn.out).faults;
-      faults : faults_of (all l.ends.ends.items) ≡ faults_of (all l.fn.ends.ends.items);
+      keep : now.outside.source.keep ≡ before.outside.source.keep;
+      same : HoldsSame g.T.Telling.reference l.fn.outside l.outside;
+      reads : now.outside.source.faults ≡ before.outside.source.faults;
+      writes : now.outside.sink.faults ≡ before.outside.sink.faults;
+      faults : faults_of now.outside.ends ≡ faults_of before.outside.ends;
     }

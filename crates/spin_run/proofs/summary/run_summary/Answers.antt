@@ -27,8 +27,8 @@ returns-in-Ok-clause-end g c =
           (subst (λ (e : RunEnd). WalksBy script (room_of c.args.capture) h.0 h.1 (untold before) (Some (counts_in [])) (untold after) (Some tally) e) whole walked) c.in-Ok.ensures.told,
     )
 
-pub returns-in-Err-clause-end : goal.returns-in-Err-clause-end
-returns-in-Err-clause-end g c =
+pub returns-clause-end : goal.returns-clause-end
+returns-clause-end g c =
     let all = λ (ends : _). map (view_of (λ e. (goal.Endpoint-dyn g (e.object.vtable, e.object.value)).seen e.object.value)) ends in
     let source = g.S.Source.seen c.args.source.now in
     let before = seen source (g.K.Sink.seen c.args.out.now) (all c.args.ends.now.ends.items) in

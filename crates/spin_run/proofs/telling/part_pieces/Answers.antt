@@ -13,12 +13,12 @@ use Rattle.spin_run.proofs.telling.part_pieces.Goals as goal
 
 pub returns : goal.returns
 returns c = λ marked_entries marked.
-    let head = segment_line c.args.number c.args.start in
+    let head = segment_line c.args.part.number c.args.part.start in
     let entries = map entry_line marked_entries in
     let jobs = map job_line (jobs_seen c.as_slice-3.result.now c.as_slice-4.result.now) in
-    let lost = lost_lines (counts_to c.args.lost.now c.args.endpoints) in
-    pieces_are c.args.retired c.add_segment.new.lines c.push.new.self head entries jobs lost c.put_entries.new.text c.put_jobs.new.text c.put_lost.new.text
+    let lost = lost_lines (counts_to c.args.part.lost c.args.part.endpoints) in
+    pieces_are c.args.part.retired c.add_segment.new.lines c.push.new.self head entries jobs lost c.put_entries.new.text c.put_jobs.new.text c.put_lost.new.text
     c.in_ok-add_segment.ensures (c.in_ok-put_entries.ensures
     ∙ (λ i. c.in_ok-text.ensures i ++ flat_map (line_in (c.as_slice.ensures i)) (c.as_slice-2.ensures i))
-    ∙ lines_are c.args.woven.now.trails c.args.woven.now.marks marked_entries marked) c.in_ok-put_jobs.ensures c.in_ok-put_lost.ensures c.in_ok-push.ensures.ok
-    ∙ (λ i. joined (c.args.retired ++ map ended (head ∷ entries ++ map job_line (jobs_seen (c.as_slice-3.ensures i) (c.as_slice-4.ensures i)) ++ lost)))
+    ∙ lines_are c.args.part.woven.trails c.args.part.woven.marks marked_entries marked) c.in_ok-put_jobs.ensures c.in_ok-put_lost.ensures c.in_ok-push.ensures.ok
+    ∙ (λ i. joined (c.args.part.retired ++ map ended (head ∷ entries ++ map job_line (jobs_seen (c.as_slice-3.ensures i) (c.as_slice-4.ensures i)) ++ lost)))

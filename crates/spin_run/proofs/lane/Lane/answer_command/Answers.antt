@@ -13,7 +13,7 @@ use Rattle.spin_run.proofs.lane.Lane.answer_command.Goals as goal
 
 pub returns-in_err-place-clause-comes : goal.returns-in_err-place-clause-comes
 returns-in_err-place-clause-comes g c =
-    let d = data_of c.args.hub.now.setup in
+    let d = data_of c.args.by.now.hub.now.setup in
     let old = c.args.self.now in
     let new : Lane = record { seat = c.command.new.self; trail = old.trail; jobs = old.jobs; stop = old.stop; entries = old.entries } in
     let asked = asked_alone old.seat.pen.lane c.args.line 0 (work.Command c.args.command.now) in
@@ -24,7 +24,7 @@ returns-in_err-place-clause-comes g c =
 
 pub returns-in_err-keep-clause-comes : goal.returns-in_err-keep-clause-comes
 returns-in_err-keep-clause-comes g c =
-    let d = data_of c.args.hub.now.setup in
+    let d = data_of c.args.by.now.hub.now.setup in
     let old = c.args.self.now in
     let new : Lane = record { seat = c.command.new.self; trail = old.trail; jobs = old.jobs; stop = old.stop; entries = c.keep.new.entries } in
     let asked = asked_alone old.seat.pen.lane c.args.line 0 (work.Command c.args.command.now) in
@@ -34,7 +34,7 @@ returns-in_err-keep-clause-comes g c =
 
 pub returns-in_err-add-clause-comes : goal.returns-in_err-add-clause-comes
 returns-in_err-add-clause-comes g c =
-    let d = data_of c.args.hub.now.setup in
+    let d = data_of c.args.by.now.hub.now.setup in
     let old = c.args.self.now in
     let new : Lane = record { seat = c.command.new.self; trail = c.add.new.self; jobs = old.jobs; stop = old.stop; entries = c.keep.new.entries } in
     let asked = asked_alone old.seat.pen.lane c.args.line 0 (work.Command c.args.command.now) in
@@ -49,5 +49,5 @@ returns-clause-comes g c =
     let entry : Entry = record { place = c.in_ok-place.field-0.place; lane = old.seat.pen.lane; line = c.args.line; part = 0; what = what.Command c.args.command.now c.in_ok-place.field-0.verdict } in
     let added = subst (λ n. AddsTo old.trail (record entry { lane = n }) new.trail) c.lane-lane.ensures.lane c.in_ok-add.ensures in
     let kept = subst (λ n. new.entries ≡ kept_with old.entries (record entry { lane = n } ∷ [])) c.lane-lane.ensures.lane c.in_ok-keep.ensures in
-    let d = data_of c.args.hub.now.setup in
+    let d = data_of c.args.by.now.hub.now.setup in
     verdict_more d old new entry refl added refl c.in_ok-place.ensures.answer (c.command.ensures.seat, c.command.ensures.first) c.in_ok-place.ensures.whole kept

@@ -19,7 +19,7 @@ use Rattle.spin_run.proofs.lane.Lane.answer_deed.Goals as goal
 pub leave_jobs-requires-clause-few : goal.leave_jobs-requires-clause-few
 leave_jobs-requires-clause-few g c =
     let gives = c.in_ok-place.ensures.answer in
-    let few = calls_few (data_of c.args.hub.now.setup) gives.before c.args.deed.now c.raise_into.new.buffer gives.leads.0 in
+    let few = calls_few (data_of c.args.by.now.hub.now.setup) gives.before c.args.deed.now c.raise_into.new.buffer gives.leads.0 in
     subst (λ (w : What). length (answer_calls w) < 2 ^ 32) (sym c.answered-what.ensures) (omega (arith, few))
 
 pub leave_jobs-requires-clause-belong : goal.leave_jobs-requires-clause-belong
@@ -28,7 +28,7 @@ leave_jobs-requires-clause-belong g c =
 
 pub returns-clause-ok : goal.returns-clause-ok
 returns-clause-ok g c =
-    let d = data_of c.args.hub.now.setup in
+    let d = data_of c.args.by.now.hub.now.setup in
     let old = c.args.self.now in
     let new : Lane = record { seat = c.raise_into.new.self; trail = c.add.new.self; jobs = c.leave_jobs.new.jobs; stop = old.stop; entries = c.keep.new.entries } in
     let entry : Entry = record { place = c.in_ok-place.place; lane = old.seat.pen.lane; line = c.args.line; part = c.args.part; what = what.Deed c.args.deed.now c.raise_into.new.buffer } in

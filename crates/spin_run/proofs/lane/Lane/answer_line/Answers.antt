@@ -16,7 +16,7 @@ answer_packets-requires-clause-few g c κs within =
 
 pub returns-in_err-answer_deed-in-Deed-clause-comes : goal.returns-in_err-answer_deed-in-Deed-clause-comes
 returns-in_err-answer_deed-in-Deed-clause-comes g c =
-    let d = data_of c.args.hub.now.setup in
+    let d = data_of c.args.by.now.hub.now.setup in
     let line = c.args.line.now in
     let old = c.args.self.now in
     let new = c.answer_deed.new.self in
@@ -25,7 +25,7 @@ returns-in_err-answer_deed-in-Deed-clause-comes g c =
 
 pub returns-in_err-answer_packets-in-Packet-clause-comes : goal.returns-in_err-answer_packets-in-Packet-clause-comes
 returns-in_err-answer_packets-in-Packet-clause-comes g c =
-    let d = data_of c.args.hub.now.setup in
+    let d = data_of c.args.by.now.hub.now.setup in
     let line = c.args.line.now in
     let old = c.args.self.now in
     let new = c.answer_packets.new.self in

@@ -10,4 +10,4 @@ returns-clause-counts c = λ entries marked.
     let old = c.args.self.now in
     ap Some (c.in_ok-add_marks.ensures
     ∙ ap (λ (marks : List EntryIndex). plus old (counts_by marks)) c.as_slice.ensures
-    ∙ ap (plus old) (counts_are c.args.woven.now.trails c.args.woven.now.marks entries marked))
+    ∙ ap (plus old) (counts_are c.args.part.woven.trails c.args.part.woven.marks entries marked))
