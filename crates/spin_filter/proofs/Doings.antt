@@ -1,13 +1,13 @@
 -- What is done, one thing after another.
-use Rattle.std.proofs.Common.{◌≡◌, ◌+◌, ◌<◌, ℕ, zero, suc, Bool, true, false, cond, not, List, [], ◌∷◌, ◌++◌, map, filter, length, Option, Some, None, Err, refl, sym, ap, subst, ◌∙◌, arith, append_assoc, lit<, get_or, take, drop, ◌≤◌, ◌-◌, ◌==◌, ⊎_elim}
-use Rattle.std.specs.Prelude.{bytes_eq}
+use Rattle.std.proofs.Common.{◌≡◌, ◌+◌, ◌<◌, ℕ, zero, suc, Bool, true, false, cond, not, List, [], ◌∷◌, ◌++◌, map, filter, length, Option, Some, None, Err, refl, sym, ap, subst, ◌∙◌, arith, append_assoc, lit<, get_or, take, drop, ◌≤◌, ◌-◌, ◌==◌, ◌⊎◌, inl, inr, ⊎_elim}
+use Rattle.std.specs.Prelude.{bytes_eq, Any, Contains}
 use Rattle.std.specs.List.{filter_map}
 use Rattle.std.specs.Option.{option_map}
 use Rattle.std.specs.Io.KnownBytes.{Appends}
 use Rattle.std.proofs.KnownBytes.{Appends-trans}
 use Rattle.std.proofs.lemmas.Bool.Decides.{eqb_tells}
 use Rattle.std.proofs.lemmas.List.{append-nil, length-append, map-append, take_all, take_rest}
-use Rattle.std.proofs.lemmas.List.Elements.{filter-append, filter_map-append, All-append}
+use Rattle.std.proofs.lemmas.List.Elements.{filter-append, filter_map-append, All-append, Contains-append_right, Contains-get_or}
 use Rattle.std.proofs.lemmas.Grind.{flat_map-append, take_at_read}
 use Rattle.spin_table.specs.Setups.{SetupData}
 use Rattle.spin_table.specs.States.{State}
@@ -31,8 +31,9 @@ use Rattle.spin_endpoint.proofs.ReceivedSends.{all_received_none, all_received_m
 use Rattle.spin_frames.specs.Written.{written_record}
 use Rattle.spin_filter.specs.declared.counts.Counts.{Counts}
 use Rattle.spin_filter.specs.Counting.{BindingAt, Marked, Happened, Sending, AreCounts, joined, nothing, with_step, with_job, with_outcome, with_losts, just_steps, just_job, just_outcome, sent_by, sends_in, sendings, later_steps, job_steps, steps_of_jobs, happened_in_jobs, happened_at, outcome_of}
-use Rattle.spin_filter.specs.Inner.Sends.{IsPut, StopsPut, IsHanded, StopsHanding, IsMade}
+use Rattle.spin_filter.specs.Inner.Sends.{IsPut, StopsPut, IsOf, IsHanded, StopsHanding, IsMade}
 use Rattle.spin_filter.specs.Sending.{is_writer, handed, lost_of, written_by, IsFrame, AreSent, OutletsAt, IsDone, StopsSending}
+use Rattle.spin_filter.specs.Stops.{IsSentIn, IsSentByJob, IsSentAt}
 use Rattle.spin_filter.specs.declared.stop.Stop.{Stop}
 use Rattle.spin_filter.specs.declared.stop.Stop.TheVariants as stop
 
@@ -352,6 +353,10 @@ pub no-steps : (steps : List Step) (r : Bool) → r ≡ (length steps == 0) → 
 no-steps [] r is there = refl
 no-steps (s ∷ steps) r is there = ⊎_elim (λ same. absurd (omega (arith, same.1))) (λ other. absurd (apart (sym there ∙ is ∙ other.0))) (eqb_tells (length (s ∷ steps)) 0)
 
+pub some-steps : (steps : List Step) (r : Bool) → r ≡ (length steps == 0) → r ≡ false → 0 < length steps
+some-steps [] r is gone = absurd (apart (sym is ∙ gone))
+some-steps (s ∷ steps) r is gone = omega arith
+
 pub first-steps : (steps : List Step) (s : Step) (r : Bool) → r ≡ (length steps == 0) → r ≡ false → s ≡ get_or steps 0 s → steps ≡ s ∷ take (length steps - 1) (drop 1 steps)
 first-steps [] s r is gone at = absurd (apart (sym is ∙ gone))
 first-steps (x ∷ xs) s r is gone at = ap (λ h. h ∷ xs) (sym at) ∙ ap (λ t. s ∷ t) (sym (take_rest (x ∷ xs) 1))
@@ -440,59 +445,147 @@ record-whole names capture taken d s event args reply seen outcome steps calls w
           (subst (λ (ss : List Step). IsDone names capture (just_steps taken (later_steps ss)) x y) (is ∙ ap trace_in view) q) r,
     )
 
+-- ---- the kinds of sends that may be refused
+
+-- each send of the one kind is one of the other
+abbrev pub Within : (Sending → Type 0) → (Sending → Type 0) → Type 0
+Within Kind Other = (s : Sending) → Kind s → Other s
+
+pub of-same : (Kind : Sending → Type 0) → Within Kind Kind
+of-same Kind s is = is
+
+-- the send of a step
+pub sent-step : (taken : TakenSeen) (one : Step) (sent : SentSeen) → one ≡ step.Send sent.endpoint sent.bytes
+    → Within (λ s. s ≡ record { taken = taken; sent = sent }) (IsOf taken (IsSentIn (one ∷ [])))
+sent-step taken one sent is s same =
+    (ap (λ (z : Sending). z.taken) same, (0, lit< tt, is ∙ sym (ap (λ (z : Sending). step.Send z.sent.endpoint z.sent.bytes) same)))
+
+-- a send of one of the steps is a send of them all
+pub sent-one : (taken : TakenSeen) (steps : List Step) (i : ℕ) (one : Step) → i < length steps → one ≡ get_or steps i one
+    → Within (IsOf taken (IsSentIn (one ∷ []))) (IsOf taken (IsSentIn steps))
+sent-one taken steps i one lt at s (same, is) = (same, among (only (step.Send s.sent.endpoint s.sent.bytes) is)) where
+  only : (x : Step) → Contains (one ∷ []) x → one ≡ x
+  only x (zero, within, there) = there
+  only x (suc k, within, there) = absurd (omega (arith, within))
+
+  among : {x : Step} → one ≡ x → Contains steps x
+  among e = subst (λ (y : Step). Contains steps y) (sym at ∙ e) (Contains-get_or steps i one lt)
+
+pub sent-rest : (taken : TakenSeen) (steps rest : List Step) (one : Step) → steps ≡ one ∷ rest → Within (IsOf taken (IsSentIn rest)) (IsOf taken (IsSentIn steps))
+sent-rest taken steps rest one is s (same, there) =
+    (same, subst (λ (ss : List Step). IsSentIn ss s) (sym is) (Contains-append_right (one ∷ []) rest (step.Send s.sent.endpoint s.sent.bytes) there))
+
+-- a send of a job
+pub sent-job : (taken : TakenSeen) (d : SetupData) (st : State) (call : JobCall) (reply : Reply) (steps : List Step) → IsJobReply d st call reply → steps ≡ trace_in reply
+    → Within (IsOf taken (IsSentIn steps)) (IsOf taken (λ s. IsSentByJob d st s call))
+sent-job taken d st call reply steps answer is s (same, there) = (same, (reply, answer, subst (λ (ss : List Step). IsSentIn ss s) is there))
+
+pub sent-jobs : (taken : TakenSeen) (d : SetupData) (st : State) (calls : List JobCall) (i : ℕ) (call : JobCall) → i < length calls → call ≡ get_or calls i call
+    → Within (IsOf taken (λ s. IsSentByJob d st s call)) (IsOf taken (λ s. Any (IsSentByJob d st s) calls))
+sent-jobs taken d st calls i call lt at s (same, is) = (same, (i, call, lt, sym at, is))
+
+-- a send of a record: of its raise, or of a job
+at-record : (taken : TakenSeen) (d : SetupData) (st : State) (event : ℕ) (args : List Value) (reply seen : Reply) (s : Sending) → s.taken ≡ taken → args ≡ value.Bytes taken.packet.frame ∷ []
+    → IsDeedReply d st (deed.Raise event args) reply → seen ≡ reply → IsSentIn (trace_in seen) s ⊎ Any (IsSentByJob d st s) (calls_left seen) → IsSentAt d st event s
+at-record taken d st event args reply seen s same told answer view sent = record {
+  reply = reply;
+  raised = subst (λ (vs : List Value). IsDeedReply d st (deed.Raise event vs) reply) (told ∙ ap (λ (t : TakenSeen). value.Bytes t.packet.frame ∷ []) (sym same)) answer;
+  sent = subst (λ (r : Reply). IsSentIn (trace_in r) s ⊎ Any (IsSentByJob d st s) (calls_left r)) view sent;
+}
+
+pub sent-raise : (taken : TakenSeen) (d : SetupData) (st : State) (event : ℕ) (args : List Value) (reply seen : Reply) (steps : List Step) → args ≡ value.Bytes taken.packet.frame ∷ []
+    → IsDeedReply d st (deed.Raise event args) reply → seen ≡ reply → steps ≡ trace_in seen → Within (IsOf taken (IsSentIn steps)) (IsOf taken (IsSentAt d st event))
+sent-raise taken d st event args reply seen steps told answer view is s (same, there) =
+    (same, at-record taken d st event args reply seen s same told answer view (inl (subst (λ (ss : List Step). IsSentIn ss s) is there)))
+
+pub sent-later : (taken : TakenSeen) (d : SetupData) (st : State) (event : ℕ) (args : List Value) (reply seen : Reply) (calls : List JobCall) → args ≡ value.Bytes taken.packet.frame ∷ []
+    → IsDeedReply d st (deed.Raise event args) reply → seen ≡ reply → calls ≡ calls_left seen → Within (IsOf taken (λ s. Any (IsSentByJob d st s) calls)) (IsOf taken (IsSentAt d st event))
+sent-later taken d st event args reply seen calls told answer view is s (same, there) =
+    (same, at-record taken d st event args reply seen s same told answer view (inr (subst (λ (cs : List JobCall). Any (IsSentByJob d st s) cs) is there)))
+
 -- ---- stops
 
--- behind what was done a stop has the same cause
-pub stop-behind : (names : List (List ℕ)) (capture : Option ℕ) (more : Happened) (x y z : OutletsAt) (why : Stop) → IsDone names capture more x y → StopsSending names capture y z why → StopsSending names capture x z why
-stop-behind names capture more x y z (stop.Endpoint number) done why = record {
-  sends = handed capture more.sends ++ why.sends;
-  standing = sym (stands_still names (handed capture more.sends) (name_of names number) x.ends) ∙ ap (λ es. stands (name_of names number) es) (sym done.sent.ends_are) ∙ why.standing;
+-- behind sends that were made a stop has the same cause
+pub stop-after : (names : List (List ℕ)) (capture : Option ℕ) (Kind Other : Sending → Type 0) (sends : List Sending) (x y z : OutletsAt) (why : Stop) → Within Kind Other
+    → AreSent names capture sends x.ends y.ends x.sink.told y.sink.told → y.sink.faults ≡ x.sink.faults → StopsSending names capture Kind y z why → StopsSending names capture Other x z why
+stop-after names capture Kind Other sends x y z (stop.Endpoint number) within sent still why = record {
+  sends = handed capture sends ++ why.sends;
+  standing = sym (stands_still names (handed capture sends) (name_of names number) x.ends) ∙ ap (λ es. stands (name_of names number) es) (sym sent.ends_are) ∙ why.standing;
   fails = subst (λ (es : List NamedEnd). FailsAt (name_of names number) es z.ends)
-      (ap (λ es. all_received names why.sends es) done.sent.ends_are ∙ sym (all_received-then names (handed capture more.sends) why.sends x.ends)) why.fails;
+      (ap (λ es. all_received names why.sends es) sent.ends_are ∙ sym (all_received-then names (handed capture sends) why.sends x.ends)) why.fails;
 }
-stop-behind names capture more x y z (stop.NoFrame number) done why = why
-stop-behind names capture more x y z stop.WriteFault done why = subst (λ n. Rose n z.sink.faults) done.still why
-stop-behind names capture more x y z stop.NoMemory done why = tt
-stop-behind names capture more x y z (stop.Capture number wrong) done why = why
-stop-behind names capture more x y z stop.Unread done why = why
-stop-behind names capture more x y z stop.Absent done why = why
-stop-behind names capture more x y z stop.Retires done why = why
-stop-behind names capture more x y z stop.Segments done why = why
-stop-behind names capture more x y z (stop.Lane number) done why = why
-stop-behind names capture more x y z (stop.InTheWay number) done why = why
-stop-behind names capture more x y z stop.NoRecords done why = why
+stop-after names capture Kind Other sends x y z (stop.NoFrame number) within sent still why = record {
+  sends = sends ++ why.sends;
+  sent = sent-then names capture sends why.sends x.ends y.ends z.ends x.sink.told y.sink.told z.sink.told sent why.sent;
+  still = why.still ∙ still;
+  refused = why.refused;
+  kind = within why.refused why.kind;
+  endpoint = why.endpoint;
+  no_frame = why.no_frame;
+}
+stop-after names capture Kind Other sends x y z stop.WriteFault within sent still why = subst (λ n. Rose n z.sink.faults) still why
+stop-after names capture Kind Other sends x y z stop.NoMemory within sent still why = tt
+stop-after names capture Kind Other sends x y z (stop.Capture number wrong) within sent still why = why
+stop-after names capture Kind Other sends x y z stop.Unread within sent still why = why
+stop-after names capture Kind Other sends x y z stop.Absent within sent still why = why
+stop-after names capture Kind Other sends x y z stop.Retires within sent still why = why
+stop-after names capture Kind Other sends x y z stop.Segments within sent still why = why
+stop-after names capture Kind Other sends x y z (stop.Lane number) within sent still why = why
+stop-after names capture Kind Other sends x y z (stop.InTheWay number) within sent still why = why
+stop-after names capture Kind Other sends x y z stop.NoRecords within sent still why = why
+
+-- behind what was done
+pub stop-behind : (names : List (List ℕ)) (capture : Option ℕ) (Kind Other : Sending → Type 0) (more : Happened) (x y z : OutletsAt) (why : Stop) → Within Kind Other → IsDone names capture more x y
+    → StopsSending names capture Kind y z why → StopsSending names capture Other x z why
+stop-behind names capture Kind Other more x y z why within done is = stop-after names capture Kind Other more.sends x y z why within done.sent done.still is
+
+-- where nothing was sent before
+pub stop-here : (names : List (List ℕ)) (capture : Option ℕ) (Kind Other : Sending → Type 0) (x y z : OutletsAt) (why : Stop) → Within Kind Other → y.ends ≡ x.ends → y.sink ≡ x.sink
+    → StopsSending names capture Kind y z why → StopsSending names capture Other x z why
+stop-here names capture Kind Other x y z why within ends sink is =
+    stop-after names capture Kind Other [] x y z why within (quiet-sent names capture x y ends sink) (ap (λ k. k.faults) sink) is
 
 -- a send that isn't written
-pub stop-put : (names : List (List ℕ)) (capture : Option ℕ) (endpoint : ℕ) (x y : OutletsAt) (why : Stop) → is_writer capture endpoint ≡ true → StopsPut endpoint x.sink y.sink why → StopsSending names capture x y why
-stop-put names capture endpoint x y (stop.NoFrame number) is put = ap (λ n. is_writer capture n) put ∙ is
-stop-put names capture endpoint x y stop.WriteFault is put = put
-stop-put names capture endpoint x y stop.NoMemory is put = tt
-stop-put names capture endpoint x y (stop.Endpoint number) is put = absurd put
-stop-put names capture endpoint x y (stop.Capture number wrong) is put = absurd put
-stop-put names capture endpoint x y stop.Unread is put = absurd put
-stop-put names capture endpoint x y stop.Absent is put = absurd put
-stop-put names capture endpoint x y stop.Retires is put = absurd put
-stop-put names capture endpoint x y stop.Segments is put = absurd put
-stop-put names capture endpoint x y (stop.Lane number) is put = absurd put
-stop-put names capture endpoint x y (stop.InTheWay number) is put = absurd put
-stop-put names capture endpoint x y stop.NoRecords is put = absurd put
+pub stop-put : (names : List (List ℕ)) (capture : Option ℕ) (s : Sending) (x y : OutletsAt) (why : Stop) → is_writer capture s.sent.endpoint ≡ true → y.ends ≡ x.ends
+    → StopsPut s x.sink y.sink why → StopsSending names capture (λ z. z ≡ s) x y why
+stop-put names capture s x y (stop.NoFrame number) is ends put = record {
+  sends = [];
+  sent = quiet-sent names capture x y ends put.still;
+  still = ap (λ k. k.faults) put.still;
+  refused = s;
+  kind = refl;
+  endpoint = put.endpoint;
+  no_frame = λ frame. put.other (frame is);
+}
+stop-put names capture s x y stop.WriteFault is ends put = put
+stop-put names capture s x y stop.NoMemory is ends put = tt
+stop-put names capture s x y (stop.Endpoint number) is ends put = absurd put
+stop-put names capture s x y (stop.Capture number wrong) is ends put = absurd put
+stop-put names capture s x y stop.Unread is ends put = absurd put
+stop-put names capture s x y stop.Absent is ends put = absurd put
+stop-put names capture s x y stop.Retires is ends put = absurd put
+stop-put names capture s x y stop.Segments is ends put = absurd put
+stop-put names capture s x y (stop.Lane number) is ends put = absurd put
+stop-put names capture s x y (stop.InTheWay number) is ends put = absurd put
+stop-put names capture s x y stop.NoRecords is ends put = absurd put
 
 -- a send that isn't handed on
-pub stop-hand : (names : List (List ℕ)) (capture : Option ℕ) (endpoint : ℕ) (x y : OutletsAt) (why : Stop) → StopsHanding names endpoint x.ends y.ends why → StopsSending names capture x y why
-stop-hand names capture endpoint x y (stop.Endpoint number) (same, standing, fails) = record {
+pub stop-hand : (names : List (List ℕ)) (capture : Option ℕ) (Kind : Sending → Type 0) (endpoint : ℕ) (x y : OutletsAt) (why : Stop) → StopsHanding names endpoint x.ends y.ends why
+    → StopsSending names capture Kind x y why
+stop-hand names capture Kind endpoint x y (stop.Endpoint number) (same, standing, fails) = record {
   sends = [];
   standing = ap (λ n. stands (name_of names n) x.ends) same ∙ standing;
   fails = subst (λ (n : ℕ). FailsAt (name_of names n) (all_received names [] x.ends) y.ends) (sym same)
       (subst (λ (es : List NamedEnd). FailsAt (name_of names endpoint) es y.ends) (sym (all_received_none names x.ends)) fails);
 }
-stop-hand names capture endpoint x y (stop.NoFrame number) hand = absurd hand
-stop-hand names capture endpoint x y stop.WriteFault hand = absurd hand
-stop-hand names capture endpoint x y stop.NoMemory hand = tt
-stop-hand names capture endpoint x y (stop.Capture number wrong) hand = absurd hand
-stop-hand names capture endpoint x y stop.Unread hand = absurd hand
-stop-hand names capture endpoint x y stop.Absent hand = absurd hand
-stop-hand names capture endpoint x y stop.Retires hand = absurd hand
-stop-hand names capture endpoint x y stop.Segments hand = absurd hand
-stop-hand names capture endpoint x y (stop.Lane number) hand = absurd hand
-stop-hand names capture endpoint x y (stop.InTheWay number) hand = absurd hand
-stop-hand names capture endpoint x y stop.NoRecords hand = absurd hand
+stop-hand names capture Kind endpoint x y (stop.NoFrame number) hand = absurd hand
+stop-hand names capture Kind endpoint x y stop.WriteFault hand = absurd hand
+stop-hand names capture Kind endpoint x y stop.NoMemory hand = tt
+stop-hand names capture Kind endpoint x y (stop.Capture number wrong) hand = absurd hand
+stop-hand names capture Kind endpoint x y stop.Unread hand = absurd hand
+stop-hand names capture Kind endpoint x y stop.Absent hand = absurd hand
+stop-hand names capture Kind endpoint x y stop.Retires hand = absurd hand
+stop-hand names capture Kind endpoint x y stop.Segments hand = absurd hand
+stop-hand names capture Kind endpoint x y (stop.Lane number) hand = absurd hand
+stop-hand names capture Kind endpoint x y (stop.InTheWay number) hand = absurd hand
+stop-hand names capture Kind endpoint x y stop.NoRecords hand = absurd hand

@@ -17,8 +17,9 @@ use Rattle.spin_filter.specs.Inner.Giving.{IsCommanded}
 use Rattle.spin_filter.specs.Listing.{bindings_at}
 use Rattle.spin_filter.specs.Rounds.{round_of, lane_of, AreSuited, HasOneSegment, IsForFilter}
 use Rattle.spin_filter.specs.Sending.{OutletsAt, IsDone, with_lost_of}
+use Rattle.spin_filter.specs.Stops.{IsSentFrom, StandsIn, IsSentBy}
 use Rattle.spin_filter.specs.Unsuited.{StopsScript, IsUnsuited}
-use Rattle.spin_filter.proofs.Doings.{joined-none}
+use Rattle.spin_filter.proofs.Doings.{Within, joined-none}
 use Rattle.spin_filter.proofs.RoundsMade.{never}
 
 -- a script whose one segment has lines that may not stand there
@@ -69,4 +70,16 @@ filtered script capture files names before after commanded counts accepted refus
       accepted = place;
       refused = sym same-refused ∙ own.refused;
       cut = cut_is;
+    }
+
+-- a send at a record of one of the captures, at the state that the commands left
+pub sent-by : (script : ScriptData) (files : Option (List File)) (names : List (List ℕ)) (commanded : Commanded) (lines : List Line) (round : List ℕ) → lines ≡ lines_in script.segments → round ≡ round_of lines
+    → IsCommanded script.setup (commands_of lines) commanded → Within (IsSentFrom script.setup commanded.version.state round (StandsIn files names)) (IsSentBy script files names)
+sent-by script files names commanded lines round same made given send is =
+    let own = subst (λ (ls : List Line). IsCommanded script.setup (commands_of ls) commanded) same given in
+    record {
+      verdicts = own.verdicts;
+      state = commanded.version.state;
+      commands = own.given;
+      sent = subst (λ (r : List ℕ). IsSentFrom script.setup commanded.version.state r (StandsIn files names) send) (made ∙ ap round_of same) is;
     }

@@ -1,7 +1,7 @@
 -- Records that are passed one after another.
 use Rattle.std.proofs.Common.{◌≡◌, ◌+◌, ℕ, List, [], ◌∷◌, ◌++◌, length, drop, map, get_or, Option, IfSome, refl, sym, ap, subst, ◌∙◌, arith, inl, inr}
 use Rattle.std.proofs.lemmas.Bool.{cases_lt}
-use Rattle.std.proofs.lemmas.List.{length-append, map-append, get_or_append_left}
+use Rattle.std.proofs.lemmas.List.{length-append, length-map, map-append, get_or_append_left}
 use Rattle.std.proofs.lemmas.List.Elements.{All-append}
 use Rattle.std.proofs.Math.Seq.{get_or-append_seam}
 use Rattle.std.specs.Prelude.{Ok}
@@ -20,8 +20,11 @@ use Rattle.spin_filter.specs.Histories.{happened_in, ArePassed, AreRecords}
 use Rattle.spin_filter.specs.Passing.{TakenSeen, Passed, IsPassed}
 use Rattle.spin_filter.specs.Rounds.{event_at}
 use Rattle.spin_filter.specs.Sending.{OutletsAt, IsDone}
-use Rattle.spin_filter.proofs.Doings.{done-nothing, done-then, one-all, joined-one, joined-none, joined-end}
-use Rattle.spin_filter.proofs.RecordsRead.{HasRead, read-none, read-more, read-end, front}
+use Rattle.spin_filter.specs.Inner.Sends.{IsOf}
+use Rattle.spin_filter.specs.Inner.Stopping.{StandsBehind}
+use Rattle.spin_filter.specs.Stops.{StandsAt, IsSentAt, IsSentFrom}
+use Rattle.spin_filter.proofs.Doings.{Within, done-nothing, done-then, one-all, joined-one, joined-none, joined-end}
+use Rattle.spin_filter.proofs.RecordsRead.{HasRead, read-none, read-more, read-stands, read-end, front}
 
 -- what came of records behind others
 pub happened-then : (a b : List Passed) → joined (happened_in a) (happened_in b) ≡ happened_in (a ++ b)
@@ -90,6 +93,27 @@ records-more d s round head names capture number start held held' held'' source 
           (subst (λ (ps : List Packet). HasRead head.order bytes ps (left_for (drop (16 + size) held') source'.left)) (sym packets)
           (read-more head.order bytes (map (λ q. q.taken.packet) h.passed) held held' source source' size r passes f.0 f.1 f.2)));
       done = subst (λ k. IsDone names capture k x z) (happened-more h.passed p) (done-then names capture (happened_in h.passed) (happened_at p) x y z h.done done);
+    }
+
+-- where the record stands that is passed next
+pub record-stands : (d : SetupData) (s : State) (round : List ℕ) (head : Head) (names : List (List ℕ)) (capture : Option ℕ) (number : ℕ) (start : Option (List ℕ)) (held held' : List ℕ)
+    (source source' : SourceSeen) (answer : Found) (size event : ℕ) (x y : OutletsAt) → HasPassed d s round head names capture number start (left_for held source.left) x y
+    → answer ≡ found.Record size → Finds head.order (Ok answer) held' source'.left → Passes [] held source held' source' → event ≡ event_at round number
+    → (taken : TakenSeen) → taken ≡ record { head = head; packet = front size held' } → Within (IsOf taken (IsSentAt d s event)) (IsSentFrom d s round (StandsBehind head start))
+record-stands d s round head names capture number start held held' source source' answer size event x y h is finds passes turn taken there send (at, sent) =
+    let f = subst (λ (a : Found). Finds head.order (Ok a) held' source'.left) is finds in
+    let packet : send.taken.packet ≡ front size held' = ap (λ (t : TakenSeen). t.packet) (at ∙ there) in
+    let packets = map (λ (q : Passed). q.taken.packet) h.passed in
+    let count : number ≡ length packets = sym (length-map h.passed (λ (q : Passed). q.taken.packet) ∙ h.size) in
+    record {
+      number = number;
+      stands = record {
+        head_is = ap (λ (t : TakenSeen). t.head) (at ∙ there);
+        body = told_more (λ bytes. HasRead head.order bytes packets (left_for held source.left)) (λ bytes. StandsAt head.order bytes number send.taken.packet) start h.read
+            (λ bytes r. subst (λ (p : Packet). StandsAt head.order bytes number p) (sym packet)
+            (read-stands head.order bytes packets held held' source source' size number r passes f.0 f.1 f.2 count));
+      };
+      sent = subst (λ (e : ℕ). IsSentAt d s e send) turn sent;
     }
 
 -- What passing the records of a capture gives, behind which so many bytes are left.

@@ -1,8 +1,8 @@
 -- Records that are read off the front of what is left, one after another.
-use Rattle.std.proofs.Common.{◌≡◌, ◌≤◌, ◌+◌, ℕ, List, [], ◌∷◌, ◌++◌, length, take, drop, Option, Some, None, IfSome, refl, sym, ap, subst, ◌∙◌, arith, append_assoc}
+use Rattle.std.proofs.Common.{◌≡◌, ◌≤◌, ◌+◌, ℕ, zero, suc, List, [], ◌∷◌, ◌++◌, length, take, drop, Option, Some, None, IfSome, refl, sym, ap, subst, ◌∙◌, arith, append_assoc}
 use Rattle.std.specs.Prelude.{Result}
 use Rattle.std.specs.Io.KnownBytes.{Consumes, IsAtEnd}
-use Rattle.std.proofs.lemmas.List.{append-nil, length-take, length-drop, take-append-drop, drop-drop}
+use Rattle.std.proofs.lemmas.List.{append-nil, length-append, length-take, length-drop, take-append-drop, drop-drop}
 use Rattle.spin_outside.specs.Sources.{SourceSeen}
 use Rattle.spin_pcap.specs.declared.limits.TheConstants.{MAX_CAPTURED}
 use Rattle.spin_pcap.specs.declared.fault.PcapFault.{PcapFault}
@@ -13,16 +13,25 @@ use Rattle.spin_pcap.proofs.WholeRecords.{number_at-front}
 use Rattle.spin_frames.specs.declared.order.Order.{Order}
 use Rattle.spin_frames.specs.Heads.{way_of}
 use Rattle.spin_frames.specs.Packets.{Packet, IsPacket, ArePackets}
+use Rattle.spin_filter.specs.Stops.{StandsAt}
 
 -- These records were read off the front of the bytes.
 pub record HasRead (o : Order) (bytes : List ℕ) (packets : List Packet) (left : Option (List ℕ)) : Type 0 where
   pub rest : List ℕ
   pub told : left ≡ Some rest
   pub body : (more : List Packet) (ending : Result Next PcapFault) → ArePackets o rest more ending → ArePackets o bytes (packets ++ more) ending
+  pub behind : (n number : ℕ) (packet : Packet) → number ≡ length packets + n → StandsAt o rest n packet → StandsAt o bytes number packet
 
 pub read-none : (o : Order) (left : Option (List ℕ)) → IfSome left (λ bytes. HasRead o bytes [] left)
 read-none o None = tt
-read-none o (Some bytes) = record { rest = bytes; told = refl; body = λ more ending body. body }
+read-none o (Some bytes) = record {
+  rest = bytes;
+  told = refl;
+  body = λ more ending body. body;
+  behind = λ n number packet is stands.
+      let same : n ≡ number = omega (arith, is) in
+      subst (λ (m : ℕ). StandsAt o bytes m packet) same stands;
+}
 
 -- the record at the front of what is held
 abbrev pub front : ℕ → List ℕ → Packet
@@ -56,14 +65,29 @@ pub read-more : (o : Order) (bytes : List ℕ) (packets : List Packet) (held hel
     → HasRead o bytes (packets ++ front size held' ∷ []) (left_for (drop (16 + size) held') source'.left)
 read-more o bytes packets held held' source source' size h p says small there =
     let c = consumed held held' h.rest source.left source'.left h.told p.left in
+    let next = drop (16 + size) held' ++ c.0 in
+    let own : IsPacket o h.rest (front size held') next = subst (λ (bs : List ℕ). IsPacket o bs (front size held') next) (sym c.2) (front-is o held' c.0 size says small there) in
     record {
-      rest = drop (16 + size) held' ++ c.0;
+      rest = next;
       told = ap (λ left. left_for (drop (16 + size) held') left) c.1;
       body = λ more ending body.
           subst (λ (ps : List Packet). ArePackets o bytes ps ending) (sym (append_assoc packets (front size held' ∷ []) more))
-          (h.body (front size held' ∷ more) ending
-          (drop (16 + size) held' ++ c.0, subst (λ (bs : List ℕ). IsPacket o bs (front size held') (drop (16 + size) held' ++ c.0)) (sym c.2) (front-is o held' c.0 size says small there), body));
+          (h.body (front size held' ∷ more) ending (next, own, body));
+      behind = λ n number packet is stands.
+          let later : number ≡ length packets + suc n = omega (arith, is, length-append packets (front size held' ∷ [])) in
+          h.behind (suc n) number packet later (front size held', next, own, stands);
     }
+
+-- where the record stands that stands at the front of what is held after a read
+pub read-stands : (o : Order) (bytes : List ℕ) (packets : List Packet) (held held' : List ℕ) (source source' : SourceSeen) (size number : ℕ) → HasRead o bytes packets (left_for held source.left)
+    → Passes [] held source held' source' → captured_length (way_of o) held' ≡ size → size ≤ MAX_CAPTURED → 16 + size ≤ length held' → number ≡ length packets
+    → StandsAt o bytes number (front size held')
+read-stands o bytes packets held held' source source' size number h p says small there is =
+    let c = consumed held held' h.rest source.left source'.left h.told p.left in
+    let next = drop (16 + size) held' ++ c.0 in
+    let own : IsPacket o h.rest (front size held') next = subst (λ (bs : List ℕ). IsPacket o bs (front size held') next) (sym c.2) (front-is o held' c.0 size says small there) in
+    let same : number ≡ length packets + 0 = omega (arith, is) in
+    h.behind 0 number (front size held') same (next, own)
 
 -- what is left at the end is what is held
 ended : (left : Option (List ℕ)) (more : List ℕ) → left ≡ Some more → IsAtEnd left → more ≡ []

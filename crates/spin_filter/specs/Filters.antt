@@ -14,7 +14,7 @@ use Rattle.spin_filter.specs.Histories.{PassedCapture, AreFound, AllPassed, reco
 use Rattle.spin_filter.specs.Listing.{bindings_at}
 use Rattle.spin_filter.specs.Rounds.{round_of, IsForFilter}
 use Rattle.spin_filter.specs.Sending.{OutletsAt, AreSent, with_lost_of}
-use Rattle.spin_filter.specs.Stops.{StopsPass}
+use Rattle.spin_filter.specs.Stops.{IsSentBy, StopsPass}
 use Rattle.spin_filter.specs.Unsuited.{IsUnsuited}
 
 -- What a filter of the captures of these names came to, where the files are these, and a capture is written for what is
@@ -46,4 +46,5 @@ abbrev pub StopsFilter : ScriptData → Option ℕ → List (List ℕ) → Shelf
     → Stop → Type 0
 StopsFilter script capture names shelf shelf' before after why =
     ((shelf' ≡ shelf) × (after ≡ before) × IsUnsuited script why)
-    ⊎ (IsForFilter script × StopsPass script.endpoints capture names shelf shelf' before after why)
+    ⊎ (IsForFilter script
+        × StopsPass script.endpoints capture (IsSentBy script shelf.files names) names shelf shelf' before after why)

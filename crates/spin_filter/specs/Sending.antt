@@ -71,10 +71,22 @@ pub record EndFails (names : List (List ℕ)) (number : ℕ) (before after : Lis
   pub standing : stands (name_of names number) before ≡ true
   pub fails : FailsAt (name_of names number) (all_received names sends before) after
 
--- Why a send isn't made. Want of memory comes from what the send is a part of.
-abbrev pub StopsSending : List (List ℕ) → Option ℕ → OutletsAt → OutletsAt → Stop → Type 0
-StopsSending names capture before after (stop.Endpoint number) = EndFails names number before.ends after.ends
-StopsSending names capture before after (stop.NoFrame number) = is_writer capture number ≡ true
-StopsSending names capture before after stop.WriteFault = Rose before.sink.faults after.sink.faults
-StopsSending names capture before after stop.NoMemory = ⊤
-StopsSending names capture before after other = ⊥
+-- A send of this kind to the endpoint of the number is refused, behind some sends that were made: that endpoint writes the
+-- capture, and the send is neither its record's whole frame nor no bytes.
+pub record IsNoFrame (names : List (List ℕ)) (capture : Option ℕ) (Kind : Sending → Type 0) (number : ℕ)
+    (before after : OutletsAt) : Type 0 where
+  pub sends : List Sending
+  pub sent : AreSent names capture sends before.ends after.ends before.sink.told after.sink.told
+  pub still : after.sink.faults ≡ before.sink.faults
+  pub refused : Sending
+  pub kind : Kind refused
+  pub endpoint : refused.sent.endpoint ≡ number
+  pub no_frame : IsFrame capture refused → ⊥
+
+-- Why a send of this kind isn't made. Want of memory comes from what the send is a part of.
+abbrev pub StopsSending : List (List ℕ) → Option ℕ → (Sending → Type 0) → OutletsAt → OutletsAt → Stop → Type 0
+StopsSending names capture Kind before after (stop.Endpoint number) = EndFails names number before.ends after.ends
+StopsSending names capture Kind before after (stop.NoFrame number) = IsNoFrame names capture Kind number before after
+StopsSending names capture Kind before after stop.WriteFault = Rose before.sink.faults after.sink.faults
+StopsSending names capture Kind before after stop.NoMemory = ⊤
+StopsSending names capture Kind before after other = ⊥

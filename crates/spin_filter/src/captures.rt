@@ -10,8 +10,8 @@ ghost use Rattle.spin_frames.specs.Written.{with_waiting};
 ghost use Rattle.spin_filter.specs.Counting.{capped};
 ghost use Rattle.spin_filter.specs.Histories.{PassedCapture, IsCaptureOf, IsFound, AreFound, AllPassed, ArePassed, records_of, happened_in};
 ghost use Rattle.spin_filter.specs.Sending.{outlets_at, IsDone};
-ghost use Rattle.spin_filter.specs.Inner.Stopping.{StandsStill, StopsHeader, StopsCapture, StopsNamed};
-ghost use Rattle.spin_filter.specs.Stops.{StopsPass};
+ghost use Rattle.spin_filter.specs.Inner.Stopping.{StandsStill, StandsInFile, StandsNamed, StopsHeader, StopsCapture, StopsNamed};
+ghost use Rattle.spin_filter.specs.Stops.{IsSentFrom, StandsIn, StopsPass};
 
 use crate::outlets::Outlets;
 use crate::passing::Passing;
@@ -69,8 +69,10 @@ pub(crate) fn pass_capture<S: Source, W: Sink + Drop>(
         × IfSome (S.seen source.old).left (λ file. IsCaptureOf file seen)
         × IsDone passing.now.names.now passing.now.capture (happened_in seen.passed)
         before after)
-        (StopsCapture passing.now.names.now passing.now.capture (S.seen source.old).left
-        (S.seen source.old).faults (S.seen source.new).faults
+        (StopsCapture passing.now.names.now passing.now.capture
+        (IsSentFrom (data_of passing.now.setup.now) passing.now.version.now.state passing.now.round.now
+        (StandsInFile (S.seen source.old).left))
+        (S.seen source.old).left (S.seen source.old).faults (S.seen source.new).faults
         before after) }
     ensures faults { IfOk result (λ _. (S.seen source.new).faults ≡ (S.seen source.old).faults) }
     ensures keep { (S.seen source.new).keep ≡ (S.seen source.old).keep }
@@ -102,8 +104,10 @@ fn pass_named<F: Shelf, W: Sink + Drop>(
         × IfSome (F.seen shelf.old).files (λ files. IsFound files name.now seen)
         × IsDone passing.now.names.now passing.now.capture (happened_in seen.passed)
         before after)
-        (StopsNamed passing.now.names.now passing.now.capture name.now
-        (F.seen shelf.old) (F.seen shelf.new)
+        (StopsNamed passing.now.names.now passing.now.capture
+        (IsSentFrom (data_of passing.now.setup.now) passing.now.version.now.state passing.now.round.now
+        (StandsNamed (F.seen shelf.old).files name.now))
+        name.now (F.seen shelf.old) (F.seen shelf.new)
         before after) }
     ensures stood { IfOk result (λ _. StandsStill (F.seen shelf.old) (F.seen shelf.new)) }
     ensures files { (F.seen shelf.new).files ≡ (F.seen shelf.old).files }
@@ -145,8 +149,10 @@ pub(crate) fn pass_captures<F: Shelf, W: Sink + Drop>(
         × (cut ≡ capped (sum_by (λ c. c.cut) seen))
         × IsDone passing.now.names.now passing.now.capture (happened_in (records_of seen))
         before after)
-        (StopsPass passing.now.names.now passing.now.capture captures.now
-        (F.seen shelf.old) (F.seen shelf.new)
+        (StopsPass passing.now.names.now passing.now.capture
+        (IsSentFrom (data_of passing.now.setup.now) passing.now.version.now.state passing.now.round.now
+        (StandsIn (F.seen shelf.old).files captures.now))
+        captures.now (F.seen shelf.old) (F.seen shelf.new)
         before after) }
     ensures stood { IfOk result (λ _. StandsStill (F.seen shelf.old) (F.seen shelf.new)) }
     ensures files { (F.seen shelf.new).files ≡ (F.seen shelf.old).files }

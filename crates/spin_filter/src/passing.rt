@@ -1,6 +1,6 @@
 //! A record, passed: its raise, its jobs, and their sends.
 
-ghost use Rattle.std.specs.Prelude.{◌≡◌, ◌≤◌, ◌∷◌, [], List, length, All, IfOk, MatchResult};
+ghost use Rattle.std.specs.Prelude.{◌≡◌, ◌≤◌, ◌∷◌, [], List, length, All, Any, IfOk, MatchResult};
 ghost use Rattle.spin_values.specs.declared.values.Value.TheVariants as value;
 ghost use Rattle.spin_endpoint.specs.declared.ends.TheConstants.{MAX_ENDPOINTS};
 ghost use Rattle.spin_table.specs.SetupOf.{data_of};
@@ -11,7 +11,9 @@ ghost use Rattle.spin_proto.specs.Replies.{BelongsTo, IsJobReply};
 ghost use Rattle.spin_frames.specs.Written.{with_waiting};
 ghost use Rattle.spin_filter.specs.Counting.{joined, just_job, just_steps, job_steps, happened_in_jobs, happened_at};
 ghost use Rattle.spin_filter.specs.Passing.{Passed, AreJobReplies, IsPassed};
+ghost use Rattle.spin_filter.specs.Inner.Sends.{IsOf};
 ghost use Rattle.spin_filter.specs.Sending.{outlets_at, IsDone, StopsSending};
+ghost use Rattle.spin_filter.specs.Stops.{IsSentByJob, IsSentAt};
 
 use crate::counts::outcome_of;
 use crate::outlets::Outlets;
@@ -96,6 +98,7 @@ fn do_job<W: Sink + Drop>(
         (joined just_job (just_steps taken.now (job_steps (trace_in reply))))
         before after)
         (StopsSending passing.now.names.now passing.now.capture
+        (IsOf taken.now (λ s. IsSentByJob (data_of passing.now.setup.now) passing.now.version.now.state s call.now))
         before after) }
 {
     let reply = job_path(passing.alloc, passing.version, passing.setup, call)?;
@@ -125,6 +128,8 @@ fn do_jobs<W: Sink + Drop>(
         × IsDone passing.now.names.now passing.now.capture (happened_in_jobs taken.now replies)
         before after)
         (StopsSending passing.now.names.now passing.now.capture
+        (IsOf taken.now (λ s.
+        Any (IsSentByJob (data_of passing.now.setup.now) passing.now.version.now.state s) calls.now))
         before after) }
 {
     for call in calls {
@@ -154,6 +159,7 @@ pub(crate) fn pass_record<W: Sink + Drop>(
         × IsDone passing.now.names.now passing.now.capture (happened_at passed)
         before after)
         (StopsSending passing.now.names.now passing.now.capture
+        (IsOf taken.now (IsSentAt (data_of passing.now.setup.now) passing.now.version.now.state event))
         before after) }
 {
     let args = mem::replace(&mut room.args, Args::new(passing.alloc));

@@ -10,7 +10,8 @@ ghost use Rattle.spin_filter.specs.Passing.{Passed};
 ghost use Rattle.spin_filter.specs.Rounds as rounds;
 ghost use Rattle.spin_filter.specs.Histories.{ArePassed, AreRecords, happened_in};
 ghost use Rattle.spin_filter.specs.Sending.{outlets_at, IsDone};
-ghost use Rattle.spin_filter.specs.Inner.Stopping.{StopsRecords};
+ghost use Rattle.spin_filter.specs.Inner.Stopping.{StandsBehind, StopsRecords};
+ghost use Rattle.spin_filter.specs.Stops.{IsSentFrom};
 
 use crate::outlets::Outlets;
 use crate::passing::{Passing, Room, pass_record};
@@ -67,8 +68,10 @@ pub(crate) fn pass_records<S: Source, W: Sink + Drop>(
         × IfSome left (λ bytes. AreRecords head.order bytes passed cut)
         × IsDone passing.now.names.now passing.now.capture (happened_in passed)
         before after)
-        (StopsRecords passing.now.names.now passing.now.capture head.order
-        (left_for window.old (S.seen source.old).left) (S.seen source.old).faults (S.seen source.new).faults
+        (StopsRecords passing.now.names.now passing.now.capture
+        (IsSentFrom (data_of passing.now.setup.now) passing.now.version.now.state passing.now.round.now
+        (StandsBehind head left))
+        head.order left (S.seen source.old).faults (S.seen source.new).faults
         before after) }
     ensures faults { IfOk result (λ _. (S.seen source.new).faults ≡ (S.seen source.old).faults) }
     ensures keep { (S.seen source.new).keep ≡ (S.seen source.old).keep }

@@ -1,12 +1,13 @@
 //! The sends of steps, as they come.
 
-ghost use Rattle.std.specs.Prelude.{◌≡◌, ◌≤◌, ◌⊎◌, ◌∷◌, [], true, length, IfErr, MatchResult, OnOk};
+ghost use Rattle.std.specs.Prelude.{◌≡◌, ◌≤◌, ◌⊎◌, ◌∷◌, [], true, false, length, IfErr, MatchResult, OnOk};
 ghost use Rattle.spin_endpoint.specs.declared.ends.TheConstants.{MAX_ENDPOINTS};
 ghost use Rattle.spin_endpoint.specs.Sends.{SentSeen, name_of};
 ghost use Rattle.spin_frames.specs.Written.{with_waiting};
 ghost use Rattle.spin_filter.specs.Counting.{Marked, Sending, just_steps, later_steps, job_steps};
-ghost use Rattle.spin_filter.specs.Inner.Sends.{IsPut, StopsPut, IsHanded, StopsHanding, IsMade};
+ghost use Rattle.spin_filter.specs.Inner.Sends.{IsPut, StopsPut, IsOf, IsHanded, StopsHanding, IsMade};
 ghost use Rattle.spin_filter.specs.Sending.{is_writer, outlets_at, IsDone, StopsSending};
+ghost use Rattle.spin_filter.specs.Stops.{IsSentIn};
 
 use crate::counts::Counts;
 use crate::outlets::Outlets;
@@ -21,7 +22,8 @@ use spin_values::Text;
 
 // Whether bytes that are sent stand for the frame: they are it, or none.
 fn is_frame(bytes: &[u8], frame: &[u8]) -> bool
-    ensures { result ≡ true → (bytes.now ≡ frame.now) ⊎ (bytes.now ≡ []) }
+    ensures is { result ≡ true → (bytes.now ≡ frame.now) ⊎ (bytes.now ≡ []) }
+    ensures other { result ≡ false → (bytes.now ≡ frame.now) ⊎ (bytes.now ≡ []) → ⊥ }
 {
     if bytes.is_empty() {
         return true;
@@ -39,7 +41,8 @@ fn put_frame<W: Sink + Drop>(
     ensures put { OnOk result (IsPut taken.now bytes.now
         (with_waiting (W.seen file.old.sink) file.old.waiting)
         (with_waiting (W.seen file.new.sink) file.new.waiting)) }
-    ensures stop { IfErr result (StopsPut endpoint
+    ensures stop { let sent : SentSeen = record { endpoint = endpoint; bytes = bytes.now } in
+        IfErr result (StopsPut (record { taken = taken.now; sent = sent })
         (with_waiting (W.seen file.old.sink) file.old.waiting)
         (with_waiting (W.seen file.new.sink) file.new.waiting)) }
 {
@@ -117,7 +120,7 @@ fn send<W: Sink + Drop>(
         MatchResult result
         (λ _. IsMade passing.now.names.now passing.now.capture sending
         before after)
-        (StopsSending passing.now.names.now passing.now.capture
+        (StopsSending passing.now.names.now passing.now.capture (λ s. s ≡ sending)
         before after) }
 {
     if is_writer(passing.capture, endpoint) {
@@ -151,7 +154,7 @@ pub(crate) fn do_step<W: Sink + Drop>(
         MatchResult result
         (λ _. IsDone passing.now.names.now passing.now.capture (just_steps taken.now (marked ∷ []))
         before after)
-        (StopsSending passing.now.names.now passing.now.capture
+        (StopsSending passing.now.names.now passing.now.capture (IsOf taken.now (IsSentIn (step.now ∷ [])))
         before after) }
 {
     outlets.counts.note_step(step, is_first);
@@ -176,7 +179,7 @@ pub(crate) fn do_job_steps<W: Sink + Drop>(
         MatchResult result
         (λ _. IsDone passing.now.names.now passing.now.capture (just_steps taken.now (job_steps steps.now))
         before after)
-        (StopsSending passing.now.names.now passing.now.capture
+        (StopsSending passing.now.names.now passing.now.capture (IsOf taken.now (IsSentIn steps.now))
         before after) }
 {
     if steps.is_empty() {
@@ -202,7 +205,7 @@ pub(crate) fn do_steps<W: Sink + Drop>(
         MatchResult result
         (λ _. IsDone passing.now.names.now passing.now.capture (just_steps taken.now (later_steps steps.now))
         before after)
-        (StopsSending passing.now.names.now passing.now.capture
+        (StopsSending passing.now.names.now passing.now.capture (IsOf taken.now (IsSentIn steps.now))
         before after) }
 {
     for step in steps {

@@ -68,7 +68,8 @@ told_by asked script filtered after =
     if asked.counts then counts_text script.endpoints filtered after.counts else []
 
 -- The script was read, the records were passed by it, and the counts were written, if they are asked for.
-pub record IsWhole (natives : NativeData) (asked : Asked) (before after : Around) : Type 0 where
+pub record IsWhole (natives : NativeData) (asked : Asked) (before after : Around) (status : ℕ) : Type 0 where
+  pub status_is : status ≡ 0
   pub script : ScriptData
   pub filtered : Filtered
   pub loaded : IsLoaded natives before.shelf.files asked.script script
@@ -76,13 +77,17 @@ pub record IsWhole (natives : NativeData) (asked : Asked) (before after : Around
   pub told : Appends before.out.told after.out.told (told_by asked script filtered after.outlets)
 
 -- There is no such script, nothing was done, and the line of that was written.
-pub record HasNoScript (natives : NativeData) (asked : Asked) (before after : Around) (end : End) : Type 0 where
+pub record HasNoScript (natives : NativeData) (asked : Asked) (before after : Around) (status : ℕ) : Type 0 where
+  pub end : End
+  pub status_is : status ≡ exit_status end
   pub why : NoScriptBy natives before.shelf after.shelf asked.script end
   pub outlets : after.outlets ≡ before.outlets
   pub line : Tells before.out after.out (stop_line end)
 
 -- The script was read, and the records weren't all passed by it; the line of that was written.
-pub record IsStopped (natives : NativeData) (asked : Asked) (before after : Around) (why : Stop) : Type 0 where
+pub record IsStopped (natives : NativeData) (asked : Asked) (before after : Around) (status : ℕ) : Type 0 where
+  pub why : Stop
+  pub status_is : status ≡ ends.stop_status why
   pub script : ScriptData
   pub loaded : IsLoaded natives before.shelf.files asked.script script
   pub shelf : ShelfSeen
@@ -90,11 +95,16 @@ pub record IsStopped (natives : NativeData) (asked : Asked) (before after : Arou
   pub stops : StopsPassing script asked shelf after.shelf before.outlets after.outlets why
   pub line : Tells before.out after.out (ends.stop_line why)
 
--- Why the call has this status.
+-- Standard output failed.
+pub record LacksOutput (before after : Around) (status : ℕ) : Type 0 where
+  pub status_is : status ≡ 5
+  pub rose : Rose before.out.faults after.out.faults
+
+-- Why the call has this status. Memory may be lacking at any time.
 abbrev pub IsStatus : NativeData → Asked → Around → Around → ℕ → Type 0
 IsStatus natives asked before after status =
-    ((status ≡ 0) × IsWhole natives asked before after)
-    ⊎ (((end : End) × (status ≡ exit_status end) × HasNoScript natives asked before after end)
-    ⊎ (((why : Stop) × (status ≡ ends.stop_status why) × IsStopped natives asked before after why)
-    ⊎ (((status ≡ 5) × Rose before.out.faults after.out.faults)
-    ⊎ (status ≡ 7))))
+    IsWhole natives asked before after status
+    ⊎ HasNoScript natives asked before after status
+    ⊎ IsStopped natives asked before after status
+    ⊎ LacksOutput before after status
+    ⊎ (status ≡ 7)

@@ -13,27 +13,30 @@ count_line word count = line_of (word ∷ decimal count ∷ [])
 abbrev pub at : List ℕ → ℕ → ℕ
 at tally number = slice_index_or tally number 0
 
-abbrev pub record_lines : Filtered → Counts → List (List ℕ)
-record_lines f c =
-    count_line (codes "records") c.records ∷ count_line (codes "cut") f.cut
-    ∷ count_line (codes "accepted") f.accepted ∷ count_line (codes "refused") f.refused
-    ∷ count_line (codes "jobs") c.jobs ∷ count_line (codes "runs") c.runs ∷ []
-
--- records by the outcomes of their raises
-abbrev pub outcome_lines : List ℕ → List (List ℕ)
-outcome_lines outcomes =
-    count_line (codes "value") (at outcomes 0) ∷ count_line (codes "done") (at outcomes 1)
-    ∷ count_line (codes "default") (at outcomes 2) ∷ count_line (codes "nohandler") (at outcomes 3)
-    ∷ count_line (codes "unknown_event") (at outcomes 4) ∷ count_line (codes "wrong_args") (at outcomes 5)
-    ∷ count_line (codes "spent") (at outcomes 6) ∷ []
-
--- packets that were dropped, by the fault
-abbrev pub drop_lines : List ℕ → List (List ℕ)
-drop_lines drops =
-    count_line (codes "drop short") (at drops 1) ∷ count_line (codes "drop version") (at drops 2)
-    ∷ count_line (codes "drop header_length") (at drops 3) ∷ count_line (codes "drop total_length") (at drops 4)
-    ∷ count_line (codes "drop checksum") (at drops 5) ∷ count_line (codes "drop fragment") (at drops 6)
-    ∷ count_line (codes "drop udp_length") (at drops 7) ∷ []
+-- the lines of records, commands, outcomes of raises, and packets that were dropped, by the fault
+abbrev pub count_lines : Filtered → Counts → List (List ℕ)
+count_lines f c =
+    count_line (codes "records") c.records
+    ∷ count_line (codes "cut") f.cut
+    ∷ count_line (codes "accepted") f.accepted
+    ∷ count_line (codes "refused") f.refused
+    ∷ count_line (codes "jobs") c.jobs
+    ∷ count_line (codes "runs") c.runs
+    ∷ count_line (codes "value") (at c.outcomes 0)
+    ∷ count_line (codes "done") (at c.outcomes 1)
+    ∷ count_line (codes "default") (at c.outcomes 2)
+    ∷ count_line (codes "nohandler") (at c.outcomes 3)
+    ∷ count_line (codes "unknown_event") (at c.outcomes 4)
+    ∷ count_line (codes "wrong_args") (at c.outcomes 5)
+    ∷ count_line (codes "spent") (at c.outcomes 6)
+    ∷ count_line (codes "drop short") (at c.drops 1)
+    ∷ count_line (codes "drop version") (at c.drops 2)
+    ∷ count_line (codes "drop header_length") (at c.drops 3)
+    ∷ count_line (codes "drop total_length") (at c.drops 4)
+    ∷ count_line (codes "drop checksum") (at c.drops 5)
+    ∷ count_line (codes "drop fragment") (at c.drops 6)
+    ∷ count_line (codes "drop udp_length") (at c.drops 7)
+    ∷ []
 
 -- sends to the endpoint of that number and name, and how many of them are lost
 abbrev pub send_line : ℕ → List ℕ → Counts → List ℕ
@@ -53,5 +56,4 @@ hit_line hit = line_of
 -- all lines
 abbrev pub counts_text : List (List ℕ) → Filtered → Counts → List ℕ
 counts_text names f c =
-    text_of (record_lines f c) ++ text_of (outcome_lines c.outcomes) ++ text_of (drop_lines c.drops)
-    ++ text_of (send_lines_from 0 names c) ++ text_of (map hit_line c.hits.items)
+    text_of (count_lines f c) ++ text_of (send_lines_from 0 names c) ++ text_of (map hit_line c.hits.items)

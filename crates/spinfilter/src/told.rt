@@ -1,10 +1,10 @@
 //! The counts of a filter, as lines.
 
-ghost use Rattle.std.specs.Prelude.{◌≡◌, ◌++◌, ◌∷◌, [], decimal, map, take, IfOk, OnOk, slice_index_or};
-ghost use Rattle.spin_text.specs.Words.{line_of, ended, text_of};
-ghost use Rattle.spinfilter.specs.Told.{at, count_line, record_lines, outcome_lines, drop_lines, send_line, send_lines_from, hit_line, counts_text};
+ghost use Rattle.std.specs.Prelude.{◌≡◌, ◌++◌, map, IfOk, OnOk};
+ghost use Rattle.spin_text.specs.Words.{ended, text_of};
+ghost use Rattle.spinfilter.specs.Told.{count_line, count_lines, send_line, send_lines_from, hit_line, counts_text};
 
-use spin_filter::{Counts, Filtered, Hit, Tally};
+use spin_filter::{Counts, Filtered, Hit};
 use spin_text::{end_line, put_number, put_word};
 use spin_values::{NoMemory, Octets, Text};
 use std::alloc::Global;
@@ -18,55 +18,42 @@ fn put_count(out: &mut Octets, word: &[u8], count: u64) -> Result<(), NoMemory>
     end_line(out)
 }
 
-// Appends a line of a word and how often a number came up.
-fn put_tally(out: &mut Octets, word: &[u8], tally: &Tally, number: usize) -> Result<(), NoMemory>
-    ensures { OnOk result (out.new ≡ out.old ++ ended (count_line word.now (at tally.now number))) }
+// Appends the lines of these words and counts.
+fn put_counts(out: &mut Octets, rows: &[(&[u8], u64)]) -> Result<(), NoMemory>
+    ensures { OnOk result (out.new ≡ out.old ++ text_of (map (λ row. count_line row.0.now row.1) rows.now)) }
 {
-    put_count(out, word, tally.of(number))
+    for row in rows {
+        put_count(out, row.0, row.1)?;
+    }
+    Ok(())
 }
 
-// The lines of records and commands.
-fn records_text(alloc: Global, filtered: Filtered, counts: &Counts) -> Result<Octets, NoMemory>
-    ensures { IfOk result (λ text. text ≡ text_of (record_lines filtered counts.now)) }
+// The words and counts of records, commands, outcomes of raises, and packets that were dropped.
+fn rows_of(filtered: Filtered, counts: &Counts) -> [(&'static [u8], u64); 20]
+    ensures { map (λ row. count_line row.0.now row.1) result ≡ count_lines filtered counts.now }
 {
-    let mut text = Octets::new(alloc);
-    put_count(&mut text, b"records", counts.records)?;
-    put_count(&mut text, b"cut", filtered.cut)?;
-    put_count(&mut text, b"accepted", u64::from(filtered.accepted))?;
-    put_count(&mut text, b"refused", filtered.refused)?;
-    put_count(&mut text, b"jobs", counts.jobs)?;
-    put_count(&mut text, b"runs", counts.runs)?;
-    Ok(text)
-}
-
-// The lines of the outcomes of raises.
-fn outcomes_text(alloc: Global, outcomes: &Tally) -> Result<Octets, NoMemory>
-    ensures { IfOk result (λ text. text ≡ text_of (outcome_lines outcomes.now)) }
-{
-    let mut text = Octets::new(alloc);
-    put_tally(&mut text, b"value", outcomes, 0)?;
-    put_tally(&mut text, b"done", outcomes, 1)?;
-    put_tally(&mut text, b"default", outcomes, 2)?;
-    put_tally(&mut text, b"nohandler", outcomes, 3)?;
-    put_tally(&mut text, b"unknown_event", outcomes, 4)?;
-    put_tally(&mut text, b"wrong_args", outcomes, 5)?;
-    put_tally(&mut text, b"spent", outcomes, 6)?;
-    Ok(text)
-}
-
-// The lines of packets that were dropped.
-fn drops_text(alloc: Global, drops: &Tally) -> Result<Octets, NoMemory>
-    ensures { IfOk result (λ text. text ≡ text_of (drop_lines drops.now)) }
-{
-    let mut text = Octets::new(alloc);
-    put_tally(&mut text, b"drop short", drops, 1)?;
-    put_tally(&mut text, b"drop version", drops, 2)?;
-    put_tally(&mut text, b"drop header_length", drops, 3)?;
-    put_tally(&mut text, b"drop total_length", drops, 4)?;
-    put_tally(&mut text, b"drop checksum", drops, 5)?;
-    put_tally(&mut text, b"drop fragment", drops, 6)?;
-    put_tally(&mut text, b"drop udp_length", drops, 7)?;
-    Ok(text)
+    [
+        (b"records", counts.records),
+        (b"cut", filtered.cut),
+        (b"accepted", u64::from(filtered.accepted)),
+        (b"refused", filtered.refused),
+        (b"jobs", counts.jobs),
+        (b"runs", counts.runs),
+        (b"value", counts.outcomes.of(0)),
+        (b"done", counts.outcomes.of(1)),
+        (b"default", counts.outcomes.of(2)),
+        (b"nohandler", counts.outcomes.of(3)),
+        (b"unknown_event", counts.outcomes.of(4)),
+        (b"wrong_args", counts.outcomes.of(5)),
+        (b"spent", counts.outcomes.of(6)),
+        (b"drop short", counts.drops.of(1)),
+        (b"drop version", counts.drops.of(2)),
+        (b"drop header_length", counts.drops.of(3)),
+        (b"drop total_length", counts.drops.of(4)),
+        (b"drop checksum", counts.drops.of(5)),
+        (b"drop fragment", counts.drops.of(6)),
+        (b"drop udp_length", counts.drops.of(7)),
+    ]
 }
 
 // Appends the line of the sends to the endpoint of that number and name.
@@ -124,9 +111,9 @@ pub fn told(
 ) -> Result<Octets, NoMemory>
     ensures { IfOk result (λ text. text ≡ counts_text names.now filtered counts.now) }
 {
-    let mut text = records_text(alloc, filtered, counts)?;
-    text.extend_from_slice(outcomes_text(alloc, &counts.outcomes)?.as_slice())?;
-    text.extend_from_slice(drops_text(alloc, &counts.drops)?.as_slice())?;
+    let rows = rows_of(filtered, counts);
+    let mut text = Octets::new(alloc);
+    put_counts(&mut text, rows.as_slice())?;
     put_sends(&mut text, names, counts)?;
     put_hits(&mut text, counts.hits.as_slice())?;
     Ok(text)

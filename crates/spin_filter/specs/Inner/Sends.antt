@@ -19,11 +19,21 @@ pub record IsPut (taken : TakenSeen) (bytes : List ℕ) (sink sink' : SinkSeen) 
   pub written : Appends sink.told sink'.told (written_record taken.head taken.packet)
   pub still : sink'.faults ≡ sink.faults
 
+-- the send is refused: nothing was written, and its bytes are neither the frame nor none
+pub record IsRefused (s : Sending) (number : ℕ) (sink sink' : SinkSeen) : Type 0 where
+  pub endpoint : s.sent.endpoint ≡ number
+  pub still : sink' ≡ sink
+  pub other : (s.sent.bytes ≡ s.taken.packet.frame) ⊎ (s.sent.bytes ≡ []) → ⊥
+
 -- why it isn't written
-abbrev pub StopsPut : ℕ → SinkSeen → SinkSeen → Stop → Type 0
-StopsPut endpoint sink sink' (stop.NoFrame number) = number ≡ endpoint
-StopsPut endpoint sink sink' stop.WriteFault = Rose sink.faults sink'.faults
-StopsPut endpoint sink sink' other = ⊥
+abbrev pub StopsPut : Sending → SinkSeen → SinkSeen → Stop → Type 0
+StopsPut s sink sink' (stop.NoFrame number) = IsRefused s number sink sink'
+StopsPut s sink sink' stop.WriteFault = Rose sink.faults sink'.faults
+StopsPut s sink sink' other = ⊥
+
+-- the send is of this kind, at the record
+abbrev pub IsOf : TakenSeen → (Sending → Type 0) → Sending → Type 0
+IsOf taken Kind send = (send.taken ≡ taken) × Kind send
 
 -- the send is handed to the endpoint under its name, or counted as lost
 pub record IsHanded (names : List (List ℕ)) (sent : SentSeen) (ends ends' : List NamedEnd) (counts counts' : Counts)

@@ -1,14 +1,17 @@
 -- Why one capture is passed no further.
 use Rattle.std.specs.Prelude.{◌≡◌, ℕ, List, Option, IfSome, Err, ⊤}
 use Rattle.spin_outside.specs.Counts.{Rose}
-use Rattle.spin_outside.specs.Files.{IsLacking}
+use Rattle.spin_outside.specs.Files.{File, IsLacking}
 use Rattle.spin_outside.specs.Seen.{ShelfSeen}
 use Rattle.spin_pcap.specs.Captures.{header_of}
+use Rattle.spin_frames.specs.declared.head.Head.{Head}
 use Rattle.spin_frames.specs.declared.order.Order.{Order}
 use Rattle.spin_filter.specs.declared.stop.Stop.{Stop}
 use Rattle.spin_filter.specs.declared.stop.Stop.TheVariants as stop
+use Rattle.spin_filter.specs.Counting.{Sending}
+use Rattle.spin_filter.specs.Passing.{TakenSeen}
 use Rattle.spin_filter.specs.Sending.{OutletsAt, StopsSending}
-use Rattle.spin_filter.specs.Stops.{IsBadRecord, IsBadCapture, IsBadNamed}
+use Rattle.spin_filter.specs.Stops.{IsBadRecord, IsBadCapture, IsBadNamed, StandsAt, IsRecordOf, IsRecordNamed}
 
 -- why the header of a capture isn't read
 abbrev pub StopsHeader : Option (List ℕ) → ℕ → ℕ → Stop → Type 0
@@ -18,30 +21,47 @@ StopsHeader file faults faults' (stop.Capture number wrong) =
 StopsHeader file faults faults' stop.NoMemory = ⊤
 StopsHeader file faults faults' other = ⊥
 
--- why the records that are left are passed no further
-abbrev pub StopsRecords : List (List ℕ) → Option ℕ → Order → Option (List ℕ) → ℕ → ℕ → OutletsAt → OutletsAt
-    → Stop → Type 0
-StopsRecords names capture order left faults faults' before after stop.Unread = Rose faults faults'
-StopsRecords names capture order left faults faults' before after (stop.Capture number wrong) =
+-- the record of that number stands in these bytes, behind a header that says this
+pub record StandsBehind (head : Head) (left : Option (List ℕ)) (number : ℕ) (taken : TakenSeen) : Type 0 where
+  pub head_is : taken.head ≡ head
+  pub body : IfSome left (λ bytes. StandsAt head.order bytes number taken.packet)
+
+-- why the records that are left are passed no further, which make sends of this kind
+abbrev pub StopsRecords : List (List ℕ) → Option ℕ → (Sending → Type 0) → Order → Option (List ℕ) → ℕ → ℕ
+    → OutletsAt → OutletsAt → Stop → Type 0
+StopsRecords names capture Kind order left faults faults' before after stop.Unread = Rose faults faults'
+StopsRecords names capture Kind order left faults faults' before after (stop.Capture number wrong) =
     IfSome left (λ bytes. IsBadRecord order bytes number wrong)
-StopsRecords names capture order left faults faults' before after other = StopsSending names capture before after other
+StopsRecords names capture Kind order left faults faults' before after other =
+    StopsSending names capture Kind before after other
+
+-- the record of that number stands in the file
+abbrev pub StandsInFile : Option (List ℕ) → ℕ → TakenSeen → Type 0
+StandsInFile whole number taken = IfSome whole (λ file. IsRecordOf file number taken)
 
 -- why a capture is passed no further
-abbrev pub StopsCapture : List (List ℕ) → Option ℕ → Option (List ℕ) → ℕ → ℕ → OutletsAt → OutletsAt → Stop → Type 0
-StopsCapture names capture file faults faults' before after stop.Unread = Rose faults faults'
-StopsCapture names capture file faults faults' before after (stop.Capture number wrong) =
+abbrev pub StopsCapture : List (List ℕ) → Option ℕ → (Sending → Type 0) → Option (List ℕ) → ℕ → ℕ
+    → OutletsAt → OutletsAt → Stop → Type 0
+StopsCapture names capture Kind file faults faults' before after stop.Unread = Rose faults faults'
+StopsCapture names capture Kind file faults faults' before after (stop.Capture number wrong) =
     IfSome file (λ bytes. IsBadCapture bytes number wrong)
-StopsCapture names capture file faults faults' before after other = StopsSending names capture before after other
+StopsCapture names capture Kind file faults faults' before after other =
+    StopsSending names capture Kind before after other
+
+-- the record of that number stands in the file of that name
+abbrev pub StandsNamed : Option (List File) → List ℕ → ℕ → TakenSeen → Type 0
+StandsNamed files name number taken = IsRecordNamed files number taken name
 
 -- why the capture of that name is passed no further
-abbrev pub StopsNamed : List (List ℕ) → Option ℕ → List ℕ → ShelfSeen → ShelfSeen → OutletsAt → OutletsAt → Stop
-    → Type 0
-StopsNamed names capture name shelf shelf' before after stop.Unread = Rose shelf.faults shelf'.faults
-StopsNamed names capture name shelf shelf' before after stop.Absent =
+abbrev pub StopsNamed : List (List ℕ) → Option ℕ → (Sending → Type 0) → List ℕ → ShelfSeen → ShelfSeen
+    → OutletsAt → OutletsAt → Stop → Type 0
+StopsNamed names capture Kind name shelf shelf' before after stop.Unread = Rose shelf.faults shelf'.faults
+StopsNamed names capture Kind name shelf shelf' before after stop.Absent =
     Rose shelf.absences shelf'.absences × IsLacking shelf.files name
-StopsNamed names capture name shelf shelf' before after (stop.Capture number wrong) =
+StopsNamed names capture Kind name shelf shelf' before after (stop.Capture number wrong) =
     IsBadNamed shelf.files number wrong name
-StopsNamed names capture name shelf shelf' before after other = StopsSending names capture before after other
+StopsNamed names capture Kind name shelf shelf' before after other =
+    StopsSending names capture Kind before after other
 
 -- the shelf's counts stand still
 pub record StandsStill (shelf shelf' : ShelfSeen) : Type 0 where

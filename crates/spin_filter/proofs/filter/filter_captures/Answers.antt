@@ -1,4 +1,4 @@
-use Rattle.std.proofs.Common.{map, refl, subst, inl, inr, List}
+use Rattle.std.proofs.Common.{map, refl, subst, ◌∙◌, inl, inr, List}
 use Rattle.spin_endpoint.specs.Inner.View.{view_of}
 use Rattle.spin_frames.specs.Written.{with_waiting}
 use Rattle.spin_script.specs.declared.script.Line.{Line}
@@ -6,7 +6,8 @@ use Rattle.spin_script.specs.Scripts.{script_seen}
 use Rattle.spin_filter.specs.declared.commands.Commanded.{Commanded}
 use Rattle.spin_filter.specs.Sending.{outlets_at}
 use Rattle.spin_filter.specs.Unsuited.{StopsScript}
-use Rattle.spin_filter.proofs.Filterings.{unsuited-lines, for-filter, filtered}
+use Rattle.spin_filter.specs.Stops.{IsSentFrom, StandsIn, IsSentBy}
+use Rattle.spin_filter.proofs.Filterings.{unsuited-lines, for-filter, filtered, sent-by}
 use Rattle.spin_filter.proofs.Stopped.{err-out, again}
 use Rattle.spin_filter.proofs.filter.filter_captures.Goals as goal
 
@@ -33,9 +34,14 @@ returns-in_err-cut-clause-filtered g c =
     (with_waiting (g.W.Sink.seen o.file.sink) o.file.waiting) o.counts in
     let script = script_seen c.args.script.now in
     let why = c.in_err-cut.field-0.0 in
+    let commanded : Commanded = c.in_ok-version.field-0 in
+    let files = (g.F.Shelf.seen c.args.shelf.now).files in
     err-out c.from_residual-in_err-cut.result why _ _ c.from_residual-in_err-cut.ensures.1
     (inr (
       for-filter script c.in_ok-lines.lines.now c.in_ok-round.round.items c.in_ok-lines.ensures.lines c.in_ok-round.ensures.round c.in_ok-lines.ensures.one c.in_ok-round.ensures.suited c.in_ok-round.ensures.some,
-      again c.as_slice.result.now script.endpoints c.args.capture c.args.captures.now (g.F.Shelf.seen c.args.shelf.now) (g.F.Shelf.seen c.pass_captures.new.shelf) (at (record c.args.outlets.now { counts = c.in_ok-outlets.field-0 }))
-          (at c.args.outlets.now) (at c.pass_captures.new.outlets) why c.as_slice.ensures refl refl c.in_err-cut.ensures.passed,
+      again c.as_slice.result.now script.endpoints c.args.capture (IsSentFrom script.setup commanded.version.state c.as_slice-2.result.now (StandsIn files c.args.captures.now)) (IsSentBy script files c.args.captures.now)
+          c.args.captures.now (g.F.Shelf.seen c.args.shelf.now) (g.F.Shelf.seen c.pass_captures.new.shelf) (at (record c.args.outlets.now { counts = c.in_ok-outlets.field-0 }))
+          (at c.args.outlets.now) (at c.pass_captures.new.outlets) why c.as_slice.ensures refl refl
+          (sent-by script files c.args.captures.now commanded c.in_ok-lines.lines.now c.as_slice-2.result.now c.in_ok-lines.ensures.lines (c.as_slice-2.ensures.value ∙ c.in_ok-round.ensures.round) c.in_ok-version.ensures.given)
+          c.in_err-cut.ensures.passed,
     ))

@@ -1,4 +1,4 @@
-use Rattle.std.proofs.Common.{◌≡◌, ◌⊎◌, ℕ, List, [], ap, subst, ◌∙◌}
+use Rattle.std.proofs.Common.{◌≡◌, ◌⊎◌, ℕ, List, [], refl, sym, ap, subst, ◌∙◌}
 use Rattle.std.specs.Io.KnownBytes.{Appends}
 use Rattle.spin_frames.specs.Packets.{Packet}
 use Rattle.spin_frames.specs.Written.{written_record, with_waiting}
@@ -13,8 +13,15 @@ returns-in-Ok-clause-put g c =
     ∙ ap (λ h. written_record taken.head (packet h c.frame-2.result.now)) c.header.ensures.same
     ∙ ap (λ f. written_record taken.head (packet taken.packet.header f)) c.frame-2.ensures in
     record {
-      frame = subst (λ (f : List ℕ). (c.args.bytes.now ≡ f) ⊎ (c.args.bytes.now ≡ [])) c.frame.ensures (c.is_frame.ensures c.if-not-is_frame.false);
+      frame = subst (λ (f : List ℕ). (c.args.bytes.now ≡ f) ⊎ (c.args.bytes.now ≡ [])) c.frame.ensures (c.is_frame.ensures.is c.if-not-is_frame.false);
       written = subst (λ (bs : List ℕ). Appends (with_waiting (g.W.Sink.seen c.args.file.now.sink) c.args.file.now.waiting).told
           (with_waiting (g.W.Sink.seen c.put_record.new.file.sink) c.put_record.new.file.waiting).told bs) same c.in-Ok.ensures.taken;
       still = c.in-Ok.ensures.cause;
     }
+
+pub returns-then-not-is_frame-clause-stop : goal.returns-then-not-is_frame-clause-stop
+returns-then-not-is_frame-clause-stop g c = record {
+  endpoint = refl;
+  still = refl;
+  other = λ is. c.is_frame.ensures.other c.if-not-is_frame.true (subst (λ (f : List ℕ). (c.args.bytes.now ≡ f) ⊎ (c.args.bytes.now ≡ [])) (sym c.frame.ensures) is);
+}
