@@ -410,6 +410,16 @@ static void call_step(struct handle *it, int of_job) {
     if (wanted != SPIN_OK && memcmp(&step, &none, sizeof step) != 0) {
         stop("where no step is one is told");
     }
+    struct spin_step list[3] = {{9, 9, 9, 9, 9, 9}, {9, 9, 9, 9, 9, 9}, {9, 9, 9, 9, 9, 9}};
+    const size_t many = some(4), left = wanted == SPIN_OK && !of_job ? count - index : 0;
+    uint64_t told = 99;
+    if (!of_job) {
+        want("steps", spin_lane_steps(&it->lane, index, list, many, &told), wanted);
+        if (told != (left < many ? left : many) || (told > 0 && memcmp(&list[0], &step, sizeof step) != 0) ||
+            (told < 3 && list[told].kind != 9)) {
+            stop("other steps are told");
+        }
+    }
     wanted = wanted == SPIN_OK && step.length > room ? (uint32_t)SPIN_TOO_SMALL : wanted;
     want("bytes", (of_job ? spin_lane_job_bytes : spin_lane_step_bytes)(&it->lane, index, buffer, room, &length),
          wanted);

@@ -198,6 +198,8 @@ static uint32_t later(struct told *told) {
 
 static uint32_t step(struct told *told) { return spin_lane_step(&lanes[0], 1, &told->step); }
 
+static uint32_t steps(struct told *told) { return spin_lane_steps(&lanes[0], 1, &told->step, 1, &told->number); }
+
 static uint32_t step_bytes(struct told *told) {
     return spin_lane_step_bytes(&lanes[0], 1, told->bytes, sizeof told->bytes, &told->number);
 }
@@ -233,11 +235,48 @@ static uint32_t cause(struct told *told) { return spin_tell_cause(24, told->byte
 
 static uint32_t fault(struct told *told) { return spin_tell_fault(8, told->bytes, sizeof told->bytes, &told->number); }
 
+static uint32_t begin(struct spin_lane *lane, struct told *told) {
+    const struct spin_arg args[2] = {spin_range(0, 5), spin_word(7)};
+    struct spin_raising raising = {NULL};
+    const uint32_t error = spin_lane_begin(lane, &raising, 0, "bytes", 5, args, 2, &told->answer);
+    spin_raising_forget(&raising);
+    return error;
+}
+
+static struct spin_raising raising = {NULL};
+
+static uint32_t begin_open(struct told *told) {
+    const struct spin_arg args[2] = {spin_range(0, 5), spin_word(7)};
+    return spin_lane_begin(&lanes[0], &raising, 0, "bytes", 5, args, 2, &told->answer);
+}
+
+static uint32_t within_early(struct told *told) {
+    const struct spin_arg args[2] = {spin_word(7), spin_word(8)};
+    return spin_raising_within(&raising, 1, NULL, 0, args, 2, &told->answer);
+}
+
+static uint32_t gave_early(struct told *told) {
+    const struct spin_gift gifts[1] = {{SPIN_GIVES_SEND, 0, 0, 5}};
+    return spin_raising_gave(&raising, "bytes", 5, gifts, 1, &told->answer);
+}
+
+static uint32_t forget(struct told *told) {
+    (void)told;
+    return spin_raising_forget(&raising);
+}
+
+static uint32_t begin_closed(struct told *told) { return begin(&lanes[2], told); }
+
+static uint32_t begin_ended(struct told *told) { return begin(&lanes[0], told); }
+
 static uint32_t close_first(struct told *told) { return spin_lane_close(&lanes[0], &told->answer); }
 
 static uint32_t close_second(struct told *told) { return spin_lane_close(&lanes[1], &told->answer); }
 
-/* All calls, in order, with the error that each tells where nothing is refused, and whether it may ask for memory. */
+/* All calls, in order, with the error that each tells where nothing is refused, and whether it may ask for memory, and that
+ * error is told all the same. */
+enum { ASKS_IN_VAIN = 2 };
+
 static const struct call {
     const char *name;
     uint32_t (*make)(struct told *told);
@@ -265,7 +304,12 @@ static const struct call {
     {"raise no event", raise_nothing, SPIN_OK, 1},
     {"raise bytes", raise_bytes, SPIN_OK, 1},
     {"raise bytes again", raise_bytes, SPIN_OK, 1},
+    {"begin", begin_open, SPIN_OK, 1},
+    {"within before a firing", within_early, SPIN_NOT_DUE, ASKS_IN_VAIN},
+    {"gave before a firing", gave_early, SPIN_NOT_DUE, ASKS_IN_VAIN},
+    {"forget", forget, SPIN_OK, 0},
     {"step", step, SPIN_OK, 0},
+    {"steps", steps, SPIN_OK, 0},
     {"bytes", step_bytes, SPIN_OK, 1},
     {"job", job, SPIN_OK, 1},
     {"job's step", job_step, SPIN_OK, 0},
@@ -291,6 +335,8 @@ static const struct call {
     {"end", end, SPIN_OK, 1},
     {"row", row_at, SPIN_OK, 0},
     {"raise on what was ended", raise_bytes, SPIN_HUB_ENDED, 1},
+    {"begin on what was ended", begin_ended, SPIN_HUB_ENDED, ASKS_IN_VAIN},
+    {"begin on a closed handle", begin_closed, SPIN_CLOSED, ASKS_IN_VAIN},
     {"cause", cause, SPIN_TOO_SMALL, 0},
     {"fault", fault, SPIN_TOO_SMALL, 0},
     {"close", close_first, SPIN_OK, 0},
@@ -324,6 +370,9 @@ static void make_or_again(const struct call *call, struct told *told) {
     uint32_t error = make(call, told);
     if (!call->asks && memory.made != made) {
         stop(call, "it asks for memory");
+    }
+    if (error == SPIN_NO_MEMORY && call->asks == ASKS_IN_VAIN) {
+        stop(call, "want of memory is told first");
     }
     if (error == SPIN_NO_MEMORY) {
         for (int at = 0; at < HANDLES; at++) {

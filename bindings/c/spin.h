@@ -193,6 +193,7 @@ uint32_t spin_raise(struct spin_lane *lane, uint8_t event, const uint8_t *bytes,
 uint32_t spin_later(struct spin_lane *lane, uint8_t event, const uint8_t *bytes, size_t length,
                     const struct spin_arg *args, size_t count, struct spin_answer *answer);
 uint32_t spin_step(struct spin_lane *lane, uint64_t index, struct spin_step *step);
+uint32_t spin_steps(struct spin_lane *lane, uint64_t from, struct spin_step *steps, size_t room, uint64_t *count);
 uint32_t spin_step_bytes(struct spin_lane *lane, uint64_t index, uint8_t *buffer, size_t room, uint64_t *length);
 uint32_t spin_job(struct spin_lane *lane, uint64_t index, struct spin_answer *answer);
 uint32_t spin_job_step(struct spin_lane *lane, uint64_t index, struct spin_step *step);
@@ -407,6 +408,19 @@ static inline uint32_t spin_lane_step(struct spin_lane *lane, uint64_t index, st
         return SPIN_NULL;
     }
     return spin_step(lane, index, step);
+}
+
+/* Tells the steps from an index on by one call, each as spin_lane_step does: as many as have room go to the front of
+ * `steps`, null standing for no room, and it is told how many. It answers as spin_lane_step of that index, and asks for no
+ * memory. */
+static inline uint32_t spin_lane_steps(struct spin_lane *lane, uint64_t from, struct spin_step *steps, size_t room,
+                                       uint64_t *count) {
+    struct spin_step none[1] = {{0, 0, 0, 0, 0, 0}};
+    struct spin_step *at = (struct spin_step *)spin_room(steps, room, none);
+    if (at == NULL || lane == NULL || count == NULL) {
+        return SPIN_NULL;
+    }
+    return spin_steps(lane, from, at, room, count);
 }
 
 /* Copies the bytes that such a step sends into a buffer, null standing for one of no bytes, and tells how many. It asks

@@ -101,6 +101,22 @@ static const struct spin_step steps[] = {
     {.kind = SPIN_BACK, .answer = SPIN_DONE},    {.kind = SPIN_JOB, .event = 0, .number = 3},
 };
 
+/* What a list of so much room gets of the steps from an index on. */
+static void expect_list(struct spin_lane *lane, uint64_t from, size_t room, uint32_t wanted, uint64_t count) {
+    const struct spin_step mark = {9, 9, 9, 9, 9, 9};
+    struct spin_step list[10], filled[10];
+    uint64_t told = 99;
+    for (size_t at = 0; at < 10; at++) {
+        list[at] = mark;
+        filled[at] = at < count ? steps[from + at] : mark;
+    }
+    expect("many steps", spin_lane_steps(lane, from, list, room, &told), wanted);
+    if (told != count || memcmp(list, filled, sizeof list) != 0) {
+        printf("of the steps from %u on %u are told\n", (unsigned)from, (unsigned)told);
+        wrong = 1;
+    }
+}
+
 /* What is told where no step is. */
 static void expect_no_step(struct spin_lane *lane, uint64_t index, uint32_t wanted) {
     const struct spin_step none = {0, 0, 0, 0, 0, 0};
@@ -108,6 +124,7 @@ static void expect_no_step(struct spin_lane *lane, uint64_t index, uint32_t want
     uint64_t length = 9;
     char buffer[2] = "-";
     expect("no step", spin_lane_step(lane, index, &step), wanted);
+    expect_list(lane, index, 10, wanted, 0);
     expect("no bytes", spin_lane_step_bytes(lane, index, buffer, 1, &length), wanted);
     if (memcmp(&step, &none, sizeof step) != 0 || length != 0 || buffer[0] != '-') {
         puts("where no step is one is told");
@@ -157,6 +174,13 @@ static void expect_steps(void) {
     }
     expect_no_step(&lane, answer.steps, SPIN_NO_STEP);
     expect_no_step(&lane, UINT64_MAX, SPIN_NO_STEP);
+    expect_list(&lane, 0, 10, SPIN_OK, 8);
+    expect_list(&lane, 0, 3, SPIN_OK, 3);
+    expect_list(&lane, 5, 2, SPIN_OK, 2);
+    expect_list(&lane, 7, 10, SPIN_OK, 1);
+    expect_list(&lane, 2, 0, SPIN_OK, 0);
+    expect("null steps", spin_lane_steps(&lane, 0, NULL, 1, &answer.value), SPIN_NULL);
+    expect("null steps of no room", spin_lane_steps(&lane, 0, NULL, 0, &answer.value), SPIN_OK);
     expect_bytes(&lane, 1, 5, SPIN_OK, "cd");
     expect_bytes(&lane, 1, 2, SPIN_OK, "cd");
     expect_bytes(&lane, 1, 1, SPIN_TOO_SMALL, "cd");

@@ -126,6 +126,7 @@ _GIVEN: dict[str, list[Any]] = {
     "spin_raise": [_LANE, _BYTE, *_TEXT, *_ARGS, _ANSWER],
     "spin_later": [_LANE, _BYTE, *_TEXT, *_ARGS, _ANSWER],
     "spin_step": [_LANE, _INDEX, _STEP],
+    "spin_steps": [_LANE, _INDEX, _STEP, _SIZE, _LENGTH],
     "spin_step_bytes": [_LANE, _INDEX, *_TEXT, _LENGTH],
     "spin_job": [_LANE, _INDEX, _ANSWER],
     "spin_job_step": [_LANE, _INDEX, _STEP],

@@ -39,6 +39,10 @@ _FAULTS: dict[int, tuple[type[faults.Fault], str]] = {
 _WORDS = [Struct(f"={count}Q").pack_into for count in range(9)]
 
 
+# How many steps are asked for at once.
+_MANY = 64
+
+
 def fault_of(number: int, answer: SpinAnswer) -> faults.Fault:
     """The fault that a number tells, but what has to be asked for besides."""
     if number == Error.BAD_SCRIPT:
@@ -178,13 +182,17 @@ class Lane:
 
     def _step(self, index: int, step: Callable[..., int], send: Callable[..., int]) -> Step:
         """The step that one call tells, and the other the bytes of."""
-        told, data = SpinStep(), b""
+        told = SpinStep()
         self._tell(step(self._at, index, ctypes.byref(told)))
-        if told.length:
-            buffer, length = ctypes.create_string_buffer(told.length), ctypes.c_uint64()
-            self._tell(send(self._at, index, buffer, told.length, ctypes.byref(length)))
-            data = buffer.raw
-        return step_of(told, data)
+        return self._sent(told, index, send)
+
+    def _sent(self, told: SpinStep, index: int, send: Callable[..., int]) -> Step:
+        """The step that was told, with its bytes, which a call tells."""
+        if not told.length:
+            return step_of(told, b"")
+        buffer, length = ctypes.create_string_buffer(told.length), ctypes.c_uint64()
+        self._tell(send(self._at, index, buffer, told.length, ctypes.byref(length)))
+        return step_of(told, buffer.raw)
 
     def step(self, index: int) -> Step:
         """The step at an index, counted from 0, of the reply to the last raise, which is kept until the next raise,
@@ -194,11 +202,13 @@ class Lane:
     def steps(self) -> list[Step]:
         """All steps of that reply."""
         steps: list[Step] = []
-        while True:
-            try:
-                steps.append(self.step(len(steps)))
-            except faults.NoStep:
-                return steps
+        told, count = (SpinStep * _MANY)(), ctypes.c_uint64(_MANY)
+        while count.value == _MANY:
+            number = self._calls.spin_steps(self._at, len(steps), told, _MANY, ctypes.byref(count))
+            self._tell(0 if number == Error.NO_STEP else number)
+            send, first = self._calls.spin_step_bytes, len(steps)
+            steps += [self._sent(told[at], first + at, send) for at in range(count.value)]
+        return steps
 
     def job(self, index: int) -> Job:
         """Does the job at an index, counted from 0, of those that the reply to the last raise leaves, in the order of

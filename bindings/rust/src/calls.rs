@@ -86,6 +86,7 @@ unsafe extern "C" {
         answer: *mut SpinAnswer,
     ) -> u32;
     fn spin_step(lane: *mut SpinLane, index: u64, step: *mut SpinStep) -> u32;
+    fn spin_steps(lane: *mut SpinLane, from: u64, steps: *mut SpinStep, room: usize, count: *mut u64) -> u32;
     fn spin_step_bytes(lane: *mut SpinLane, index: u64, buffer: *mut u8, room: usize, length: *mut u64) -> u32;
     fn spin_job(lane: *mut SpinLane, index: u64, answer: *mut SpinAnswer) -> u32;
     fn spin_job_step(lane: *mut SpinLane, index: u64, step: *mut SpinStep) -> u32;
@@ -405,7 +406,7 @@ impl Held {
 
     /// A step, and the bytes that it sends.
     pub(crate) fn step(&mut self, of: Of, index: u64) -> Result<(SpinStep, Vec<u8>), Fault> {
-        let (mut step, mut length, lane) = (SpinStep::default(), 0, &mut self.lane);
+        let (mut step, lane) = (SpinStep::default(), &mut self.lane);
         // SAFETY: the handle is this value's own, and the step is one of this function.
         let number = unsafe {
             match of {
@@ -414,20 +415,36 @@ impl Held {
             }
         };
         tell(number, SpinAnswer::default())?;
-        if step.length == 0 {
-            return Ok((step, Vec::new()));
+        let bytes = self.bytes(of, index, step.length)?;
+        Ok((step, bytes))
+    }
+
+    /// The steps of the last raise from an index on, as many as have room at the front of the list, and how many.
+    pub(crate) fn steps(&mut self, from: u64, steps: &mut [SpinStep]) -> Result<usize, Fault> {
+        let (mut count, lane, room) = (0, &mut self.lane, steps.len());
+        // SAFETY: the handle is this value's own; a slice with its length, and a number of this function.
+        let number = unsafe { spin_steps(lane, from, steps.as_mut_ptr(), room, &mut count) };
+        tell(number, SpinAnswer::default())?;
+        Ok(count as usize)
+    }
+
+    /// The bytes that a step sends, which are so many.
+    pub(crate) fn bytes(&mut self, of: Of, index: u64, length: u64) -> Result<Vec<u8>, Fault> {
+        if length == 0 {
+            return Ok(Vec::new());
         }
-        let mut bytes = vec![0; step.length as usize];
+        let (lane, mut told) = (&mut self.lane, 0);
+        let mut bytes = vec![0; length as usize];
         let (buffer, room) = (bytes.as_mut_ptr(), bytes.len());
         // SAFETY: the handle is this value's own; a slice with its length, and a number of this function.
         let number = unsafe {
             match of {
-                Of::Raise => spin_step_bytes(lane, index, buffer, room, &mut length),
-                Of::Job => spin_job_bytes(lane, index, buffer, room, &mut length),
+                Of::Raise => spin_step_bytes(lane, index, buffer, room, &mut told),
+                Of::Job => spin_job_bytes(lane, index, buffer, room, &mut told),
             }
         };
         tell(number, SpinAnswer::default())?;
-        Ok((step, bytes))
+        Ok(bytes)
     }
 
     pub(crate) fn job(&mut self, index: u64) -> Result<SpinAnswer, Fault> {

@@ -1,9 +1,12 @@
 //! Hubs over scripts, and their seats, on which is bound and raised.
 
-use crate::calls::{Held, Of, SpinArg};
+use crate::calls::{Held, Of, SpinArg, SpinStep};
 use crate::command::{Command, Row};
 use crate::fault::Fault;
 use crate::reply::{Job, Reply, Step};
+
+/// How many steps are asked for at once.
+const MANY: usize = 64;
 
 /// An argument of a raise.
 #[derive(Clone, Copy, Debug, PartialEq, Eq)]
@@ -130,8 +133,21 @@ impl Lane {
 
     /// All steps of that reply.
     pub fn steps(&mut self) -> Result<Vec<Step>, Fault> {
-        let steps = (0..).map(|index| self.step(index));
-        steps.take_while(|step| !matches!(step, Err(Fault::NoStep))).collect()
+        let (mut steps, mut told) = (Vec::new(), [SpinStep::default(); MANY]);
+        loop {
+            let from = steps.len() as u64;
+            let count = match self.held.steps(from, &mut told) {
+                Err(Fault::NoStep) => 0,
+                other => other?,
+            };
+            for (index, step) in (from..).zip(&told[..count]) {
+                let bytes = self.held.bytes(Of::Raise, index, step.length)?;
+                steps.push(Step::of(*step, bytes)?);
+            }
+            if count < MANY {
+                return Ok(steps);
+            }
+        }
     }
 
     /// Does the job at an index, counted from 0, of those that the reply to the last raise leaves, in the order of its

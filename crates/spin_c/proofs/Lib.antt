@@ -1,4 +1,5 @@
 pub mod Crossing
+pub mod DueFirings
 pub mod JobReplies
 pub mod Judged
 pub mod Lanes

@@ -51,6 +51,7 @@ pub stays : (asked : Move) → (asked ≡ move.Next → ⊥) → (asked ≡ move
 stays move.Lend next do' gave abandon forget = tt
 stays move.LendIdle next do' gave abandon forget = tt
 stays (move.Keep spare) next do' gave abandon forget = tt
+stays (move.Miss spare) next do' gave abandon forget = tt
 stays (move.Within event args spare) next do' gave abandon forget = tt
 stays move.Next next do' gave abandon forget = absurd (next refl)
 stays (move.Argument index) next do' gave abandon forget = tt

@@ -1,15 +1,23 @@
 -- What is asked of the handle of an open raise: how room is lent and taken back, and what is handed in.
 use Rattle.std.proofs.Common.{◌≡◌, ℕ, List, Option, Some, None, refl, sym, ap, subst, ◌∙◌, inl, inr}
-use Rattle.std.specs.Prelude.{◌⊎◌}
+use Rattle.std.specs.Prelude.{◌⊎◌, Bool, true, false, is_some}
 use Rattle.spin_c.specs.declared.moves.Move.{Move}
 use Rattle.spin_c.specs.declared.moves.Move.TheVariants as move
 use Rattle.spin_c.specs.declared.moves.Upshot.{Upshot}
 use Rattle.spin_c.specs.declared.moves.Upshot.TheVariants as upshot
 use Rattle.spin_c.specs.declared.raising.Raising.{Raising}
 use Rattle.spin_c.specs.declared.raising.Raising.TheVariants as raising
-use Rattle.spin_c.specs.Moves.{Moves, MovesHeld, MovesIn}
-use Rattle.spin_c.specs.OpenTellings.{AreHandedBy, IsUnfit, MovesWith, number_of}
-use Rattle.spin_c.specs.Raisings.{IsRaising, IsShut}
+use Rattle.spin_host.specs.Frames.{due_in}
+use Rattle.spin_host.specs.Levels.{OnTop}
+use Rattle.spin_c.specs.declared.raising.Opened.{Opened}
+use Rattle.spin_c.specs.Moves.{IsMissed, Moves, MovesHeld, MovesIn, missed_if}
+use Rattle.spin_c.specs.Inner.Refusals.{IsToldFor, IsUnfit}
+use Rattle.spin_c.specs.OpenTellings.{AreHandedBy, IsNoneDue, IsOneDue, MovesWith, number_of}
+use Rattle.spin_c.specs.Raisings.{IsRaising, IsRaisingAnd, IsShut, setup_of}
+
+none_due : {X : Type 0} (x : Option X) → false ≡ is_some x → x ≡ None
+none_due None is = refl
+none_due (Some x) is = absurd (cc is)
 
 module _ {A C E : Type 0} {B : A → Type 0} {D : C → Type 0} {F : E → Type 0} where
   -- room is lent by a raise that is open, or none is
@@ -55,6 +63,7 @@ module _ {A C E : Type 0} {B : A → Type 0} {D : C → Type 0} {F : E → Type 
   moved r after move.Lend told open' m = m
   moved r after move.LendIdle told open' m = m
   moved r after (move.Keep spare) told open' m = m
+  moved r after (move.Miss spare) told open' m = m
   moved r after (move.Within event args spare) told open' m = m
   moved r after move.Next told open' m = m
   moved r after (move.Argument index) told open' m = m
@@ -68,24 +77,52 @@ module _ {A C E : Type 0} {B : A → Type 0} {D : C → Type 0} {F : E → Type 
 
   -- ---- what is handed in
 
-  pub unlent : (fits : Type 0) (kept after : Option (Raising A C E B D F)) (asked : Move) (told : Upshot) → Moves kept move.Lend after told
-      → ((room : Unit {0}) → told ≡ upshot.Lent room → ⊥) → MovesWith fits kept asked after told
-  unlent fits kept after asked told m never = go (lends kept after told m)
+  pub unlent : (fits some : Type 0) (kept after : Option (Raising A C E B D F)) (asked : Move) (told : Upshot) → Moves kept move.Lend after told
+      → ((room : Unit {0}) → told ≡ upshot.Lent room → ⊥) → MovesWith fits some kept asked after told
+  unlent fits some kept after asked told m never = go (lends kept after told m)
     where
-      go : (after ≡ kept) × ((IsRaising kept × (told ≡ upshot.Lent tt)) ⊎ (IsShut kept × (told ≡ upshot.Closed))) → MovesWith fits kept asked after told
+      go : (after ≡ kept) × ((IsRaising kept × (told ≡ upshot.Lent tt)) ⊎ (IsShut kept × (told ≡ upshot.Closed))) → MovesWith fits some kept asked after told
       go (same, inl lent) = absurd (never tt lent.1)
-      go (same, inr shuts) = inl (shuts.0, same, shuts.1)
+      go (same, inr shuts) = subst (λ (t : Upshot). MovesWith fits some kept asked after t) (sym shuts.1) (inl (same, shuts.0))
 
-  pub unfit : (fits : Type 0) (kept after : Option (Raising A C E B D F)) (asked : Move) (why : Upshot) → IsUnfit fits why → IsRaising kept → after ≡ kept
-      → MovesWith fits kept asked after why
-  unfit fits kept after asked upshot.NoArgument is raises same = inr (raises, inl (is, same, refl))
-  unfit fits kept after asked upshot.NoMemory is raises same = inr (raises, inr (inl (is, same, refl)))
-  unfit fits kept after asked other is raises same = absurd is
+  missed : (fits some : Type 0) (kept : Option (Raising A C E B D F)) (o : Opened A C E B D F) (asked : Move) (told : Upshot) → fits → some → kept ≡ Some (raising.Open o)
+      → IsMissed o told → MovesWith fits some kept asked kept told
+  missed fits some kept o asked told fit is same m = go m.due m.due_is m.told_is
+    where
+      go : (due : Bool) → OnTop (setup_of o) o.raise (λ sig e. due ≡ is_some (due_in e o.raise.top.frame)) → told ≡ missed_if due → MovesWith fits some kept asked kept told
+      go true so tells = subst (λ (t : Upshot). MovesWith fits some kept asked kept t) (sym tells)
+          (inl (refl, (fit, is, subst (λ (k : Option (Raising A C E B D F)). IsRaisingAnd k (λ x. IsOneDue x)) (sym same) (λ bounds sig e are typed read. sym (so bounds sig e are typed read)))))
+      go false so tells = subst (λ (t : Upshot). MovesWith fits some kept asked kept t) (sym tells)
+          (inl (
+            refl,
+            (
+              fit,
+              subst (λ (k : Option (Raising A C E B D F)). IsRaisingAnd k (λ x. IsNoneDue x)) (sym same)
+                  (λ bounds sig e are typed read. none_due (due_in e o.raise.top.frame) (so bounds sig e are typed read)),
+            ),
+          ))
 
-  pub fitting : (fits : Type 0) (kept lent after : Option (Raising A C E B D F)) (asked : Move) (told : Upshot) → fits → IsRaising kept → lent ≡ kept
-      → Moves lent asked after told → MovesWith fits kept asked after told
-  fitting fits kept lent after asked told fit raises same m =
-      inr (raises, inr (inr (fit, subst (λ (k : Option (Raising A C E B D F)). Moves k asked after told) same m)))
+  lacking : (fits some : Type 0) (kept after : Option (Raising A C E B D F)) (asked : Move) (told : Upshot) → fits → some → IsRaising kept → Moves kept (move.Miss tt) after told
+      → MovesWith fits some kept asked after told
+  lacking fits some None after asked told fit is raises m = absurd raises
+  lacking fits some (Some (raising.Idle room)) after asked told fit is raises m = absurd raises
+  lacking fits some (Some (raising.Open o)) None asked told fit is raises m = absurd m
+  lacking fits some (Some (raising.Open o)) (Some after) asked told fit is raises m =
+      subst (λ (x : Raising A C E B D F). MovesWith fits some (Some (raising.Open o)) asked (Some x) told) (sym m.0)
+      (missed fits some (Some (raising.Open o)) o asked told fit is refl m.1)
+
+  pub unfit : (fits some : Type 0) (kept lent after : Option (Raising A C E B D F)) (asked : Move) (why told : Upshot) → IsUnfit fits some why → IsRaising kept → lent ≡ kept
+      → IsToldFor lent why after told → MovesWith fits some kept asked after told
+  unfit fits some kept lent after asked upshot.NoArgument told is raises same m =
+      subst (λ (t : Upshot). MovesWith fits some kept asked after t) (sym m.1) (inl (m.0 ∙ same, (raises, is)))
+  unfit fits some kept lent after asked upshot.NoMemory told is raises same m =
+      lacking fits some kept after asked told is.0 is.1 raises (subst (λ (k : Option (Raising A C E B D F)). Moves k (move.Miss tt) after told) same m)
+  unfit fits some kept lent after asked other told is raises same m = absurd is
+
+  pub fitting : (fits some : Type 0) (kept lent after : Option (Raising A C E B D F)) (asked : Move) (told : Upshot) → fits → IsRaising kept → lent ≡ kept
+      → Moves lent asked after told → MovesWith fits some kept asked after told
+  fitting fits some kept lent after asked told fit raises same m =
+      inr (raises, fit, subst (λ (k : Option (Raising A C E B D F)). Moves k asked after told) same m)
 
 -- no bytes are handed out
 pub unhanded : (told : Upshot) (before : List ℕ) (number : ℕ) → ((bytes : List ℕ) → told ≡ upshot.Bytes bytes → ⊥) → number ≡ number_of told → AreHandedBy told before number before

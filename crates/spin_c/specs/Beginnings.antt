@@ -73,11 +73,16 @@ BeginsIn h (raising.Open o) event args after raised told =
     (after ≡ h) × (raised ≡ raising.Open o) × (told ≡ upshot.Open)
 BeginsIn h (raising.Idle room) event args after raised told = BeginsHeld h event args after raised told
 
+-- what is told where there is no memory: on a hub that was ended none is wanted
+abbrev pub missed_on : {A C E : Type 0} {B : A → Type 0} {D : C → Type 0} {F : E → Type 0} → Held A C E B D F → Upshot
+missed_on (held.Lane l) = upshot.NoMemory
+missed_on (held.Ended rows) = upshot.Ended
+
 -- a handle that was closed has room of its own then; or there was no memory for that
 abbrev pub BeginsTo : {A C E : Type 0} {B : A → Type 0} {D : C → Type 0} {F : E → Type 0}
     → Held A C E B D F → Option (Raising A C E B D F) → ℕ → List Value
     → Held A C E B D F → Option (Raising A C E B D F) → Upshot → Type 0
-BeginsTo h None event args after None told = (after ≡ h) × (told ≡ upshot.NoMemory)
+BeginsTo h None event args after None told = (after ≡ h) × (told ≡ missed_on h)
 BeginsTo h None event args after (Some raised) told = BeginsHeld h event args after raised told
 BeginsTo h (Some r) event args after None told = ⊥
 BeginsTo h (Some r) event args after (Some raised) told = BeginsIn h r event args after raised told

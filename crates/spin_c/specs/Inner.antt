@@ -1,2 +1,3 @@
 -- What the contracts of private functions cite alone.
 pub mod JobReplies
+pub mod Refusals

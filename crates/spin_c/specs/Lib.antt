@@ -17,6 +17,7 @@ pub mod Raisers
 pub mod Raisings
 pub mod Renewing
 pub mod Shares
+pub mod StepLists
 pub mod Tellings
 pub mod Texts
 pub mod Trails

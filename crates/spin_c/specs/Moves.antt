@@ -1,6 +1,6 @@
 -- What becomes of an open raise by what its host asks, and what that comes to.
 use Rattle.std.specs.Prelude.{◌≡◌, ◌-◌, ◌++◌, ◌==◌, ◌⊎◌, ℕ, Bool, true, false, List, [], Option, None, Some, ⊤}
-use Rattle.std.specs.Prelude.{MatchOption, is_some, length, slice_get}
+use Rattle.std.specs.Prelude.{MatchOption, Result, Err, is_some, length, slice_get}
 use Rattle.std.specs.Arc.{arc_value}
 use Rattle.spin_values.specs.declared.values.Value.{Value}
 use Rattle.spin_values.specs.declared.values.Value.TheVariants as value
@@ -8,6 +8,8 @@ use Rattle.spin_values.specs.declared.types.EventType.{EventType}
 use Rattle.spin_objects.specs.declared.item.Item.{Item}
 use Rattle.spin_proto.specs.Replies.{units_in}
 use Rattle.spin_raise.specs.Firing.{Bound}
+use Rattle.spin_host.specs.declared.fault.RaiseFault.{RaiseFault}
+use Rattle.spin_host.specs.declared.fault.RaiseFault.TheVariants as unraised
 use Rattle.spin_host.specs.declared.firing.AnswerFault.{AnswerFault}
 use Rattle.spin_host.specs.declared.firing.AnswerFault.TheVariants as fault
 use Rattle.spin_host.specs.declared.gift.Given.{Given}
@@ -164,6 +166,25 @@ abbrev pub IsSent : Option Item → Upshot → Type 0
 IsSent None told = told ≡ upshot.NoStep
 IsSent (Some item) told = (told ≡ upshot.Bytes (item_bytes item)) ⊎ (told ≡ upshot.NoMemory)
 
+-- ---- want of memory
+
+-- whether a firing is due, by what a raise of event 0 from within is told
+abbrev pub due_by : {T : Type 0} → Result T RaiseFault → Bool
+due_by (Err unraised.NotDue) = false
+due_by other = true
+
+-- what is told where there was no memory for what is handed in
+abbrev pub missed_if : Bool → Upshot
+missed_if true = upshot.NoMemory
+missed_if false = upshot.NotDue
+
+-- There was none, which is told where a firing is due; else that none is.
+pub record IsMissed {A C E : Type 0} {B : A → Type 0} {D : C → Type 0} {F : E → Type 0} (o : Opened A C E B D F)
+    (told : Upshot) : Type 0 where
+  pub due : Bool
+  pub due_is : OnTop (setup_of o) o.raise (λ sig e. due ≡ is_some (due_in e o.raise.top.frame))
+  pub told_is : told ≡ missed_if due
+
 -- ---- a call
 
 -- what is asked does this to the raise that is open
@@ -171,6 +192,7 @@ abbrev pub MovesOpen : {A C E : Type 0} {B : A → Type 0} {D : C → Type 0} {F
     → Opened A C E B D F → Move → Raising A C E B D F → Upshot → Type 0
 MovesOpen o move.Lend after told = (after ≡ raising.Open o) × (told ≡ upshot.Lent tt)
 MovesOpen o move.LendIdle after told = (after ≡ raising.Open o) × (told ≡ upshot.Open)
+MovesOpen o (move.Miss spare) after told = (after ≡ raising.Open o) × IsMissed o told
 MovesOpen o (move.Within event args spare) after told =
     IsOpenAnd after (λ o'. (o'.party ≡ o.party) × OpensWithin o event args o'.raise told)
 MovesOpen o move.Next after told = TellsNext o after told

@@ -1,5 +1,7 @@
 -- By which numbers it is told what a call of an open raise comes to.
-use Rattle.std.specs.Prelude.{◌≡◌, ◌⊎◌, ℕ, List, Option, All, length, map}
+use Rattle.std.specs.Prelude.{◌≡◌, ◌≢◌, ◌⊎◌, ℕ, true, List, [], Option, None, All, is_some, length, map}
+use Rattle.spin_host.specs.Frames.{due_in}
+use Rattle.spin_host.specs.Levels.{OnTop}
 use Rattle.spin_c.specs.declared.given.SpinArg.{SpinArg}
 use Rattle.spin_c.specs.declared.gifts.SpinGift.{SpinGift}
 use Rattle.spin_c.specs.declared.lane.Held.{Held}
@@ -7,6 +9,7 @@ use Rattle.spin_c.specs.declared.moves.Move.{Move}
 use Rattle.spin_c.specs.declared.moves.Move.TheVariants as move
 use Rattle.spin_c.specs.declared.moves.Upshot.{Upshot}
 use Rattle.spin_c.specs.declared.moves.Upshot.TheVariants as upshot
+use Rattle.spin_c.specs.declared.raising.Opened.{Opened}
 use Rattle.spin_c.specs.declared.raising.Raising.{Raising}
 use Rattle.spin_c.specs.declared.step.SpinStep.{SpinStep}
 use Rattle.spin_c.specs.declared.told.SpinAnswer.{SpinAnswer}
@@ -14,9 +17,10 @@ use Rattle.spin_c.specs.Beginnings.{Begins}
 use Rattle.spin_c.specs.Gifts.{IsGift, gift_of}
 use Rattle.spin_c.specs.Given.{IsGiven, value_of}
 use Rattle.spin_c.specs.Moves.{Moves}
-use Rattle.spin_c.specs.Raisings.{IsRaising, IsShut}
+use Rattle.spin_c.specs.Raisings.{IsRaising, IsRaisingAnd, IsShut, setup_of}
 use Rattle.spin_c.specs.Tellings.{AreCopied}
 use Rattle.spin_c.specs.Trails.{blank}
+use Rattle.spin_c.specs.Waiting.{IsOnLane}
 
 -- Below, A and B, C and D, E and F are the kinds of the boxed handlers, guards and authorisers.
 
@@ -96,22 +100,34 @@ pub record HandsMove {A C E : Type 0} {B : A → Type 0} {D : C → Type 0} {F :
 
 -- ---- calls that hand something in
 
--- Of a raise that is open so much is asked as is handed in, where that is as it should: or there was no memory for it. It
--- is told where none is open, and else where what is handed in isn't as it should; nothing is changed then.
-abbrev pub MovesWith : {A C E : Type 0} {B : A → Type 0} {D : C → Type 0} {F : E → Type 0}
-    → Type 0 → Option (Raising A C E B D F) → Move → Option (Raising A C E B D F) → Upshot → Type 0
-MovesWith fits kept asked after told =
-    (IsShut kept × (after ≡ kept) × (told ≡ upshot.Closed))
-    ⊎ (IsRaising kept
-    × (((fits → ⊥) × (after ≡ kept) × (told ≡ upshot.NoArgument))
-    ⊎ (fits × (after ≡ kept) × (told ≡ upshot.NoMemory))
-    ⊎ (fits × Moves kept asked after told)))
+-- no firing is due in the raise that is open, or one is
+abbrev pub IsNoneDue : {A C E : Type 0} {B : A → Type 0} {D : C → Type 0} {F : E → Type 0} → Opened A C E B D F → Type 0
+IsNoneDue o = OnTop (setup_of o) o.raise (λ sig e. due_in e o.raise.top.frame ≡ None)
 
-pub record TellsWith {A C E : Type 0} {B : A → Type 0} {D : C → Type 0} {F : E → Type 0} (fits : Type 0)
+abbrev pub IsOneDue : {A C E : Type 0} {B : A → Type 0} {D : C → Type 0} {F : E → Type 0} → Opened A C E B D F → Type 0
+IsOneDue o = OnTop (setup_of o) o.raise (λ sig e. is_some (due_in e o.raise.top.frame) ≡ true)
+
+-- why nothing is asked of an open raise: none is open; or one is, and what is handed in isn't as it should; or it is, and
+-- no firing is due; or one is, something is handed in, and there was no memory for it
+abbrev pub IsUnasked : {A C E : Type 0} {B : A → Type 0} {D : C → Type 0} {F : E → Type 0}
+    → Type 0 → Type 0 → Option (Raising A C E B D F) → Upshot → Type 0
+IsUnasked fits some kept upshot.Closed = IsShut kept
+IsUnasked fits some kept upshot.NoArgument = IsRaising kept × (fits → ⊥)
+IsUnasked fits some kept upshot.NotDue = fits × IsRaisingAnd kept (λ o. IsNoneDue o)
+IsUnasked fits some kept upshot.NoMemory = fits × some × IsRaisingAnd kept (λ o. IsOneDue o)
+IsUnasked fits some kept other = ⊥
+
+-- nothing is asked, and nothing is changed; or so much is asked as is handed in
+abbrev pub MovesWith : {A C E : Type 0} {B : A → Type 0} {D : C → Type 0} {F : E → Type 0}
+    → Type 0 → Type 0 → Option (Raising A C E B D F) → Move → Option (Raising A C E B D F) → Upshot → Type 0
+MovesWith fits some kept asked after told =
+    ((after ≡ kept) × IsUnasked fits some kept told) ⊎ (IsRaising kept × fits × Moves kept asked after told)
+
+pub record TellsWith {A C E : Type 0} {B : A → Type 0} {D : C → Type 0} {F : E → Type 0} (fits some : Type 0)
     (kept : Option (Raising A C E B D F)) (asked : Move) (after : Option (Raising A C E B D F)) (number : ℕ)
     (answer : SpinAnswer) : Type 0 where
   pub told : Upshot
-  pub moves : MovesWith fits kept asked after told
+  pub moves : MovesWith fits some kept asked after told
   pub number_is : number ≡ number_of told
   pub answer_is : answer ≡ answer_of told
 
@@ -119,28 +135,33 @@ pub record TellsWith {A C E : Type 0} {B : A → Type 0} {D : C → Type 0} {F :
 abbrev pub TellsWithin : {A C E : Type 0} {B : A → Type 0} {D : C → Type 0} {F : E → Type 0}
     → Option (Raising A C E B D F) → ℕ → List ℕ → List SpinArg → Option (Raising A C E B D F) → ℕ → SpinAnswer → Type 0
 TellsWithin kept event bytes given after number answer =
-    TellsWith (All (IsGiven bytes) given) kept (move.Within event (map (value_of bytes) given) tt) after number answer
+    TellsWith (All (IsGiven bytes) given) (given ≢ []) kept (move.Within event (map (value_of bytes) given) tt) after
+    number answer
 
 -- these gifts are what the host's own handler gave
 abbrev pub TellsGave : {A C E : Type 0} {B : A → Type 0} {D : C → Type 0} {F : E → Type 0}
     → Option (Raising A C E B D F) → List ℕ → List SpinGift → Option (Raising A C E B D F) → ℕ → SpinAnswer → Type 0
 TellsGave kept bytes gifts after number answer =
-    TellsWith (All (IsGift bytes) gifts) kept (move.Gave (map (gift_of bytes) gifts) tt) after number answer
+    TellsWith (All (IsGift bytes) gifts) (gifts ≢ []) kept (move.Gave (map (gift_of bytes) gifts) tt) after number answer
 
 -- ---- a raise on a lane
 
--- Where none is open, one is opened with these arguments, which are given, or there was no memory for them; else it is
--- told that one is open, or else that an argument isn't given, and nothing is changed.
-pub record BeginsWith {A C E : Type 0} {B : A → Type 0} {D : C → Type 0} {F : E → Type 0}
-    (kept : Option (Held A C E B D F)) (other : Option (Raising A C E B D F)) (event : ℕ) (bytes : List ℕ)
-    (given : List SpinArg) (after : Option (Held A C E B D F)) (raised : Option (Raising A C E B D F)) (told : Upshot)
-    : Type 0 where
-  pub begins :
-      (IsRaising other × (after ≡ kept) × (raised ≡ other) × (told ≡ upshot.Open))
-      ⊎ (IsShut other
-      × (((All (IsGiven bytes) given → ⊥) × (after ≡ kept) × (raised ≡ other) × (told ≡ upshot.NoArgument))
-      ⊎ (All (IsGiven bytes) given × (after ≡ kept) × (raised ≡ other) × (told ≡ upshot.NoMemory))
-      ⊎ (All (IsGiven bytes) given × Begins kept other event (map (value_of bytes) given) after raised told)))
+-- why a raise isn't begun: one is open already; or else an argument isn't given; or there was no memory for the arguments,
+-- of which there are some, and the lane's handle is open on a hub that wasn't ended
+abbrev pub IsUnbegun : {A C E : Type 0} {B : A → Type 0} {D : C → Type 0} {F : E → Type 0}
+    → Type 0 → Type 0 → Option (Held A C E B D F) → Option (Raising A C E B D F) → Upshot → Type 0
+IsUnbegun fits some kept other upshot.Open = IsRaising other
+IsUnbegun fits some kept other upshot.NoArgument = IsShut other × (fits → ⊥)
+IsUnbegun fits some kept other upshot.NoMemory = IsShut other × fits × some × IsOnLane kept
+IsUnbegun fits some kept other why = ⊥
+
+-- it isn't, and nothing is changed; or it is, with these arguments, where none is open
+abbrev pub BeginsWith : {A C E : Type 0} {B : A → Type 0} {D : C → Type 0} {F : E → Type 0}
+    → Option (Held A C E B D F) → Option (Raising A C E B D F) → ℕ → List ℕ → List SpinArg
+    → Option (Held A C E B D F) → Option (Raising A C E B D F) → Upshot → Type 0
+BeginsWith kept other event bytes given after raised told =
+    ((after ≡ kept) × (raised ≡ other) × IsUnbegun (All (IsGiven bytes) given) (given ≢ []) kept other told)
+    ⊎ (IsShut other × All (IsGiven bytes) given × Begins kept other event (map (value_of bytes) given) after raised told)
 
 pub record TellsBegin {A C E : Type 0} {B : A → Type 0} {D : C → Type 0} {F : E → Type 0}
     (kept : Option (Held A C E B D F)) (other : Option (Raising A C E B D F)) (event : ℕ) (bytes : List ℕ)
@@ -150,12 +171,6 @@ pub record TellsBegin {A C E : Type 0} {B : A → Type 0} {D : C → Type 0} {F 
   pub begins : BeginsWith kept other event bytes given after raised told
   pub number_is : number ≡ number_of told
   pub answer_is : answer ≡ answer_of told
-
--- why what is handed in isn't there as values: it isn't as it should; or it is, and there was no memory
-abbrev pub IsUnfit : Type 0 → Upshot → Type 0
-IsUnfit fits upshot.NoArgument = fits → ⊥
-IsUnfit fits upshot.NoMemory = fits
-IsUnfit fits other = ⊥
 
 -- The call hands out bytes, which are copied, and it is told how many they are.
 pub record HandsMoveBytes {A C E : Type 0} {B : A → Type 0} {D : C → Type 0} {F : E → Type 0}

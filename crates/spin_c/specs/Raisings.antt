@@ -42,6 +42,11 @@ abbrev pub IsRaising : {A C E : Type 0} {B : A → Type 0} {D : C → Type 0} {F
 IsRaising None = ⊥
 IsRaising (Some r) = IsOpenAnd r (λ o. ⊤)
 
+abbrev pub IsRaisingAnd : {A C E : Type 0} {B : A → Type 0} {D : C → Type 0} {F : E → Type 0}
+    → Option (Raising A C E B D F) → (Opened A C E B D F → Type 0) → Type 0
+IsRaisingAnd None so = ⊥
+IsRaisingAnd (Some r) so = IsOpenAnd r so
+
 abbrev pub IsIdle : {A C E : Type 0} {B : A → Type 0} {D : C → Type 0} {F : E → Type 0}
     → Raising A C E B D F → Type 0
 IsIdle r = IfOpen r (λ o. ⊥)

@@ -39,6 +39,7 @@ code_of outcome.NoRow = 20
 code_of outcome.NoJob = 18
 code_of (outcome.Raised place told) = 0
 code_of (outcome.Step found) = 0
+code_of (outcome.Steps count) = 0
 code_of (outcome.Bytes bytes) = 0
 code_of (outcome.Before number) = 0
 code_of (outcome.Out count) = 0

@@ -89,6 +89,12 @@ abbrev pub IfLane : {A C E : Type 0} {B : A → Type 0} {D : C → Type 0} {F : 
 IfLane (held.Lane l) so = so l
 IfLane (held.Ended rows) so = ⊤
 
+-- a handle is open, on a hub that wasn't ended
+abbrev pub IsOnLane : {A C E : Type 0} {B : A → Type 0} {D : C → Type 0} {F : E → Type 0}
+    → Option (Held A C E B D F) → Type 0
+IsOnLane None = ⊥
+IsOnLane (Some h) = IsLaneAnd h (λ l. ⊤)
+
 -- so it is of what a handle holds
 abbrev pub IsWell : {A C E : Type 0} {B : A → Type 0} {D : C → Type 0} {F : E → Type 0}
     → Option (Held A C E B D F) → Type 0

@@ -166,6 +166,8 @@ pub enum Outcome {
     },
     /// A step of a reply.
     Step(SpinStep),
+    /// So many steps of it.
+    Steps(u64),
     /// The bytes of such a step.
     Bytes(Octets),
 }

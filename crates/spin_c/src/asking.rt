@@ -4,6 +4,7 @@ ghost use Rattle.std.specs.Prelude.{◌≡◌, ◌<◌, ◌≤◌, ◌⊎◌, If
 ghost use Rattle.spin_word.specs.declared.command.TheConstants.{MAX_LANES};
 ghost use Rattle.spin_values.specs.declared.values.Value.TheVariants as value;
 ghost use Rattle.spin_c.specs.declared.ask.Ask.TheVariants as asked;
+ghost use Rattle.spin_c.specs.StepLists.{FillsSteps, ReadsSteps};
 ghost use Rattle.spin_c.specs.Turns.{Turns};
 ghost use Rattle.spin_c.specs.Verdicts.{no_natives};
 ghost use Rattle.spin_c.specs.Tellings.{HandsBytes, TellsOf, TellsRow, TellsShare, TellsStep, answer_of, code_of};
@@ -13,7 +14,7 @@ use crate::copying::hand_to;
 use crate::handle::SpinLane;
 use crate::row::SpinRow;
 use crate::step::SpinStep;
-use crate::told::{SpinAnswer, answer_of, code_of, row_of, step_of};
+use crate::told::{SpinAnswer, answer_of, code_of, count_of, row_of, step_of};
 use spin_values::{Args, NoMemory, Octets, Value};
 use spin_word::MAX_LANES;
 use std::alloc::Global;
@@ -31,7 +32,7 @@ pub(crate) fn args_of(alloc: Global, words: &[u64]) -> Result<Args, NoMemory>
 }
 
 // Does what is asked on what the handle holds.
-fn call_on(alloc: Global, lane: &mut SpinLane, ask: Ask) -> Outcome
+pub(crate) fn call_on(alloc: Global, lane: &mut SpinLane, ask: Ask) -> Outcome
     ensures { Turns no_natives lane.old.kept ask lane.new.kept result }
 {
     let call = Call { alloc, ask };
@@ -124,6 +125,30 @@ pub(crate) fn ask_step(alloc: Global, lane: &mut SpinLane, ask: Ask, step: &mut 
 {
     let outcome = call_on(alloc, lane, ask);
     *step = step_of(&outcome);
+    code_of(&outcome)
+}
+
+// Tells steps of what the handle holds, in a list.
+fn steps_on(alloc: Global, lane: &mut SpinLane, from: u64, steps: &mut [SpinStep]) -> Outcome
+    ensures { ReadsSteps lane.old.kept from steps.old lane.new.kept steps.new result }
+{
+    let (after, outcome) = mem::replace(lane, SpinLane::closed(alloc)).steps(alloc, from, steps);
+    *lane = after;
+    outcome
+}
+
+// Tells steps in a list, and how many.
+pub(crate) fn ask_steps(
+    alloc: Global,
+    lane: &mut SpinLane,
+    from: u64,
+    steps: &mut [SpinStep],
+    told: &mut u64,
+) -> u32
+    ensures { FillsSteps lane.old.kept from steps.old lane.new.kept result steps.new told.new }
+{
+    let outcome = steps_on(alloc, lane, from, steps);
+    *told = count_of(&outcome);
     code_of(&outcome)
 }
 

@@ -1,11 +1,11 @@
 //! Opening a raise on a lane's version.
 
-ghost use Rattle.std.specs.Prelude.{◌≡◌, IfOk, IfSome, MatchOption, MatchResult, None, OnErr, OnOk};
+ghost use Rattle.std.specs.Prelude.{◌≡◌, IfOk, IfSome, MatchOption, MatchResult, None, OnErr, OnOk, Some};
 ghost use Rattle.std.specs.Arc.{arc_value};
 ghost use Rattle.spin_table.specs.SetupOf.{data_of};
 ghost use Rattle.spin_seat.specs.Calls.{AddsAtMostAPin};
 ghost use Rattle.spin_seat.specs.Seats.{version_of};
-ghost use Rattle.spin_c.specs.Beginnings.{Begins, BeginsHeld, BeginsIn, BeginsOn, IsPinned};
+ghost use Rattle.spin_c.specs.Beginnings.{Begins, BeginsHeld, BeginsIn, BeginsOn, IsPinned, missed_on};
 ghost use Rattle.spin_c.specs.Raisings.{IfOpen, IsWellHeld, IsWellOpened, IsIdle};
 ghost use Rattle.spin_c.specs.Waiting.{IfLane, IsWell, IsWellLane, KeepsHub};
 
@@ -126,6 +126,20 @@ fn begin_in(held: &mut Held, raising: &mut Raising, begin: Begin) -> Upshot
     }
 }
 
+// What is told where there is no memory for the handle of a raise, which is as it was, and so is the lane's.
+fn missed(alloc: Global, loose: Loose<Held, Global>) -> (Maybe<Held>, Maybe<Raising>, Upshot)
+    ensures held { result.0.value ≡ Some loose.value }
+    ensures raising { result.1.value ≡ None }
+    ensures told { result.2 ≡ missed_on loose.value }
+{
+    let held = loose.into_box();
+    let told = match &*held {
+        Held::Lane(_) => Upshot::NoMemory,
+        Held::Ended(_) => Upshot::Ended,
+    };
+    (Maybe::of(Loose::of(held)), Maybe::none(alloc), told)
+}
+
 // Opens a raise on a lane's handle.
 #[inline(always)]
 pub(crate) fn begin_maybe(
@@ -149,7 +163,7 @@ pub(crate) fn begin_maybe(
         Some(open) => open.into_box(),
         None => match Box::new(alloc, Raising::Idle(Room::new(alloc))) {
             Ok(raising) => raising,
-            Err(_) => return (Maybe::of(loose), Maybe::none(alloc), Upshot::NoMemory),
+            Err(_) => return missed(alloc, loose),
         },
     };
     let mut held = loose.into_box();

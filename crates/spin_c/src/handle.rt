@@ -4,6 +4,7 @@ ghost use Rattle.std.specs.Prelude.{◌≡◌, None, Option};
 ghost use Rattle.spin_c.specs.Beginnings.{Begins};
 ghost use Rattle.spin_c.specs.Lanes.{HeldAt, kept_coded, handle_owns};
 ghost use Rattle.spin_c.specs.Shares.{Shares};
+ghost use Rattle.spin_c.specs.StepLists.{ReadsSteps};
 ghost use Rattle.spin_c.specs.Turns.{Turns};
 ghost use Rattle.spin_c.specs.Verdicts.{no_natives};
 
@@ -15,7 +16,8 @@ use crate::maybe::Maybe;
 use crate::moves::{Begin, Upshot};
 use crate::raiser::SpinRaising;
 use crate::raising::Raising;
-use crate::turn::turn_maybe;
+use crate::step::SpinStep;
+use crate::turn::{steps_maybe, turn_maybe};
 use spin_objects::Natives;
 use std::alloc::Global;
 use std::marker::Model;
@@ -62,6 +64,30 @@ impl SpinLane {
             },
             natives,
             call,
+        );
+        let Maybe { at, alloc } = maybe;
+        (
+            SpinLane {
+                at: at as *mut u8,
+                alloc,
+            },
+            outcome,
+        )
+    }
+
+    // Tells steps of the reply that the handle keeps, from an index on, in a list.
+    pub(crate) fn steps(self, its: Global, from: u64, steps: &mut [SpinStep]) -> (SpinLane, Outcome)
+        ensures { ReadsSteps self.kept from steps.old result.0.kept steps.new result.1 }
+    {
+        let SpinLane { at, alloc } = self;
+        let (maybe, outcome) = steps_maybe(
+            Maybe {
+                at: at as *mut Held,
+                alloc,
+            },
+            its,
+            from,
+            steps,
         );
         let Maybe { at, alloc } = maybe;
         (

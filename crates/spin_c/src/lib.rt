@@ -20,6 +20,7 @@ ghost use Rattle.spin_values.specs.declared.values.Value.TheVariants as value;
 ghost use Rattle.spin_grammar.specs.Words.{words};
 ghost use Rattle.spin_c.specs.declared.verdict.Verdict.{Verdict as VerdictValue};
 ghost use Rattle.spin_c.specs.declared.ask.Ask.TheVariants as asked;
+ghost use Rattle.spin_c.specs.StepLists.{FillsSteps};
 ghost use Rattle.spin_c.specs.Tellings.{HandsBytes, TellsOf, TellsOfArgs, TellsRow, TellsShare, TellsStep, row_from};
 ghost use Rattle.spin_values.specs.First.{numbered};
 ghost use Rattle.spin_c.specs.Texts.{TellsText};
@@ -70,7 +71,7 @@ mod verdict;
 mod whole_run;
 
 use ask::{Ask, Outcome};
-use asking::{args_of, ask_bytes, ask_of, ask_row, ask_step, open_of, share_of, tell};
+use asking::{args_of, ask_bytes, ask_of, ask_row, ask_step, ask_steps, open_of, share_of, tell};
 use filling::tell_whole;
 pub use gifts::SpinGift;
 pub use given::SpinArg;
@@ -344,6 +345,23 @@ pub extern "C" fn spin_step(
     ensures { TellsStep lane.old.kept (asked.Step index) lane.new.kept result step.new }
 {
     ask_step(alloc, lane, Ask::Step(index), step)
+}
+
+/// Tells the steps from an index on, counted from 0, of the reply to the last raise, each as [`spin_step`] does: as many as
+/// the list has room for go to its front, and it is told how many. It answers 0 where the reply has a step of that index;
+/// and else as `spin_step` there, with 0 steps, where the list is as it was. Behind the last step that is told it is as it
+/// was, too. It asks for no memory.
+#[unsafe(no_mangle)]
+pub extern "C" fn spin_steps(
+    alloc: Global,
+    lane: &mut SpinLane,
+    from: u64,
+    steps: &mut [SpinStep],
+    told: &mut u64,
+) -> u32
+    ensures { FillsSteps lane.old.kept from steps.old lane.new.kept result steps.new told.new }
+{
+    ask_steps(alloc, lane, from, steps, told)
 }
 
 /// Copies the bytes that the step at an index sends to the front of a buffer, and tells how many they are: none where

@@ -14,6 +14,8 @@ pub enum Move {
     LendIdle,
     /// To take spare lists back.
     Keep(Spare),
+    /// The same, where there was no memory for what is handed in: to tell that, or first that no firing is due.
+    Miss(Spare),
     /// To open a raise from within.
     Within {
         /// The number of the event.

@@ -1,15 +1,19 @@
 //! Asking something of the handle of an open raise.
 
-ghost use Rattle.std.specs.Prelude.{◌≡◌, MatchResult, map};
+ghost use Rattle.std.specs.Prelude.{◌≡◌, ◌≢◌, [], MatchResult, map};
 ghost use Rattle.std.specs.List.{All};
 ghost use Rattle.spin_c.specs.declared.moves.Move.TheVariants as wish;
 ghost use Rattle.spin_c.specs.Beginnings.{Begins};
 ghost use Rattle.spin_c.specs.Gifts.{IsGift, gift_of};
 ghost use Rattle.spin_c.specs.Given.{IsGiven, value_of};
+ghost use Rattle.spin_c.specs.Inner.Refusals.{IsToldFor, IsUnfit, missed_of, told_first};
 ghost use Rattle.spin_c.specs.Moves.{Moves};
-ghost use Rattle.spin_c.specs.OpenTellings.{AreHandedBy, BeginsWith, HandsMove, IsUnfit, MovesWith, TellsMove};
+ghost use Rattle.spin_c.specs.OpenTellings.{AreHandedBy, BeginsWith, HandsMove, MovesWith};
+ghost use Rattle.spin_c.specs.OpenTellings.{TellsMove};
 ghost use Rattle.spin_c.specs.OpenTellings.{TellsMoveAnswer, TellsMoveStep, answer_of, arg_of, number_of, step_of};
 
+use crate::ask::{Ask, Outcome};
+use crate::asking::call_on;
 use crate::copying::copy_to;
 use crate::gifts::{SpinGift, are_gifts, gifts_of};
 use crate::given::{SpinArg, are_given, values_in};
@@ -214,10 +218,14 @@ fn args_in(
     given: &[SpinArg],
 ) -> Result<Args, Upshot>
     ensures { let fits = All (IsGiven bytes.now) given.now in
-        MatchResult result (λ args. fits × (args ≡ map (value_of bytes.now) given.now)) (IsUnfit fits) }
+        MatchResult result (λ args. fits × (args ≡ map (value_of bytes.now) given.now))
+        (IsUnfit fits (given.now ≢ [])) }
 {
     if !are_given(bytes, given) {
         return Err(Upshot::NoArgument);
+    }
+    if given.is_empty() {
+        return Ok(spare.take_args(alloc));
     }
     match values_in(alloc, spare, bytes, given) {
         Ok(args) => Ok(args),
@@ -233,10 +241,14 @@ fn gift_in(
     gifts: &[SpinGift],
 ) -> Result<Gift, Upshot>
     ensures { let fits = All (IsGift bytes.now) gifts.now in
-        MatchResult result (λ gift. fits × (gift ≡ map (gift_of bytes.now) gifts.now)) (IsUnfit fits) }
+        MatchResult result (λ gift. fits × (gift ≡ map (gift_of bytes.now) gifts.now))
+        (IsUnfit fits (gifts.now ≢ [])) }
 {
     if !are_gifts(bytes, gifts) {
         return Err(Upshot::NoArgument);
+    }
+    if gifts.is_empty() {
+        return Ok(spare.take_gift(alloc));
     }
     match gifts_of(alloc, spare, bytes, gifts) {
         Ok(gift) => Ok(gift),
@@ -254,6 +266,28 @@ fn begin_on(alloc: Global, lane: &mut SpinLane, raising: &mut SpinRaising, begin
     *lane = after;
     *raising = open;
     told
+}
+
+// What is told where there is no memory, by what a lane's handle tells of an old number, for which it asks for none.
+fn missed_of(told: &Outcome) -> Upshot
+    ensures { result ≡ missed_of told.now }
+{
+    match told {
+        Outcome::Closed => Upshot::Closed,
+        Outcome::Ended => Upshot::Ended,
+        _ => Upshot::NoMemory,
+    }
+}
+
+// Why a raise isn't opened for whose arguments there are no values: before want of memory comes what needs none.
+fn unbegun(alloc: Global, lane: &mut SpinLane, why: Upshot) -> Upshot
+    ensures same { lane.new.kept ≡ lane.old.kept }
+    ensures told { result ≡ told_first lane.old.kept why }
+{
+    match why {
+        Upshot::NoMemory => missed_of(&call_on(alloc, lane, Ask::Before(0))),
+        other => other,
+    }
 }
 
 // Opens a raise on a lane with these arguments.
@@ -284,7 +318,20 @@ pub(crate) fn begin_with(
         }
         Err(why) => {
             keep(alloc, raising, spare);
-            why
+            unbegun(alloc, lane, why)
+        }
+    }
+}
+
+// Gives spare lists back, and tells why nothing is asked: that no firing is due comes before want of memory.
+fn unasked(alloc: Global, raising: &mut SpinRaising, spare: Spare, why: Upshot) -> Upshot
+    ensures { IsToldFor raising.old.kept why raising.new.kept result }
+{
+    match why {
+        Upshot::NoMemory => move_on(alloc, raising, Move::Miss(spare)),
+        other => {
+            keep(alloc, raising, spare);
+            other
         }
     }
 }
@@ -297,7 +344,7 @@ pub(crate) fn within_with(
     bytes: &[u8],
     given: &[SpinArg],
 ) -> Upshot
-    ensures { MovesWith (All (IsGiven bytes.now) given.now) raising.old.kept
+    ensures { MovesWith (All (IsGiven bytes.now) given.now) (given.now ≢ []) raising.old.kept
         (wish.Within event (map (value_of bytes.now) given.now) tt) raising.new.kept result }
 {
     let mut spare = match move_on(alloc, raising, Move::Lend) {
@@ -306,10 +353,7 @@ pub(crate) fn within_with(
     };
     match args_in(alloc, &mut spare, bytes, given) {
         Ok(args) => move_on(alloc, raising, Move::Within { event, args, spare }),
-        Err(why) => {
-            keep(alloc, raising, spare);
-            why
-        }
+        Err(why) => unasked(alloc, raising, spare, why),
     }
 }
 
@@ -320,7 +364,7 @@ pub(crate) fn gave_with(
     bytes: &[u8],
     gifts: &[SpinGift],
 ) -> Upshot
-    ensures { MovesWith (All (IsGift bytes.now) gifts.now) raising.old.kept
+    ensures { MovesWith (All (IsGift bytes.now) gifts.now) (gifts.now ≢ []) raising.old.kept
         (wish.Gave (map (gift_of bytes.now) gifts.now) tt) raising.new.kept result }
 {
     let mut spare = match move_on(alloc, raising, Move::Lend) {
@@ -329,9 +373,6 @@ pub(crate) fn gave_with(
     };
     match gift_in(alloc, &mut spare, bytes, gifts) {
         Ok(gift) => move_on(alloc, raising, Move::Gave { gift, spare }),
-        Err(why) => {
-            keep(alloc, raising, spare);
-            why
-        }
+        Err(why) => unasked(alloc, raising, spare, why),
     }
 }

@@ -21,8 +21,8 @@ use std::alloc::Global;
 /// place of the version; and else the first of these that applies: 5 a raise is open in the second handle; 12 an argument
 /// is of no kind or reaches past the bytes; 4 the lane's handle is closed; 19 its hub was ended; 22 there is no such event,
 /// which is told as kind 5, or the arguments aren't its own, as kind 6, with the place. It answers 1 where there was no
-/// memory. The reply to the lane's last raise is kept, whatever it answers. None is asked for where the handle's last
-/// raise left enough, and the lane has read all rows.
+/// memory, but in the place of no number beside 22. The reply to the lane's last raise is kept, whatever it answers. No
+/// memory is asked for where the handle's last raise left enough, and the lane has read all rows.
 #[unsafe(no_mangle)]
 pub extern "C" fn spin_begin(
     alloc: Global,

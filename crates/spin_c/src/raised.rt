@@ -1,16 +1,38 @@
 //! The turns of an open raise that leave it open.
 
-ghost use Rattle.std.specs.Prelude.{◌≡◌, slice_get};
+ghost use Rattle.std.specs.Prelude.{◌≡◌, is_some, slice_get};
+ghost use Rattle.spin_host.specs.Frames.{due_in};
+ghost use Rattle.spin_host.specs.Levels.{OnTop};
 ghost use Rattle.spin_c.specs.declared.raising.Raising.TheVariants as raising;
-ghost use Rattle.spin_c.specs.Moves.{Declines, IsArgument, IsSent, IsStaying, MovesOpen, OpensWithin, given_told};
-ghost use Rattle.spin_c.specs.Raisings.{IsWellOpened};
+ghost use Rattle.spin_c.specs.Moves.{Declines, IsArgument, IsSent, IsStaying, MovesOpen, OpensWithin, due_by};
+ghost use Rattle.spin_c.specs.Moves.{given_told, missed_if};
+ghost use Rattle.spin_c.specs.Raisings.{IsWellOpened, setup_of};
 
 use crate::given::spare_bytes;
 use crate::moves::{Move, Upshot};
 use crate::raising::Opened;
 use crate::uttered::{fault_told, item_bytes, item_told, refusal_told};
+use spin_host::RaiseFault;
 use spin_values::{Args, NoMemory, Value};
 use std::alloc::Global;
+
+// Whether a firing is due, by what a raise from within is told.
+fn due_by(told: &Result<(), RaiseFault>) -> bool
+    ensures { result ≡ due_by told.now }
+{
+    !matches!(told, Err(RaiseFault::NotDue))
+}
+
+// What is told where there was no memory for what is handed in.
+fn missed_if(due: bool) -> Upshot
+    ensures { result ≡ missed_if due }
+{
+    if due {
+        Upshot::NoMemory
+    } else {
+        Upshot::NotDue
+    }
+}
 
 impl Opened {
     // Opens a raise from within.
@@ -25,6 +47,19 @@ impl Opened {
             Ok(()) => Upshot::Begun(place),
             Err(fault) => refusal_told(place, fault),
         }
+    }
+
+    // Whether a firing is due. No event 0 is raised from within, and why not is told, first that none is due.
+    fn is_due(&mut self, alloc: Global) -> bool
+        requires well { IsWellOpened self.old }
+        ensures same { self.new ≡ self.old }
+        ensures due { OnTop (setup_of self.old) self.old.raise
+            (λ sig e. result ≡ is_some (due_in e self.old.raise.top.frame)) }
+    {
+        let told = self
+            .raise
+            .begin_within(self.party.hub.setup(), 0, Args::new(alloc));
+        due_by(&told)
     }
 
     // Hands out an argument of the innermost raise.
@@ -99,6 +134,11 @@ impl Opened {
             Move::Keep(spare) => {
                 self.raise.take_back(spare);
                 Upshot::Done
+            }
+            Move::Miss(spare) => {
+                let due = self.is_due(alloc);
+                self.raise.take_back(spare);
+                missed_if(due)
             }
             Move::Within { event, args, spare } => {
                 self.raise.take_back(spare);

@@ -1,6 +1,7 @@
 //! What is told in numbers.
 
 ghost use Rattle.std.specs.Prelude.{◌≡◌};
+ghost use Rattle.spin_c.specs.StepLists.{count_of};
 ghost use Rattle.spin_c.specs.Tellings.{answer_of, code_of, row_of, step_of};
 ghost use Rattle.spin_c.specs.Cases.{unread_fault, unread_number};
 ghost use Rattle.spin_c.specs.Verdicts.{fault_of, number_of};
@@ -92,7 +93,7 @@ pub(crate) fn code_of(outcome: &Outcome) -> u32
 {
     match outcome {
         Outcome::Done | Outcome::Raised { .. } | Outcome::Accepted(_) => 0,
-        Outcome::Step(_) | Outcome::Bytes(_) | Outcome::Row(_) => 0,
+        Outcome::Step(_) | Outcome::Steps(_) | Outcome::Bytes(_) | Outcome::Row(_) => 0,
         Outcome::Before(_) | Outcome::InCycle(_) | Outcome::Out(_) | Outcome::Rows(_) => 0,
         Outcome::NoMemory => 1,
         Outcome::Bad { .. } => 2,
@@ -145,6 +146,16 @@ pub(crate) fn step_of(outcome: &Outcome) -> SpinStep
     match outcome {
         Outcome::Step(step) => *step,
         _ => blank(0),
+    }
+}
+
+// How many steps a call tells; 0 where it tells none.
+pub(crate) fn count_of(outcome: &Outcome) -> u64
+    ensures { result ≡ count_of outcome.now }
+{
+    match outcome {
+        Outcome::Steps(count) => *count,
+        _ => 0,
     }
 }
 

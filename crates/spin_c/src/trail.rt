@@ -1,9 +1,11 @@
 //! What a reply is told as, and its steps one by one.
 
-ghost use Rattle.std.specs.Prelude.{◌≡◌, IfOk, MatchResult, Ok, Err};
+ghost use Rattle.std.specs.Prelude.{◌≡◌, IfOk, MatchResult, Ok, Err, length};
 ghost use Rattle.spin_c.specs.Trails.{answer_told, no_answer, told_of, fault_number, blank, back_told, step_told};
 ghost use Rattle.std.specs.Option.{option_copied};
 ghost use Rattle.spin_c.specs.Trails.{bytes_of, step_of, IsTold, IsHanded};
+ghost use Rattle.spin_c.specs.StepLists.{AreTold, told_in};
+ghost use Rattle.spin_c.specs.Tellings.{laid_over};
 
 use crate::ask::{Outcome, Told};
 use crate::step::SpinStep;
@@ -157,6 +159,31 @@ pub(crate) fn tell_step(steps: Option<&[Step]>, index: u64) -> Outcome
         Ok(step) => Outcome::Step(step_told(step)),
         Err(why) => why,
     }
+}
+
+// Tells steps at the front of a list, as many as both have, and how many.
+fn fill(found: &[Step], steps: &mut [SpinStep]) -> usize
+    ensures told { steps.new ≡ laid_over (told_in (length steps.old) found.now) steps.old }
+    ensures count { result ≡ length (told_in (length steps.old) found.now) }
+{
+    let count = found.len().min(steps.len());
+    for at in 0..count {
+        steps[at] = step_told(&found[at]);
+    }
+    count
+}
+
+// Tells the steps of a reply, if there is one, from an index on, as many as a list has room for, at its front.
+pub(crate) fn tell_steps(found: Option<&[Step]>, from: u64, steps: &mut [SpinStep]) -> Outcome
+    ensures { AreTold (option_copied found.entry) from steps.old steps.new result }
+{
+    let Some(found) = found else {
+        return Outcome::NoReply;
+    };
+    if from >= found.len() as u64 {
+        return Outcome::NoStep;
+    }
+    Outcome::Steps(fill(&found[from as usize..], steps) as u64)
 }
 
 // Hands out the bytes of such a step.

@@ -7,6 +7,7 @@ ghost use Rattle.spin_script.specs.States.{natives_seen};
 ghost use Rattle.spin_c.specs.declared.ask.Ask.TheVariants as asked;
 ghost use Rattle.spin_c.specs.declared.ask.Outcome.TheVariants as outcome;
 ghost use Rattle.spin_c.specs.Waiting.{IfLane, IsWell, IsWellLane, IsStarted};
+ghost use Rattle.spin_c.specs.StepLists.{ReadsSteps, TellsSteps};
 ghost use Rattle.spin_c.specs.Turns.{Opens, OpensTo, Raises, Commands, Works, Does, DoesHeld, Returns, Turns, ended_told};
 
 use crate::ask::{Ask, Call, Outcome};
@@ -19,7 +20,8 @@ use crate::loose::Loose;
 use crate::maybe::Maybe;
 use crate::renewing::{before, end_held, renew_held, row_at};
 use crate::row::in_lane;
-use crate::trail::{hand_bytes, tell_step};
+use crate::step::SpinStep;
+use crate::trail::{hand_bytes, tell_step, tell_steps};
 use spin_code::Sincere;
 use spin_log::Rows;
 use spin_objects::{Catalogue, Natives};
@@ -204,6 +206,35 @@ fn turn_held(alloc: Global, held: &mut Held, ask: Ask) -> Outcome
         return outcome;
     }
     turn_placed(alloc, held, ask)
+}
+
+// Tells steps of the reply that is kept, from an index on, in a list.
+fn steps_in(held: &Held, from: u64, steps: &mut [SpinStep]) -> Outcome
+    ensures { TellsSteps (Some held.now) from steps.old steps.new result }
+{
+    match held {
+        Held::Lane(lane) => tell_steps(lane.reply.steps(), from, steps),
+        Held::Ended(_) => Outcome::Ended,
+    }
+}
+
+// Tells steps of the reply that a handle keeps, which is as it was.
+pub(crate) fn steps_maybe(
+    maybe: Maybe<Held>,
+    alloc: Global,
+    from: u64,
+    steps: &mut [SpinStep],
+) -> (Maybe<Held>, Outcome)
+    requires well { IsWell maybe.value }
+    ensures well { IsWell result.0.value }
+    ensures reads { ReadsSteps maybe.value from steps.old result.0.value steps.new result.1 }
+{
+    let Some(loose) = maybe.into_loose() else {
+        return (Maybe::none(alloc), Outcome::Closed);
+    };
+    let held = loose.into_box();
+    let told = steps_in(&held, from, steps);
+    (Maybe::of(Loose::of(held)), told)
 }
 
 // Opens a closed handle.

@@ -47,4 +47,4 @@ abbrev pub StopsFilter : ScriptData → Option ℕ → List (List ℕ) → Shelf
 StopsFilter script capture names shelf shelf' before after why =
     ((shelf' ≡ shelf) × (after ≡ before) × IsUnsuited script why)
     ⊎ (IsForFilter script
-        × StopsPass script.endpoints capture (IsSentBy script shelf.files names) names shelf shelf' before after why)
+    × StopsPass script.endpoints capture (IsSentBy script shelf.files names) names shelf shelf' before after why)

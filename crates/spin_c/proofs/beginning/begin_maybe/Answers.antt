@@ -18,6 +18,6 @@ returns-clause-begins g c =
     ] in
     let begins = subst (λ x. BeginsIn x r event args after raised told) (c.deref_mut.ensures.value ∙ c.into_box-held.ensures) c.begin_in-told.ensures.begins in
     let whole = begun_in h after event args other r raised told was begins in
-    subst (λ x. Begins c.args.maybe.value other event args x c.of-5.result.value told) (sym (c.of-3.ensures ∙ ap Some c.of-2.ensures))
-    (subst (λ x. Begins c.args.maybe.value other event args (Some after) x told) (sym (c.of-5.ensures ∙ ap Some c.of-4.ensures))
+    subst (λ x. Begins c.args.maybe.value other event args x c.of-4.result.value told) (sym (c.of-2.ensures ∙ ap Some c.of.ensures))
+    (subst (λ x. Begins c.args.maybe.value other event args (Some after) x told) (sym (c.of-4.ensures ∙ ap Some c.of-3.ensures))
     (subst (λ x. Begins x other event args (Some after) (Some raised) told) (sym c.in-Some.ensures) whole))

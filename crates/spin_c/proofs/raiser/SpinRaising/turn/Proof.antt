@@ -67,6 +67,7 @@ asks_blank : (a : Global) (asks : Move) (f : Last (Call.exit yes) (call_of a ask
 asks_blank a asked.Lend f = tt
 asks_blank a asked.LendIdle f = tt
 asks_blank a (asked.Keep spare) f = tt
+asks_blank a (asked.Miss spare) f = tt
 asks_blank a (asked.Within event args spare) f = tt
 asks_blank a asked.Next f = tt
 asks_blank a (asked.Argument index) f = tt

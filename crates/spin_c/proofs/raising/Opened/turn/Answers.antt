@@ -1,5 +1,6 @@
-use Rattle.std.proofs.Common.{sym, subst}
+use Rattle.std.proofs.Common.{◌∙◌, ap, sym, subst}
 use Rattle.spin_host.specs.declared.open.OpenRaise.{OpenRaise}
+use Rattle.spin_c.specs.declared.raising.Raising.TheVariants as raising
 use Rattle.spin_c.specs.Moves.{OpensWithin}
 use Rattle.spin_c.specs.Raisings.{IsWellOpened}
 use Rattle.spin_c.proofs.raising.Opened.turn.Goals as goal
@@ -18,3 +19,13 @@ returns-in-Argument-clause-well g c = subst (λ o. IsWellOpened o) (sym c.argume
 
 pub returns-in-GivenBytes-clause-well : goal.returns-in-GivenBytes-clause-well
 returns-in-GivenBytes-clause-well g c = subst (λ o. IsWellOpened o) (sym c.hand_given.ensures.same) c.requires.well
+
+pub returns-in-Miss-clause-moves : goal.returns-in-Miss-clause-moves
+returns-in-Miss-clause-moves g c =
+    let left = ap (λ (r : OpenRaise). record c.is_due-due.new.self { raise = r }) c.take_back-in-Miss.ensures ∙ c.is_due-due.ensures.same in
+    rw c.in-Miss.is (ap raising.Open left, record { due = c.is_due-due.result; due_is = c.is_due-due.ensures.due; told_is = c.missed_if.ensures })
+
+pub returns-in-Miss-clause-well : goal.returns-in-Miss-clause-well
+returns-in-Miss-clause-well g c =
+    let left = ap (λ (r : OpenRaise). record c.is_due-due.new.self { raise = r }) c.take_back-in-Miss.ensures ∙ c.is_due-due.ensures.same in
+    subst (λ o. IsWellOpened o) (sym left) c.requires.well
