@@ -55,7 +55,7 @@ pub use spin_word::{Row, pack, unpack};
 /// Raises that a seat is asked for.
 pub use spin_word::Deed;
 /// What raises answer, and the steps that were done.
-pub use spin_proto::{LentReply, Reply, ReplyBuffer, ReplyView, Step, Trace};
+pub use spin_proto::{Reply, ReplyBuffer, ReplyView, Step, Trace};
 /// What became of a raised event.
 pub use spin_raise::Answer;
 /// Hubs, over which threads bind and raise, each on a seat of its own.

@@ -10,8 +10,7 @@ use Rattle.spin_pcap.specs.declared.next.Next.{Next}
 use Rattle.spin_pcap.specs.Captures.{captured_length, IsRest}
 use Rattle.spin_pcap.specs.Passing.{Passes, left_for}
 use Rattle.spin_pcap.proofs.WholeRecords.{number_at-front}
-use Rattle.spin_frames.specs.declared.order.Order.{Order}
-use Rattle.spin_frames.specs.Heads.{way_of}
+use Rattle.spin_pcap.specs.declared.order.Order.{Order}
 use Rattle.spin_frames.specs.Packets.{Packet, IsPacket, ArePackets}
 use Rattle.spin_filter.specs.Stops.{StandsAt}
 
@@ -37,7 +36,7 @@ read-none o (Some bytes) = record {
 abbrev pub front : ℕ → List ℕ → Packet
 front size held = record { header = take 16 held; frame = take size (drop 16 held) }
 
-front-is : (o : Order) (held rest : List ℕ) (size : ℕ) → captured_length (way_of o) held ≡ size → size ≤ MAX_CAPTURED → 16 + size ≤ length held
+front-is : (o : Order) (held rest : List ℕ) (size : ℕ) → captured_length o held ≡ size → size ≤ MAX_CAPTURED → 16 + size ≤ length held
     → IsPacket o (held ++ rest) (front size held) (drop (16 + size) held ++ rest)
 front-is o held rest size says small there =
     let head : length (take 16 held) ≡ 16 = omega (arith, length-take 16 held) in
@@ -49,7 +48,7 @@ front-is o held rest size says small there =
     sym (take-append-drop 16 held) ∙ ap (λ ys. take 16 held ++ ys) parts ∙ sym (append_assoc (take 16 held) (take size body) (drop (16 + size) held)) in
     record {
       size = head;
-      says = sym (number_at-front (way_of o) 8 4 (take 16 held) (drop 16 held) (omega (arith, head))) ∙ ap (λ ys. captured_length (way_of o) ys) (take-append-drop 16 held) ∙ says ∙ sym frame;
+      says = sym (number_at-front o 8 4 (take 16 held) (drop 16 held) (omega (arith, head))) ∙ ap (λ ys. captured_length o ys) (take-append-drop 16 held) ∙ says ∙ sym frame;
       small = omega (arith, frame, small);
       whole = ap (λ ys. ys ++ rest) cut ∙ append_assoc (take 16 held ++ take size body) (drop (16 + size) held) rest;
     }
@@ -61,7 +60,7 @@ consumed held held' rest a (Some more) told c = (more, refl, subst (λ (o : Opti
 
 -- one more record, which stands at the front of what is held after a read
 pub read-more : (o : Order) (bytes : List ℕ) (packets : List Packet) (held held' : List ℕ) (source source' : SourceSeen) (size : ℕ) → HasRead o bytes packets (left_for held source.left)
-    → Passes [] held source held' source' → captured_length (way_of o) held' ≡ size → size ≤ MAX_CAPTURED → 16 + size ≤ length held'
+    → Passes [] held source held' source' → captured_length o held' ≡ size → size ≤ MAX_CAPTURED → 16 + size ≤ length held'
     → HasRead o bytes (packets ++ front size held' ∷ []) (left_for (drop (16 + size) held') source'.left)
 read-more o bytes packets held held' source source' size h p says small there =
     let c = consumed held held' h.rest source.left source'.left h.told p.left in
@@ -80,7 +79,7 @@ read-more o bytes packets held held' source source' size h p says small there =
 
 -- where the record stands that stands at the front of what is held after a read
 pub read-stands : (o : Order) (bytes : List ℕ) (packets : List Packet) (held held' : List ℕ) (source source' : SourceSeen) (size number : ℕ) → HasRead o bytes packets (left_for held source.left)
-    → Passes [] held source held' source' → captured_length (way_of o) held' ≡ size → size ≤ MAX_CAPTURED → 16 + size ≤ length held' → number ≡ length packets
+    → Passes [] held source held' source' → captured_length o held' ≡ size → size ≤ MAX_CAPTURED → 16 + size ≤ length held' → number ≡ length packets
     → StandsAt o bytes number (front size held')
 read-stands o bytes packets held held' source source' size number h p says small there is =
     let c = consumed held held' h.rest source.left source'.left h.told p.left in
@@ -95,9 +94,9 @@ ended left more is end = subst (λ (o : Option (List ℕ)). IsAtEnd o) is end
 
 -- the capture ends behind the records
 pub read-end : (o : Order) (bytes : List ℕ) (packets : List Packet) (held held' : List ℕ) (source source' : SourceSeen) (ending : Result Next PcapFault) → HasRead o bytes packets (left_for held source.left)
-    → Passes [] held source held' source' → IsAtEnd source'.left → IsRest (way_of o) 0 held' ending → ArePackets o bytes packets ending
+    → Passes [] held source held' source' → IsAtEnd source'.left → IsRest o 0 held' ending → ArePackets o bytes packets ending
 read-end o bytes packets held held' source source' ending h p end rest =
     let c = consumed held held' h.rest source.left source'.left h.told p.left in
     let all : h.rest ≡ held' = c.2 ∙ ap (λ ys. held' ++ ys) (ended source'.left c.0 c.1 end) ∙ append-nil held' in
     subst (λ (ps : List Packet). ArePackets o bytes ps ending) (append-nil packets)
-    (h.body [] ending (subst (λ (bs : List ℕ). IsRest (way_of o) 0 bs ending) (sym all) rest))
+    (h.body [] ending (subst (λ (bs : List ℕ). IsRest o 0 bs ending) (sym all) rest))

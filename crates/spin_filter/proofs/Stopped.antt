@@ -12,14 +12,13 @@ use Rattle.spin_outside.specs.Sources.{SourceSeen}
 use Rattle.spin_pcap.specs.declared.limits.TheConstants.{MAX_CAPTURED}
 use Rattle.spin_pcap.specs.declared.fault.PcapFault.{PcapFault}
 use Rattle.spin_pcap.specs.declared.fault.PcapFault.TheVariants as fault
-use Rattle.spin_pcap.specs.declared.order.Order as pcap
 use Rattle.spin_pcap.specs.Captures.{captured_length, fields_of, order_of, header_of, is_version, ordered_number_at}
 use Rattle.spin_pcap.specs.Passing.{Passes, UnlessFailed, FaultByCount, left_for}
 use Rattle.spin_pcap.proofs.CaptureRecords.{at_told, told_more}
 use Rattle.spin_pcap.proofs.WholeRecords.{number_at-front}
 use Rattle.spin_frames.specs.declared.head.Head.{Head}
-use Rattle.spin_frames.specs.declared.order.Order.{Order}
-use Rattle.spin_frames.specs.Heads.{way_of, IsHead}
+use Rattle.spin_pcap.specs.declared.order.Order.{Order}
+use Rattle.spin_frames.specs.Heads.{IsHead}
 use Rattle.spin_frames.specs.Packets.{Packet, ArePackets, Finds}
 use Rattle.spin_table.specs.Setups.{SetupData}
 use Rattle.spin_table.specs.States.{State}
@@ -56,11 +55,11 @@ stop-wider names capture Kind Other x y why within is = stop-here names capture 
 
 -- behind the records that were read stands one that is too long
 read-bad : (o : Order) (bytes : List ℕ) (packets : List Packet) (held held' : List ℕ) (source source' : SourceSeen) → HasRead o bytes packets (left_for held source.left)
-    → Passes [] held source held' source' → 16 ≤ length held' → MAX_CAPTURED < captured_length (way_of o) held' → ArePackets o bytes packets (Err fault.TooLong)
+    → Passes [] held source held' source' → 16 ≤ length held' → MAX_CAPTURED < captured_length o held' → ArePackets o bytes packets (Err fault.TooLong)
 read-bad o bytes packets held held' source source' h p there long =
     let c = consumed held held' h.rest source.left source'.left h.told p.left in
-    let says : captured_length (way_of o) h.rest ≡ captured_length (way_of o) held' =
-    ap (λ ys. captured_length (way_of o) ys) c.2 ∙ number_at-front (way_of o) 8 4 held' c.0 (omega (arith, there)) in
+    let says : captured_length o h.rest ≡ captured_length o held' =
+    ap (λ ys. captured_length o ys) c.2 ∙ number_at-front o 8 4 held' c.0 (omega (arith, there)) in
     let size : length h.rest ≡ length held' + length c.0 = ap length c.2 ∙ length-append held' c.0 in
     subst (λ (ps : List Packet). ArePackets o bytes ps (Err fault.TooLong)) (append-nil packets)
     (h.body [] (Err fault.TooLong) (omega arith, omega (arith, size, there), omega (arith, says, long)))
@@ -109,17 +108,17 @@ stop-record names capture Kind Other o start faults faults' more x y z stop.NoRe
 -- ---- a bad header
 
 -- No header is refused for want of a read or of memory.
-abbrev IsPlain : Result pcap.Order PcapFault → Type 0
+abbrev IsPlain : Result Order PcapFault → Type 0
 IsPlain (Ok way) = ⊤
 IsPlain (Err fault.ReadFault) = ⊥
 IsPlain (Err fault.NoMemory) = ⊥
 IsPlain (Err other) = ⊤
 
-by-cond : (b : Bool) (x y : Result pcap.Order PcapFault) → IsPlain x → IsPlain y → IsPlain (cond b x y)
+by-cond : (b : Bool) (x y : Result Order PcapFault) → IsPlain x → IsPlain y → IsPlain (cond b x y)
 by-cond true x y p q = p
 by-cond false x y p q = q
 
-fields-plain : (way : Option pcap.Order) (bytes : List ℕ) → IsPlain (fields_of way bytes)
+fields-plain : (way : Option Order) (bytes : List ℕ) → IsPlain (fields_of way bytes)
 fields-plain None bytes = tt
 fields-plain (Some way) bytes =
     let link = cond (not (ordered_number_at way 20 4 bytes == 1)) (Err fault.BadLink) (Ok way) in

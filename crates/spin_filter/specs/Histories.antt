@@ -7,7 +7,7 @@ use Rattle.spin_table.specs.States.{State}
 use Rattle.spin_pcap.specs.declared.next.Next.{Next}
 use Rattle.spin_pcap.specs.Whole.{cut_of}
 use Rattle.spin_frames.specs.declared.head.Head.{Head}
-use Rattle.spin_frames.specs.declared.order.Order.{Order}
+use Rattle.spin_pcap.specs.declared.order.Order.{Order}
 use Rattle.spin_frames.specs.Packets.{ArePackets, IsLongCapture}
 use Rattle.spin_filter.specs.Counting.{Happened, nothing, joined, happened_at}
 use Rattle.spin_filter.specs.Passing.{Passed, IsPassed}

@@ -19,7 +19,7 @@ use Rattle.spin_pcap.specs.declared.fault.PcapFault.{PcapFault}
 use Rattle.spin_pcap.specs.declared.fault.PcapFault.TheVariants as fault
 use Rattle.spin_pcap.specs.Captures.{header_of}
 use Rattle.spin_frames.specs.declared.head.Head.{Head}
-use Rattle.spin_frames.specs.declared.order.Order.{Order}
+use Rattle.spin_pcap.specs.declared.order.Order.{Order}
 use Rattle.spin_frames.specs.Heads.{IsHead}
 use Rattle.spin_frames.specs.Packets.{Packet, IsPacket, ArePackets}
 use Rattle.spin_filter.specs.declared.stop.Stop.{Stop}

@@ -11,7 +11,7 @@ use crate::hits::Hit;
 use crate::listing::list_hits;
 use crate::tally::{Tally, one_more};
 use spin_endpoint::MAX_ENDPOINTS;
-use spin_proto::{LentReply, Reply, ReplyView, Step};
+use spin_proto::{Reply, ReplyView, Step};
 use spin_raise::Answer;
 use spin_table::{Setup, Version};
 use spin_values::NoMemory;
@@ -73,9 +73,9 @@ fn outcome_of_reply(reply: &Reply) -> usize
 pub fn outcome_of(reply: &ReplyView) -> usize
     ensures { result ≡ specs.outcome_of reply.now }
 {
-    match &reply.lent {
-        LentReply::Ran { answer, .. } => answered(*answer),
-        LentReply::Whole(reply) => outcome_of_reply(reply),
+    match reply.ending {
+        Ok(answer) => answered(answer),
+        Err(whole) => outcome_of_reply(whole),
     }
 }
 

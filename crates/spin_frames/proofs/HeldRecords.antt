@@ -1,16 +1,10 @@
 -- A record at the front of what is held, as more comes.
-use Rattle.std.proofs.Common.{◌≡◌, ◌≤◌, ◌<◌, ◌+◌, ◌-◌, ℕ, List, [], ◌++◌, length, take, drop, refl, sym, ap, ◌∙◌, arith, append_assoc}
-use Rattle.std.proofs.lemmas.List.{append-nil, length-append, take_rest}
+use Rattle.std.proofs.Common.{◌≡◌, ◌≤◌, ◌-◌, ℕ, List, length, take, drop, sym, ap, ◌∙◌, arith}
+use Rattle.std.proofs.lemmas.List.{take_rest}
 use Rattle.spin_pcap.specs.declared.order.Order.{Order}
 use Rattle.spin_pcap.specs.Captures.{ordered_number, captured_length}
 use Rattle.spin_pcap.proofs.WholeRecords.{number_at-front}
-use Rattle.spin_frames.specs.Inner.Filling.{Grows}
-
-pub grows-none : (held : List ℕ) → Grows held held
-grows-none held = ([], sym (append-nil held))
-
-pub grows-then : (a b c : List ℕ) → Grows a b → Grows b c → Grows a c
-grows-then a b c p q = (p.0 ++ q.0, q.1 ∙ ap (λ ys. ys ++ q.0) p.1 ∙ append_assoc a p.0 q.0)
+use Rattle.spin_pcap.specs.Windows.{Grows}
 
 -- the captured length is that of the front
 pub says-still : (way : Order) (held held' : List ℕ) → 16 ≤ length held → Grows held held' → captured_length way held' ≡ captured_length way held
@@ -20,6 +14,3 @@ says-still way held held' size g = ap (λ ys. captured_length way ys) g.1 ∙ nu
 pub says : (way : Order) (held held' : List ℕ) (read : ℕ) → held ≡ held' → read ≡ ordered_number way 4 (take (length held - 8) (drop 8 held)) → captured_length way held' ≡ read
 says way held held' read same is =
     ap (λ ys. captured_length way ys) (sym same) ∙ ap (λ ys. ordered_number way 4 ys) (sym (take_rest held 8)) ∙ sym is
-
-pub at_least : (held held' : List ℕ) → Grows held held' → length held ≤ length held'
-at_least held held' g = omega (arith, ap length g.1, length-append held g.0)

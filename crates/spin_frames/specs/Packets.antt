@@ -8,10 +8,10 @@ use Rattle.spin_pcap.specs.declared.fault.PcapFault.TheVariants as fault
 use Rattle.spin_pcap.specs.declared.next.Next.{Next}
 use Rattle.spin_pcap.specs.Captures.{IsRest, captured_length}
 use Rattle.spin_frames.specs.declared.head.Head.{Head}
-use Rattle.spin_frames.specs.declared.order.Order.{Order}
+use Rattle.spin_pcap.specs.declared.order.Order.{Order}
 use Rattle.spin_frames.specs.declared.records.Found.{Found}
 use Rattle.spin_frames.specs.declared.records.Found.TheVariants as found
-use Rattle.spin_frames.specs.Heads.{way_of, IsHead}
+use Rattle.spin_frames.specs.Heads.{IsHead}
 
 -- a record: its header, and its captured bytes
 pub record Packet : Type 0 where
@@ -21,14 +21,14 @@ pub record Packet : Type 0 where
 -- At the front stands this record, and the other bytes follow.
 pub record IsPacket (o : Order) (bytes : List ℕ) (packet : Packet) (rest : List ℕ) : Type 0 where
   pub size : length packet.header ≡ 16
-  pub says : captured_length (way_of o) packet.header ≡ length packet.frame
+  pub says : captured_length o packet.header ≡ length packet.frame
   pub small : length packet.frame ≤ MAX_CAPTURED
   pub whole : bytes ≡ packet.header ++ packet.frame ++ rest
 
 -- These bytes are just these records, and then such a rest: empty, cut or bad. However many there are, none is one too
 -- many.
 abbrev pub ArePackets : Order → List ℕ → List Packet → Result Next PcapFault → Type 0
-ArePackets o bytes [] ending = IsRest (way_of o) 0 bytes ending
+ArePackets o bytes [] ending = IsRest o 0 bytes ending
 ArePackets o bytes (packet ∷ packets) ending =
     (rest : List ℕ) × IsPacket o bytes packet rest × ArePackets o rest packets ending
 
@@ -41,11 +41,11 @@ pub record IsLongCapture (file : List ℕ) (head : Head) (packets : List Packet)
 -- What stands at the front of what is held, where these bytes are left behind it.
 abbrev pub Finds : Order → Result Found PcapFault → List ℕ → Option (List ℕ) → Type 0
 Finds o (Ok (found.Record size)) held left =
-    (captured_length (way_of o) held ≡ size) × (size ≤ MAX_CAPTURED) × (16 + size ≤ length held)
+    (captured_length o held ≡ size) × (size ≤ MAX_CAPTURED) × (16 + size ≤ length held)
 Finds o (Ok found.End) held left = (held ≡ []) × IsAtEnd left
 Finds o (Ok (found.Cut count)) held left =
     (length held ≡ count) × IsAtEnd left × (0 < count)
-    × (16 ≤ count → (captured_length (way_of o) held ≤ MAX_CAPTURED) × (count < 16 + captured_length (way_of o) held))
+    × (16 ≤ count → (captured_length o held ≤ MAX_CAPTURED) × (count < 16 + captured_length o held))
 Finds o (Err fault.ReadFault) held left = ⊤
-Finds o (Err fault.TooLong) held left = (16 ≤ length held) × (MAX_CAPTURED < captured_length (way_of o) held)
+Finds o (Err fault.TooLong) held left = (16 ≤ length held) × (MAX_CAPTURED < captured_length o held)
 Finds o (Err other) held left = ⊥

@@ -1,11 +1,11 @@
 -- A capture as it is written: numbers of four bytes, the lowest first, and times in microseconds.
-use Rattle.std.specs.Prelude.{ℕ, ◌+◌, ◌*◌, ◌^◌, ◌/◌, [], ◌∷◌, ◌++◌, Bool, List, if◌then◌else◌}
+use Rattle.std.specs.Prelude.{ℕ, ◌/◌, [], ◌∷◌, ◌++◌, Bool, List, if◌then◌else◌}
 use Rattle.std.specs.List.{flat_map}
 use Rattle.std.specs.Io.KnownBytes.{append_known}
 use Rattle.byteorder.specs.Endian.{little_bytes}
 use Rattle.spin_outside.specs.Seen.{SinkSeen}
+use Rattle.spin_pcap.specs.Captures.{ordered_number_at}
 use Rattle.spin_frames.specs.declared.head.Head.{Head}
-use Rattle.spin_frames.specs.Heads.{number_at}
 use Rattle.spin_frames.specs.Packets.{Packet}
 
 -- numbers of four bytes each
@@ -24,8 +24,8 @@ micros is_nano parts = if is_nano then parts / 1000 else parts
 -- the header of a record of a capture with that head: its time, how many bytes were captured, and how many there were
 abbrev pub record_header : Head → List ℕ → List ℕ
 record_header head header =
-    numbers (number_at head.order 0 4 header ∷ micros head.is_nano (number_at head.order 4 4 header)
-    ∷ number_at head.order 8 4 header ∷ number_at head.order 12 4 header ∷ [])
+    numbers (ordered_number_at head.order 0 4 header ∷ micros head.is_nano (ordered_number_at head.order 4 4 header)
+    ∷ ordered_number_at head.order 8 4 header ∷ ordered_number_at head.order 12 4 header ∷ [])
 
 -- the record
 abbrev pub written_record : Head → Packet → List ℕ

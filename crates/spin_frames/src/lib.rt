@@ -12,16 +12,12 @@ mod buffered;
 mod frames;
 mod head;
 mod limits;
-mod order;
 mod records;
 mod waiting;
-mod window;
 
 pub use buffered::Buffered;
 pub use frames::{FrameFile, file_header, put_record, record_header};
 pub use head::{HEAD, Head, read_head};
 pub use limits::limits_are_stated;
-pub use order::Order;
-pub use records::{Found, RECORD, find_record};
+pub use records::{Found, MAX_WINDOW, RECORD, Window, find_record};
 pub use waiting::{MAX_WAITING, Waiting};
-pub use window::{MAX_WINDOW, Window};

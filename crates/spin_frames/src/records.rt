@@ -2,13 +2,17 @@
 
 ghost use Rattle.std.specs.Prelude.{◌≤◌, [], length};
 ghost use Rattle.spin_pcap.specs.Passing.{Passes, ReadsByCount};
-ghost use Rattle.spin_frames.specs.declared.window.TheConstants.{MAX_WINDOW};
+ghost use Rattle.spin_frames.specs.declared.records.TheConstants.{MAX_WINDOW};
 ghost use Rattle.spin_frames.specs.Packets.{Finds};
 
-use crate::order::Order;
-use crate::window::Window;
 use spin_outside::Source;
-use spin_pcap::{MAX_CAPTURED, PcapFault};
+use spin_pcap::{MAX_CAPTURED, Order, PcapFault};
+
+/// The most bytes that a window holds. A record of the greatest length has room in it several times.
+pub const MAX_WINDOW: usize = 1_048_576;
+
+/// The bytes that were taken from a capture and not given up yet.
+pub type Window = spin_pcap::Window<MAX_WINDOW>;
 
 /// The number of bytes of the header of a record.
 pub const RECORD: usize = 16;

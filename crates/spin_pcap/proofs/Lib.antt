@@ -4,4 +4,5 @@ pub mod CaptureUniqueness
 pub mod FileHeaders
 pub mod CaptureTotality
 pub mod Making
+pub mod Growing
 pub mod CaptureRecords

@@ -4,3 +4,4 @@ pub mod Laws
 pub mod Passing
 pub mod Limits
 pub mod Whole
+pub mod Windows

@@ -3,6 +3,8 @@
 //!
 //! - [`Reader`] gives the records, each as a [`Next`]; [`PcapFault`] says why a capture isn't read;
 //! - [`read_capture`] reads one whole, and [`BadRecord`] says at which record it stops, and why;
+//! - [`read_header`] reads the header of a file, and [`Order`] is that of the bytes in its numbers;
+//! - [`Window`] has the bytes that were taken from a source and not given up, for readers that lend them;
 //! - [`MAX_RECORDS`], [`MAX_CAPTURED`] and [`MAX_HELD`] are its limits;
 //! - [`one_reading`], [`one_answer`] and [`each_has_reading`] are laws: a file with the header of a capture is one
 //!   capture.
@@ -23,7 +25,10 @@ mod window;
 
 pub use captured::{Captured, Frames, read_capture};
 pub use fault::{BadRecord, PcapFault};
+pub use header::{HEADER, read_header};
 pub use laws::{each_has_reading, one_answer, one_reading};
 pub use limits::{MAX_CAPTURED, MAX_HELD, MAX_RECORDS, limits_are_stated};
 pub use next::Next;
+pub use order::Order;
 pub use reader::Reader;
+pub use window::Window;

@@ -29,7 +29,7 @@ const RECORD: usize = 16;
 #[derive(Debug, Drop)]
 pub struct Reader {
     order: Order,
-    window: Window,
+    window: Window<MAX_HELD>,
     given: u32,
     state: State,
 }
@@ -63,7 +63,7 @@ fn empty(frame: &mut Octets)
 
 // Moves that many bytes behind those of the frame. The answer says whether there were so many.
 fn copy_body<S: Source>(
-    window: &mut Window,
+    window: &mut Window<MAX_HELD>,
     source: &mut S,
     count: usize,
     frame: &mut Octets,
@@ -93,7 +93,7 @@ fn copy_body<S: Source>(
 
 // Reads what comes next. After an end or a refusal the frame may have bytes of a record that isn't whole.
 fn read_record<S: Source>(
-    window: &mut Window,
+    window: &mut Window<MAX_HELD>,
     source: &mut S,
     order: Order,
     given: u32,

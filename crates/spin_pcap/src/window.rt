@@ -1,34 +1,33 @@
-//! The bytes that were taken from a source and not given yet.
+//! The bytes that were taken from a source and not given up yet.
 
 ghost use Rattle.std.specs.Prelude.{◌≡◌, ◌<◌, ◌≤◌, ◌-◌, ℕ, List, [], length, take, drop, IfOk};
 ghost use Rattle.std.specs.Io.KnownBytes.{IsAtEnd};
 ghost use Rattle.spin_outside.specs.Counts.{FailsByCount};
-ghost use Rattle.spin_pcap.specs.Inner.Filling.{Fills};
 ghost use Rattle.spin_pcap.specs.Passing.{Passes};
+ghost use Rattle.spin_pcap.specs.Windows.{Fills, Grows};
 
-use crate::limits::MAX_HELD;
 use spin_outside::{Failed, NoMemory, Source};
 use std::alloc::Global;
 use std::marker::Model;
 
-/// The bytes that were taken from a source and not given yet. Contracts see the list of these bytes.
+/// The bytes that were taken from a source and not given up yet, of which there are at most `ROOM`. Contracts see the
+/// list of these bytes.
 #[derive(Debug, Drop)]
-pub struct Window {
+pub struct Window<const ROOM: usize> {
     bytes: Vec<u8>,
     start: usize,
     end: usize,
 }
 
-impl Model for Window {
+impl<const ROOM: usize> Model for Window<ROOM> {
     ghost use Rattle.std.specs.Prelude.{◌≡◌, ◌≤◌, ◌-◌, ℕ, List, length, take, drop};
-    ghost use Rattle.spin_pcap.specs.declared.limits.TheConstants.{MAX_HELD};
 
     ghost Value = { List ℕ };
 
     ghost view = { λ w. take (w.end - w.start) (drop w.start w.bytes.items) };
 
     ghost invariant = { λ w.
-        (w.start ≤ w.end) × (w.end ≤ MAX_HELD) × (length w.bytes.items ≡ MAX_HELD) };
+        (w.start ≤ w.end) × (w.end ≤ ROOM) × (length w.bytes.items ≡ ROOM) };
 }
 
 // Moves what stands between two places to the front, and answers its length.
@@ -44,13 +43,13 @@ fn move_to_front(bytes: &mut [u8], start: usize, end: usize) -> usize
     end - start
 }
 
-impl Window {
+impl<const ROOM: usize> Window<ROOM> {
     /// A window that holds nothing. It takes all its memory now.
-    pub fn new(alloc: Global) -> Result<Window, NoMemory>
+    pub fn new(alloc: Global) -> Result<Self, NoMemory>
         ensures { IfOk result (λ window. window ≡ []) }
     {
         let mut bytes = Vec::new(alloc);
-        bytes.resize(MAX_HELD, 0u8)?;
+        bytes.resize(ROOM, 0u8)?;
         Ok(Window {
             bytes,
             start: 0,
@@ -58,10 +57,18 @@ impl Window {
         })
     }
 
+    /// Holds nothing any longer.
+    pub fn clear(&mut self)
+        ensures { self.new ≡ [] }
+    {
+        self.start = 0;
+        self.end = 0;
+    }
+
     /// The bytes that are held.
     pub fn held(&self) -> &[u8]
         ensures same { result.now ≡ self.now }
-        ensures bound { length self.now ≤ MAX_HELD }
+        ensures bound { length self.now ≤ ROOM }
     {
         &self.bytes[self.start..self.end]
     }
@@ -70,17 +77,18 @@ impl Window {
     pub fn skip(&mut self, count: usize)
         requires { count ≤ length self.old }
         ensures skipped { self.new ≡ drop count self.old }
-        ensures bound { length self.new ≤ MAX_HELD }
+        ensures bound { length self.new ≤ ROOM }
     {
         self.start += count;
     }
 
     /// Does one read, of as many bytes as there is room for. The answer says whether there were any.
     pub fn fill<S: Source>(&mut self, source: &mut S) -> Result<bool, Failed>
-        requires room { length self.old < MAX_HELD }
+        requires room { length self.old < ROOM }
         ensures passed { Passes [] self.old (S.seen source.old) self.new (S.seen source.new) }
         ensures filled { Fills result self.old self.new (S.seen source.new).left }
-        ensures bound { length self.new ≤ MAX_HELD }
+        ensures grown { Grows self.old self.new }
+        ensures bound { length self.new ≤ ROOM }
         ensures cause { FailsByCount (S.seen source.old).faults (S.seen source.new).faults result }
     {
         let len = move_to_front(&mut self.bytes, self.start, self.end);
@@ -96,11 +104,12 @@ impl Window {
 
     /// Reads until that many bytes are held, or nothing is left.
     pub fn need<S: Source>(&mut self, source: &mut S, wanted: usize) -> Result<(), Failed>
-        requires room { wanted ≤ MAX_HELD }
+        requires room { wanted ≤ ROOM }
         ensures passed { Passes [] self.old (S.seen source.old) self.new (S.seen source.new) }
         ensures end { IfOk result
             (λ _. length self.new < wanted → IsAtEnd (S.seen source.new).left) }
-        ensures bound { length self.new ≤ MAX_HELD }
+        ensures grown { Grows self.old self.new }
+        ensures bound { length self.new ≤ ROOM }
         ensures cause { FailsByCount (S.seen source.old).faults (S.seen source.new).faults result }
     {
         while self.held().len() < wanted {

@@ -1,4 +1,3 @@
 pub mod Fits
-pub mod Endings
 pub mod Walks
 pub mod Turns

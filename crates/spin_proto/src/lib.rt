@@ -27,4 +27,4 @@ pub use limits::limits_are_stated;
 pub use reply::{MAX_RUNS, Reply, Step, Trace};
 pub use reply_buffer::{ReplyBuffer, path_into};
 pub use spin_word::Deed;
-pub use view::{LentReply, ReplyView};
+pub use view::ReplyView;

@@ -16,7 +16,7 @@ use crate::deed::JobCall;
 use crate::deed_reply::{path, refusal};
 use crate::reply::{Reply, Step};
 use crate::rising::raise_event;
-use crate::view::{LentReply, ReplyView};
+use crate::view::ReplyView;
 use crate::walk::Walk;
 use spin_code::Sincere;
 use spin_objects::{Catalogue, Outcome};
@@ -28,19 +28,11 @@ use std::alloc::Global;
 use std::marker::Model;
 use std::mem;
 
-// How a deed ended.
-#[derive(Drop)]
-pub(crate) enum Ending {
-    // It was done, and this is its answer. Its steps are those of the walk.
-    Ran(Answer),
-    // Its reply is this.
-    Other(Reply),
-}
-
 /// A reply, with the room that the next one takes over. Contracts see the reply.
 #[derive(Drop)]
 pub struct ReplyBuffer {
-    ending: Ending,
+    // The answer of a deed that was done, whose steps are those of the walk, or another reply.
+    ending: Result<Answer, Reply>,
     walk: Walk,
     // What one handler gives, and a raise under way: what they hold counts for nothing.
     given: Outcome,
@@ -49,11 +41,11 @@ pub struct ReplyBuffer {
 
 impl Model for ReplyBuffer {
     ghost use Rattle.spin_proto.specs.declared.reply.Reply.{Reply};
-    ghost use Rattle.spin_proto.specs.Inner.Endings.{shown};
+    ghost use Rattle.spin_proto.specs.Views.{reply_of_parts};
 
     ghost Value = { Reply };
 
-    ghost view = { λ b. shown b.ending b.walk.trace b.walk.jobs };
+    ghost view = { λ b. reply_of_parts (λ r. r) b.ending b.walk.trace b.walk.jobs };
 }
 
 impl ReplyBuffer {
@@ -62,7 +54,7 @@ impl ReplyBuffer {
         ensures { result ≡ reply.Spent }
     {
         ReplyBuffer {
-            ending: Ending::Other(Reply::Spent),
+            ending: Err(Reply::Spent),
             walk: Walk::new(alloc),
             given: Outcome::new(alloc),
             progress: Progress::start(Args::new(alloc)),
@@ -74,8 +66,8 @@ impl ReplyBuffer {
         ensures { result ≡ answer_in self.now }
     {
         match &self.ending {
-            Ending::Ran(answer) => Some(*answer),
-            Ending::Other(reply) => reply.answer(),
+            Ok(answer) => Some(*answer),
+            Err(reply) => reply.answer(),
         }
     }
 
@@ -84,8 +76,8 @@ impl ReplyBuffer {
         ensures { result.now ≡ trace_in self.now }
     {
         match &self.ending {
-            Ending::Ran(_) => self.walk.trace.as_slice(),
-            Ending::Other(reply) => reply.trace(),
+            Ok(_) => self.walk.trace.as_slice(),
+            Err(reply) => reply.trace(),
         }
     }
 
@@ -94,8 +86,8 @@ impl ReplyBuffer {
         ensures { result.now ≡ jobs_in self.now }
     {
         match &self.ending {
-            Ending::Ran(_) => self.walk.jobs.as_slice(),
-            Ending::Other(reply) => reply.jobs(),
+            Ok(_) => self.walk.jobs.as_slice(),
+            Err(reply) => reply.jobs(),
         }
     }
 
@@ -104,15 +96,14 @@ impl ReplyBuffer {
     pub fn view(&self) -> ReplyView<'_>
         ensures { result ≡ self.now }
     {
-        let lent = match &self.ending {
-            Ending::Ran(answer) => LentReply::Ran {
-                answer: *answer,
+        match &self.ending {
+            Ok(answer) => ReplyView {
+                ending: Ok(*answer),
                 trace: self.walk.trace.as_slice(),
                 jobs: self.walk.jobs.as_slice(),
             },
-            Ending::Other(reply) => LentReply::Whole(reply),
-        };
-        ReplyView { lent }
+            Err(reply) => reply.view(),
+        }
     }
 
     /// The reply, which takes no memory.
@@ -122,12 +113,12 @@ impl ReplyBuffer {
         let ReplyBuffer { ending, walk, .. } = self;
         let Walk { trace, jobs, .. } = walk;
         match ending {
-            Ending::Ran(answer) => Reply::Ran {
+            Ok(answer) => Reply::Ran {
                 answer,
                 trace,
                 jobs,
             },
-            Ending::Other(reply) => reply,
+            Err(reply) => reply,
         }
     }
 }
@@ -193,11 +184,11 @@ fn raise_into(
     let runner = Runner::Raiser;
     match raise_event(alloc, version, setup, runner, event, progress, given, walk)? {
         None => {
-            buffer.ending = Ending::Other(Reply::Spent);
+            buffer.ending = Err(Reply::Spent);
             Ok(())
         }
         Some(answer) => {
-            buffer.ending = Ending::Ran(answer);
+            buffer.ending = Ok(answer);
             Ok(())
         }
     }
@@ -224,13 +215,13 @@ pub fn path_into(
     match deed {
         Deed::Raise { event, args } => match refusal(setup, *event, args) {
             Some(refused) => {
-                buffer.ending = Ending::Other(refused);
+                buffer.ending = Err(refused);
                 Ok(())
             }
             None => raise_into(alloc, version, setup, *event, args, buffer),
         },
         Deed::Later { .. } => {
-            buffer.ending = Ending::Other(path(alloc, version, setup, deed)?);
+            buffer.ending = Err(path(alloc, version, setup, deed)?);
             Ok(())
         }
     }

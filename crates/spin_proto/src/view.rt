@@ -10,36 +10,24 @@ use spin_raise::Answer;
 use std::marker::Model;
 use std::slice;
 
-/// How a reply is lent.
-#[derive(Clone, Copy, Debug)]
-pub enum LentReply<'a> {
-    /// In parts, as a buffer has it: that of a deed that was done.
-    Ran {
-        /// What the raiser is answered.
-        answer: Answer,
-        /// All its steps.
-        trace: &'a [Step],
-        /// The call of the job of each [`Step::Job`], in order.
-        jobs: &'a [JobCall],
-    },
-    /// As it stands.
-    Whole(&'a Reply),
-}
-
 /// A reply that is lent, by its owner or by a [`ReplyBuffer`](crate::ReplyBuffer). Contracts see the reply.
 #[derive(Drop, Debug)]
 pub struct ReplyView<'a> {
-    /// How it is lent.
-    pub lent: LentReply<'a>,
+    /// The answer of a deed that was done and is lent in parts, or the reply as it stands.
+    pub ending: Result<Answer, &'a Reply>,
+    /// All steps of a deed that is lent in parts.
+    pub trace: &'a [Step],
+    /// The call of the job of each [`Step::Job`] among them, in order.
+    pub jobs: &'a [JobCall],
 }
 
 impl<'a> Model for ReplyView<'a> {
     ghost use Rattle.spin_proto.specs.declared.reply.Reply.{Reply};
-    ghost use Rattle.spin_proto.specs.Views.{reply_lent};
+    ghost use Rattle.spin_proto.specs.Views.{reply_of_parts};
 
     ghost Value = { Reply };
 
-    ghost view = { λ v. reply_lent v.lent };
+    ghost view = { λ v. reply_of_parts (λ r. r.now) v.ending v.trace.now v.jobs.now };
 }
 
 impl Reply {
@@ -49,7 +37,9 @@ impl Reply {
         ensures { result ≡ self.now }
     {
         ReplyView {
-            lent: LentReply::Whole(self),
+            ending: Err(self),
+            trace: &[],
+            jobs: &[],
         }
     }
 }
@@ -72,9 +62,9 @@ impl<'a> ReplyView<'a> {
     pub fn trace(&self) -> &'a [Step]
         ensures { result.now ≡ trace_in self.now }
     {
-        match self.lent {
-            LentReply::Ran { trace, .. } => trace,
-            LentReply::Whole(reply) => reply.trace(),
+        match self.ending {
+            Ok(_) => self.trace,
+            Err(reply) => reply.trace(),
         }
     }
 
@@ -83,9 +73,9 @@ impl<'a> ReplyView<'a> {
     pub fn calls(&self) -> &'a [JobCall]
         ensures { result.now ≡ calls_left self.now }
     {
-        match self.lent {
-            LentReply::Ran { jobs, .. } => jobs,
-            LentReply::Whole(reply) => calls_in(reply),
+        match self.ending {
+            Ok(_) => self.jobs,
+            Err(reply) => calls_in(reply),
         }
     }
 }

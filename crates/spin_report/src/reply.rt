@@ -6,7 +6,7 @@ ghost use Rattle.spin_text.specs.Words.{spaced};
 ghost use Rattle.spin_report.specs.Replies.{answer_words, fault_word, step_words, reply_words};
 
 use spin_headers::HeaderFault;
-use spin_proto::{LentReply, Reply, ReplyView, Step};
+use spin_proto::{Reply, ReplyView, Step};
 use spin_raise::Answer;
 use spin_text::{put_number, put_word};
 use spin_values::{NoMemory, Octets};
@@ -131,9 +131,9 @@ pub(crate) fn put_reply_view(out: &mut Octets, reply: &ReplyView<'_>) -> Result<
     ensures ok { OnOk result (out.new ≡ out.old ++ spaced (reply_words reply.now)) }
     ensures err { OnErr result (take (length out.old) out.new ≡ out.old) }
 {
-    match &reply.lent {
-        LentReply::Ran { answer, trace, .. } => put_ran(out, trace, *answer),
-        LentReply::Whole(reply) => put_reply(out, reply),
+    match reply.ending {
+        Ok(answer) => put_ran(out, reply.trace, answer),
+        Err(whole) => put_reply(out, whole),
     }
 }
 

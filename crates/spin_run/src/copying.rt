@@ -3,7 +3,7 @@
 ghost use Rattle.std.specs.Prelude.{◌≡◌, ◌∷◌, [], IfOk, OnOk};
 ghost use Rattle.spin_run.specs.Lanes.{kept_with};
 
-use spin_proto::{JobCall, JobCalls, LentReply, Reply, ReplyView, Step, Trace};
+use spin_proto::{JobCall, JobCalls, Reply, ReplyView, Step, Trace};
 use spin_report::{Entries, Entry, EntryView, LentWhat, What, WhatView};
 use spin_table::{Refusal, Verdicted};
 use spin_values::{NoMemory, Numbers};
@@ -80,17 +80,13 @@ fn copied_whole(alloc: Global, reply: &Reply) -> Result<Reply, NoMemory>
 fn copied_reply(alloc: Global, reply: &ReplyView) -> Result<Reply, NoMemory>
     ensures { IfOk result (λ copy. copy ≡ reply.now) }
 {
-    match &reply.lent {
-        LentReply::Ran {
+    match reply.ending {
+        Ok(answer) => Ok(Reply::Ran {
             answer,
-            trace,
-            jobs,
-        } => Ok(Reply::Ran {
-            answer: *answer,
-            trace: copied_steps(alloc, trace)?,
-            jobs: copied_calls(alloc, jobs)?,
+            trace: copied_steps(alloc, reply.trace)?,
+            jobs: copied_calls(alloc, reply.jobs)?,
         }),
-        LentReply::Whole(reply) => copied_whole(alloc, reply),
+        Err(whole) => copied_whole(alloc, whole),
     }
 }
 

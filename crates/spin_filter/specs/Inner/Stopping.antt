@@ -5,7 +5,7 @@ use Rattle.spin_outside.specs.Files.{File, IsLacking}
 use Rattle.spin_outside.specs.Seen.{ShelfSeen}
 use Rattle.spin_pcap.specs.Captures.{header_of}
 use Rattle.spin_frames.specs.declared.head.Head.{Head}
-use Rattle.spin_frames.specs.declared.order.Order.{Order}
+use Rattle.spin_pcap.specs.declared.order.Order.{Order}
 use Rattle.spin_filter.specs.declared.stop.Stop.{Stop}
 use Rattle.spin_filter.specs.declared.stop.Stop.TheVariants as stop
 use Rattle.spin_filter.specs.Counting.{Sending}

@@ -3,12 +3,6 @@ use Rattle.std.specs.Prelude.{◌≡◌, ℕ, ◌<◌, ◌≤◌, Bool, true, fa
 use Rattle.std.specs.Prelude.{Result, Ok, Err}
 use Rattle.std.specs.Io.KnownBytes.{IsAtEnd}
 
--- One read brought more, or came to the end, or failed.
-abbrev pub Fills : {E : Type 0} → Result Bool E → List ℕ → List ℕ → Option (List ℕ) → Type 0
-Fills (Ok true) held held' left = length held < length held'
-Fills (Ok false) held held' left = (held' ≡ held) × IsAtEnd left
-Fills (Err e) held held' left = held' ≡ held
-
 -- All the bytes that were wanted came, or fewer were left.
 abbrev pub Copies : {E : Type 0} → Result Bool E → ℕ → List ℕ → List ℕ → Option (List ℕ) → Type 0
 Copies (Ok true) wanted copied held left = length copied ≡ wanted

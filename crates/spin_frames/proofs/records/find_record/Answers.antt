@@ -1,8 +1,8 @@
 use Rattle.std.proofs.Common.{◌≡◌, ◌≤◌, length, ap, sym, ◌∙◌, arith, []}
 use Rattle.spin_pcap.specs.Captures.{captured_length}
 use Rattle.spin_pcap.proofs.SourceBytes.{passes-then}
-use Rattle.spin_frames.specs.Heads.{way_of}
-use Rattle.spin_frames.proofs.HeldRecords.{at_least, says, says-still}
+use Rattle.spin_pcap.proofs.Growing.{at_least}
+use Rattle.spin_frames.proofs.HeldRecords.{says, says-still}
 use Rattle.spin_frames.proofs.records.find_record.Goals as goal
 
 pub returns-in_err-need-2-clause-passed : goal.returns-in_err-need-2-clause-passed
@@ -17,10 +17,10 @@ returns-clause-passed g c = passes-then [] [] _ _ _ _ _ _ c.need.ensures.passed 
 pub returns-then-held-size-clause-finds : goal.returns-then-held-size-clause-finds
 returns-then-held-size-clause-finds g c =
     let size : 16 ≤ length c.need.new.self = omega (arith, c.if-held-lt-RECORD.false, ap length c.held-held.ensures.same) in
-    let first : captured_length (way_of c.args.order) c.need.new.self ≡ c.read_u32-captured.result =
-    says (way_of c.args.order) c.held-held.result.now c.need.new.self c.read_u32-captured.result c.held-held.ensures.same c.read_u32-captured.ensures in
-    let still : captured_length (way_of c.args.order) c.need-2.new.self ≡ c.read_u32-captured.result =
-    says-still (way_of c.args.order) c.need.new.self c.need-2.new.self size c.need-2.ensures.grown ∙ first in
+    let first : captured_length c.args.order c.need.new.self ≡ c.read_u32-captured.result =
+    says c.args.order c.held-held.result.now c.need.new.self c.read_u32-captured.result c.held-held.ensures.same c.read_u32-captured.ensures in
+    let still : captured_length c.args.order c.need-2.new.self ≡ c.read_u32-captured.result =
+    says-still c.args.order c.need.new.self c.need-2.new.self size c.need-2.ensures.grown ∙ first in
     let held : length c.held-held-2.result.now ≡ length c.need-2.new.self = ap length c.held-held-2.ensures.same in
     let more : length c.need.new.self ≤ length c.need-2.new.self = at_least c.need.new.self c.need-2.new.self c.need-2.ensures.grown in (
       sym held,
@@ -32,10 +32,10 @@ returns-then-held-size-clause-finds g c =
 pub returns-clause-finds : goal.returns-clause-finds
 returns-clause-finds g c =
     let size : 16 ≤ length c.need.new.self = omega (arith, c.if-held-lt-RECORD.false, ap length c.held-held.ensures.same) in
-    let first : captured_length (way_of c.args.order) c.need.new.self ≡ c.read_u32-captured.result =
-    says (way_of c.args.order) c.held-held.result.now c.need.new.self c.read_u32-captured.result c.held-held.ensures.same c.read_u32-captured.ensures in
+    let first : captured_length c.args.order c.need.new.self ≡ c.read_u32-captured.result =
+    says c.args.order c.held-held.result.now c.need.new.self c.read_u32-captured.result c.held-held.ensures.same c.read_u32-captured.ensures in
     let held : length c.held-held-2.result.now ≡ length c.need-2.new.self = ap length c.held-held-2.ensures.same in (
-      says-still (way_of c.args.order) c.need.new.self c.need-2.new.self size c.need-2.ensures.grown ∙ first,
+      says-still c.args.order c.need.new.self c.need-2.new.self size c.need-2.ensures.grown ∙ first,
       omega (arith, c.if-captured-gt-MAX_CAPTURED.false),
       omega (arith, held, c.if-held-size.false),
     )

@@ -25,6 +25,44 @@ in_buffer front held buf more rest len count size room same is all le within =
     ∙ ap (λ ys. take size ys) (append_assoc front (buf ++ more) rest ∙ ap (λ ys. front ++ ys) (append_assoc buf more rest))
     ∙ grown front held buf (more ++ rest) len count size same is all le
 
+pub returns-clause-grown : goal.returns-clause-grown
+returns-clause-grown g c =
+    let from : c.deref_mut.result.now ≡ c.self.inside.bytes.items = c.deref_mut.ensures.value in
+    let whole : length c.move_to_front-len.new.bytes ≡ c.self.inside.bytes.len = search rules in
+    let onto : c.deref_mut-2.result.now ≡ c.move_to_front-len.new.bytes = c.deref_mut-2.ensures.value ∙ take_at c.move_to_front-len.new.bytes _ _ whole in
+    let room : c.move_to_front-len.result + length c.read.new.buf ≤ c.self.inside.bytes.len = omega (
+      arith,
+      whole,
+      ap length onto,
+      c.read.auto.buf,
+      length-take
+          (length c.deref_mut-2.result.now - c.move_to_front-len.result) (drop c.move_to_front-len.result c.deref_mut-2.result.now),
+      length-drop c.move_to_front-len.result c.deref_mut-2.result.now,
+      c.self.invariant.0,
+      c.self.invariant.1,
+      c.self.invariant.2,
+      c.move_to_front-len.ensures.len,
+      c.deref_mut.ensures.len,
+      c.deref_mut-2.ensures.len,
+    ) in
+    let front : take c.move_to_front-len.result c.deref_mut-2.result.now ≡ c.args.self.now =
+    ap (λ ys. take c.move_to_front-len.result ys) onto ∙ c.move_to_front-len.ensures.moved
+    ∙ ap (λ ys. take (c.self.inside.end - c.self.inside.start) (drop c.self.inside.start ys)) from ∙ c.self.view_is in
+    let len : length c.args.self.now ≡ c.move_to_front-len.result =
+    omega (
+      arith,
+      ap length c.self.view_is,
+      length-take (c.self.inside.end - c.self.inside.start) (drop c.self.inside.start c.self.inside.bytes.items),
+      length-drop c.self.inside.start c.self.inside.bytes.items,
+      c.self.invariant.0,
+      c.self.invariant.1,
+      c.self.invariant.2,
+      c.move_to_front-len.ensures.len,
+    ) in (
+      take c.in_ok-count.count c.read.new.buf,
+      in_buffer _ c.args.self.now c.read.new.buf _ _ c.move_to_front-len.result c.in_ok-count.count _ _ front len (omega arith) c.in_ok-count.ensures.some.0 room,
+    )
+
 pub returns-clause-passed : goal.returns-clause-passed
 returns-clause-passed g c =
     let from : c.deref_mut.result.now ≡ c.self.inside.bytes.items = c.deref_mut.ensures.value in

@@ -8,7 +8,7 @@ skipped bytes start end n le =
     ap (λ ys. take (end - (start + n)) ys) (sym (drop-drop n start bytes)) ∙ sym (drop-take n (end - (start + n)) (drop start bytes)) ∙ ap (λ m. drop n (take m (drop start bytes))) (sym size)
 
 pub returns-clause-skipped : goal.returns-clause-skipped
-returns-clause-skipped c =
+returns-clause-skipped g c =
     let within : c.self.inside.start + c.args.count ≤ c.self.inside.end =
     omega (arith, c.requires, ap length c.self.view_is, length-take (c.self.inside.end - c.self.inside.start) (drop c.self.inside.start c.self.inside.bytes.items)) in
     skipped c.self.inside.bytes.items c.self.inside.start c.self.inside.end c.args.count within ∙ ap (λ ys. drop c.args.count ys) c.self.view_is

@@ -1,5 +1,5 @@
--- What single reads of a source bring.
-use Rattle.std.specs.Prelude.{◌≡◌, ◌++◌, ℕ, ◌<◌, ◌≤◌, Bool, true, false, Option, List, [], length}
+-- What single reads of a source bring to a window.
+use Rattle.std.specs.Prelude.{◌≡◌, ◌++◌, ℕ, ◌<◌, Bool, true, false, Option, List, length}
 use Rattle.std.specs.Prelude.{Result, Ok, Err}
 use Rattle.std.specs.Io.KnownBytes.{IsAtEnd}
 
