@@ -23,7 +23,7 @@ pub use lanes::{MAX_DEEDS, MAX_EARLY_COMMANDS};
 pub use laws::{outcomes_are_one, outcomes_are_there};
 pub use limits::limits_are_stated;
 pub use read::{MAX_EARLY_LIVE, read_script};
-pub use script::{Frames, Line, Lines, Script, ScriptFault, Segment, Segments};
+pub use script::{Line, Lines, Script, ScriptFault, Segment, Segments};
 pub use spin_grammar::MAX_TEXT;
 pub use spin_word::{Deed, Work};
 pub use write::law::{

@@ -3,7 +3,7 @@
 ghost use Rattle.std.specs.Prelude.{◌≡◌};
 
 use spin_table::Setup;
-use spin_values::{NoMemory, Numbers, Octets, Sequence, Texts};
+use spin_values::{NoMemory, Numbers, Sequence, Texts};
 use spin_word::Work;
 use thiserror::Error;
 
@@ -32,9 +32,6 @@ pub struct Segment {
 
 /// Segments in the order of the text. There is at least one.
 pub type Segments = Sequence<Segment>;
-
-/// The records that a segment's packet lines take, one frame each, in the order of the text.
-pub type Frames = Sequence<Octets>;
 
 /// A script.
 #[derive(Drop)]
