@@ -33,19 +33,19 @@ next_fits checked number count right range next =
 
 pub handler_added : (n : NativeData) (d : Draft) (handlers new : List HandlerUnit) (guards same : List GuardUnit) (number h : ℕ) (sig : EventType) (act : Act) (kept : List ActStep)
     → new ≡ handlers ++ record { sig = sig; act = act } ∷ [] → same ≡ guards → act.steps ≡ kept
-    → state (record d { section = 4 }) new same ≡ after n (state d handlers guards) number (said.Handler h sig kept)
+    → state d new same ≡ record (after n (state d handlers guards) number (said.Handler h sig kept)) { section = d.section }
 handler_added n d handlers new guards same number h sig act kept added others steps =
-    ap (λ (hs : List HandlerUnit). state (record d { section = 4 }) hs same) added
-    ∙ ap (λ (gs : List GuardUnit). state (record d { section = 4 }) (handlers ++ record { sig = sig; act = act } ∷ []) gs) others
-    ∙ ap (λ (ss : List ActStep). state (record d { section = 4 }) (handlers ++ record { sig = sig; act = record { steps = ss } } ∷ []) guards) steps
+    ap (λ (hs : List HandlerUnit). state d hs same) added
+    ∙ ap (λ (gs : List GuardUnit). state d (handlers ++ record { sig = sig; act = act } ∷ []) gs) others
+    ∙ ap (λ (ss : List ActStep). state d (handlers ++ record { sig = sig; act = record { steps = ss } } ∷ []) guards) steps
 
 pub guard_added : (n : NativeData) (d : Draft) (handlers same : List HandlerUnit) (guards new : List GuardUnit) (number g : ℕ) (sig : EventType) (test kept : Test)
     → new ≡ guards ++ record { sig = sig; test = test } ∷ [] → same ≡ handlers → test ≡ kept
-    → state (record d { section = 5 }) same new ≡ after n (state d handlers guards) number (said.Guard g sig kept)
+    → state d same new ≡ record (after n (state d handlers guards) number (said.Guard g sig kept)) { section = d.section }
 guard_added n d handlers same guards new number g sig test kept added others is =
-    ap (λ (gs : List GuardUnit). state (record d { section = 5 }) same gs) added
-    ∙ ap (λ (hs : List HandlerUnit). state (record d { section = 5 }) hs (guards ++ record { sig = sig; test = test } ∷ [])) others
-    ∙ ap (λ (t : Test). state (record d { section = 5 }) handlers (guards ++ record { sig = sig; test = t } ∷ [])) is
+    ap (λ (gs : List GuardUnit). state d same gs) added
+    ∙ ap (λ (hs : List HandlerUnit). state d hs (guards ++ record { sig = sig; test = test } ∷ [])) others
+    ∙ ap (λ (t : Test). state d handlers (guards ++ record { sig = sig; test = t } ∷ [])) is
 
 -- the cause of an act with the steps that were read, where as much is declared as is counted
 pub act_judged : (sig : EventType) (counted endpoints : ℕ) (seen events : List EventDef) (steps kept : List ActStep) (o : Option Cause)

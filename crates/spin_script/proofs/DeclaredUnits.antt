@@ -12,7 +12,7 @@ use Rattle.spin_script.specs.Sections.{is_out_of_order}
 use Rattle.spin_script.specs.declared.script.Script.{Script}
 use Rattle.spin_script.specs.States.{NativeData, ScriptState, ScriptData, natives_seen, start, script_in}
 use Rattle.spin_script.specs.Language.{Begins, Says, head}
-use Rattle.spin_script.specs.Inner.Reader.{AddsSaid}
+use Rattle.spin_script.specs.Inner.Reader.{TakesSaid}
 use Rattle.spin_script.specs.Scripts.{script_seen}
 use Rattle.spin_script.specs.Canonical.{canonical_of, canonical}
 use Rattle.spin_script.specs.RoundTrip.{Fits, is_version, ComesBack}
@@ -74,7 +74,7 @@ says_begun n s hs gs line k ws e x =
 
 -- a line was read and added
 pub said_declared : {A : Type 0} (n : NativeData) (s t : ScriptState) (hs ks : List Body) (gs cs : List Check) (number : ℕ) (k : Kind) (ws : List (List ℕ)) (what : Statement) (r : Result A Fault)
-    → GivesLine s.version k ws (Ok what) → AddsSaid n s number what r t → ((l : LineMeaning) → Stands what l → Grows n hs gs l r ks cs)
+    → GivesLine s.version k ws (Ok what) → TakesSaid n s number what r t → ((l : LineMeaning) → Stands what l → Grows n hs gs l r ks cs)
     → is_out_of_order k s.section s.begins ≡ false → eqb s.version 0 ≡ false
     → IsDeclared n s hs gs → IfOk r (λ _. IsDeclared n t ks cs)
 said_declared n s t hs ks gs cs number k ws what (Ok a) gives adds grows order v x =

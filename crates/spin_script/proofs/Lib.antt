@@ -4,6 +4,7 @@ mod DeclarationFaults
 mod ReadLineSoundness
 pub mod LastHandler
 mod SectionOrder
+mod LineSections
 mod LineSoundness
 pub mod LineCauses
 pub mod AddedUnits

@@ -16,7 +16,7 @@ use Rattle.spin_script.specs.Sections.{first_words, is_out_of_order}
 use Rattle.spin_grammar.specs.Lookup.{look_up}
 use Rattle.spin_script.specs.States.{NativeData, ScriptState}
 use Rattle.spin_script.specs.Language.{Skipped, Says, is_allowed, version_of, first_head, kind_head, words_head, head}
-use Rattle.spin_script.specs.Inner.Reader.{AddsSaid}
+use Rattle.spin_script.specs.Inner.Reader.{TakesSaid}
 use Rattle.spin_script.specs.Soundness.{IsValidWork}
 use Rattle.spin_script.specs.Inner.Sound.{IsSound}
 use Rattle.spin_script.proofs.LineSoundness.{IsLineInRange, sound_after}
@@ -44,7 +44,7 @@ line_in_range said.Barrier l range is = subst IsLineInRange (sym is) tt
 line_in_range (said.Retire p) l range is = subst IsLineInRange (sym is) tt
 
 pub said_sound : {A : Type 0} (n : NativeData) (s : ScriptState) (number : ℕ) (k : Kind) (ws : List (List ℕ)) (what : Statement) (r : Result A Fault) (t : ScriptState)
-    → GivesLine s.version k ws (Ok what) → IsInRange what → AddsSaid n s number what r t → is_out_of_order k s.section s.begins ≡ false
+    → GivesLine s.version k ws (Ok what) → IsInRange what → TakesSaid n s number what r t → is_out_of_order k s.section s.begins ≡ false
     → IsSound n s → IfOk r (λ _. IsSound n t)
 said_sound n s number k ws what (Ok a) t gives range adds order x =
     let added = adds gives.0 gives.2 in

@@ -14,12 +14,12 @@ use Rattle.spin_script.specs.declared.script.ScriptFault.{ScriptFault}
 use Rattle.spin_script.specs.declared.script.ScriptFault.TheVariants as refusal
 use Rattle.spin_script.specs.States.{NativeData, ScriptState, ScriptData, start, script_in}
 use Rattle.spin_script.specs.Language.{Says, Outcome, head, Passes, IsLineRefused, outcome_at_end, ComesTo, IsScript}
-use Rattle.spin_script.specs.Inner.Reader.{AddsSaid, GivesSaid, GivesState}
+use Rattle.spin_script.specs.Inner.Reader.{TakesSaid, GivesSaid, GivesState}
 use Rattle.spin_script.specs.Scripts.{cause_number, script_seen, IsBad}
 
 -- a line that was read, and was added or not
 pub said_gives : {A : Type 0} (n : NativeData) (s : ScriptState) (number : ℕ) (k : Kind) (ws : List (List ℕ)) (said : Statement) (r : Result A Fault) (t : ScriptState)
-    → GivesLine s.version k ws (Ok said) → AddsSaid n s number said r t → GivesSaid n s number k ws r t
+    → GivesLine s.version k ws (Ok said) → TakesSaid n s number said r t → GivesSaid n s number k ws r t
 said_gives n s number k ws said (Ok a) t g adds = let added = adds g.0 g.2 in (g.0, g.1, added.0, added.1)
 said_gives n s number k ws said (Err f) t g adds = λ c is. inr (g.0, g.1, adds g.0 g.2 c is)
 

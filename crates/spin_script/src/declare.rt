@@ -40,7 +40,6 @@ pub(crate) fn add_modules(draft: &mut Draft, modules: u16) -> Result<(), Fault>
         (state draft.new handlers guards) }
 {
     draft.modules = modules;
-    draft.section = 1;
     Ok(())
 }
 
@@ -77,7 +76,6 @@ pub(crate) fn add_event(
         first_default: 0,
         authority: Authority::Rules(Policy::new(alloc)),
     })?;
-    draft.section = 2;
     Ok(())
 }
 
@@ -107,6 +105,5 @@ pub(crate) fn add_endpoint(draft: &mut Draft, endpoint: u8, name: Text) -> Resul
         return Err(Fault::Bad(Cause::Repeated));
     }
     draft.endpoints.push(name)?;
-    draft.section = 3;
     Ok(())
 }

@@ -63,7 +63,7 @@ fn kind_of(word: &[u8]) -> Option<Kind>
 }
 
 // The number of the section of such a line.
-fn section(kind: Kind) -> u8
+pub(crate) fn section(kind: Kind) -> u8
     ensures { result ≡ section kind }
 {
     match kind {

@@ -33,7 +33,6 @@ pub(crate) fn add_barrier(alloc: Global, draft: &mut Draft) -> Result<(), Fault>
 {
     let segment = mem::replace(&mut draft.segment, Segment::empty(alloc));
     draft.ended.push(segment)?;
-    draft.section = 8;
     draft.begins = true;
     Ok(())
 }
@@ -48,7 +47,6 @@ pub(crate) fn add_retire(draft: &mut Draft, endpoint: u16) -> Result<(), Fault>
         return Err(Fault::Bad(Cause::Undeclared));
     }
     draft.segment.retires.push(endpoint)?;
-    draft.section = 8;
     draft.begins = true;
     Ok(())
 }
@@ -107,7 +105,6 @@ pub(crate) fn add_lane(draft: &mut Draft, number: u32, lane: u8, work: Work) -> 
         return Err(Fault::Bad(Cause::Lane));
     }
     draft.segment.lines.push(Line { number, lane, work })?;
-    draft.section = 8;
     draft.begins = false;
     draft.commands = commands as u32;
     draft.deeds = deeds as u32;

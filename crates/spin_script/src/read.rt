@@ -21,7 +21,7 @@ ghost use Rattle.spin_script.specs.Inner.Declaring.{Grows, DeclaresMore, IsDecla
 
 use crate::declare::{add_endpoint, add_event, add_modules};
 use crate::draft::Draft;
-use crate::head::{Found, find_head};
+use crate::head::{Found, find_head, section};
 use crate::lanes::{add_barrier, add_lane, add_retire};
 use crate::rules::{add_authoriser, add_default, add_rule};
 use crate::script::{Script, ScriptFault};
@@ -78,7 +78,6 @@ fn add(
 }
 
 // Reads the words of a line of this kind, and adds the line to the script so far.
-#[tactic(auto, using(crate::proofs::ScriptReading::said_gives))]
 fn say(
     alloc: Global,
     draft: &mut Draft,
@@ -108,6 +107,7 @@ fn say(
         (so_far draft.new catalogue.new) }
 {
     let said = read_line(alloc, words, draft.version, kind)?;
+    draft.section = section(kind);
     add(alloc, draft, catalogue, said, number)
 }
 

@@ -156,7 +156,6 @@ pub(crate) fn add_rule(
         return Err(Fault::Bad(cause));
     }
     push_rule(&mut draft.events, event, rule)?;
-    draft.section = 6;
     Ok(())
 }
 
@@ -227,7 +226,6 @@ pub(crate) fn add_authoriser(
     let native = catalogue.natives().find(NativeKind::Authoriser, &name);
     let native = next_authoriser(catalogue, def, native)?;
     set_authoriser(&mut draft.events, event, native);
-    draft.section = 6;
     Ok(())
 }
 
@@ -276,6 +274,5 @@ pub(crate) fn add_default(
         return Err(Fault::Bad(cause));
     }
     set_default(&mut draft.events, event, handler);
-    draft.section = 7;
     Ok(())
 }

@@ -175,7 +175,6 @@ pub(crate) fn add_handler(
 {
     let act = next_act(draft, catalogue.handlers(), handler, &sig, steps)?;
     keep_handler(catalogue, Body::Coded(sig, act))?;
-    draft.section = 4;
     Ok(())
 }
 
@@ -217,7 +216,6 @@ pub(crate) fn add_native_handler(
     if let Some(cause) = step_cause(draft.endpoints.len(), draft.events.as_slice(), act) {
         return Err(Fault::Bad(cause));
     }
-    draft.section = 4;
     Ok(())
 }
 
@@ -263,7 +261,6 @@ pub(crate) fn add_guard(
 {
     let test = next_test(guard_count(catalogue), guard, &sig, test)?;
     keep_guard(catalogue, Check::Coded(sig, test))?;
-    draft.section = 5;
     Ok(())
 }
 
@@ -291,6 +288,5 @@ pub(crate) fn add_native_guard(
         return Err(Fault::Bad(Cause::Native));
     };
     keep_guard(catalogue, Check::Native(native))?;
-    draft.section = 5;
     Ok(())
 }

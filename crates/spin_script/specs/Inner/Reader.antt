@@ -29,14 +29,23 @@ abbrev pub HasRoom : Result Found Cause → ℕ → Type 0
 HasRoom (Ok (found.Says k ws)) n = length ws ≤ n
 HasRoom other n = Unit {0}
 
--- a line was added to the script s, which is t then; or it can't stand there
+-- a line was added to the script s, which is t then, but for the section, which is as it was; or it can't stand there
 abbrev pub Adds : {A : Type 0} → NativeData → ScriptState → ℕ → LineMeaning → Result A Fault → ScriptState → Type 0
-Adds n s number l (Ok a) t = (first_of (checks n s l) ≡ None) × (t ≡ after n s number l)
+Adds n s number l (Ok a) t = (first_of (checks n s l) ≡ None) × (t ≡ record (after n s number l) { section = s.section })
 Adds n s number l (Err f) t = (c : Cause) → f ≡ fault.Bad c → first_of (checks n s l) ≡ Some c
 
 -- whatever the line is that was read so, it was added
 abbrev pub AddsSaid : {A : Type 0} → NativeData → ScriptState → ℕ → Statement → Result A Fault → ScriptState → Type 0
 AddsSaid n s number said r t = (l : LineMeaning) → Stands said l → Adds n s number l r t
+
+-- a line was added to the script s, which is t then; or it can't stand there
+abbrev pub Takes : {A : Type 0} → NativeData → ScriptState → ℕ → LineMeaning → Result A Fault → ScriptState → Type 0
+Takes n s number l (Ok a) t = (first_of (checks n s l) ≡ None) × (t ≡ after n s number l)
+Takes n s number l (Err f) t = (c : Cause) → f ≡ fault.Bad c → first_of (checks n s l) ≡ Some c
+
+-- whatever the line is that was read so, the script s is t with it; or it can't stand there
+abbrev pub TakesSaid : {A : Type 0} → NativeData → ScriptState → ℕ → Statement → Result A Fault → ScriptState → Type 0
+TakesSaid n s number said r t = (l : LineMeaning) → Stands said l → Takes n s number l r t
 
 -- the words of a line were read, and it was added
 abbrev pub GivesSaid : {A : Type 0} → NativeData → ScriptState → ℕ → Kind → List (List ℕ) → Result A Fault
