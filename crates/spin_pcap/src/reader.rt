@@ -20,7 +20,6 @@ use crate::window::Window;
 use spin_outside::{Octets, Source};
 use std::alloc::Global;
 use std::marker::Model;
-use std::mem;
 
 // The number of bytes of the header of a record.
 const RECORD: usize = 16;
@@ -49,16 +48,6 @@ impl Model for Reader {
     } };
 
     ghost invariant = { λ r. (length r.window ≤ MAX_HELD) × (r.given ≤ MAX_RECORDS) };
-}
-
-// Takes all bytes out of a list, which keeps its memory.
-fn empty(frame: &mut Octets)
-    ensures { frame.new ≡ [] }
-{
-    let none = Octets::new(frame.allocator());
-    let mut bytes = mem::replace(frame, none).into_vec();
-    bytes.clear();
-    *frame = Octets::from_vec(bytes);
 }
 
 // Moves that many bytes behind those of the frame. The answer says whether there were so many.
@@ -215,7 +204,7 @@ impl Reader {
             IfSome (left_for self.old.held (S.seen source.old).left) (HasRecordHeader self.old.order self.old.given) }
         ensures cause { ReadsByCount (S.seen source.old).faults (S.seen source.new).faults result }
     {
-        empty(frame);
+        frame.clear();
         match self.state {
             State::Reading => {}
             State::End => return Ok(Next::End),
@@ -227,15 +216,15 @@ impl Reader {
             Ok(Next::Packet) => self.given += 1,
             Ok(Next::End) => {
                 self.state = State::End;
-                empty(frame);
+                frame.clear();
             }
             Ok(Next::Cut(count)) => {
                 self.state = State::Cut(count);
-                empty(frame);
+                frame.clear();
             }
             Err(fault) => {
                 self.state = State::Spoilt(fault.number());
-                empty(frame);
+                frame.clear();
             }
         }
         result

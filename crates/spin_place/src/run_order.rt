@@ -38,18 +38,11 @@ impl From<NoMemory> for OrderFault {
     }
 }
 
-// An empty list with room for this many numbers.
-fn with_room(alloc: Global, room: usize) -> Result<Numbers, NoMemory>
-    ensures { IfOk result (λ numbers. numbers ≡ []) }
-{
-    Ok(Numbers::from_vec(Vec::with_capacity(alloc, room)?))
-}
-
 // The numbers of the bindings, as they stand.
 fn numbers_in_place(alloc: Global, bindings: &[Binding]) -> Result<Numbers, NoMemory>
     ensures { IfOk result (λ numbers. numbers ≡ numbers_of bindings.now) }
 {
-    let mut numbers = with_room(alloc, bindings.len())?;
+    let mut numbers = Numbers::with_capacity(alloc, bindings.len())?;
     for binding in bindings {
         numbers.push(binding.number)?;
     }
@@ -78,7 +71,7 @@ pub fn order(alloc: Global, bindings: &[Binding]) -> Result<Numbers, OrderFault>
     let mut rest = candidates(alloc, bindings, &links)?;
     let mut firsts = count_first(bindings);
     let mut inner = count_inner(bindings);
-    let mut placed = with_room(alloc, bindings.len())?;
+    let mut placed = Numbers::with_capacity(alloc, bindings.len())?;
     while !rest.is_empty() {
         let Some(at) = first_ready(&rest, firsts, inner) else {
             let cycle = cycle_among(&rest, placed.into_vec())?;

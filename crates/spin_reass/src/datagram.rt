@@ -13,7 +13,6 @@ use spin_headers::write_ipv4;
 use spin_values::{NoMemory, Octets};
 use std::alloc::Global;
 use std::marker::Model;
-use std::mem;
 
 // The number of bytes of a packet's header without options.
 const HEADER: usize = 20;
@@ -90,8 +89,8 @@ fn fits_at(parts: &[Part], end: Option<u32>, at: usize, part: &Part) -> bool
 }
 
 // Appends the bytes of the parts.
-fn put_bytes(bytes: &mut Vec<u8>, parts: &[Part]) -> Result<(), NoMemory>
-    ensures { OnOk result (bytes.new.items ≡ bytes.old.items ++ specs.payload parts.now) }
+fn put_bytes(bytes: &mut Octets, parts: &[Part]) -> Result<(), NoMemory>
+    ensures { OnOk result (bytes.new ≡ bytes.old ++ specs.payload parts.now) }
 {
     for part in parts {
         bytes.extend_from_slice(&part.bytes)?;
@@ -122,13 +121,9 @@ fn replace_packet(frame: &mut Octets, header: &[u8], parts: &[Part]) -> Result<(
     ensures { OnOk result
         (frame.new ≡ take ETHER frame.old ++ header.now ++ specs.payload parts.now) }
 {
-    let none = Octets::new(frame.allocator());
-    let mut bytes = mem::replace(frame, none).into_vec();
-    bytes.truncate(ETHER);
-    bytes.extend_from_slice(header)?;
-    put_bytes(&mut bytes, parts)?;
-    *frame = Octets::from_vec(bytes);
-    Ok(())
+    frame.truncate(ETHER);
+    frame.extend_from_slice(header)?;
+    put_bytes(frame, parts)
 }
 
 impl Datagram {

@@ -1,7 +1,7 @@
 //! The list that every list type of the project is made of.
 
 ghost use Rattle.std.specs.Prelude.{◌≡◌, ◌==◌, ◌<◌, ◌^◌, ◌++◌, [], ◌∷◌, length, slice_get};
-ghost use Rattle.std.specs.Prelude.{slice_set, reverse, Some, OnOk, OnErr, IfOk, MatchOption};
+ghost use Rattle.std.specs.Prelude.{slice_set, reverse, take, Some, OnOk, OnErr, IfOk, MatchOption};
 ghost use Rattle.std.specs.Iterator.Adapters.{IterYieldsInOrder, IterYieldsInReverse};
 ghost use Rattle.std.specs.Iterator.Runs.{EveryRun, ItemsMapTo, ItemsAre};
 ghost use Rattle.std.specs.Slice.Iter.{iter_rest, iter_steps};
@@ -223,6 +223,14 @@ impl<T: Drop> Sequence<T> {
         ensures { self.new ≡ [] }
     {
         self.items.clear();
+    }
+
+    /// Keeps the first `len` items and drops the rest; no effect where there are no more. The list keeps its room.
+    #[inline]
+    pub fn truncate(&mut self, len: usize)
+        ensures { self.new ≡ take len self.old }
+    {
+        self.items.truncate(len);
     }
 
     /// Adds the item at the end. After want of memory the list is unchanged, and the item is dropped.
