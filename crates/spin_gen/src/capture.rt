@@ -120,7 +120,7 @@ pub(crate) fn capture(alloc: Global, draws: &mut Draws) -> Result<Octets, NoMemo
     ensures { IfOk result (λ capture. capture ≡ capture_of draws.old) }
 {
     let size = HEADER.len() + RECORD * usize::from(RECORDS);
-    let mut out = Octets::from_vec(Vec::with_capacity(alloc, size)?);
+    let mut out = Octets::with_capacity(alloc, size)?;
     out.extend_from_slice(&HEADER)?;
     for number in 0..RECORDS {
         let port = draws.below(PORTS) as u16;

@@ -82,7 +82,7 @@ pub(crate) fn script(alloc: Global, draws: &mut Draws) -> Result<Octets, NoMemor
     ensures text { IfOk result (λ script. script ≡ script_of draws.old) }
     ensures state { OnOk result (draws.new ≡ state_behind draws.old drafts) }
 {
-    let mut out = Octets::from_vec(Vec::with_capacity(alloc, ROOM)?);
+    let mut out = Octets::with_capacity(alloc, ROOM)?;
     out.extend_from_slice(head())?;
     put_segments(&mut out, draws)?;
     put_last(&mut out)?;

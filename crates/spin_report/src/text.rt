@@ -1,6 +1,6 @@
 //! Whole lines.
 
-ghost use Rattle.std.specs.Prelude.{◌≡◌, ◌≤◌, ◌++◌, ◌∷◌, [], take, length, OnOk, OnErr};
+ghost use Rattle.std.specs.Prelude.{◌≡◌, ◌++◌, ◌∷◌, [], take, length, OnOk, OnErr};
 ghost use Rattle.spin_text.specs.Words.{spaced, line_of, ended};
 ghost use Rattle.spin_report.specs.Lines.{line_word, what_words, entry_line, job_line, job_seen};
 ghost use Rattle.spin_report.specs.Histories.{retire_line, segment_line, lost_line, capture_words, end_line};
@@ -14,7 +14,6 @@ use spin_script::op_word;
 use spin_text::{put_decimal, put_line, put_number, put_word};
 use spin_values::{NoMemory, Octets};
 use spin_word::Deed;
-use std::mem;
 
 /// What became of a capture.
 #[derive(Clone, Copy, PartialEq, Eq, Debug)]
@@ -25,17 +24,6 @@ pub struct CaptureCounts {
     pub used: u32,
     /// The bytes behind them, which are no whole record.
     pub cut: u32,
-}
-
-// Keeps the first so many bytes alone.
-fn cut_back(out: &mut Octets, kept: usize)
-    requires { kept ≤ length out.old }
-    ensures { out.new ≡ take kept out.old }
-{
-    let empty = Octets::new(out.allocator());
-    let mut bytes = mem::replace(out, empty).into_vec();
-    bytes.truncate(kept);
-    *out = Octets::from_vec(bytes);
 }
 
 // Appends the number of a line, and of its part where it is a line of packets.
@@ -241,7 +229,7 @@ pub fn view_text(entry: &EntryView<'_>, out: &mut Octets) -> Result<(), NoMemory
     let before = out.len();
     let put = put_entry_line(out, entry);
     if put.is_err() {
-        cut_back(out, before);
+        out.truncate(before);
     }
     put
 }
@@ -256,7 +244,7 @@ pub fn job_text(job: &Job, reply: &Reply, out: &mut Octets) -> Result<(), NoMemo
     let before = out.len();
     let put = put_job_line(out, job, reply);
     if put.is_err() {
-        cut_back(out, before);
+        out.truncate(before);
     }
     put
 }
