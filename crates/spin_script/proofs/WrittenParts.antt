@@ -94,38 +94,16 @@ texts_step {X} g n k m xs x old out new e at before this =
     this ∙ ap (λ (o : List ℕ). o ++ text_of_lines (g (m, x))) before ∙ append_assoc old (text_of_lines (flat_map g (enumerate_from n (take k xs)))) (text_of_lines (g (m, x)))
     ∙ ap (λ (t : List ℕ). old ++ t) (sym (texts_more g n k m xs x e at))
 
-in_row : (v t b c d e f g h : List ℕ) → (((((((v ++ t) ++ b) ++ c) ++ d) ++ e) ++ f) ++ g) ++ h ≡ v ++ (t ++ ((((((b ++ c) ++ d) ++ e) ++ f) ++ g) ++ h))
-in_row v t b c d e f g h = simp append_assoc
+-- the version and the first line, written to what was empty
+pub first_part : (v : List ℕ) (l : LineMeaning) {new out : List ℕ} → new ≡ [] → out ≡ new ++ v ++ line_text l → out ≡ v ++ text_of_lines (l ∷ [])
+first_part v l none this = this ∙ ap (λ (o : List ℕ). o ++ v ++ line_text l) none ∙ ap (λ (t : List ℕ). v ++ t) (sym (append-nil (line_text l)))
 
-texts_in_row : (bs cs ds es fs gs hs : List LineMeaning) → text_of_lines ((((((bs ++ cs) ++ ds) ++ es) ++ fs) ++ gs) ++ hs)
-    ≡ (((((text_of_lines bs ++ text_of_lines cs) ++ text_of_lines ds) ++ text_of_lines es) ++ text_of_lines fs) ++ text_of_lines gs) ++ text_of_lines hs
-texts_in_row bs cs ds es fs gs hs =
-    flat_map-append line_text (((((bs ++ cs) ++ ds) ++ es) ++ fs) ++ gs) hs
-    ∙ ap (λ (t : List ℕ). t ++ text_of_lines hs) (flat_map-append line_text ((((bs ++ cs) ++ ds) ++ es) ++ fs) gs
-    ∙ ap (λ (t : List ℕ). t ++ text_of_lines gs) (flat_map-append line_text (((bs ++ cs) ++ ds) ++ es) fs
-    ∙ ap (λ (t : List ℕ). t ++ text_of_lines fs) (flat_map-append line_text ((bs ++ cs) ++ ds) es
-    ∙ ap (λ (t : List ℕ). t ++ text_of_lines es) (flat_map-append line_text (bs ++ cs) ds
-    ∙ ap (λ (t : List ℕ). t ++ text_of_lines ds) (flat_map-append line_text bs cs)))))
-
--- all parts together
-pub together : (v : List ℕ) (l : LineMeaning) (bs cs ds es fs gs hs : List LineMeaning)
-    → (((((((v ++ line_text l) ++ text_of_lines bs) ++ text_of_lines cs) ++ text_of_lines ds) ++ text_of_lines es) ++ text_of_lines fs) ++ text_of_lines gs) ++ text_of_lines hs
-    ≡ v ++ text_of_lines (l ∷ ((((((bs ++ cs) ++ ds) ++ es) ++ fs) ++ gs) ++ hs))
-together v l bs cs ds es fs gs hs =
-    in_row v (line_text l) (text_of_lines bs) (text_of_lines cs) (text_of_lines ds) (text_of_lines es) (text_of_lines fs) (text_of_lines gs) (text_of_lines hs)
-    ∙ ap (λ (t : List ℕ). v ++ (line_text l ++ t)) (sym (texts_in_row bs cs ds es fs gs hs))
-
--- one part after the other
-pub one_by_one : (v : List ℕ) (l : LineMeaning) (bs cs ds es fs gs hs : List LineMeaning) (new head b c d e f g h : List ℕ) → new ≡ [] → head ≡ new ++ v ++ line_text l
-    → b ≡ head ++ text_of_lines bs → c ≡ b ++ text_of_lines cs → d ≡ c ++ text_of_lines ds
-    → e ≡ d ++ text_of_lines es → f ≡ e ++ text_of_lines fs → g ≡ f ++ text_of_lines gs → h ≡ g ++ text_of_lines hs
-    → h ≡ v ++ text_of_lines (l ∷ ((((((bs ++ cs) ++ ds) ++ es) ++ fs) ++ gs) ++ hs))
-one_by_one v l bs cs ds es fs gs hs new head b c d e f g h none first is-b is-c is-d is-e is-f is-g is-h =
-    is-h ∙ ap (λ (o : List ℕ). o ++ text_of_lines hs)
-    (is-g ∙ ap (λ (o : List ℕ). o ++ text_of_lines gs) (is-f ∙ ap (λ (o : List ℕ). o ++ text_of_lines fs) (is-e ∙ ap (λ (o : List ℕ). o ++ text_of_lines es) (is-d
-    ∙ ap (λ (o : List ℕ). o ++ text_of_lines ds)
-    (is-c ∙ ap (λ (o : List ℕ). o ++ text_of_lines cs) (is-b ∙ ap (λ (o : List ℕ). o ++ text_of_lines bs) (first ∙ ap (λ (o : List ℕ). o ++ v ++ line_text l) none)))))))
-    ∙ together v l bs cs ds es fs gs hs
+-- the lines of one part more
+pub next_part : (v : List ℕ) (before part : List LineMeaning) {out new : List ℕ} → out ≡ v ++ text_of_lines before → new ≡ out ++ text_of_lines part
+    → new ≡ v ++ text_of_lines (before ++ part)
+next_part v before part is this =
+    this ∙ ap (λ (o : List ℕ). o ++ text_of_lines part) is ∙ append_assoc v (text_of_lines before) (text_of_lines part)
+    ∙ ap (λ (t : List ℕ). v ++ t) (sym (flat_map-append line_text before part))
 
 -- ---- signatures
 

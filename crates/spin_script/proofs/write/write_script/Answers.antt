@@ -1,4 +1,4 @@
-use Rattle.std.proofs.Common.{◌≡◌, ◌++◌, ℕ, List, map, subst}
+use Rattle.std.proofs.Common.{◌≡◌, ◌++◌, ◌∷◌, [], ℕ, List, map, subst}
 use Rattle.std.specs.List.{flat_map, enumerate_from}
 use Rattle.spin_objects.specs.declared.unit.Body.{Body}
 use Rattle.spin_objects.specs.declared.unit.Check.{Check}
@@ -8,7 +8,7 @@ use Rattle.spin_grammar.specs.Lines.{Modules}
 use Rattle.spin_script.specs.declared.script.Segment.{Segment}
 use Rattle.spin_script.specs.States.{natives_seen}
 use Rattle.spin_script.specs.Canonical.{line_text, text_of_lines, version_text, event_line, endpoint_line, handler_line, guard_line, authority_lines, default_lines, segments_lines}
-use Rattle.spin_script.proofs.WrittenParts.{one_by_one}
+use Rattle.spin_script.proofs.WrittenParts.{first_part, next_part}
 use Rattle.spin_script.proofs.write.write_script.Goals as goal
 
 pub returns : goal.returns
@@ -28,9 +28,19 @@ returns g c =
     c.catalogue-catalogue.ensures c.in_ok-put_guards.ensures in
     let segments =
     subst (λ (ss : List Segment). c.put_segments.new.out ≡ c.put_defaults.new.out ++ text_of_lines (segments_lines c.args.script.now.version ss)) c.as_slice-2.ensures c.in_ok-put_segments.ensures in
-    one_by_one (version_text c.args.script.now.version) (Modules setup.modules) (map event_line events) (map endpoint_line (enumerate_from 0 c.args.script.now.endpoints))
-    (map (λ (p : ℕ × Body). handler_line natives p.0 p.1) (enumerate_from 1 setup.catalogue.bodies)) (map (λ (p : ℕ × Check). guard_line natives p.0 p.1) (enumerate_from 1 setup.catalogue.checks))
-    (flat_map (λ (p : ℕ × EventDef). authority_lines natives p.0 p.1.authority) events) (flat_map (λ (p : ℕ × EventDef). default_lines p.0 p.1.first_default) events)
-    (segments_lines c.args.script.now.version c.args.script.now.segments) c.new-out.result c.put_head.new.out
-    c.put_events.new.out c.put_endpoints.new.out c.put_handlers.new.out c.put_guards.new.out c.put_authorities.new.out
-    c.put_defaults.new.out c.put_segments.new.out c.new-out.ensures head c.in_ok-put_events.ensures endpoints handlers guards c.in_ok-put_authorities.ensures c.in_ok-put_defaults.ensures segments
+    let version = version_text c.args.script.now.version in
+    let ms = Modules setup.modules ∷ [] in
+    let es = map event_line events in
+    let ps = map endpoint_line (enumerate_from 0 c.args.script.now.endpoints) in
+    let hs = map (λ (p : ℕ × Body). handler_line natives p.0 p.1) (enumerate_from 1 setup.catalogue.bodies) in
+    let gs = map (λ (p : ℕ × Check). guard_line natives p.0 p.1) (enumerate_from 1 setup.catalogue.checks) in
+    let us = flat_map (λ (p : ℕ × EventDef). authority_lines natives p.0 p.1.authority) events in
+    let ds = flat_map (λ (p : ℕ × EventDef). default_lines p.0 p.1.first_default) events in
+    let ss = segments_lines c.args.script.now.version c.args.script.now.segments in
+    let to_events = next_part version ms es (first_part version (Modules setup.modules) c.new-out.ensures head) c.in_ok-put_events.ensures in
+    let to_endpoints = next_part version (ms ++ es) ps to_events endpoints in
+    let to_handlers = next_part version (ms ++ es ++ ps) hs to_endpoints handlers in
+    let to_guards = next_part version (ms ++ es ++ ps ++ hs) gs to_handlers guards in
+    let to_authorities = next_part version (ms ++ es ++ ps ++ hs ++ gs) us to_guards c.in_ok-put_authorities.ensures in
+    let to_defaults = next_part version (ms ++ es ++ ps ++ hs ++ gs ++ us) ds to_authorities c.in_ok-put_defaults.ensures in
+    next_part version (ms ++ es ++ ps ++ hs ++ gs ++ us ++ ds) ss to_defaults segments
