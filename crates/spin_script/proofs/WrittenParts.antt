@@ -81,18 +81,10 @@ texts_more {X} g n k m xs x e at =
     ∙ flat_map-append line_text (flat_map g (enumerate_from n (take k xs))) (g (n + k, x))
     ∙ ap (λ (i : ℕ). text_of_lines (flat_map g (enumerate_from n (take k xs))) ++ text_of_lines (g (i, x))) at
 
--- one more of them was written
-pub lines_step : {X : Type 0} (f : ℕ × X → LineMeaning) (n k m : ℕ) (xs : List X) (x : X) (old out new : List ℕ) → slice_get xs k ≡ Some x → n + k ≡ m
-    → out ≡ old ++ text_of_lines (map f (enumerate_from n (take k xs))) → new ≡ out ++ line_text (f (m, x)) → new ≡ old ++ text_of_lines (map f (enumerate_from n (take (k + 1) xs)))
-lines_step {X} f n k m xs x old out new e at before this =
-    this ∙ ap (λ (o : List ℕ). o ++ line_text (f (m, x))) before ∙ append_assoc old (text_of_lines (map f (enumerate_from n (take k xs)))) (line_text (f (m, x)))
-    ∙ ap (λ (t : List ℕ). old ++ t) (sym (lines_more f n k m xs x e at))
-
-pub texts_step : {X : Type 0} (g : ℕ × X → List LineMeaning) (n k m : ℕ) (xs : List X) (x : X) (old out new : List ℕ) → slice_get xs k ≡ Some x → n + k ≡ m
-    → out ≡ old ++ text_of_lines (flat_map g (enumerate_from n (take k xs))) → new ≡ out ++ text_of_lines (g (m, x)) → new ≡ old ++ text_of_lines (flat_map g (enumerate_from n (take (k + 1) xs)))
-texts_step {X} g n k m xs x old out new e at before this =
-    this ∙ ap (λ (o : List ℕ). o ++ text_of_lines (g (m, x))) before ∙ append_assoc old (text_of_lines (flat_map g (enumerate_from n (take k xs)))) (text_of_lines (g (m, x)))
-    ∙ ap (λ (t : List ℕ). old ++ t) (sym (texts_more g n k m xs x e at))
+-- one piece more was written behind what was there
+pub more_written : (old was piece : List ℕ) {all out new : List ℕ} → all ≡ was ++ piece → out ≡ old ++ was → new ≡ out ++ piece → new ≡ old ++ all
+more_written old was piece split before this =
+    this ∙ ap (λ (o : List ℕ). o ++ piece) before ∙ append_assoc old was piece ∙ ap (λ (t : List ℕ). old ++ t) (sym split)
 
 -- the version and the first line, written to what was empty
 pub first_part : (v : List ℕ) (l : LineMeaning) {new out : List ℕ} → new ≡ [] → out ≡ new ++ v ++ line_text l → out ≡ v ++ text_of_lines (l ∷ [])
@@ -101,9 +93,7 @@ first_part v l none this = this ∙ ap (λ (o : List ℕ). o ++ v ++ line_text l
 -- the lines of one part more
 pub next_part : (v : List ℕ) (before part : List LineMeaning) {out new : List ℕ} → out ≡ v ++ text_of_lines before → new ≡ out ++ text_of_lines part
     → new ≡ v ++ text_of_lines (before ++ part)
-next_part v before part is this =
-    this ∙ ap (λ (o : List ℕ). o ++ text_of_lines part) is ∙ append_assoc v (text_of_lines before) (text_of_lines part)
-    ∙ ap (λ (t : List ℕ). v ++ t) (sym (flat_map-append line_text before part))
+next_part v before part is this = more_written v (text_of_lines before) (text_of_lines part) (flat_map-append line_text before part) is this
 
 -- ---- signatures
 

@@ -29,18 +29,18 @@ returns g c =
     let segments =
     subst (λ (ss : List Segment). c.put_segments.new.out ≡ c.put_defaults.new.out ++ text_of_lines (segments_lines c.args.script.now.version ss)) c.as_slice-2.ensures c.in_ok-put_segments.ensures in
     let version = version_text c.args.script.now.version in
-    let ms = Modules setup.modules ∷ [] in
-    let es = map event_line events in
-    let ps = map endpoint_line (enumerate_from 0 c.args.script.now.endpoints) in
-    let hs = map (λ (p : ℕ × Body). handler_line natives p.0 p.1) (enumerate_from 1 setup.catalogue.bodies) in
-    let gs = map (λ (p : ℕ × Check). guard_line natives p.0 p.1) (enumerate_from 1 setup.catalogue.checks) in
-    let us = flat_map (λ (p : ℕ × EventDef). authority_lines natives p.0 p.1.authority) events in
-    let ds = flat_map (λ (p : ℕ × EventDef). default_lines p.0 p.1.first_default) events in
-    let ss = segments_lines c.args.script.now.version c.args.script.now.segments in
-    let to_events = next_part version ms es (first_part version (Modules setup.modules) c.new-out.ensures head) c.in_ok-put_events.ensures in
-    let to_endpoints = next_part version (ms ++ es) ps to_events endpoints in
-    let to_handlers = next_part version (ms ++ es ++ ps) hs to_endpoints handlers in
-    let to_guards = next_part version (ms ++ es ++ ps ++ hs) gs to_handlers guards in
-    let to_authorities = next_part version (ms ++ es ++ ps ++ hs ++ gs) us to_guards c.in_ok-put_authorities.ensures in
-    let to_defaults = next_part version (ms ++ es ++ ps ++ hs ++ gs ++ us) ds to_authorities c.in_ok-put_defaults.ensures in
-    next_part version (ms ++ es ++ ps ++ hs ++ gs ++ us ++ ds) ss to_defaults segments
+    let opening = Modules setup.modules ∷ [] in
+    let event_part = map event_line events in
+    let endpoint_part = map endpoint_line (enumerate_from 0 c.args.script.now.endpoints) in
+    let handler_part = map (λ (p : ℕ × Body). handler_line natives p.0 p.1) (enumerate_from 1 setup.catalogue.bodies) in
+    let guard_part = map (λ (p : ℕ × Check). guard_line natives p.0 p.1) (enumerate_from 1 setup.catalogue.checks) in
+    let authority_part = flat_map (λ (p : ℕ × EventDef). authority_lines natives p.0 p.1.authority) events in
+    let default_part = flat_map (λ (p : ℕ × EventDef). default_lines p.0 p.1.first_default) events in
+    let segment_part = segments_lines c.args.script.now.version c.args.script.now.segments in
+    let to_events = next_part version opening event_part (first_part version (Modules setup.modules) c.new-out.ensures head) c.in_ok-put_events.ensures in
+    let to_endpoints = next_part version (opening ++ event_part) endpoint_part to_events endpoints in
+    let to_handlers = next_part version (opening ++ event_part ++ endpoint_part) handler_part to_endpoints handlers in
+    let to_guards = next_part version (opening ++ event_part ++ endpoint_part ++ handler_part) guard_part to_handlers guards in
+    let to_authorities = next_part version (opening ++ event_part ++ endpoint_part ++ handler_part ++ guard_part) authority_part to_guards c.in_ok-put_authorities.ensures in
+    let to_defaults = next_part version (opening ++ event_part ++ endpoint_part ++ handler_part ++ guard_part ++ authority_part) default_part to_authorities c.in_ok-put_defaults.ensures in
+    next_part version (opening ++ event_part ++ endpoint_part ++ handler_part ++ guard_part ++ authority_part ++ default_part) segment_part to_defaults segments

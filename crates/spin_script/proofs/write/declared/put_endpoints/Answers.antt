@@ -2,7 +2,7 @@ use Rattle.std.proofs.Common.{◌≡◌, ◌<◌, ℕ, List, length, Some, sym, 
 use Rattle.std.specs.Prelude.{slice_get}
 use Rattle.std.proofs.lemmas.Option.{slice_get-get_or}
 use Rattle.spin_script.specs.Canonical.{endpoint_line}
-use Rattle.spin_script.proofs.WrittenParts.{lines_step}
+use Rattle.spin_script.proofs.WrittenParts.{lines_more, more_written}
 use Rattle.spin_script.proofs.write.declared.put_endpoints.Goals as goal
 
 pub loop-endpoint-preserved : goal.loop-endpoint-preserved
@@ -12,5 +12,6 @@ loop-endpoint-preserved c =
     let inside : c.loop-endpoint.endpoint < length all = omega (arith, c.loop-endpoint-test.true) in
     let there : slice_get all c.loop-endpoint.endpoint ≡ Some this =
     slice_get-get_or all c.loop-endpoint.endpoint this inside ∙ ap (λ (name : List ℕ). Some name) (sym c.index-endpoints-endpoint.is) in
-    lines_step endpoint_line 0 c.loop-endpoint.endpoint c.loop-endpoint.endpoint all this c.args.out.now c.loop-endpoint.out c.put_endpoint.new.out
-    there (omega arith) c.loop-endpoint.invariant c.in_ok-put_endpoint.ensures
+    more_written c.args.out.now _ _
+    (lines_more endpoint_line 0 c.loop-endpoint.endpoint c.loop-endpoint.endpoint all this there (omega arith))
+    c.loop-endpoint.invariant c.in_ok-put_endpoint.ensures

@@ -7,7 +7,7 @@ use Rattle.spin_objects.specs.declared.unit.Body.{Body}
 use Rattle.spin_objects.specs.declared.unit.Body.TheVariants as unit
 use Rattle.spin_script.specs.States.{natives_seen}
 use Rattle.spin_script.specs.Canonical.{handler_line}
-use Rattle.spin_script.proofs.WrittenParts.{lines_step}
+use Rattle.spin_script.proofs.WrittenParts.{lines_more, more_written}
 use Rattle.spin_script.proofs.write.declared.put_handlers.Goals as goal
 
 pub loop-at-preserved : goal.loop-at-preserved
@@ -18,5 +18,6 @@ loop-at-preserved g c =
     let inside : c.loop-at.at < length all = omega (arith, c.loop-at-test.true, c.loop-at.auto.at-end, c.handlers-at-end.ensures, size) in
     let there : slice_get all c.loop-at.at ≡ Some this = slice_get-get_or all c.loop-at.at (unit.Native 0) inside in
     let at : c.loop-at.at + 1 - 1 ≡ c.loop-at.at = omega arith in
-    lines_step (λ (p : ℕ × Body). handler_line (natives_seen c.args.catalogue.now.natives) p.0 p.1) 1 c.loop-at.at (c.loop-at.at + 1) all this c.args.out.now c.loop-at.out c.put_handler.new.out
-    there (omega arith) c.loop-at.invariant (c.in_ok-put_handler.ensures this (ap (slice_get all) at ∙ there))
+    more_written c.args.out.now _ _
+    (lines_more (λ (p : ℕ × Body). handler_line (natives_seen c.args.catalogue.now.natives) p.0 p.1) 1 c.loop-at.at (c.loop-at.at + 1) all this there (omega arith))
+    c.loop-at.invariant (c.in_ok-put_handler.ensures this (ap (slice_get all) at ∙ there))

@@ -6,7 +6,7 @@ use Rattle.spin_table.specs.SetupOf.{data_of}
 use Rattle.spin_table.proofs.ImposedGuards.{authority_of_setup}
 use Rattle.spin_script.specs.States.{natives_seen}
 use Rattle.spin_script.specs.Canonical.{text_of_lines, authority_lines}
-use Rattle.spin_script.proofs.WrittenParts.{texts_step}
+use Rattle.spin_script.proofs.WrittenParts.{texts_more, more_written}
 use Rattle.spin_script.proofs.write.rules.put_authorities.Goals as goal
 
 pub put_authority-requires : goal.put_authority-requires
@@ -21,6 +21,7 @@ loop-event-preserved g c =
     subst (λ cat. c.put_authority.new.out ≡ c.loop-event.out ++ text_of_lines (authority_lines (natives_seen cat.natives) c.loop-event.event c.event-def.result.now.authority)) c.catalogue.ensures
     (subst (λ ns. c.put_authority.new.out ≡ c.loop-event.out ++ text_of_lines (authority_lines (natives_seen ns) c.loop-event.event c.event-def.result.now.authority))
     c.natives.ensures c.in_ok-put_authority.ensures) in
-    texts_step (λ (p : ℕ × EventDef). authority_lines (natives_seen c.args.setup.now.catalogue.natives) p.0 p.1.authority) 0 c.loop-event.event c.loop-event.event
-    (data_of c.args.setup.now).events c.event-def.result.now c.args.out.now c.loop-event.out c.put_authority.new.out
-    c.event-def.ensures (omega arith) c.loop-event.invariant this
+    more_written c.args.out.now _ _
+    (texts_more (λ (p : ℕ × EventDef). authority_lines (natives_seen c.args.setup.now.catalogue.natives) p.0 p.1.authority) 0 c.loop-event.event c.loop-event.event
+    (data_of c.args.setup.now).events c.event-def.result.now c.event-def.ensures (omega arith))
+    c.loop-event.invariant this
