@@ -1,23 +1,21 @@
 -- Records that a reader gave, also of a source that doesn't tell what it has left, and that were joined.
-use Rattle.std.proofs.Common.{◌≡◌, ◌≢◌, ◌≤◌, ◌<◌, ◌+◌, ℕ, List, [], ◌∷◌, ◌++◌, length, drop, Result, Ok, Err, refl, sym, ap, subst, ◌∙◌, arith, append_assoc}
+use Rattle.std.proofs.Common.{◌≡◌, ◌≢◌, ◌≤◌, ◌<◌, ◌+◌, ℕ, List, [], ◌∷◌, ◌++◌, length, Ok, sym, ap, subst, ◌∙◌, arith, append_assoc}
 use Rattle.std.proofs.lemmas.List.{append-nil, length-append}
 use Rattle.std.specs.Bool.{⊤}
 use Rattle.std.specs.List.{flat_map}
 use Rattle.spin_pcap.specs.declared.limits.TheConstants.{MAX_RECORDS, MAX_CAPTURED}
 use Rattle.spin_pcap.specs.declared.next.Next.{Next}
 use Rattle.spin_pcap.specs.declared.next.Next.TheVariants as next
-use Rattle.spin_pcap.specs.declared.order.Order.{Order}
 use Rattle.spin_pcap.specs.declared.order.Order.TheVariants as order
-use Rattle.spin_pcap.specs.declared.state.State.{State}
 use Rattle.spin_pcap.specs.declared.state.State.TheVariants as state
 use Rattle.spin_pcap.specs.Captures.{IsRecord, IsRest, IsBody, IsCapture}
-use Rattle.spin_pcap.specs.Passing.{ReaderState, IsGone, IfReading, IsCutShort, given_after, state_after}
+use Rattle.spin_pcap.specs.Passing.{ReaderState, IfReading, IsCutShort}
 use Rattle.spin_reass.specs.Joining.{OpenDatagram, joined, joined_frames}
-use Rattle.spin_reass.specs.JoinedCaptures.{file_header, record_of, rest_of, IsJoined, IsJoinedCapture, joined_capture}
+use Rattle.spin_reass.specs.JoinedCaptures.{file_header, record_of, rest_of, IsJoinedCapture}
 use Rattle.spin_reass.specs.Inner.Reading.{EachIsFew, AreRecords, JoinsSome}
 use Rattle.spin_reass.proofs.CaptureLemmas.{is_record, is_header, cut_is_rest}
-use Rattle.spin_pcap.proofs.CaptureRecords.{after, after_packet, reading}
-use Rattle.spin_reass.proofs.JoinedRecords.{flat_push, packet_few}
+use Rattle.spin_pcap.proofs.CaptureRecords.{reading}
+use Rattle.spin_reass.proofs.JoinedRecords.{flat_push}
 
 each_push : (frames : List (List ℕ)) (frame : List ℕ) → EachIsFew frames → length frame ≤ MAX_CAPTURED → EachIsFew (frames ++ frame ∷ [])
 each_push [] frame each few = (few, tt)
@@ -44,7 +42,7 @@ given_none before given datagrams zero_given none = record {
   is = sym (append-nil before);
 }
 
-given_one : (before : List ℕ) (given given' : ℕ) (datagrams datagrams' : List OpenDatagram) (out out' frame frame' : List ℕ)
+pub given_one : (before : List ℕ) (given given' : ℕ) (datagrams datagrams' : List OpenDatagram) (out out' frame frame' : List ℕ)
     → HasGiven before given datagrams out → given' ≡ given + 1 → given < MAX_RECORDS → length frame ≤ MAX_CAPTURED → datagrams' ≡ (joined datagrams frame).0
     → frame' ≡ (joined datagrams frame).1 → out' ≡ out ++ record_of frame' → HasGiven before given' datagrams' out'
 given_one before given given' datagrams datagrams' out out' frame frame' h g room few d f o =
@@ -62,12 +60,6 @@ given_one before given given' datagrams datagrams' out out' frame frame' h g roo
           ∙ sym (append_assoc h.done (one ∷ []) (joined_frames datagrams' more));
       is = o ∙ (λ i. h.is i ++ record_of (f i)) ∙ append_assoc before (flat_map record_of h.done) (record_of one) ∙ ap (λ z. before ++ z) (sym (flat_push record_of h.done one));
     }
-
-pub given_packet : (before : List ℕ) (reader reader' : ReaderState) (answer : Next) (ds ds' : List OpenDatagram) (out out' gone frame frame' : List ℕ) (B : Type 0) → reader.state ≡ state.Reading
-    → answer ≡ next.Packet → IsGone reader.order (Ok answer) gone frame → reader.given < MAX_RECORDS → IfReading reader.state (reader' ≡ after reader reader' (Ok answer)) B
-    → ds' ≡ (joined ds frame).0 → frame' ≡ (joined ds frame).1 → out' ≡ out ++ record_of frame' → HasGiven before reader.given ds out → HasGiven before reader'.given ds' out'
-given_packet before reader reader' answer ds ds' out out' gone frame frame' B r e few room b d f o h =
-    given_one before reader.given reader'.given ds ds' out out' frame frame' h (after_packet reader reader' answer B r e b).2 room (packet_few reader.order answer gone frame e few) d f o
 
 ends_so : (before : List ℕ) (given : ℕ) (datagrams : List OpenDatagram) (out : List ℕ) (ending : Next) → (ending ≢ next.Packet)
     → IsCutShort given (Ok ending) → HasGiven before given datagrams out → JoinsSome before out (Ok ending)

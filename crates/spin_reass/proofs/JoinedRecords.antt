@@ -8,14 +8,13 @@ use Rattle.spin_pcap.specs.declared.next.Next.{Next}
 use Rattle.spin_pcap.specs.declared.next.Next.TheVariants as next
 use Rattle.spin_pcap.specs.declared.limits.TheConstants.{MAX_CAPTURED}
 use Rattle.spin_pcap.specs.declared.order.Order.{Order}
-use Rattle.spin_pcap.specs.declared.state.State.{State}
 use Rattle.spin_pcap.specs.declared.state.State.TheVariants as state
 use Rattle.spin_pcap.specs.Captures.{header_of, IsRest, IsBody}
-use Rattle.spin_pcap.specs.Passing.{ReaderState, left_for, fault_number, IsAnswer, IsGone, IfReading, UnlessFailed, given_after, state_after}
+use Rattle.spin_pcap.specs.Passing.{ReaderState, left_for, fault_number, IsAnswer, IsGone, IfReading, UnlessFailed}
 use Rattle.spin_pcap.specs.declared.fault.BadRecord.{BadRecord}
 use Rattle.spin_pcap.specs.declared.fault.BadRecord.TheVariants as stop
 use Rattle.spin_pcap.specs.Whole.{bad_at}
-use Rattle.spin_pcap.proofs.CaptureRecords.{after, after_packet, at_told, reading}
+use Rattle.spin_pcap.proofs.CaptureRecords.{after, at_told, reading}
 use Rattle.spin_reass.specs.Joining.{OpenDatagram, joined, joined_frames}
 use Rattle.spin_reass.specs.JoinedCaptures.{file_header, record_of, rest_of, IsJoined}
 use Rattle.spin_reass.specs.Inner.Reading.{JoinsBody}
@@ -143,24 +142,8 @@ capture_stopped file way header out stop.NoMemory h b = tt
 pub packet_few : (way : Order) (answer : Next) (gone frame : List ℕ) → answer ≡ next.Packet → IsGone way (Ok answer) gone frame → length frame ≤ MAX_CAPTURED
 packet_few way answer gone frame e h = (subst (λ (x : Next). IsGone way (Ok x) gone frame) e h).1
 
-pub next_packet : (way : Order) (bytes before : List ℕ) (reader reader' : ReaderState) (answer : Next) (left left' : Option (List ℕ))
-    (ds ds' : List OpenDatagram) (out out' frame frame' : List ℕ) (A B : Type 0) → reader.state ≡ state.Reading → reader.order ≡ way → answer ≡ next.Packet
-    → IfReading reader.state (IfSome (left_for reader.held left) (λ bs. IsAnswer reader.order reader.given bs (Ok answer) frame (left_for reader'.held left'))) A
-    → IfReading reader.state (reader' ≡ after reader reader' (Ok answer)) B → ds' ≡ (joined ds frame).0 → frame' ≡ (joined ds frame).1 → out' ≡ out ++ record_of frame'
-    → HasJoined way bytes before reader.given (left_for reader.held left) ds out → HasJoined way bytes before reader'.given (left_for reader'.held left') ds' out'
-next_packet way bytes before reader reader' answer left left' ds ds' out out' frame frame' A B r w e a b d f o h =
-    let told = left_for reader.held left in
-    let told' = left_for reader'.held left' in
-    let given : IfSome told (λ bs. IsAnswer reader.order reader.given bs (Ok answer) frame told') =
-    reading reader.state (IfSome told (λ bs. IsAnswer reader.order reader.given bs (Ok answer) frame told')) A r a in
-    let packet : IfSome told (λ bs. IsAnswer reader.order reader.given bs (Ok next.Packet) frame told') =
-    subst (λ (x : Next). IfSome told (λ bs. IsAnswer reader.order reader.given bs (Ok x) frame told')) e given in
-    let ordered : IfSome told (λ bs. IsAnswer way reader.given bs (Ok next.Packet) frame told') =
-    subst (λ (x : Order). IfSome told (λ bs. IsAnswer x reader.given bs (Ok next.Packet) frame told')) w packet in
-    let n = after_packet reader reader' answer B r e b in
-    joined_one way bytes before reader.given reader'.given told told' ds ds' out out' frame frame' h n.2 ordered d f o
-
-rest_given : (way : Order) (reader : ReaderState) (answer ending : Result Next PcapFault) (left left'' : Option (List ℕ)) (frame : List ℕ) (A : Type 0) → reader.state ≡ state.Reading
+-- what the reader answered, by the order and the answer that were found
+pub rest_given : (way : Order) (reader : ReaderState) (answer ending : Result Next PcapFault) (left left'' : Option (List ℕ)) (frame : List ℕ) (A : Type 0) → reader.state ≡ state.Reading
     → reader.order ≡ way → answer ≡ ending → IfReading reader.state (IfSome (left_for reader.held left) (λ bs. IsAnswer reader.order reader.given bs answer frame left'')) A
     → IfSome (left_for reader.held left) (λ bs. IsAnswer way reader.given bs ending frame left'')
 rest_given way reader answer ending left left'' frame A r w e a =

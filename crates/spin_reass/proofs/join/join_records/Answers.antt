@@ -1,8 +1,8 @@
 use Rattle.std.proofs.Common.{◌≡◌, Ok, length, rules, ap, refl, ◌∙◌, arith}
 use Rattle.spin_pcap.specs.Passing.{left_for}
-use Rattle.spin_reass.proofs.GivenRecords.{given_none, given_packet, given_end, given_cut}
+use Rattle.spin_reass.proofs.GivenRecords.{given_none, given_one, given_end, given_cut}
 use Rattle.spin_pcap.proofs.CaptureRecords.{after_packet, told_more}
-use Rattle.spin_reass.proofs.JoinedRecords.{told_each, joined_none, packet_few, next_packet, ends_joined, cuts_joined, stops_joined}
+use Rattle.spin_reass.proofs.JoinedRecords.{told_each, joined_none, joined_one, packet_few, rest_given, ends_joined, cuts_joined, stops_joined}
 use Rattle.spin_reass.proofs.join.join_records.Goals as goal
 
 pub records-init : goal.records-init
@@ -25,16 +25,17 @@ pub records-preserved : goal.records-preserved
 records-preserved g c =
     let i = c.records.invariant in
     let after = after_packet c.records.reader c.next.new.self c.in-Ok-Packet.field-0 _ i.reading c.in-Ok-Packet.field-0-is c.in-Ok-Packet.ensures.reader in
+    let few = packet_few _ c.in-Ok-Packet.field-0 _ c.next.new.frame c.in-Ok-Packet.field-0-is c.in-Ok-Packet.ensures.passed.2 in
     record {
       reading = after.0;
       order = after.1 ∙ i.order;
       joined = told_more _ _ (left_for c.args.reader.now.held (g.S.Source.seen c.args.source.now).left) i.joined (λ bytes h.
-          next_packet _ bytes _ c.records.reader c.next.new.self c.in-Ok-Packet.field-0 _ _ c.records.joiner c.join.new.self
-          c.records.out.items _ c.next.new.frame c.join.new.frame _ _ i.reading i.order c.in-Ok-Packet.field-0-is c.in-Ok-Packet.ensures.answer
-          c.in-Ok-Packet.ensures.reader c.in_ok-join-in-Ok-Packet.ensures.datagrams c.in_ok-join-in-Ok-Packet.ensures.frame (search rules) h);
-      given = given_packet _ c.records.reader c.next.new.self c.in-Ok-Packet.field-0 c.records.joiner c.join.new.self c.records.out.items _ _ c.next.new.frame
-          c.join.new.frame _ i.reading c.in-Ok-Packet.field-0-is c.in-Ok-Packet.ensures.passed.2 (c.in-Ok-Packet.ensures.few (ap Ok c.in-Ok-Packet.field-0-is))
-          c.in-Ok-Packet.ensures.reader c.in_ok-join-in-Ok-Packet.ensures.datagrams c.in_ok-join-in-Ok-Packet.ensures.frame (search rules) i.given;
+          joined_one _ bytes _ c.records.reader.given c.next.new.self.given _ _ c.records.joiner c.join.new.self c.records.out.items _ c.next.new.frame c.join.new.frame h after.2
+          (rest_given _ c.records.reader (Ok c.in-Ok-Packet.field-0) _ _ _ c.next.new.frame _ i.reading i.order (ap Ok c.in-Ok-Packet.field-0-is) c.in-Ok-Packet.ensures.answer)
+          c.in_ok-join-in-Ok-Packet.ensures.datagrams c.in_ok-join-in-Ok-Packet.ensures.frame (search rules));
+      given = given_one _ c.records.reader.given c.next.new.self.given c.records.joiner c.join.new.self c.records.out.items _ c.next.new.frame c.join.new.frame i.given after.2
+          (c.in-Ok-Packet.ensures.few (ap Ok c.in-Ok-Packet.field-0-is)) few
+          c.in_ok-join-in-Ok-Packet.ensures.datagrams c.in_ok-join-in-Ok-Packet.ensures.frame (search rules);
       keep = c.next.ensures.passed.1.keep ∙ i.keep;
       stood = c.in-Ok-Packet.ensures.cause ∙ i.stood;
     }
