@@ -9,9 +9,10 @@ ghost use Rattle.spin_cli.specs.Statuses.{Call, IsCommandStatus, IsStatus, Row, 
 use crate::commands::generate::gen_command;
 use crate::commands::join::join_command;
 use crate::commands::run::run_command;
+use crate::commands::{Means, RunNames};
 use spin_args::{Asked, read_words};
 use spin_code::Sincere;
-use spin_commands::{check_command, vm_command};
+use spin_commands::{CheckNames, check_command, vm_command};
 use spin_endpoint::{Ends, EndsSeen};
 use spin_inputs::{End, stop};
 use spin_objects::Natives;
@@ -22,14 +23,12 @@ use std::thread::Threads;
 
 // Does the command that is asked for, and answers the status, which has its cause.
 fn do_command<R: Threads + Sync, F: Shelf, K: Sink, G: Gate>(
-    rt: &R,
-    alloc: Global,
+    means: &Means<R, G>,
     asked: &Asked,
     shelf: &mut F,
     out: &mut K,
     natives: Natives,
     ends: &mut Ends,
-    gate: &G,
 ) -> u8
     requires sincere { ⟦<Natives as Sincere>⟧.sincere natives }
     ensures { IsCommandStatus (natives_seen natives)
@@ -39,31 +38,40 @@ fn do_command<R: Threads + Sync, F: Shelf, K: Sink, G: Gate>(
 {
     match asked {
         Asked::Run { script, packets } => {
-            run_command(rt, alloc, script, packets, shelf, out, natives, ends, gate)
+            let names = RunNames { script, packets };
+            run_command(means, &names, shelf, out, natives, ends)
         }
-        Asked::Gen { number } => gen_command(rt, alloc, *number, out, natives, ends, gate),
+        Asked::Gen { number } => gen_command(means, *number, out, natives, ends),
         Asked::Check {
             script,
             report,
             packets,
-        } => check_command(alloc, script, report, packets, shelf, out, natives, ends),
-        Asked::Join { script, packets } => {
-            join_command(rt, alloc, script, packets, shelf, out, natives, ends, gate)
+        } => {
+            let names = CheckNames {
+                script,
+                report,
+                packets,
+            };
+            check_command(means.alloc, &names, shelf, out, natives, ends)
         }
-        Asked::Vm { script, trace } => vm_command(alloc, script, trace, shelf, out, natives),
+        Asked::Join { script, packets } => {
+            let names = RunNames { script, packets };
+            join_command(means, &names, shelf, out, natives, ends)
+        }
+        Asked::Vm { script, trace } => {
+            vm_command(means.alloc, script, trace, shelf, out, natives)
+        }
     }
 }
 
 // Does the command that the words ask for, and answers the status, which has its cause.
 fn choose<R: Threads + Sync, F: Shelf, K: Sink, G: Gate>(
-    rt: &R,
-    alloc: Global,
+    means: &Means<R, G>,
     words: &[Text],
     shelf: &mut F,
     out: &mut K,
     natives: Natives,
     ends: &mut Ends,
-    gate: &G,
 ) -> u8
     requires sincere { ⟦<Natives as Sincere>⟧.sincere natives }
     ensures { let call : Call = record {
@@ -75,8 +83,8 @@ fn choose<R: Threads + Sync, F: Shelf, K: Sink, G: Gate>(
     } in
         IsStatus call }
 {
-    match read_words(alloc, words) {
-        Ok(Some(asked)) => do_command(rt, alloc, &asked, shelf, out, natives, ends, gate),
+    match read_words(means.alloc, words) {
+        Ok(Some(asked)) => do_command(means, &asked, shelf, out, natives, ends),
         Ok(None) => stop(out, End::Usage),
         Err(NoMemory) => stop(out, End::NoMemory),
     }
@@ -177,5 +185,6 @@ pub fn spin<R: Threads + Sync, F: Shelf, K: Sink, G: Gate>(
     } in
         KeepsTable call }
 {
-    choose(rt, alloc, words, shelf, out, natives, ends, gate)
+    let means = Means { rt, alloc, gate };
+    choose(&means, words, shelf, out, natives, ends)
 }

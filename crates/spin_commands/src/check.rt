@@ -25,6 +25,17 @@ use spin_script::Script;
 use spin_values::{NoMemory, Octets, Text, Texts};
 use std::alloc::Global;
 
+/// The names that `check` is given.
+#[derive(Clone, Copy)]
+pub struct CheckNames<'a> {
+    /// The script's.
+    pub script: &'a Text,
+    /// The report's.
+    pub report: &'a Text,
+    /// The capture's, if one is named.
+    pub packets: &'a Option<Text>,
+}
+
 /// The most bytes that a report may have.
 pub const REPORT_LIMIT: u32 = 67_108_864;
 
@@ -106,8 +117,7 @@ fn tell<K: Sink>(out: &mut K, yes: bool) -> End
 fn check_script<F: Shelf, K: Sink>(
     alloc: Global,
     script: &Script,
-    report: &Text,
-    packets: &Option<Text>,
+    names: &CheckNames<'_>,
     shelf: &mut F,
     out: &mut K,
     ends: &Ends,
@@ -122,13 +132,13 @@ fn check_script<F: Shelf, K: Sink>(
         → IsCheckStatus natives
         (outside before (K.seen out.old) (⟦<Ends as EndsSeen>⟧.all ends.now))
         (outside (F.seen shelf.new) (K.seen out.new) (⟦<Ends as EndsSeen>⟧.all ends.now))
-        name report.now packets.now result }
+        name names.now.report.now names.now.packets.now result }
 {
-    let capture = match captured_of(alloc, shelf, packets) {
+    let capture = match captured_of(alloc, shelf, names.packets) {
         Ok(capture) => capture,
         Err(end) => return stop(out, end),
     };
-    let text = match report_of(alloc, shelf, report) {
+    let text = match report_of(alloc, shelf, names.report) {
         Ok(text) => text,
         Err(end) => return stop(out, end),
     };
@@ -144,9 +154,7 @@ fn check_script<F: Shelf, K: Sink>(
 /// sent to the endpoints; which of them stand is all that is asked. Script, capture and report are held in memory.
 pub fn check_command<F: Shelf, K: Sink>(
     alloc: Global,
-    name: &Text,
-    report: &Text,
-    packets: &Option<Text>,
+    names: &CheckNames<'_>,
     shelf: &mut F,
     out: &mut K,
     natives: Natives,
@@ -156,10 +164,10 @@ pub fn check_command<F: Shelf, K: Sink>(
     ensures { IsCheckStatus (natives_seen natives)
         (outside (F.seen shelf.old) (K.seen out.old) (⟦<Ends as EndsSeen>⟧.all ends.now))
         (outside (F.seen shelf.new) (K.seen out.new) (⟦<Ends as EndsSeen>⟧.all ends.now))
-        name.now report.now packets.now result }
+        names.now.script.now names.now.report.now names.now.packets.now result }
 {
-    match script_of(alloc, shelf, name, natives) {
-        Ok(script) => check_script(alloc, &script, report, packets, shelf, out, ends),
+    match script_of(alloc, shelf, names.script, natives) {
+        Ok(script) => check_script(alloc, &script, names, shelf, out, ends),
         Err(end) => stop(out, end),
     }
 }

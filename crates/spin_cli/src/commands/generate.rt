@@ -14,6 +14,7 @@ ghost use Rattle.spin_cli.specs.Gen.{IsGenStatus};
 ghost use Rattle.spin_cli.specs.Inner.Making.{RunsMade};
 ghost use Rattle.spin_inputs.specs.Outside.{outside};
 
+use crate::commands::Means;
 use crate::commands::run::end_of;
 use spin_code::Sincere;
 use spin_endpoint::{Ends, EndsSeen};
@@ -48,14 +49,12 @@ fn made_script(alloc: Global, text: &[u8], natives: Natives) -> Result<Script, N
 
 // Runs the script over the records of the capture, and writes the summary with that number.
 fn run_over<R: Threads + Sync, K: Sink, G: Gate>(
-    rt: &R,
-    alloc: Global,
+    means: &Means<R, G>,
     script: Script,
     capture: HeldCapture,
     number: u64,
     out: &mut K,
     ends: &mut Ends,
-    gate: &G,
 ) -> RunEnd
     requires sincere { ⟦<Catalogue as Sincere>⟧.sincere script.setup.catalogue }
     requires valid { AreValid script.segments }
@@ -67,28 +66,27 @@ fn run_over<R: Threads + Sync, K: Sink, G: Gate>(
         (K.seen out.new) (⟦<Ends as EndsSeen>⟧.all ends.new) result }
 {
     let HeldCapture { mut source, reader } = capture;
+    let Means { rt, alloc, gate } = means;
     run_summary(
-        rt,
-        alloc,
+        *rt,
+        *alloc,
         script,
         Some(reader),
         &mut source,
         number,
         out,
         ends,
-        gate,
+        *gate,
     )
 }
 
 /// Does `gen NUMBER`, and answers the status, which has its cause. Script and capture are made once, in memory.
 pub fn gen_command<R: Threads + Sync, K: Sink, G: Gate>(
-    rt: &R,
-    alloc: Global,
+    means: &Means<R, G>,
     number: u64,
     out: &mut K,
     natives: Natives,
     ends: &mut Ends,
-    gate: &G,
 ) -> u8
     requires sincere { ⟦<Natives as Sincere>⟧.sincere natives }
     // whatever the shelf is, it stays so
@@ -97,21 +95,21 @@ pub fn gen_command<R: Threads + Sync, K: Sink, G: Gate>(
         (outside shelf (K.seen out.new) (⟦<Ends as EndsSeen>⟧.all ends.new))
         number result }
 {
-    let made = match generate(alloc, number) {
+    let made = match generate(means.alloc, number) {
         Ok(made) => made,
         Err(NoMemory) => return stop(out, End::NoMemory),
     };
     // No line of the script is bad, and the capture is whole.
     scripts_are_read();
     captures_are_read();
-    let script = match made_script(alloc, made.script.as_slice(), natives) {
+    let script = match made_script(means.alloc, made.script.as_slice(), natives) {
         Ok(script) => script,
         Err(NoMemory) => return stop(out, End::NoMemory),
     };
-    let capture = match behind_header(alloc, made.capture) {
+    let capture = match behind_header(means.alloc, made.capture) {
         Ok(capture) => capture,
         Err(end) => return stop(out, end),
     };
-    let ended = run_over(rt, alloc, script, capture, number, out, ends, gate);
+    let ended = run_over(means, script, capture, number, out, ends);
     stop(out, end_of(ended))
 }

@@ -15,6 +15,7 @@ ghost use Rattle.spin_cli.specs.Join.{IsJoinedBy, IsJoinStatus};
 ghost use Rattle.spin_inputs.specs.Outside.{outside};
 
 use crate::commands::run::end_of;
+use crate::commands::{Means, RunNames};
 use spin_code::Sincere;
 use spin_endpoint::{Ends, EndsSeen};
 use spin_inputs::{End, HeldCapture, behind_header, end_at, find_packets, script_of, stop};
@@ -55,13 +56,11 @@ fn joined_of<F: Shelf>(alloc: Global, shelf: &mut F, name: &Text) -> Result<Octe
 
 // Runs the script over the records of a joined capture.
 fn run_over<R: Threads + Sync, K: Sink, G: Gate>(
-    rt: &R,
-    alloc: Global,
+    means: &Means<R, G>,
     script: Script,
     joined: HeldCapture,
     out: &mut K,
     ends: &mut Ends,
-    gate: &G,
 ) -> RunEnd
     requires sincere { ⟦<Catalogue as Sincere>⟧.sincere script.setup.catalogue }
     requires valid { AreValid script.segments }
@@ -73,48 +72,46 @@ fn run_over<R: Threads + Sync, K: Sink, G: Gate>(
         (K.seen out.new) (⟦<Ends as EndsSeen>⟧.all ends.new) result }
 {
     let HeldCapture { mut source, reader } = joined;
+    let Means { rt, alloc, gate } = means;
     run_script(
-        rt,
-        alloc,
+        *rt,
+        *alloc,
         script,
         Some(reader),
         &mut source,
         out,
         ends,
-        gate,
+        *gate,
     )
 }
 
 /// Does `join SCRIPT PACKETS`, and answers the status, which has its cause. The joined capture is held in memory.
 pub fn join_command<R: Threads + Sync, F: Shelf, K: Sink, G: Gate>(
-    rt: &R,
-    alloc: Global,
-    name: &Text,
-    packets: &Text,
+    means: &Means<R, G>,
+    names: &RunNames<'_, Text>,
     shelf: &mut F,
     out: &mut K,
     natives: Natives,
     ends: &mut Ends,
-    gate: &G,
 ) -> u8
     requires sincere { ⟦<Natives as Sincere>⟧.sincere natives }
     ensures { IsJoinStatus (natives_seen natives)
         (outside (F.seen shelf.old) (K.seen out.old) (⟦<Ends as EndsSeen>⟧.all ends.old))
         (outside (F.seen shelf.new) (K.seen out.new) (⟦<Ends as EndsSeen>⟧.all ends.new))
-        name.now packets.now result }
+        names.now.script.now names.now.packets.now result }
 {
-    let script = match script_of(alloc, shelf, name, natives) {
+    let script = match script_of(means.alloc, shelf, names.script, natives) {
         Ok(script) => script,
         Err(end) => return stop(out, end),
     };
-    let bytes = match joined_of(alloc, shelf, packets) {
+    let bytes = match joined_of(means.alloc, shelf, names.packets) {
         Ok(bytes) => bytes,
         Err(end) => return stop(out, end),
     };
-    let joined = match behind_header(alloc, bytes) {
+    let joined = match behind_header(means.alloc, bytes) {
         Ok(joined) => joined,
         Err(end) => return stop(out, end),
     };
-    let ended = run_over(rt, alloc, script, joined, out, ends, gate);
+    let ended = run_over(means, script, joined, out, ends);
     stop(out, end_of(ended))
 }

@@ -12,6 +12,7 @@ ghost use Rattle.spin_cli.specs.Inner.Running.{RunsOver};
 ghost use Rattle.spin_inputs.specs.Outside.{outside};
 ghost use Rattle.spin_cli.specs.Run.{end_of, IsRunStatus};
 
+use crate::commands::{Means, RunNames};
 use spin_code::Sincere;
 use spin_endpoint::{Ends, EndsSeen};
 use spin_inputs::{Capture, End, Input, open, script_of, stop};
@@ -58,55 +59,51 @@ fn capture_of<F: Shelf>(
 
 // Runs the script over the records that the reader finds in the file. Without a reader no file is read.
 fn run_over<R: Threads + Sync, F: Shelf, K: Sink, G: Gate>(
-    rt: &R,
-    alloc: Global,
+    means: &Means<R, G>,
     script: Script,
-    file: u32,
-    reader: Option<Reader>,
+    opened: (u32, Option<Reader>),
     shelf: &mut F,
     out: &mut K,
     ends: &mut Ends,
-    gate: &G,
 ) -> RunEnd
     requires sincere { ⟦<Catalogue as Sincere>⟧.sincere script.setup.catalogue }
     requires valid { AreValid script.segments }
     requires few { command_lines script.segments ≤ MAX_PLACE }
     requires orderly { IsOrderly (script_seen script) }
-    requires fresh { IfSome reader IsFresh }
-    ensures { RunsOver (script_seen script) file reader
+    requires fresh { IfSome opened.1 IsFresh }
+    ensures { RunsOver (script_seen script) opened.0 opened.1
         (outside (F.seen shelf.old) (K.seen out.old) (⟦<Ends as EndsSeen>⟧.all ends.old))
         (outside (F.seen shelf.new) (K.seen out.new) (⟦<Ends as EndsSeen>⟧.all ends.new)) result }
 {
+    let (file, reader) = opened;
     let mut source = ShelfSource { shelf, file };
-    run_script(rt, alloc, script, reader, &mut source, out, ends, gate)
+    let Means { rt, alloc, gate } = means;
+    run_script(*rt, *alloc, script, reader, &mut source, out, ends, *gate)
 }
 
 /// Does `run SCRIPT` or `run SCRIPT PACKETS`, and answers the status, which has its cause.
 pub fn run_command<R: Threads + Sync, F: Shelf, K: Sink, G: Gate>(
-    rt: &R,
-    alloc: Global,
-    name: &Text,
-    packets: &Option<Text>,
+    means: &Means<R, G>,
+    names: &RunNames<'_, Option<Text>>,
     shelf: &mut F,
     out: &mut K,
     natives: Natives,
     ends: &mut Ends,
-    gate: &G,
 ) -> u8
     requires sincere { ⟦<Natives as Sincere>⟧.sincere natives }
     ensures { IsRunStatus (natives_seen natives)
         (outside (F.seen shelf.old) (K.seen out.old) (⟦<Ends as EndsSeen>⟧.all ends.old))
         (outside (F.seen shelf.new) (K.seen out.new) (⟦<Ends as EndsSeen>⟧.all ends.new))
-        name.now packets.now result }
+        names.now.script.now names.now.packets.now result }
 {
-    let script = match script_of(alloc, shelf, name, natives) {
+    let script = match script_of(means.alloc, shelf, names.script, natives) {
         Ok(script) => script,
         Err(end) => return stop(out, end),
     };
-    let (file, reader) = match capture_of(alloc, shelf, packets) {
+    let opened = match capture_of(means.alloc, shelf, names.packets) {
         Ok(opened) => opened,
         Err(end) => return stop(out, end),
     };
-    let ended = run_over(rt, alloc, script, file, reader, shelf, out, ends, gate);
+    let ended = run_over(means, script, opened, shelf, out, ends);
     stop(out, end_of(ended))
 }
