@@ -151,17 +151,13 @@ fn run_form(alloc: Global, names: &[&str]) -> Result<Option<Asked>, NoMemory>
     ensures none { IfOk result (λ form. IfNone form
         ((asked : Asked) → IsSpelled (codes "run" ∷ map (λ text. text.now) names.now) asked → ⊥)) }
 {
-    match names.len() {
-        1 => Ok(Some(Asked::Run {
-            script: Text::from_bytes(alloc, names[0].as_bytes())?,
-            packets: None,
-        })),
-        2 => Ok(Some(Asked::Run {
-            script: Text::from_bytes(alloc, names[0].as_bytes())?,
-            packets: Some(Text::from_bytes(alloc, names[1].as_bytes())?),
-        })),
-        _ => Ok(None),
-    }
+    let packets = match names.len() {
+        1 => None,
+        2 => Some(Text::from_bytes(alloc, names[1].as_bytes())?),
+        _ => return Ok(None),
+    };
+    let script = Text::from_bytes(alloc, names[0].as_bytes())?;
+    Ok(Some(Asked::Run { script, packets }))
 }
 
 // The words after `gen`: one, which is a number as scripts have them.
@@ -187,19 +183,18 @@ fn check_form(alloc: Global, names: &[&str]) -> Result<Option<Asked>, NoMemory>
     ensures none { IfOk result (λ form. IfNone form
         ((asked : Asked) → IsSpelled (codes "check" ∷ map (λ text. text.now) names.now) asked → ⊥)) }
 {
-    match names.len() {
-        2 => Ok(Some(Asked::Check {
-            script: Text::from_bytes(alloc, names[0].as_bytes())?,
-            report: Text::from_bytes(alloc, names[1].as_bytes())?,
-            packets: None,
-        })),
-        3 => Ok(Some(Asked::Check {
-            script: Text::from_bytes(alloc, names[0].as_bytes())?,
-            report: Text::from_bytes(alloc, names[1].as_bytes())?,
-            packets: Some(Text::from_bytes(alloc, names[2].as_bytes())?),
-        })),
-        _ => Ok(None),
-    }
+    let packets = match names.len() {
+        2 => None,
+        3 => Some(Text::from_bytes(alloc, names[2].as_bytes())?),
+        _ => return Ok(None),
+    };
+    let script = Text::from_bytes(alloc, names[0].as_bytes())?;
+    let report = Text::from_bytes(alloc, names[1].as_bytes())?;
+    Ok(Some(Asked::Check {
+        script,
+        report,
+        packets,
+    }))
 }
 
 // The words after `join`.
