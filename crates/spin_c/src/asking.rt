@@ -1,6 +1,6 @@
 //! Asking something of a handle.
 
-ghost use Rattle.std.specs.Prelude.{◌≡◌, ◌<◌, ◌≤◌, ◌⊎◌, IfOk, map};
+ghost use Rattle.std.specs.Prelude.{◌≡◌, ◌<◌, ◌≤◌, ◌⊎◌, map};
 ghost use Rattle.spin_word.specs.declared.command.TheConstants.{MAX_LANES};
 ghost use Rattle.spin_values.specs.declared.values.Value.TheVariants as value;
 ghost use Rattle.spin_c.specs.declared.ask.Ask.TheVariants as asked;
@@ -15,21 +15,10 @@ use crate::handle::SpinLane;
 use crate::row::SpinRow;
 use crate::step::SpinStep;
 use crate::told::{SpinAnswer, answer_of, code_of, count_of, row_of, step_of};
-use spin_values::{Args, NoMemory, Octets, Value};
+use spin_values::{NoMemory, Octets};
 use spin_word::MAX_LANES;
 use std::alloc::Global;
 use std::mem;
-
-// These words as arguments.
-pub(crate) fn args_of(alloc: Global, words: &[u64]) -> Result<Args, NoMemory>
-    ensures { IfOk result (λ args. args ≡ map value.Word words.now) }
-{
-    let mut args = Args::new(alloc);
-    for word in words {
-        args.push(Value::Word(*word))?;
-    }
-    Ok(args)
-}
 
 // Does what is asked on what the handle holds.
 pub(crate) fn call_on(alloc: Global, lane: &mut SpinLane, ask: Ask) -> Outcome
@@ -55,6 +44,31 @@ pub(crate) fn ask_of(alloc: Global, lane: &mut SpinLane, ask: Ask, answer: &mut 
     ensures { TellsOf lane.old.kept ask lane.new.kept result answer.new }
 {
     let outcome = call_on(alloc, lane, ask);
+    tell(&outcome, answer)
+}
+
+// Raises an event with words on what the handle holds.
+fn words_on(alloc: Global, lane: &mut SpinLane, event: u8, words: &[u64]) -> Outcome
+    ensures { Turns no_natives lane.old.kept (asked.Raise event (map value.Word words.now)) lane.new.kept result }
+{
+    let (after, outcome) = mem::replace(lane, SpinLane::closed(alloc)).raise_words(
+        alloc, event, words,
+    );
+    *lane = after;
+    outcome
+}
+
+// Raises an event with words, and tells what it comes to.
+pub(crate) fn ask_words(
+    alloc: Global,
+    lane: &mut SpinLane,
+    event: u8,
+    words: &[u64],
+    answer: &mut SpinAnswer,
+) -> u32
+    ensures { TellsOf lane.old.kept (asked.Raise event (map value.Word words.now)) lane.new.kept result answer.new }
+{
+    let outcome = words_on(alloc, lane, event, words);
     tell(&outcome, answer)
 }
 

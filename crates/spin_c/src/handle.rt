@@ -1,12 +1,14 @@
 //! What C holds: a pointer that owns a lane, or null.
 
-ghost use Rattle.std.specs.Prelude.{◌≡◌, None, Option};
+ghost use Rattle.std.specs.Prelude.{◌≡◌, None, Option, map};
+ghost use Rattle.spin_values.specs.declared.values.Value.TheVariants as value;
 ghost use Rattle.spin_c.specs.Beginnings.{Begins};
 ghost use Rattle.spin_c.specs.Lanes.{HeldAt, kept_coded, handle_owns};
 ghost use Rattle.spin_c.specs.Shares.{Shares};
 ghost use Rattle.spin_c.specs.StepLists.{ReadsSteps};
 ghost use Rattle.spin_c.specs.Turns.{Turns};
 ghost use Rattle.spin_c.specs.Verdicts.{no_natives};
+ghost use Rattle.spin_c.specs.declared.ask.Ask.TheVariants as asked;
 
 use crate::ask::{Call, Outcome, Pick};
 use crate::beginning::begin_maybe;
@@ -17,7 +19,7 @@ use crate::moves::{Begin, Upshot};
 use crate::raiser::SpinRaising;
 use crate::raising::Raising;
 use crate::step::SpinStep;
-use crate::turn::{steps_maybe, turn_maybe};
+use crate::turn::{steps_maybe, turn_maybe, words_maybe};
 use spin_objects::Natives;
 use std::alloc::Global;
 use std::marker::Model;
@@ -88,6 +90,30 @@ impl SpinLane {
             its,
             from,
             steps,
+        );
+        let Maybe { at, alloc } = maybe;
+        (
+            SpinLane {
+                at: at as *mut u8,
+                alloc,
+            },
+            outcome,
+        )
+    }
+
+    // Raises an event with words on what the handle holds.
+    pub(crate) fn raise_words(self, its: Global, event: u8, words: &[u64]) -> (SpinLane, Outcome)
+        ensures { Turns no_natives self.kept (asked.Raise event (map value.Word words.now)) result.0.kept result.1 }
+    {
+        let SpinLane { at, alloc } = self;
+        let (maybe, outcome) = words_maybe(
+            Maybe {
+                at: at as *mut Held,
+                alloc,
+            },
+            its,
+            event,
+            words,
         );
         let Maybe { at, alloc } = maybe;
         (

@@ -1,6 +1,8 @@
 //! What the last raise or command of a handle left, in room that the next reply takes over.
 
-ghost use Rattle.std.specs.Prelude.{◌≡◌, None, Option, Some, IfOk, OnErr};
+ghost use Rattle.std.specs.Prelude.{◌≡◌, None, Option, Some, IfOk, OnErr, map};
+ghost use Rattle.spin_values.specs.declared.values.Value.TheVariants as value;
+ghost use Rattle.spin_word.specs.declared.work.Deed.TheVariants as deed;
 ghost use Rattle.spin_log.specs.Pens.{IsSamePen};
 ghost use Rattle.spin_table.specs.SetupOf.{data_of};
 ghost use Rattle.spin_proto.specs.declared.reply.Reply.{Reply as ReplyValue};
@@ -23,7 +25,7 @@ use spin_objects::Catalogue;
 use spin_proto::{JobCall, Reply, ReplyBuffer, Step};
 use spin_seat::{Hub, Seat};
 use spin_table::Version;
-use spin_values::{NoMemory, Numbers};
+use spin_values::{Args, NoMemory, Numbers, Value};
 use spin_word::Deed;
 use std::alloc::Global;
 use std::marker::Model;
@@ -44,13 +46,15 @@ pub(crate) enum Last {
 }
 
 /// What the last raise or command left: the reply to a raise, where it leaves jobs the version on which they are done, and
-/// the reply to the last of them that was done; or the cycle for which a command was refused. Contracts see that.
+/// the reply to the last of them that was done; or the cycle for which a command was refused. Contracts see that, and
+/// nothing of the room for arguments.
 #[derive(Drop)]
 pub struct Kept {
     pub(crate) buffer: ReplyBuffer,
     pub(crate) last: Last,
     pub(crate) pinned: Option<Arc<Version>>,
     pub(crate) job: Option<Reply>,
+    pub(crate) args: Args,
 }
 
 impl Model for Kept {
@@ -95,6 +99,27 @@ fn pinned(seat: &Seat, calls: &[JobCall]) -> Result<Option<Arc<Version>>, NoMemo
     Ok(Some(seat.version()?))
 }
 
+// These words as arguments, in the room of a list.
+fn args_in(room: Args, words: &[u64]) -> Result<Args, NoMemory>
+    ensures { IfOk result (λ args. args ≡ map value.Word words.now) }
+{
+    let mut args = room;
+    args.clear();
+    args.reserve(words.len())?;
+    for word in words {
+        args.push(Value::Word(*word))?;
+    }
+    Ok(args)
+}
+
+// The arguments of a deed.
+fn args_of(deed: Deed) -> Args {
+    match deed {
+        Deed::Raise { args, .. } => args,
+        Deed::Later { args, .. } => args,
+    }
+}
+
 impl Kept {
     // Nothing. It takes no memory until a reply is kept.
     pub(crate) fn new(alloc: Global) -> Kept
@@ -105,6 +130,7 @@ impl Kept {
             last: Last::None,
             pinned: None,
             job: None,
+            args: Args::new(alloc),
         }
     }
 
@@ -198,5 +224,47 @@ impl Kept {
         self.last = last;
         self.job = None;
         Ok((place, told))
+    }
+
+    // Raises an event with these words on the seat, as `raise` does, in room that the last such raise left for them.
+    pub(crate) fn raise_words(
+        &mut self,
+        alloc: Global,
+        hub: &Hub,
+        seat: &mut Seat,
+        event: u8,
+        words: &[u64],
+    ) -> Result<(u16, Told), NoMemory>
+        requires sincere { ⟦<Catalogue as Sincere>⟧.sincere hub.now.setup.catalogue }
+        requires log { seat.old.pen.log ≡ hub.now.log.id }
+        requires seat { IsSeat (data_of hub.now.setup) seat.old }
+        ensures seat { IsSeat (data_of hub.now.setup) seat.new }
+        ensures first { seat.new.base ≡ seat.old.base }
+        ensures same { IsSamePen seat.old.pen seat.new.pen }
+        ensures well { IsWellLeft (data_of hub.now.setup) self.new }
+        ensures answer { let d = data_of hub.now.setup in
+            let pen = seat.old.pen in
+            IfOk result (λ told.
+            (reply : ReplyValue)
+            × (self.new ≡ Some (replied record {
+              reply = reply;
+              pinned = pinned_for (calls_left reply) (version_of seat.new);
+              job = None;
+            }))
+            × (told.1 ≡ told_of reply)
+            × IsReplayFrom d seat.old.base seat.new.pen.front seat.new.state
+            × GivesFrom d seat.old.base pen
+            (reply_answer pen.lane (deed.Raise event (map value.Word words.now)) told.0 reply) seat.new.pen) }
+        ensures err { OnErr result (AddsAtMostAPin seat.old.pen seat.new.pen × (self.new ≡ None)) }
+    {
+        let room = mem::replace(&mut self.args, Args::new(alloc));
+        let Ok(args) = args_in(room, words) else {
+            self.forget();
+            return Err(NoMemory);
+        };
+        let deed = Deed::Raise { event, args };
+        let told = self.raise(alloc, hub, seat, &deed);
+        self.args = args_of(deed);
+        told
     }
 }

@@ -70,8 +70,8 @@ mod uttered;
 mod verdict;
 mod whole_run;
 
-use ask::{Ask, Outcome};
-use asking::{args_of, ask_bytes, ask_of, ask_row, ask_step, ask_steps, open_of, share_of, tell};
+use ask::Ask;
+use asking::{ask_bytes, ask_of, ask_row, ask_step, ask_steps, ask_words, open_of, share_of, tell};
 use filling::tell_whole;
 pub use gifts::SpinGift;
 pub use given::SpinArg;
@@ -86,7 +86,6 @@ pub use row::SpinRow;
 use row::row_from;
 use running::run_whole;
 use spin_objects::Natives;
-use spin_values::NoMemory;
 use std::alloc::Global;
 pub use step::SpinStep;
 use texts::{cause_text, fault_text, tell_text};
@@ -287,10 +286,7 @@ pub extern "C" fn spin_raise_words(
 ) -> u32
     ensures { TellsOf lane.old.kept (asked.Raise event (map value.Word words.now)) lane.new.kept result answer.new }
 {
-    match args_of(alloc, words) {
-        Ok(args) => ask_of(alloc, lane, Ask::Raise { event, args }, answer),
-        Err(NoMemory) => tell(&Outcome::NoMemory, answer),
-    }
+    ask_words(alloc, lane, event, words, answer)
 }
 
 /// Raises an event with these arguments, each a word or a range of the bytes, and tells the answer as

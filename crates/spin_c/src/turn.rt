@@ -1,14 +1,17 @@
 //! The calls of a handle.
 
-ghost use Rattle.std.specs.Prelude.{◌≡◌, ◌≢◌, ◌<◌, ◌≤◌, IfOk, OnOk, IfSome, None, Some, Option};
+ghost use Rattle.std.specs.Prelude.{◌≡◌, ◌≢◌, ◌<◌, ◌≤◌, IfOk, OnOk, IfSome, None, Some, Option, map};
 ghost use Rattle.std.specs.Arc.{arc_value};
+ghost use Rattle.spin_values.specs.declared.values.Value.TheVariants as value;
 ghost use Rattle.spin_word.specs.declared.command.TheConstants.{MAX_LANES};
+ghost use Rattle.spin_word.specs.declared.work.Deed.TheVariants as deed;
 ghost use Rattle.spin_script.specs.States.{natives_seen};
 ghost use Rattle.spin_c.specs.declared.ask.Ask.TheVariants as asked;
 ghost use Rattle.spin_c.specs.declared.ask.Outcome.TheVariants as outcome;
 ghost use Rattle.spin_c.specs.Waiting.{IfLane, IsWell, IsWellLane, IsStarted};
 ghost use Rattle.spin_c.specs.StepLists.{ReadsSteps, TellsSteps};
 ghost use Rattle.spin_c.specs.Turns.{Opens, OpensTo, Raises, Commands, Works, Does, DoesHeld, Returns, Turns, ended_told};
+ghost use Rattle.spin_c.specs.Verdicts.{no_natives};
 
 use crate::ask::{Ask, Call, Outcome};
 use crate::cycles::in_cycle;
@@ -98,6 +101,22 @@ fn raise(alloc: Global, lane: &mut Lane, deed: &Deed) -> Outcome
     match lane
         .reply
         .raise(alloc, &lane.party.hub, &mut lane.away.seat, deed)
+    {
+        Ok((place, told)) => Outcome::Raised { place, told },
+        Err(NoMemory) => Outcome::NoMemory,
+    }
+}
+
+// Raises an event with words, and keeps the reply.
+fn raise_words(alloc: Global, lane: &mut Lane, event: u8, words: &[u64]) -> Outcome
+    requires sincere { ⟦<Catalogue as Sincere>⟧.sincere (arc_value lane.old.party).hub.setup.catalogue }
+    requires well { IsWellLane lane.old }
+    ensures well { IsWellLane lane.new }
+    ensures raises { Raises lane.old (deed.Raise event (map value.Word words.now)) lane.new result }
+{
+    match lane
+        .reply
+        .raise_words(alloc, &lane.party.hub, &mut lane.away.seat, event, words)
     {
         Ok((place, told)) => Outcome::Raised { place, told },
         Err(NoMemory) => Outcome::NoMemory,
@@ -235,6 +254,41 @@ pub(crate) fn steps_maybe(
     let held = loose.into_box();
     let told = steps_in(&held, from, steps);
     (Maybe::of(Loose::of(held)), told)
+}
+
+// Raises an event with words on what a handle holds in its place.
+fn words_in(alloc: Global, held: &mut Held, event: u8, words: &[u64]) -> Outcome
+    requires sincere { IfLane held.old
+        (λ l. ⟦<Catalogue as Sincere>⟧.sincere (arc_value l.party).hub.setup.catalogue) }
+    requires well { IfLane held.old (λ l. IsWellLane l) }
+    ensures well { IfLane held.new (λ l. IsWellLane l) }
+    ensures does { DoesHeld held.old (asked.Raise event (map value.Word words.now)) held.new result }
+{
+    match held {
+        Held::Lane(lane) => raise_words(alloc, lane, event, words),
+        Held::Ended(_) => Outcome::Ended,
+    }
+}
+
+// Raises an event with words on what a handle holds.
+pub(crate) fn words_maybe(
+    maybe: Maybe<Held>,
+    alloc: Global,
+    event: u8,
+    words: &[u64],
+) -> (Maybe<Held>, Outcome)
+    requires sincere { IfSome maybe.value (λ h. IfLane h
+        (λ l. ⟦<Catalogue as Sincere>⟧.sincere (arc_value l.party).hub.setup.catalogue)) }
+    requires well { IsWell maybe.value }
+    ensures well { IsWell result.0.value }
+    ensures raises { Turns no_natives maybe.value (asked.Raise event (map value.Word words.now)) result.0.value result.1 }
+{
+    let Some(loose) = maybe.into_loose() else {
+        return (Maybe::none(alloc), Outcome::Closed);
+    };
+    let mut held = loose.into_box();
+    let outcome = words_in(alloc, &mut held, event, words);
+    (Maybe::of(Loose::of(held)), outcome)
 }
 
 // Opens a closed handle.

@@ -1,9 +1,0 @@
-use Rattle.std.proofs.Common.{refl, inr}
-use Rattle.spin_c.specs.declared.ask.Outcome.TheVariants as outcome
-use Rattle.spin_c.proofs.spin_raise_words.Goals as goal
-
-pub returns-in-Ok : goal.returns-in-Ok
-returns-in-Ok c = rw c.in-Ok.ensures at c.ask_of.ensures
-
-pub returns-in-Err : goal.returns-in-Err
-returns-in-Err c = record { told = outcome.NoMemory; called = inr (refl, refl, tt); number_is = c.tell.ensures.number; answer_is = c.tell.ensures.answer }
