@@ -292,6 +292,8 @@ static const struct call {
     {"open", open_hub, SPIN_OK, 1},
     {"seat", seat, SPIN_OK, 1},
     {"install", install_own, SPIN_OK, 1},
+    {"raise without a handler", raise_word, SPIN_OK, 1},
+    {"raise without a handler again", raise_word, SPIN_OK, 0},
     {"install for later", install_later, SPIN_OK, 1},
     {"install with a guard", install_guarded, SPIN_OK, 1},
     {"install behind", install_behind, SPIN_OK, 1},

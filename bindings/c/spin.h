@@ -351,7 +351,7 @@ static inline uint32_t spin_lane_gather(struct spin_lane *lane, uint64_t *out) {
     return error;
 }
 
-/* Raises an event with words as its arguments. It asks for memory. */
+/* Raises an event with words as its arguments. It asks for memory where the handle's raises haven't left enough. */
 static inline uint32_t spin_lane_raise(struct spin_lane *lane, uint64_t event, const uint64_t *words, size_t count,
                                        struct spin_answer *answer) {
     static const uint64_t none[1] = {0};

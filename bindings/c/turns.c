@@ -1,6 +1,10 @@
 /* As turns.h says. */
 #include "turns.h"
 
+uint32_t codzvregi_raise_words(struct codzvregi_words *raise) {
+    return spin_raise_words(raise->lane, raise->event, raise->words, raise->count, &raise->answer);
+}
+
 /* Begins a raise with these arguments, and tells what comes next. */
 static uint32_t begin(struct codzvregi_turn *turn, const uint8_t *bytes, size_t length, const struct spin_arg *args) {
     const uint8_t event = (uint8_t)turn->event;

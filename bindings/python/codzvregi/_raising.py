@@ -14,8 +14,8 @@ RUN, RESULT, SEND, UP, BACK, DROPPED, JOB, END, SPENT = range(1, 10)
 # What a handler gives.
 GIVES_RESULT, GIVES_WORD, GIVES_BYTES, GIVES_SEND = range(4)
 
-# The parts of bindings/c/turns.h's struct: what begins a raise of so many words; bytes, and so many arguments; what
-# gifts have, a gift, and what is told, an answer and a step; and where each of the later ones lies.
+# The parts of bindings/c/turns.h's struct for an open raise: what begins a raise of so many words; bytes, and so many
+# arguments; what gifts have, a gift, and what is told, an answer and a step; and where each of the later ones lies.
 _WORDS = [Struct(f"={3 + count}Q").pack_into for count in range(9)]
 _RAISED = [Struct(f"={2 + 3 * count}Q").pack_into for count in range(9)]
 _GIFTS, _GIFT, _WORD, _TOLD = Struct("=3Q"), Struct("=4Q"), Struct("=Q"), Struct("=2I16x4IQ8x")

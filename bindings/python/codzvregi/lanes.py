@@ -35,8 +35,12 @@ _FAULTS: dict[int, tuple[type[faults.Fault], str]] = {
 }
 
 
-# Put so many words where the library reads them; NoRoom says that not all are words.
-_WORDS = [Struct(f"={count}Q").pack_into for count in range(9)]
+# The parts of bindings/c/turns.h's struct for a raise: where the handle lies, the event with its words, of which NoRoom
+# says that not all have room, and what is told.
+_PLACE, _ANSWER = Struct("=Q"), Struct("=2I2Q")
+_WORDS = [Struct(f"=B7x{1 + count}Q").pack_into for count in range(9)]
+_AT_EVENT, _AT_ANSWER = 8, 11 * 8
+_answer_in = _ANSWER.unpack_from
 
 
 # How many steps are asked for at once.
@@ -70,10 +74,15 @@ def _want_room(event: int, args: Sequence[int | bytes]) -> None:
         raise ValueError("an event is a number below 256, and a word one below 2**64")
 
 
+def _reply(place: int, number: int, value: int, steps: int) -> Reply:
+    """The reply of these numbers."""
+    kind = KINDS[number]
+    return make_tuple(Reply, (place, kind, value_of(kind, value), steps))
+
+
 def _reply_of(told: SpinAnswer) -> Reply:
     """The reply that is told."""
-    kind = KINDS[told.kind]
-    return make_tuple(Reply, (told.place, kind, value_of(kind, told.value), told.steps))
+    return _reply(told.place, told.kind, told.value, told.steps)
 
 
 def step_of(told: SpinStep | Told, data: bytes) -> Step:
@@ -97,9 +106,11 @@ class Lane:
     def __init__(self, calls: ctypes.CDLL, number: int = 0) -> None:
         self._calls, self._lane, self.number, self._rows = calls, SpinLane(None), number, 0
         self._at = ctypes.byref(self._lane)
-        # what a raise of words is handed and tells, and where both and the handle lie, which is handed in for less
-        self._words, self._told = (ctypes.c_uint64 * 8)(), SpinAnswer()
-        self._places = tuple(map(ctypes.addressof, (self._lane, self._words, self._told)))
+        # what a raise of words is handed and tells, by one place, which is handed in for less and needn't be tested
+        self._raise_words = calls["codzvregi_raise_words"]
+        self._raised = ctypes.create_string_buffer(_AT_ANSWER + _ANSWER.size)
+        self._asked = ctypes.byref(self._raised)
+        _PLACE.pack_into(self._raised, 0, ctypes.addressof(self._lane))
 
     @classmethod
     def open(cls, calls: ctypes.CDLL, script: bytes, lanes: int) -> "Lane":
@@ -157,16 +168,14 @@ class Lane:
         """Raises the event with these arguments, words from 0 to 2**64 - 1 and bytes."""
         count = len(args)
         try:
-            if not 0 <= event < 2**8:
-                raise NoRoom
-            _WORDS[count](self._words, 0, *args)
+            _WORDS[count](self._raised, _AT_EVENT, event, count, *args)
         except (NoRoom, IndexError):  # not all are words, or they are many
             return self._raise_any(event, args)
-        lane, words, told = self._places
-        number = self._calls.spin_raise_words(lane, event, words, count, told)
+        number = self._raise_words(self._asked)
+        told = _answer_in(self._raised, _AT_ANSWER)
         if number:
-            raise self._fault(number, self._told)
-        return _reply_of(self._told)
+            raise self._fault(number, SpinAnswer(*told))
+        return _reply(*told)
 
     def _raise_any(self, event: int, args: Sequence[int | bytes]) -> Reply:
         """Raises the event with these arguments."""

@@ -275,7 +275,7 @@ pub extern "C" fn spin_gather(alloc: Global, lane: &mut SpinLane, answer: &mut S
 
 /// Raises an event with these words as its arguments, and tells the answer: its place, the number of its kind, its
 /// value and the number of its steps. It answers 0 where the raise has a reply, 1 where there was no memory, and 4
-/// where the handle is closed.
+/// where the handle is closed. The words lie in room that the handle's last such raise left, where that is enough.
 #[unsafe(no_mangle)]
 pub extern "C" fn spin_raise_words(
     alloc: Global,
