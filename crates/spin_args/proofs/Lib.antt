@@ -1,2 +1,4 @@
 pub mod CommandForms
+pub mod CommandShape
+pub mod PlainWalk
 pub mod ArgumentParsing

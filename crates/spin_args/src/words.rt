@@ -1,14 +1,15 @@
 //! The words of the command line.
 
-ghost use Rattle.std.specs.Prelude.{◌≡◌, ◌<◌, ◌≤◌, Some, ◌∷◌, IfOk, IfSome, IfNone, map, length, codes, option_map};
+ghost use Rattle.std.specs.Prelude.{◌≡◌, [], Some, IfOk, IfSome, IfNone, map, codes, is_some, true, false};
 ghost use Rattle.std.specs.List.{All};
-ghost use Rattle.clap.specs.Words.{app_of, raw_values, matched_of, found_of};
-ghost use Rattle.spin_args.specs.Inner.Parsing.{app, spelling, BeginsNone};
-ghost use Rattle.spin_args.specs.Words.{IsPlain, IsAsked, IsSpelled};
+ghost use Rattle.clap.specs.Words.{app_of, rule_of, rows_of, found_of, first_of, fault_of};
+ghost use Rattle.clap.specs.Words.{subcommand_of, subcommand_rows_of};
+ghost use Rattle.spin_args.specs.Inner.Parsing.{app, needed, asked_by, HasRequired};
+ghost use Rattle.spin_args.specs.Words.{IsPlain, IsAsked};
 
 use clap::error::ErrorKind;
 use clap::{Arg, ArgMatches, Command};
-use spin_grammar::{look_up, number_of};
+use spin_grammar::number_of;
 use spin_values::{NoMemory, Text};
 use std::alloc::Global;
 
@@ -79,28 +80,51 @@ fn plain_words(alloc: Global, words: &[Text]) -> Result<Option<Vec<&str>>, NoMem
     Ok(Some(plain))
 }
 
-// The command, which has one to four words and no option.
+// A positional argument that has to be given.
+fn required<'a>(alloc: Global, id: &'a str) -> Arg<'a>
+    ensures { (rule_of result ≡ needed id.entry.now) × (result.global ≡ false) }
+{
+    Arg::new(alloc, id).required(true)
+}
+
+// The command, with a subcommand for each form.
 fn command<'a>(alloc: Global) -> Result<Command<'a>, NoMemory>
     ensures { IfOk result (λ command. app_of command ≡ app) }
 {
-    let words = Arg::new(alloc, "words")
-        .required(true)
-        .num_args(1..=4)
-        .trailing_var_arg(true);
-    let command = Command::new(alloc, "spin")
+    let run = Command::new(alloc, "run")
+        .arg(required(alloc, "script"))?
+        .arg(Arg::new(alloc, "packets"))?;
+    let generate = Command::new(alloc, "gen").arg(required(alloc, "number"))?;
+    let check = Command::new(alloc, "check")
+        .arg(required(alloc, "script"))?
+        .arg(required(alloc, "report"))?
+        .arg(Arg::new(alloc, "packets"))?;
+    let join = Command::new(alloc, "join")
+        .arg(required(alloc, "script"))?
+        .arg(required(alloc, "packets"))?;
+    let vm = Command::new(alloc, "vm")
+        .arg(required(alloc, "script"))?
+        .arg(required(alloc, "trace"))?;
+    let spin = Command::new(alloc, "spin")
         .no_binary_name(true)
-        .disable_help_flag(true);
-    Ok(command.arg(words)?)
+        .disable_help_flag(true)
+        .disable_help_subcommand(true)
+        .subcommand_required(true)
+        .subcommand(run)?
+        .subcommand(generate)?
+        .subcommand(check)?
+        .subcommand(join)?
+        .subcommand(vm)?;
+    Ok(spin)
 }
 
-// The matches of one to four words, none of which is an option.
+// The matches of the words, or none exactly where they don't fit the command.
 fn parse<'a>(alloc: Global, words: &'a [&'a str]) -> Result<Option<ArgMatches<'a>>, NoMemory>
-    requires plain { All IsPlain (map (λ text. text.now) words.now) }
-    ensures found { IfOk result (λ parsed. IfSome parsed
-        (λ matches. option_map raw_values (matched_of (found_of matches) (codes "words"))
-        ≡ Some (map (λ text. text.now) words.now))) }
+    ensures found { IfOk result (λ parsed. IfSome parsed (λ matches.
+        (fault_of app (map (λ text. text.now) words.now) ≡ [])
+        × (subcommand_rows_of matches ≡ subcommand_of app (map (λ text. text.now) words.now)))) }
     ensures none { IfOk result (λ parsed. IfNone parsed
-        (0 < length words.now → length words.now ≤ 4 → ⊥)) }
+        (fault_of app (map (λ text. text.now) words.now) ≡ [] → ⊥)) }
 {
     let command = command(alloc)?;
     match command.try_get_matches_from(words) {
@@ -112,141 +136,57 @@ fn parse<'a>(alloc: Global, words: &'a [&'a str]) -> Result<Option<ArgMatches<'a
     }
 }
 
-/// The first word of a command.
-#[derive(Clone, Copy)]
-pub enum Name {
-    /// `run`.
-    Run,
-    /// `gen`.
-    Gen,
-    /// `check`.
-    Check,
-    /// `join`.
-    Join,
-    /// `vm`.
-    Vm,
+// The value of an argument that was given.
+#[tactic(auto, using(crate::proofs::CommandShape::first_is))]
+fn given(alloc: Global, matches: &ArgMatches<'_>, id: &str) -> Result<Text, NoMemory>
+    requires { is_some (first_of id.now (rows_of (found_of matches.now))) ≡ true }
+    ensures { IfOk result (λ value. first_of id.now (rows_of (found_of matches.now)) ≡ Some value) }
+{
+    Text::from_bytes(alloc, matches.get_str(id).unwrap().as_bytes())
 }
 
-// The words that commands begin with.
-const COMMANDS: [(&[u8], Name); 5] = [
-    (b"run", Name::Run),
-    (b"gen", Name::Gen),
-    (b"check", Name::Check),
-    (b"join", Name::Join),
-    (b"vm", Name::Vm),
-];
-
-// The command that begins with this word.
-fn name_of(word: &str) -> Option<Name>
-    ensures found { IfSome result (λ name. word.now ≡ spelling name) }
-    ensures none { IfNone result (BeginsNone word.now) }
+// The name of the capture, if one was given.
+#[tactic(auto, using(crate::proofs::CommandShape::first_is))]
+fn packets_of(alloc: Global, matches: &ArgMatches<'_>) -> Result<Option<Text>, NoMemory>
+    ensures { IfOk result (λ packets.
+        packets ≡ first_of (codes "packets") (rows_of (found_of matches.now))) }
 {
-    look_up(word.as_bytes(), COMMANDS.as_slice())
-}
-
-// The words after `run`.
-fn run_form(alloc: Global, names: &[&str]) -> Result<Option<Asked>, NoMemory>
-    ensures found { IfOk result (λ form. IfSome form
-        (λ asked. IsSpelled (codes "run" ∷ map (λ text. text.now) names.now) asked)) }
-    ensures none { IfOk result (λ form. IfNone form
-        ((asked : Asked) → IsSpelled (codes "run" ∷ map (λ text. text.now) names.now) asked → ⊥)) }
-{
-    let packets = match names.len() {
-        1 => None,
-        2 => Some(Text::from_bytes(alloc, names[1].as_bytes())?),
-        _ => return Ok(None),
-    };
-    let script = Text::from_bytes(alloc, names[0].as_bytes())?;
-    Ok(Some(Asked::Run { script, packets }))
-}
-
-// The words after `gen`: one, which is a number as scripts have them.
-fn gen_form(names: &[&str]) -> Option<Asked>
-    ensures found { IfSome result
-        (λ asked. IsSpelled (codes "gen" ∷ map (λ text. text.now) names.now) asked) }
-    ensures none { IfNone result
-        ((asked : Asked) → IsSpelled (codes "gen" ∷ map (λ text. text.now) names.now) asked → ⊥) }
-{
-    if names.len() != 1 {
-        return None;
-    }
-    match number_of(names[0].as_bytes()) {
-        Some(number) => Some(Asked::Gen { number }),
-        None => None,
-    }
-}
-
-// The words after `check`.
-fn check_form(alloc: Global, names: &[&str]) -> Result<Option<Asked>, NoMemory>
-    ensures found { IfOk result (λ form. IfSome form
-        (λ asked. IsSpelled (codes "check" ∷ map (λ text. text.now) names.now) asked)) }
-    ensures none { IfOk result (λ form. IfNone form
-        ((asked : Asked) → IsSpelled (codes "check" ∷ map (λ text. text.now) names.now) asked → ⊥)) }
-{
-    let packets = match names.len() {
-        2 => None,
-        3 => Some(Text::from_bytes(alloc, names[2].as_bytes())?),
-        _ => return Ok(None),
-    };
-    let script = Text::from_bytes(alloc, names[0].as_bytes())?;
-    let report = Text::from_bytes(alloc, names[1].as_bytes())?;
-    Ok(Some(Asked::Check {
-        script,
-        report,
-        packets,
-    }))
-}
-
-// The words after `join`.
-fn join_form(alloc: Global, names: &[&str]) -> Result<Option<Asked>, NoMemory>
-    ensures found { IfOk result (λ form. IfSome form
-        (λ asked. IsSpelled (codes "join" ∷ map (λ text. text.now) names.now) asked)) }
-    ensures none { IfOk result (λ form. IfNone form
-        ((asked : Asked) → IsSpelled (codes "join" ∷ map (λ text. text.now) names.now) asked → ⊥)) }
-{
-    match names.len() {
-        2 => Ok(Some(Asked::Join {
-            script: Text::from_bytes(alloc, names[0].as_bytes())?,
-            packets: Text::from_bytes(alloc, names[1].as_bytes())?,
-        })),
-        _ => Ok(None),
-    }
-}
-
-// The words after `vm`.
-fn vm_form(alloc: Global, names: &[&str]) -> Result<Option<Asked>, NoMemory>
-    ensures found { IfOk result (λ form. IfSome form
-        (λ asked. IsSpelled (codes "vm" ∷ map (λ text. text.now) names.now) asked)) }
-    ensures none { IfOk result (λ form. IfNone form
-        ((asked : Asked) → IsSpelled (codes "vm" ∷ map (λ text. text.now) names.now) asked → ⊥)) }
-{
-    match names.len() {
-        2 => Ok(Some(Asked::Vm {
-            script: Text::from_bytes(alloc, names[0].as_bytes())?,
-            trace: Text::from_bytes(alloc, names[1].as_bytes())?,
-        })),
-        _ => Ok(None),
-    }
-}
-
-// The form that the words have.
-fn form_of(alloc: Global, words: &[&str]) -> Result<Option<Asked>, NoMemory>
-    ensures found { IfOk result (λ form. IfSome form
-        (λ asked. IsSpelled (map (λ text. text.now) words.now) asked)) }
-    ensures none { IfOk result (λ form. IfNone form
-        ((asked : Asked) → IsSpelled (map (λ text. text.now) words.now) asked → ⊥)) }
-{
-    if words.is_empty() {
-        return Ok(None);
-    }
-    match name_of(words[0]) {
-        Some(Name::Run) => run_form(alloc, &words[1..]),
-        Some(Name::Gen) => Ok(gen_form(&words[1..])),
-        Some(Name::Check) => check_form(alloc, &words[1..]),
-        Some(Name::Join) => join_form(alloc, &words[1..]),
-        Some(Name::Vm) => vm_form(alloc, &words[1..]),
+    match matches.get_str("packets") {
+        Some(packets) => Ok(Some(Text::from_bytes(alloc, packets.as_bytes())?)),
         None => Ok(None),
     }
+}
+
+// What a subcommand asks for; none where the number of `gen` isn't one.
+fn asked_of(alloc: Global, name: &str, matches: &ArgMatches<'_>) -> Result<Option<Asked>, NoMemory>
+    requires { HasRequired name.now (rows_of (found_of matches.now)) }
+    ensures { IfOk result (λ asked. asked ≡ asked_by name.now (rows_of (found_of matches.now))) }
+{
+    let asked = match name {
+        "run" => Asked::Run {
+            script: given(alloc, matches, "script")?,
+            packets: packets_of(alloc, matches)?,
+        },
+        "gen" => match number_of(given(alloc, matches, "number")?.as_slice()) {
+            Some(number) => Asked::Gen { number },
+            None => return Ok(None),
+        },
+        "check" => Asked::Check {
+            script: given(alloc, matches, "script")?,
+            report: given(alloc, matches, "report")?,
+            packets: packets_of(alloc, matches)?,
+        },
+        "join" => Asked::Join {
+            script: given(alloc, matches, "script")?,
+            packets: given(alloc, matches, "packets")?,
+        },
+        "vm" => Asked::Vm {
+            script: given(alloc, matches, "script")?,
+            trace: given(alloc, matches, "trace")?,
+        },
+        _ => return Ok(None),
+    };
+    Ok(Some(asked))
 }
 
 /// What the words ask for, or none exactly where they have none of the forms.
@@ -261,8 +201,8 @@ pub fn read_words(alloc: Global, words: &[Text]) -> Result<Option<Asked>, NoMemo
     let Some(matches) = parse(alloc, plain.as_slice())? else {
         return Ok(None);
     };
-    match matches.get_strs("words") {
-        Some(words) => form_of(alloc, words),
+    match matches.subcommand() {
+        Some((name, matches)) => asked_of(alloc, name, matches),
         None => Ok(None),
     }
 }

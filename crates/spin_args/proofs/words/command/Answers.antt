@@ -1,28 +1,27 @@
-use Rattle.std.proofs.Common.{◌≡◌, true, ap, ap₂, ◌∙◌, Some, None, Option, IsSomeAnd, max}
-use Rattle.clap.specs.Words.{Rule, app_of, rule_of}
-use Rattle.clap.specs.Simple.{app_of_fields, on_top, with_rule}
-use Rattle.clap.specs.declared.builder.range.ValueRange.{ValueRange}
-use Rattle.spin_args.specs.Inner.Parsing.{argument, bare}
+use Rattle.std.proofs.Common.{◌≡◌, true, ap, ◌∙◌}
+use Rattle.clap.specs.Words.{app_of}
+use Rattle.clap.specs.Simple.{app_of_fields, on_top}
+use Rattle.spin_args.specs.Inner.Parsing.{bare, run, gen, check, join, vm}
+use Rattle.spin_args.proofs.CommandShape.{Reads, adds, joins}
 use Rattle.spin_args.proofs.words.command.Goals as goal
-
-some_is : (o : Option ValueRange) (r : ValueRange) → IsSomeAnd o (λ s. s ≡ r) → o ≡ Some r
-some_is None r is = absurd is
-some_is (Some s) r is = ap Some is
-
-abbrev with_range : Option ValueRange → Rule → Rule
-with_range range a = record a { required = true; range = range; trailing_var_arg = true }
 
 pub returns : goal.returns
 returns c =
-    let range_is : c.num_args.result.num_vals ≡ Some (record { start_inclusive = 1; end_inclusive = 4 }) =
-    some_is _ _ c.num_args.ensures.1 ∙ ap₂ (λ a b. Some (record { start_inclusive = a; end_inclusive = max b a })) c.new-2.ensures.start c.new-2.ensures.end in
-    let argument_is : rule_of c.trailing_var_arg-words.result ≡ argument =
-    ap rule_of c.trailing_var_arg-words.ensures
-    ∙ ap (λ a. rule_of (record a { trailing_var_arg = true })) c.num_args.ensures.0
-    ∙ ap (λ a. rule_of (record a { num_vals = c.num_args.result.num_vals; trailing_var_arg = true })) c.required.ensures
-    ∙ ap₂ with_range range_is c.new.ensures.rule in
-    let bare_is : app_of c.disable_help_flag-command.result ≡ bare =
-    ap app_of_fields c.disable_help_flag-command.ensures
-    ∙ ap (on_top (λ s. record s { disable_help_flag = true })) (ap app_of_fields c.no_binary_name.ensures ∙ ap (on_top (λ s. record s { no_binary_name = true })) c.new-3.ensures.app) in
-    let local = ap (λ a. a.global) c.trailing_var_arg-words.ensures ∙ ap (λ a. a.global) c.num_args.ensures.0 ∙ ap (λ a. a.global) c.required.ensures ∙ c.new.ensures.optional.1 in
-    c.in_ok-arg.ensures.shape local ∙ ap₂ with_rule bare_is argument_is
+    let run_is : Reads c.in_ok-run.run' run =
+    adds _ _ _ _ _ c.in_ok-run.ensures (adds _ _ _ _ _ c.in_ok-arg.ensures (c.new.ensures.app, c.new.ensures.local) c.required.ensures) (c.new-2.ensures.rule, c.new-2.ensures.optional.1) in
+    let generate_is : Reads c.in_ok-generate.generate gen =
+    adds _ _ _ _ _ c.in_ok-generate.ensures (c.new-3.ensures.app, c.new-3.ensures.local) c.required-2.ensures in
+    let check_is : Reads c.in_ok-check.check check =
+    adds _ _ _ _ _ c.in_ok-check.ensures (adds _ _ _ _ _ c.in_ok-arg-3.ensures (adds _ _ _ _ _ c.in_ok-arg-2.ensures (c.new-4.ensures.app, c.new-4.ensures.local) c.required-3.ensures) c.required-4.ensures) (c.new-5.ensures.rule, c.new-5.ensures.optional.1) in
+    let join_is : Reads c.in_ok-join.join join =
+    adds _ _ _ _ _ c.in_ok-join.ensures (adds _ _ _ _ _ c.in_ok-arg-4.ensures (c.new-6.ensures.app, c.new-6.ensures.local) c.required-5.ensures) c.required-6.ensures in
+    let vm_is : Reads c.in_ok-vm.vm vm =
+    adds _ _ _ _ _ c.in_ok-vm.ensures (adds _ _ _ _ _ c.in_ok-arg-5.ensures (c.new-7.ensures.app, c.new-7.ensures.local) c.required-7.ensures) c.required-8.ensures in
+    let bare_is : app_of c.subcommand_required.result ≡ bare =
+    ap app_of_fields c.subcommand_required.ensures
+    ∙ ap (on_top (λ s. record s { subcommand_required = true })) (ap app_of_fields c.disable_help_subcommand.ensures
+    ∙ ap (on_top (λ s. record s { disable_help_subcommand = true })) (ap app_of_fields c.disable_help_flag.ensures
+    ∙ ap (on_top (λ s. record s { disable_help_flag = true })) (ap app_of_fields c.no_binary_name.ensures
+    ∙ ap (on_top (λ s. record s { no_binary_name = true })) c.new-8.ensures.app))) in
+    joins _ _ _ _ _ c.in_ok-spin.ensures (joins _ _ _ _ _ c.in_ok-subcommand-4.ensures (joins _ _ _ _ _ c.in_ok-subcommand-3.ensures
+    (joins _ _ _ _ _ c.in_ok-subcommand-2.ensures (joins _ _ _ _ _ c.in_ok-subcommand.ensures bare_is run_is) generate_is) check_is) join_is) vm_is
