@@ -22,7 +22,7 @@ use Rattle.spin_log.specs.Steps.{Mine, Learned, AreOfOne, longer, lengthened, bo
 use Rattle.spin_log.specs.Pens.{PenValue, pen_value, only_hand, StandsIn, IsHistory}
 use Rattle.spin_log.specs.Inner.Seats.{only_front, with_draft, IsPenSeat, IsNoteSeat}
 use Rattle.spin_log.proofs.RowLists.{all_head, all_map, rows_of_length, prefix_length}
-use Rattle.spin_log.proofs.RuleSteps.{next_none, next_some}
+use Rattle.spin_log.proofs.LogWords.{next_none, next_some}
 
 longer_length : (front other : List Row) → length front ≤ length (longer front other)
 longer_length front other = pick (ltb (length front) (length other)) refl

@@ -1,12 +1,12 @@
 use Rattle.std.proofs.Common.{rules, arith, ap}
 use Rattle.spin_log.specs.Pens.{PenValue}
-use Rattle.spin_log.proofs.RuleSteps as keeps
+use Rattle.spin_log.proofs.LogReads.{looks}
 use Rattle.spin_log.proofs.PenSeats.{seat_pins, found_inside, stays_read, says}
 use Rattle.spin_log.proofs.log.Log.look.Goals as goal
 
 -- the log word after the front
 pub load-name-requires : goal.load-name-requires
-load-name-requires c = (search rules, omega arith, keeps.looks _ _ _ _ _ _ c.pen.invariant.alone (omega arith))
+load-name-requires c = (search rules, omega arith, looks _ _ _ _ _ _ c.pen.invariant.alone (omega arith))
 
 -- there is no next row
 pub invariant_of-pen : goal.invariant_of-pen

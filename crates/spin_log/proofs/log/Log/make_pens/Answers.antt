@@ -3,12 +3,12 @@ use Rattle.atomic_table.specs.Seated.{TableId}
 use Rattle.spin_log.specs.declared.view.View.{View}
 use Rattle.spin_log.specs.Rule.{holding, new_hand}
 use Rattle.spin_log.specs.Pens.{LogValue, pen_value, only_hand}
-use Rattle.spin_log.proofs.RuleSteps as keeps
+use Rattle.spin_log.proofs.SharedViews.{splits_pen}
 use Rattle.spin_log.proofs.NewPens.{first_of, rest_of, new_seat, pens-push, pen_value_of}
 use Rattle.spin_log.proofs.log.Log.make_pens.Goals as goal
 
 pub split_seat-seat-requires : goal.split_seat-seat-requires
-split_seat-seat-requires c = (search rules, omega arith, keeps.splits_pen _ _ _)
+split_seat-seat-requires c = (search rules, omega arith, splits_pen _ _ _)
 
 pub invariant_of-push : goal.invariant_of-push
 invariant_of-push c =

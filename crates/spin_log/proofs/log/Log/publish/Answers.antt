@@ -1,6 +1,6 @@
 use Rattle.std.proofs.Common.{rules, arith, ap, refl}
 use Rattle.spin_log.specs.Pens.{PenValue, only_hand}
-use Rattle.spin_log.proofs.RuleSteps as keeps
+use Rattle.spin_log.proofs.PublishedRows.{publishes}
 use Rattle.spin_log.proofs.PenSeats.{own_room, command_of, found_inside, stays_read, says, seat_writes}
 use Rattle.spin_log.proofs.log.Log.publish.Goals as goal
 
@@ -25,7 +25,7 @@ pub compare_exchange-found-requires : goal.compare_exchange-found-requires
 compare_exchange-found-requires c = (
   search rules,
   omega arith,
-  keeps.publishes _ _ _ _ _ _ _ c.draft.ensures.drafted (omega arith)
+  publishes _ _ _ _ _ _ _ c.draft.ensures.drafted (omega arith)
       (omega arith) (omega arith) refl (command_of _ (only_hand c.pen.inside.seat.me.0.hands) _ _ c.pen.view_is c.requires.row),
 )
 

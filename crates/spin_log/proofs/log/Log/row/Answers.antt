@@ -1,20 +1,20 @@
 use Rattle.std.proofs.Common.{rules, arith, ap}
 use Rattle.spin_log.specs.Pens.{LogValue}
-use Rattle.spin_log.proofs.RuleSteps as keeps
+use Rattle.spin_log.proofs.LogReads.{rereads}
 use Rattle.spin_log.proofs.PenSeats.{rereads_on, row_loaded}
 use Rattle.spin_log.proofs.log.Log.row.Goals as goal
 
 pub load-a-requires : goal.load-a-requires
-load-a-requires c = let size = ap (λ (l : LogValue). l.id.words) c.self.view_is in (search rules, omega arith, keeps.rereads _ _ _ _ _)
+load-a-requires c = let size = ap (λ (l : LogValue). l.id.words) c.self.view_is in (search rules, omega arith, rereads _ _ _ _ _)
 
 pub load-b-requires : goal.load-b-requires
-load-b-requires c = let size = ap (λ (l : LogValue). l.id.words) c.self.view_is in (search rules, omega arith, keeps.rereads _ _ _ _ _)
+load-b-requires c = let size = ap (λ (l : LogValue). l.id.words) c.self.view_is in (search rules, omega arith, rereads _ _ _ _ _)
 
 pub load-c-requires : goal.load-c-requires
-load-c-requires c = let size = ap (λ (l : LogValue). l.id.words) c.self.view_is in (search rules, omega arith, keeps.rereads _ _ _ _ _)
+load-c-requires c = let size = ap (λ (l : LogValue). l.id.words) c.self.view_is in (search rules, omega arith, rereads _ _ _ _ _)
 
 pub load-d-requires : goal.load-d-requires
-load-d-requires c = let size = ap (λ (l : LogValue). l.id.words) c.self.view_is in (search rules, omega arith, keeps.rereads _ _ _ _ _)
+load-d-requires c = let size = ap (λ (l : LogValue). l.id.words) c.self.view_is in (search rules, omega arith, rereads _ _ _ _ _)
 
 pub returns-clause-row : goal.returns-clause-row
 returns-clause-row c =

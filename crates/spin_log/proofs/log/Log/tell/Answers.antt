@@ -2,15 +2,16 @@ use Rattle.std.proofs.Common.{rules, arith, ap, length, ◌∙◌, sym, subst, �
 use Rattle.spin_log.specs.Pens.{PenValue}
 use Rattle.spin_log.specs.Inner.Seats.{NoteValue, IsPenSeat}
 use Rattle.spin_log.specs.Steps.{AreOfOne}
-use Rattle.spin_log.proofs.RuleSteps as keeps
+use Rattle.spin_log.proofs.SharedViews.{joins}
+use Rattle.spin_log.proofs.LearnedFronts.{learns}
 use Rattle.spin_log.proofs.PenNotes.{tells_one, tells_seat, longer_note}
 use Rattle.spin_log.proofs.log.Log.tell.Goals as goal
 
 pub join_seat-requires : goal.join_seat-requires
-join_seat-requires c = (search rules, search rules, search rules, omega arith, keeps.joins _ _ _ _ _)
+join_seat-requires c = (search rules, search rules, search rules, omega arith, joins _ _ _ _ _)
 
 pub load-requires : goal.load-requires
-load-requires c = (search rules, omega arith, keeps.learns _ _ _ _ (search rules))
+load-requires c = (search rules, omega arith, learns _ _ _ _ (search rules))
 
 pub invariant_of-pen : goal.invariant_of-pen
 invariant_of-pen c =
