@@ -15,7 +15,7 @@ use Rattle.spin_place.specs.declared.binding.Binding.{Binding}
 use Rattle.spin_raise.specs.declared.answer.Answer.{Answer}
 use Rattle.spin_raise.specs.declared.answer.Answer.TheVariants as answer
 use Rattle.spin_raise.specs.declared.bound.Runner.TheVariants as runner
-use Rattle.spin_raise.specs.Firing.{Units, Bound, Firing, Did, Apart, is_async, firing_of, steps_at, left_by, items_by, merged_by, one_if}
+use Rattle.spin_raise.specs.Firing.{Units, Bound, Firing, Did, Apart, ByDefault, is_async, firing_of, steps_at, left_by, items_by, merged_by, one_if}
 use Rattle.spin_raise.specs.Progress.{answer_after, with_result}
 use Rattle.spin_raise.proofs.RaiseSteps.{merged_after}
 use Rattle.spin_host.specs.declared.frame.Due.TheVariants as due
@@ -59,43 +59,29 @@ pub declines_default : (u : Units) (sig : EventType) (e : Bound) (f f' : Frame) 
 declines_default u sig e f f' is some from left so_far asked none =
     tells u e (Unreached e.default) Declined f f' (due_default e f is some) from left so_far asked (ap (next_if e) none) sig [] [] refl refl
 
--- its act was done -----------------------------------------------------------------
+-- how a firing is settled -----------------------------------------------------------
+
+-- The firing left these arguments and a word to be merged, its items stand behind those before, and the frame is settled by both.
+pub record IsSettled (g : Firing) (Merges : Option ℕ → Type 0) (settle : Option ℕ → Frame → Frame) (f f' : Frame) (before after : List Item) : Type 0 where
+  pub word : Option ℕ
+  pub args : List Value
+  pub left : args ≡ left_by g
+  pub merges : Merges word
+  pub items : after ≡ before ++ items_by g
+  pub settled : f' ≡ settle word record f { progress = record { from = f.progress.from; answer = f.progress.answer; args = args } }
+
+-- a binding's firing, whose word is merged by the event's way
+abbrev pub IsBindingSettled : Bound → ℕ → Firing → Frame → Frame → List Item → List Item → Type 0
+IsBindingSettled e at g = IsSettled g (λ word. merged_by g ≡ one_if word) (binding_settled e.merge at)
+
+-- the default's, whose word is its result
+abbrev pub IsDefaultSettled : Bound → List Item → List Value → Frame → Frame → List Item → List Item → Type 0
+IsDefaultSettled e items args = IsSettled (ByDefault items args) (λ word. word ≡ last_result items) (default_settled e)
 
 one_firing : (f : Firing) → flat_map items_by (f ∷ []) ≡ items_by f
 one_firing f = append-nil (items_by f)
 
-pub does_binding : (u : Units) (sig : EventType) (e : Bound) (at : ℕ) (b : Binding) (word : Option ℕ) (args : List Value) (f mid f' : Frame) (out out' : List Item)
-    → f.due ≡ Some (due.Binding at) → slice_get e.bindings at ≡ Some b → mid ≡ record f { progress = record { from = f.progress.from; answer = f.progress.answer; args = args } }
-    → args ≡ left_by (firing_of runner.Raiser u b f.progress.args) → merged_by (firing_of runner.Raiser u b f.progress.args) ≡ one_if word
-    → out' ≡ out ++ items_by (firing_of runner.Raiser u b f.progress.args) → f' ≡ binding_settled e.merge at word mid → Tells u sig e Done f f' out out'
-does_binding u sig e at b word args f mid f' out out' is here was left merged items then =
-    let g : Firing = firing_of runner.Raiser u b f.progress.args in
-    let now : f' ≡ binding_settled e.merge at word record f { progress = record { from = f.progress.from; answer = f.progress.answer; args = args } } =
-    then ∙ ap (binding_settled e.merge at word) was in
-    tells u e (Reached at b) Done f f' (due_binding e f at b is here)
-    (ap (λ (x : Frame). x.progress.from) now)
-    (ap (λ (x : Frame). x.progress.args) now ∙ left)
-    (ap (λ (x : Frame). x.progress.answer) now ∙ merged_after e.merge f.progress.answer runner.Raiser u b f.progress.args word merged)
-    (ap (λ (x : Frame). x.asked) now)
-    (ap (λ (x : Frame). due_in e x) now)
-    sig out out' refl (items ∙ ap (λ xs. out ++ xs) (sym (one_firing g)))
-
-pub does_default : (u : Units) (sig : EventType) (e : Bound) (word : Option ℕ) (args : List Value) (f mid f' : Frame) (out out' : List Item)
-    → f.due ≡ Some due.Default → 0 < e.default → mid ≡ record f { progress = record { from = f.progress.from; answer = f.progress.answer; args = args } }
-    → args ≡ args_after (steps_at u e.default) f.progress.args → word ≡ last_result (items_of (steps_at u e.default) f.progress.args)
-    → out' ≡ out ++ (item.Ran 0 ∷ items_of (steps_at u e.default) f.progress.args) → f' ≡ default_settled e word mid → Tells u sig e Done f f' out out'
-does_default u sig e word args f mid f' out out' is some was left merged items then =
-    let now : f' ≡ default_settled e word record f { progress = record { from = f.progress.from; answer = f.progress.answer; args = args } } =
-    then ∙ ap (default_settled e word) was in
-    tells u e (Unreached e.default) Done f f' (due_default e f is some)
-    (ap (λ (x : Frame). x.progress.from) now)
-    (ap (λ (x : Frame). x.progress.args) now ∙ left)
-    (ap (λ (x : Frame). x.progress.answer) now ∙ ap answer.Default merged)
-    (ap (λ (x : Frame). x.asked) now)
-    (ap (λ (x : Frame). due_in e x) now)
-    sig out out' refl (items ∙ ap (λ xs. out ++ xs) (sym (append-nil (item.Ran 0 ∷ items_of (steps_at u e.default) f.progress.args))))
-
--- the host gave --------------------------------------------------------------------
+-- its act was done, or the host gave ------------------------------------------------
 
 one_same : (o w : Option ℕ) → one_if o ≡ one_if w → w ≡ o
 one_same None None e = refl
@@ -112,35 +98,47 @@ merged_gave m a args gift at b word = choose (is_async b.mode)
     choose true e = ap (with_result m a) (one_same None word e)
     choose false e = ap (with_result m a) (one_same (last_result (items_given gift)) word e)
 
-pub gives_binding : (u : Units) (sig : EventType) (e : Bound) (at : ℕ) (b : Binding) (gift : List Given) (word : Option ℕ) (args : List Value) (f mid f' : Frame) (out out' : List Item)
-    → f.due ≡ Some (due.Binding at) → slice_get e.bindings at ≡ Some b → gift_fault sig b.mode gift ≡ None
-    → mid ≡ record f { progress = record { from = f.progress.from; answer = f.progress.answer; args = args } }
-    → args ≡ left_by (gives f.progress.args gift (Reached at b)) → merged_by (gives f.progress.args gift (Reached at b)) ≡ one_if word
-    → out' ≡ out ++ items_by (gives f.progress.args gift (Reached at b)) → f' ≡ binding_settled e.merge at word mid → Tells u sig e (Gave gift) f f' out out'
-gives_binding u sig e at b gift word args f mid f' out out' is here fit was left merged items then =
-    let g : Firing = gives f.progress.args gift (Reached at b) in
-    let now : f' ≡ binding_settled e.merge at word record f { progress = record { from = f.progress.from; answer = f.progress.answer; args = args } } =
-    then ∙ ap (binding_settled e.merge at word) was in
-    tells u e (Reached at b) (Gave gift) f f' (due_binding e f at b is here)
-    (ap (λ (x : Frame). x.progress.from) now)
-    (ap (λ (x : Frame). x.progress.args) now ∙ left)
-    (ap (λ (x : Frame). x.progress.answer) now ∙ merged_gave e.merge f.progress.answer f.progress.args gift at b word merged)
-    (ap (λ (x : Frame). x.asked) now)
-    (ap (λ (x : Frame). due_in e x) now)
-    sig out out' fit (items ∙ ap (λ xs. out ++ xs) (sym (one_firing g)))
+module _ (u : Units) (sig : EventType) (e : Bound) (f f' : Frame) (out out' : List Item) where
+  pub does_binding : (at : ℕ) (b : Binding) → f.due ≡ Some (due.Binding at) → slice_get e.bindings at ≡ Some b
+      → IsBindingSettled e at (firing_of runner.Raiser u b f.progress.args) f f' out out' → Tells u sig e Done f f' out out'
+  does_binding at b is here s =
+      tells u e (Reached at b) Done f f' (due_binding e f at b is here)
+      (ap (λ (x : Frame). x.progress.from) s.settled)
+      (ap (λ (x : Frame). x.progress.args) s.settled ∙ s.left)
+      (ap (λ (x : Frame). x.progress.answer) s.settled ∙ merged_after e.merge f.progress.answer runner.Raiser u b f.progress.args s.word s.merges)
+      (ap (λ (x : Frame). x.asked) s.settled)
+      (ap (λ (x : Frame). due_in e x) s.settled)
+      sig out out' refl (s.items ∙ ap (λ xs. out ++ xs) (sym (one_firing (firing_of runner.Raiser u b f.progress.args))))
 
-pub gives_default : (u : Units) (sig : EventType) (e : Bound) (gift : List Given) (word : Option ℕ) (args : List Value) (f mid f' : Frame) (out out' : List Item)
-    → f.due ≡ Some due.Default → 0 < e.default → gift_fault sig (mode_of (Unreached e.default)) gift ≡ None
-    → mid ≡ record f { progress = record { from = f.progress.from; answer = f.progress.answer; args = args } }
-    → args ≡ args_given f.progress.args gift → word ≡ last_result (items_given gift)
-    → out' ≡ out ++ (item.Ran 0 ∷ items_given gift) → f' ≡ default_settled e word mid → Tells u sig e (Gave gift) f f' out out'
-gives_default u sig e gift word args f mid f' out out' is some fit was left merged items then =
-    let now : f' ≡ default_settled e word record f { progress = record { from = f.progress.from; answer = f.progress.answer; args = args } } =
-    then ∙ ap (default_settled e word) was in
-    tells u e (Unreached e.default) (Gave gift) f f' (due_default e f is some)
-    (ap (λ (x : Frame). x.progress.from) now)
-    (ap (λ (x : Frame). x.progress.args) now ∙ left)
-    (ap (λ (x : Frame). x.progress.answer) now ∙ ap answer.Default merged)
-    (ap (λ (x : Frame). x.asked) now)
-    (ap (λ (x : Frame). due_in e x) now)
-    sig out out' fit (items ∙ ap (λ xs. out ++ xs) (sym (append-nil (item.Ran 0 ∷ items_given gift))))
+  pub does_default : f.due ≡ Some due.Default → 0 < e.default
+      → IsDefaultSettled e (items_of (steps_at u e.default) f.progress.args) (args_after (steps_at u e.default) f.progress.args) f f' out out' → Tells u sig e Done f f' out out'
+  does_default is some s =
+      tells u e (Unreached e.default) Done f f' (due_default e f is some)
+      (ap (λ (x : Frame). x.progress.from) s.settled)
+      (ap (λ (x : Frame). x.progress.args) s.settled ∙ s.left)
+      (ap (λ (x : Frame). x.progress.answer) s.settled ∙ ap answer.Default s.merges)
+      (ap (λ (x : Frame). x.asked) s.settled)
+      (ap (λ (x : Frame). due_in e x) s.settled)
+      sig out out' refl (s.items ∙ ap (λ xs. out ++ xs) (sym (append-nil (item.Ran 0 ∷ items_of (steps_at u e.default) f.progress.args))))
+
+  pub gives_binding : (at : ℕ) (b : Binding) (gift : List Given) → f.due ≡ Some (due.Binding at) → slice_get e.bindings at ≡ Some b → gift_fault sig b.mode gift ≡ None
+      → IsBindingSettled e at (gives f.progress.args gift (Reached at b)) f f' out out' → Tells u sig e (Gave gift) f f' out out'
+  gives_binding at b gift is here fit s =
+      tells u e (Reached at b) (Gave gift) f f' (due_binding e f at b is here)
+      (ap (λ (x : Frame). x.progress.from) s.settled)
+      (ap (λ (x : Frame). x.progress.args) s.settled ∙ s.left)
+      (ap (λ (x : Frame). x.progress.answer) s.settled ∙ merged_gave e.merge f.progress.answer f.progress.args gift at b s.word s.merges)
+      (ap (λ (x : Frame). x.asked) s.settled)
+      (ap (λ (x : Frame). due_in e x) s.settled)
+      sig out out' fit (s.items ∙ ap (λ xs. out ++ xs) (sym (one_firing (gives f.progress.args gift (Reached at b)))))
+
+  pub gives_default : (gift : List Given) → f.due ≡ Some due.Default → 0 < e.default → gift_fault sig (mode_of (Unreached e.default)) gift ≡ None
+      → IsDefaultSettled e (items_given gift) (args_given f.progress.args gift) f f' out out' → Tells u sig e (Gave gift) f f' out out'
+  gives_default gift is some fit s =
+      tells u e (Unreached e.default) (Gave gift) f f' (due_default e f is some)
+      (ap (λ (x : Frame). x.progress.from) s.settled)
+      (ap (λ (x : Frame). x.progress.args) s.settled ∙ s.left)
+      (ap (λ (x : Frame). x.progress.answer) s.settled ∙ ap answer.Default s.merges)
+      (ap (λ (x : Frame). x.asked) s.settled)
+      (ap (λ (x : Frame). due_in e x) s.settled)
+      sig out out' fit (s.items ∙ ap (λ xs. out ++ xs) (sym (append-nil (item.Ran 0 ∷ items_given gift))))
