@@ -7,31 +7,33 @@ use Rattle.spin_pcap.specs.declared.limits.TheConstants.{MAX_RECORDS, MAX_CAPTUR
 use Rattle.spin_pcap.specs.declared.next.Next.{Next}
 use Rattle.spin_pcap.specs.declared.next.Next.TheVariants as next
 use Rattle.spin_pcap.specs.declared.order.Order.TheVariants as order
+use Rattle.spin_pcap.specs.declared.state.State.{State}
 use Rattle.spin_pcap.specs.declared.state.State.TheVariants as state
 use Rattle.spin_pcap.specs.Captures.{IsRecord, IsRest, IsBody, IsCapture}
-use Rattle.spin_pcap.specs.Passing.{ReaderState, IfReading, IsCutShort}
+use Rattle.spin_pcap.specs.Passing.{IfReading, IsCutShort}
 use Rattle.spin_reass.specs.Joining.{OpenDatagram, joined, joined_frames}
 use Rattle.spin_reass.specs.JoinedCaptures.{file_header, record_of, rest_of, IsJoinedCapture}
 use Rattle.spin_reass.specs.Inner.Reading.{EachIsFew, AreRecords, JoinsSome}
 use Rattle.spin_reass.proofs.CaptureLemmas.{is_record, is_header, cut_is_rest}
 use Rattle.spin_pcap.proofs.CaptureRecords.{reading}
-use Rattle.spin_reass.proofs.JoinedRecords.{flat_push}
+use Rattle.spin_reass.proofs.JoinedRecords.{SoFar, JoinsFrame, frames_one, written_one}
 
 each_push : (frames : List (List ℕ)) (frame : List ℕ) → EachIsFew frames → length frame ≤ MAX_CAPTURED → EachIsFew (frames ++ frame ∷ [])
 each_push [] frame each few = (few, tt)
 each_push (one ∷ others) frame each few = (each.0, each_push others frame each.1 few)
 
 -- These records were given, and these frames took their places.
-pub record HasGiven (before : List ℕ) (given : ℕ) (datagrams : List OpenDatagram) (out : List ℕ) : Type 0 where
+pub record HasGiven (before : List ℕ) (now : SoFar) : Type 0 where
   pub taken : List (List ℕ)
   pub done : List (List ℕ)
-  pub count : given ≡ length taken
-  pub most : given ≤ MAX_RECORDS
+  pub count : now.given ≡ length taken
+  pub most : now.given ≤ MAX_RECORDS
   pub each : EachIsFew taken
-  pub frames : (more : List (List ℕ)) → joined_frames [] (taken ++ more) ≡ done ++ joined_frames datagrams more
-  pub is : out ≡ before ++ flat_map record_of done
+  pub frames : (more : List (List ℕ)) → joined_frames [] (taken ++ more) ≡ done ++ joined_frames now.datagrams more
+  pub is : now.out ≡ before ++ flat_map record_of done
 
-pub given_none : (before : List ℕ) (given : ℕ) (datagrams : List OpenDatagram) → given ≡ 0 → datagrams ≡ [] → HasGiven before given datagrams before
+pub given_none : (before : List ℕ) (given : ℕ) (datagrams : List OpenDatagram) → given ≡ 0 → datagrams ≡ []
+    → HasGiven before (record { given = given; datagrams = datagrams; out = before })
 given_none before given datagrams zero_given none = record {
   taken = [];
   done = [];
@@ -42,28 +44,19 @@ given_none before given datagrams zero_given none = record {
   is = sym (append-nil before);
 }
 
-pub given_one : (before : List ℕ) (given given' : ℕ) (datagrams datagrams' : List OpenDatagram) (out out' frame frame' : List ℕ)
-    → HasGiven before given datagrams out → given' ≡ given + 1 → given < MAX_RECORDS → length frame ≤ MAX_CAPTURED → datagrams' ≡ (joined datagrams frame).0
-    → frame' ≡ (joined datagrams frame).1 → out' ≡ out ++ record_of frame' → HasGiven before given' datagrams' out'
-given_one before given given' datagrams datagrams' out out' frame frame' h g room few d f o =
-    let one : List ℕ = (joined datagrams frame).1 in
-    record {
-      taken = h.taken ++ frame ∷ [];
-      done = h.done ++ one ∷ [];
-      count = (let n = h.count in omega (arith, length-append h.taken (frame ∷ [])));
-      most = omega (arith, g, room);
-      each = each_push h.taken frame h.each few;
-      frames = λ more.
-          ap (λ fs. joined_frames [] fs) (append_assoc h.taken (frame ∷ []) more)
-          ∙ h.frames (frame ∷ more)
-          ∙ ap (λ ds. h.done ++ (one ∷ joined_frames ds more)) (sym d)
-          ∙ sym (append_assoc h.done (one ∷ []) (joined_frames datagrams' more));
-      is = o ∙ (λ i. h.is i ++ record_of (f i)) ∙ append_assoc before (flat_map record_of h.done) (record_of one) ∙ ap (λ z. before ++ z) (sym (flat_push record_of h.done one));
-    }
+pub given_one : (before frame : List ℕ) (now later : SoFar) → HasGiven before now → now.given < MAX_RECORDS → length frame ≤ MAX_CAPTURED → JoinsFrame frame now later → HasGiven before later
+given_one before frame now later h room few j = record {
+  taken = h.taken ++ frame ∷ [];
+  done = h.done ++ (joined now.datagrams frame).1 ∷ [];
+  count = (let n = h.count in let g = j.given in omega (arith, length-append h.taken (frame ∷ [])));
+  most = (let g = j.given in omega (arith, room));
+  each = each_push h.taken frame h.each few;
+  frames = frames_one h.taken h.done now.datagrams later.datagrams frame h.frames j.datagrams;
+  is = written_one before now.out later.out h.done (joined now.datagrams frame).1 h.is j.out;
+}
 
-ends_so : (before : List ℕ) (given : ℕ) (datagrams : List OpenDatagram) (out : List ℕ) (ending : Next) → (ending ≢ next.Packet)
-    → IsCutShort given (Ok ending) → HasGiven before given datagrams out → JoinsSome before out (Ok ending)
-ends_so before given datagrams out ending end short h =
+ends_so : (before : List ℕ) (now : SoFar) (ending : Next) → (ending ≢ next.Packet) → IsCutShort now.given (Ok ending) → HasGiven before now → JoinsSome before now.out (Ok ending)
+ends_so before now ending end short h =
     let all : joined_frames [] h.taken ≡ h.done = ap (λ fs. joined_frames [] fs) (sym (append-nil h.taken)) ∙ h.frames [] ∙ append-nil h.done in (
       h.taken,
       (h.each, omega (arith, h.count, h.most), subst (λ (n : ℕ). IsCutShort n (Ok ending)) h.count short, end),
@@ -76,14 +69,14 @@ end_no_packet e = cc
 cut_no_packet : (count : ℕ) → next.Cut count ≢ next.Packet
 cut_no_packet count e = cc
 
-pub given_end : (before : List ℕ) (given : ℕ) (datagrams : List OpenDatagram) (out : List ℕ) → HasGiven before given datagrams out → JoinsSome before out (Ok next.End)
-given_end before given datagrams out h = ends_so before given datagrams out next.End end_no_packet tt h
+pub given_end : (before : List ℕ) (now : SoFar) → HasGiven before now → JoinsSome before now.out (Ok next.End)
+given_end before now h = ends_so before now next.End end_no_packet tt h
 
-pub given_cut : (before : List ℕ) (reader : ReaderState) (answer : Next) (count : ℕ) (datagrams : List OpenDatagram) (out : List ℕ) → reader.state ≡ state.Reading
-    → answer ≡ next.Cut count → IfReading reader.state (IsCutShort reader.given (Ok answer)) ⊤ → HasGiven before reader.given datagrams out → JoinsSome before out (Ok (next.Cut count))
-given_cut before reader answer count datagrams out r e cut h =
-    ends_so before reader.given datagrams out (next.Cut count) (cut_no_packet count)
-    (subst (λ (x : Next). IsCutShort reader.given (Ok x)) e (reading reader.state (IsCutShort reader.given (Ok answer)) ⊤ r cut)) h
+pub given_cut : (before : List ℕ) (now : SoFar) (stands : State) (answer : Next) (count : ℕ) → stands ≡ state.Reading → answer ≡ next.Cut count
+    → IfReading stands (IsCutShort now.given (Ok answer)) ⊤ → HasGiven before now → JoinsSome before now.out (Ok (next.Cut count))
+given_cut before now stands answer count r e cut h =
+    ends_so before now (next.Cut count) (cut_no_packet count)
+    (subst (λ (x : Next). IsCutShort now.given (Ok x)) e (reading stands (IsCutShort now.given (Ok answer)) ⊤ r cut)) h
 
 -- ---- the capture of the records as they were given
 

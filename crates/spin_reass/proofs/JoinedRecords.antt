@@ -14,7 +14,7 @@ use Rattle.spin_pcap.specs.Passing.{ReaderState, left_for, fault_number, IsAnswe
 use Rattle.spin_pcap.specs.declared.fault.BadRecord.{BadRecord}
 use Rattle.spin_pcap.specs.declared.fault.BadRecord.TheVariants as stop
 use Rattle.spin_pcap.specs.Whole.{bad_at}
-use Rattle.spin_pcap.proofs.CaptureRecords.{after, at_told, reading}
+use Rattle.spin_pcap.proofs.CaptureRecords.{at_told, reading}
 use Rattle.spin_reass.specs.Joining.{OpenDatagram, joined, joined_frames}
 use Rattle.spin_reass.specs.JoinedCaptures.{file_header, record_of, rest_of, IsJoined}
 use Rattle.spin_reass.specs.Inner.Reading.{JoinsBody}
@@ -28,19 +28,31 @@ pub flat_push : (f : List ℕ → List ℕ) (xs : List (List ℕ)) (y : List ℕ
 flat_push f [] y = append-nil (f y)
 flat_push f (x ∷ xs) y = ap (λ z. f x ++ z) (flat_push f xs y) ∙ sym (append_assoc (f x) (flat_map f xs) (f y))
 
+-- how far joining has come: how many records were given, which datagrams are open, and what is written
+pub record SoFar : Type 0 where
+  pub given : ℕ
+  pub datagrams : List OpenDatagram
+  pub out : List ℕ
+
+-- One frame more was given, and what takes its place is written as a record.
+pub record JoinsFrame (frame : List ℕ) (now next : SoFar) : Type 0 where
+  pub given : next.given ≡ now.given + 1
+  pub datagrams : next.datagrams ≡ (joined now.datagrams frame).0
+  pub out : next.out ≡ now.out ++ record_of (joined now.datagrams frame).1
+
 -- These records were read off the front of the bytes, and these frames took their places.
-pub record HasJoined (way : Order) (bytes before : List ℕ) (given : ℕ) (left : Option (List ℕ)) (datagrams : List OpenDatagram) (out : List ℕ) : Type 0 where
+pub record HasJoined (way : Order) (bytes before : List ℕ) (now : SoFar) (left : Option (List ℕ)) : Type 0 where
   pub taken : List (List ℕ)
   pub done : List (List ℕ)
   pub rest : List ℕ
-  pub count : given ≡ length taken
+  pub count : now.given ≡ length taken
   pub told : left ≡ Some rest
-  pub body : (frames : List (List ℕ)) (ending : Result Next PcapFault) → IsBody way given rest frames ending → IsBody way 0 bytes (taken ++ frames) ending
-  pub frames : (more : List (List ℕ)) → joined_frames [] (taken ++ more) ≡ done ++ joined_frames datagrams more
-  pub is : out ≡ before ++ flat_map record_of done
+  pub body : (frames : List (List ℕ)) (ending : Result Next PcapFault) → IsBody way now.given rest frames ending → IsBody way 0 bytes (taken ++ frames) ending
+  pub frames : (more : List (List ℕ)) → joined_frames [] (taken ++ more) ≡ done ++ joined_frames now.datagrams more
+  pub is : now.out ≡ before ++ flat_map record_of done
 
 pub joined_none : (way : Order) (bytes before : List ℕ) (given : ℕ) (left : Option (List ℕ)) (datagrams : List OpenDatagram)
-    → given ≡ 0 → datagrams ≡ [] → left ≡ Some bytes → HasJoined way bytes before given left datagrams before
+    → given ≡ 0 → datagrams ≡ [] → left ≡ Some bytes → HasJoined way bytes before (record { given = given; datagrams = datagrams; out = before }) left
 joined_none way bytes before given left datagrams zero_given none told = record {
   taken = [];
   done = [];
@@ -52,62 +64,74 @@ joined_none way bytes before given left datagrams zero_given none told = record 
   is = sym (append-nil before);
 }
 
-pub joined_one : (way : Order) (bytes before : List ℕ) (given given' : ℕ) (left left' : Option (List ℕ)) (datagrams datagrams' : List OpenDatagram) (out out' frame frame' : List ℕ)
-    → HasJoined way bytes before given left datagrams out → given' ≡ given + 1 → IfSome left (λ bs. IsAnswer way given bs (Ok next.Packet) frame left')
-    → datagrams' ≡ (joined datagrams frame).0 → frame' ≡ (joined datagrams frame).1 → out' ≡ out ++ record_of frame' → HasJoined way bytes before given' left' datagrams' out'
-joined_one way bytes before given given' left left' datagrams datagrams' out out' frame frame' h g answer d f o =
-    let a = at_told (λ bs. IsAnswer way given bs (Ok next.Packet) frame left') left h.rest h.told answer in
+-- the frames in the places of one more
+pub frames_one : (taken done : List (List ℕ)) (datagrams datagrams' : List OpenDatagram) (frame : List ℕ)
+    → ((more : List (List ℕ)) → joined_frames [] (taken ++ more) ≡ done ++ joined_frames datagrams more) → datagrams' ≡ (joined datagrams frame).0
+    → (more : List (List ℕ)) → joined_frames [] ((taken ++ frame ∷ []) ++ more) ≡ (done ++ (joined datagrams frame).1 ∷ []) ++ joined_frames datagrams' more
+frames_one taken done datagrams datagrams' frame before d more =
     let one : List ℕ = (joined datagrams frame).1 in
+    ap (λ fs. joined_frames [] fs) (append_assoc taken (frame ∷ []) more)
+    ∙ before (frame ∷ more)
+    ∙ ap (λ ds. done ++ (one ∷ joined_frames ds more)) (sym d)
+    ∙ sym (append_assoc done (one ∷ []) (joined_frames datagrams' more))
+
+-- what is written with one more
+pub written_one : (before out out' : List ℕ) (done : List (List ℕ)) (one : List ℕ) → out ≡ before ++ flat_map record_of done → out' ≡ out ++ record_of one
+    → out' ≡ before ++ flat_map record_of (done ++ one ∷ [])
+written_one before out out' done one is o =
+    o ∙ ap (λ z. z ++ record_of one) is ∙ append_assoc before (flat_map record_of done) (record_of one) ∙ ap (λ z. before ++ z) (sym (flat_push record_of done one))
+
+pub joined_one : (way : Order) (bytes before frame : List ℕ) (now later : SoFar) (left left' : Option (List ℕ))
+    → HasJoined way bytes before now left → IfSome left (λ bs. IsAnswer way now.given bs (Ok next.Packet) frame left') → JoinsFrame frame now later → HasJoined way bytes before later left'
+joined_one way bytes before frame now later left left' h answer j =
+    let a = at_told (λ bs. IsAnswer way now.given bs (Ok next.Packet) frame left') left h.rest h.told answer in
     record {
       taken = h.taken ++ frame ∷ [];
-      done = h.done ++ one ∷ [];
+      done = h.done ++ (joined now.datagrams frame).1 ∷ [];
       rest = a.0;
-      count = (let n = h.count in omega (arith, length-append h.taken (frame ∷ [])));
+      count = (let n = h.count in let g = j.given in omega (arith, length-append h.taken (frame ∷ [])));
       told = a.1;
       body = λ frames ending b.
           subst (λ (fs : List (List ℕ)). IsBody way 0 bytes fs ending) (sym (append_assoc h.taken (frame ∷ []) frames))
-          (h.body (frame ∷ frames) ending (a.0, a.2, subst (λ (n : ℕ). IsBody way n a.0 frames ending) g b));
-      frames = λ more.
-          ap (λ fs. joined_frames [] fs) (append_assoc h.taken (frame ∷ []) more)
-          ∙ h.frames (frame ∷ more)
-          ∙ ap (λ ds. h.done ++ (one ∷ joined_frames ds more)) (sym d)
-          ∙ sym (append_assoc h.done (one ∷ []) (joined_frames datagrams' more));
-      is = o ∙ (λ i. h.is i ++ record_of (f i)) ∙ append_assoc before (flat_map record_of h.done) (record_of one) ∙ ap (λ z. before ++ z) (sym (flat_push record_of h.done one));
+          (h.body (frame ∷ frames) ending (a.0, a.2, subst (λ (n : ℕ). IsBody way n a.0 frames ending) j.given b));
+      frames = frames_one h.taken h.done now.datagrams later.datagrams frame h.frames j.datagrams;
+      is = written_one before now.out later.out h.done (joined now.datagrams frame).1 h.is j.out;
     }
 
 -- the records to the rest
-pub joins_all : (way : Order) (bytes before : List ℕ) (given : ℕ) (left : Option (List ℕ)) (datagrams : List OpenDatagram) (out : List ℕ) (ending : Next)
-    → HasJoined way bytes before given left datagrams out → IfSome left (λ bs. IsRest way given bs (Ok ending)) → JoinsBody way bytes before out (Ok ending)
-joins_all way bytes before given left datagrams out ending h answer =
-    let r : IsRest way given h.rest (Ok ending) = at_told (λ bs. IsRest way given bs (Ok ending)) left h.rest h.told answer in
+pub joins_all : (way : Order) (bytes before : List ℕ) (now : SoFar) (left : Option (List ℕ)) (ending : Next)
+    → HasJoined way bytes before now left → IfSome left (λ bs. IsRest way now.given bs (Ok ending)) → JoinsBody way bytes before now.out (Ok ending)
+joins_all way bytes before now left ending h answer =
+    let r : IsRest way now.given h.rest (Ok ending) = at_told (λ bs. IsRest way now.given bs (Ok ending)) left h.rest h.told answer in
     let all : joined_frames [] h.taken ≡ h.done = ap (λ fs. joined_frames [] fs) (sym (append-nil h.taken)) ∙ h.frames [] ∙ append-nil h.done in
     (h.taken, subst (λ (fs : List (List ℕ)). IsBody way 0 bytes fs (Ok ending)) (append-nil h.taken) (h.body [] (Ok ending) r), h.is ∙ ap (λ fs. before ++ flat_map record_of fs) (sym all))
 
-refused : (way : Order) (bytes before : List ℕ) (given : ℕ) (left : Option (List ℕ)) (datagrams : List OpenDatagram) (out : List ℕ) (wrong : PcapFault) (at : ℕ)
-    → HasJoined way bytes before given left datagrams out → at ≡ given + 1 → IfSome left (λ bs. IsRest way given bs (Err wrong))
-    → (frames : List (List ℕ)) × (w : PcapFault) × IsBody way 0 bytes frames (Err w) × (at ≡ length frames + 1) × (fault_number wrong ≡ fault_number w)
-refused way bytes before given left datagrams out wrong at h n answer =
-    let r : IsRest way given h.rest (Err wrong) = at_told (λ bs. IsRest way given bs (Err wrong)) left h.rest h.told answer in
+refused : (way : Order) (bytes before : List ℕ) (now : SoFar) (left : Option (List ℕ)) (wrong : PcapFault)
+    → HasJoined way bytes before now left → IfSome left (λ bs. IsRest way now.given bs (Err wrong))
+    → (frames : List (List ℕ)) × (w : PcapFault) × IsBody way 0 bytes frames (Err w) × (now.given + 1 ≡ length frames + 1) × (fault_number wrong ≡ fault_number w)
+refused way bytes before now left wrong h answer =
+    let r : IsRest way now.given h.rest (Err wrong) = at_told (λ bs. IsRest way now.given bs (Err wrong)) left h.rest h.told answer in
     (h.taken, wrong, subst (λ (fs : List (List ℕ)). IsBody way 0 bytes fs (Err wrong)) (append-nil h.taken) (h.body [] (Err wrong) r), (let c = h.count in omega arith), refl)
 
-stops : (way : Order) (bytes before : List ℕ) (given : ℕ) (left : Option (List ℕ)) (datagrams : List OpenDatagram) (out : List ℕ) (wrong : PcapFault) (at : ℕ)
-    → HasJoined way bytes before given left datagrams out → at ≡ given + 1
-    → IfSome left (λ bs. UnlessFailed wrong (IsRest way given bs (Err wrong))) → JoinsBody way bytes before out (Err (bad_at at wrong))
-stops way bytes before given left ds out fault.ReadFault at h n a = tt
-stops way bytes before given left ds out fault.BadMagic at h n a = refused way bytes before given left ds out fault.BadMagic at h n a
-stops way bytes before given left ds out fault.BadVersion at h n a = refused way bytes before given left ds out fault.BadVersion at h n a
-stops way bytes before given left ds out fault.BadLink at h n a = refused way bytes before given left ds out fault.BadLink at h n a
-stops way bytes before given left ds out fault.Short at h n a = refused way bytes before given left ds out fault.Short at h n a
-stops way bytes before given left ds out fault.TooLong at h n a = refused way bytes before given left ds out fault.TooLong at h n a
-stops way bytes before given left ds out fault.TooManyRecords at h n a = refused way bytes before given left ds out fault.TooManyRecords at h n a
-stops way bytes before given left ds out (fault.Spoilt first) at h n a = refused way bytes before given left ds out (fault.Spoilt first) at h n a
-stops way bytes before given left ds out fault.NoMemory at h n a = tt
+stops : (way : Order) (bytes before : List ℕ) (now : SoFar) (left : Option (List ℕ)) (wrong : PcapFault)
+    → HasJoined way bytes before now left → IfSome left (λ bs. UnlessFailed wrong (IsRest way now.given bs (Err wrong)))
+    → JoinsBody way bytes before now.out (Err (bad_at (now.given + 1) wrong))
+stops way bytes before now left fault.ReadFault h a = tt
+stops way bytes before now left fault.BadMagic h a = refused way bytes before now left fault.BadMagic h a
+stops way bytes before now left fault.BadVersion h a = refused way bytes before now left fault.BadVersion h a
+stops way bytes before now left fault.BadLink h a = refused way bytes before now left fault.BadLink h a
+stops way bytes before now left fault.Short h a = refused way bytes before now left fault.Short h a
+stops way bytes before now left fault.TooLong h a = refused way bytes before now left fault.TooLong h a
+stops way bytes before now left fault.TooManyRecords h a = refused way bytes before now left fault.TooManyRecords h a
+stops way bytes before now left (fault.Spoilt first) h a = refused way bytes before now left (fault.Spoilt first) h a
+stops way bytes before now left fault.NoMemory h a = tt
 
-pub joins_stop : (way : Order) (bytes before : List ℕ) (given : ℕ) (left : Option (List ℕ)) (datagrams : List OpenDatagram) (out : List ℕ) (wrong : PcapFault) (at : ℕ) (answer : BadRecord)
-    → HasJoined way bytes before given left datagrams out → at ≡ given + 1 → answer ≡ bad_at at wrong
-    → IfSome left (λ bs. UnlessFailed wrong (IsRest way given bs (Err wrong))) → JoinsBody way bytes before out (Err answer)
-joins_stop way bytes before given left ds out wrong at answer h n e a =
-    subst (λ (f : BadRecord). JoinsBody way bytes before out (Err f)) (sym e) (stops way bytes before given left ds out wrong at h n a)
+-- the records to one that is refused
+pub joins_stop : (way : Order) (bytes before : List ℕ) (now : SoFar) (left : Option (List ℕ)) (wrong : PcapFault) (answer : BadRecord)
+    → HasJoined way bytes before now left → answer ≡ bad_at (now.given + 1) wrong
+    → IfSome left (λ bs. UnlessFailed wrong (IsRest way now.given bs (Err wrong))) → JoinsBody way bytes before now.out (Err answer)
+joins_stop way bytes before now left wrong answer h e a =
+    subst (λ (f : BadRecord). JoinsBody way bytes before now.out (Err f)) (sym e) (stops way bytes before now left wrong h a)
 
 -- a fault of the header
 pub header_stop : (file : List ℕ) (wrong : PcapFault) (answer : BadRecord) → answer ≡ bad_at 0 wrong → UnlessFailed wrong (header_of file ≡ Err wrong) → IsJoined file (Err answer)
@@ -152,28 +176,3 @@ rest_given way reader answer ending left left'' frame A r w e a =
     reading reader.state (IfSome told (λ bs. IsAnswer reader.order reader.given bs answer frame left'')) A r a in
     subst (λ (x : Order). IfSome told (λ bs. IsAnswer x reader.given bs ending frame left'')) w
     (subst (λ (x : Result Next PcapFault). IfSome told (λ bs. IsAnswer reader.order reader.given bs x frame left'')) e given)
-
-pub ends_joined : (way : Order) (bytes before : List ℕ) (reader : ReaderState) (answer : Next) (left left'' : Option (List ℕ)) (ds : List OpenDatagram) (out frame : List ℕ) (A : Type 0)
-    → reader.state ≡ state.Reading → reader.order ≡ way → answer ≡ next.End
-    → IfReading reader.state (IfSome (left_for reader.held left) (λ bs. IsAnswer reader.order reader.given bs (Ok answer) frame left'')) A
-    → HasJoined way bytes before reader.given (left_for reader.held left) ds out → JoinsBody way bytes before out (Ok next.End)
-ends_joined way bytes before reader answer left left'' ds out frame A r w e a h =
-    joins_all way bytes before reader.given (left_for reader.held left) ds out next.End h (rest_given way reader (Ok answer) (Ok next.End) left left'' frame A r w (ap (λ (x : Next). Ok x) e) a)
-
-pub cuts_joined : (way : Order) (bytes before : List ℕ) (reader : ReaderState) (answer : Next) (count : ℕ) (left left'' : Option (List ℕ)) (ds : List OpenDatagram) (out frame : List ℕ) (A : Type 0)
-    → reader.state ≡ state.Reading → reader.order ≡ way → answer ≡ next.Cut count
-    → IfReading reader.state (IfSome (left_for reader.held left) (λ bs. IsAnswer reader.order reader.given bs (Ok answer) frame left'')) A
-    → HasJoined way bytes before reader.given (left_for reader.held left) ds out → JoinsBody way bytes before out (Ok (next.Cut count))
-cuts_joined way bytes before reader answer count left left'' ds out frame A r w e a h =
-    joins_all way bytes before reader.given (left_for reader.held left) ds out (next.Cut count) h
-    (rest_given way reader (Ok answer) (Ok (next.Cut count)) left left'' frame A r w (ap (λ (x : Next). Ok x) e) a)
-
-pub stops_joined : (way : Order) (bytes before : List ℕ) (reader reader' : ReaderState) (wrong : PcapFault) (at taken : ℕ) (answer : BadRecord)
-    (left left'' : Option (List ℕ)) (ds : List OpenDatagram) (out frame : List ℕ) (A B : Type 0) → reader.state ≡ state.Reading → reader.order ≡ way
-    → IfReading reader.state (IfSome (left_for reader.held left) (λ bs. IsAnswer reader.order reader.given bs (Err wrong) frame left'')) A
-    → IfReading reader.state (reader' ≡ after reader reader' (Err wrong)) B → taken ≡ reader'.given → at ≡ taken + 1 → answer ≡ bad_at at wrong
-    → HasJoined way bytes before reader.given (left_for reader.held left) ds out → JoinsBody way bytes before out (Err answer)
-stops_joined way bytes before reader reader' wrong at taken answer left left'' ds out frame A B r w a b t n e h =
-    let is : reader' ≡ after reader reader' (Err wrong) = reading reader.state (reader' ≡ after reader reader' (Err wrong)) B r b in
-    let g : reader'.given ≡ reader.given = ap (λ (x : ReaderState). x.given) is in
-    joins_stop way bytes before reader.given (left_for reader.held left) ds out wrong at answer h (omega arith) e (rest_given way reader (Err wrong) (Err wrong) left left'' frame A r w refl a)
