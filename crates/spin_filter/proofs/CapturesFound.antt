@@ -9,13 +9,11 @@ use Rattle.spin_outside.specs.Files.{File, IsWholeFile}
 use Rattle.spin_pcap.proofs.CaptureRecords.{at_told, told_more}
 use Rattle.spin_frames.specs.declared.head.Head.{Head}
 use Rattle.spin_frames.specs.Heads.{IsHead}
-use Rattle.spin_table.specs.Setups.{SetupData}
-use Rattle.spin_table.specs.States.{State}
 use Rattle.spin_filter.specs.Counting.{capped}
 use Rattle.spin_filter.specs.Histories.{PassedCapture, IsCaptureOf, IsFound, AreFound, AreRecords, AllPassed, ArePassed, records_of, happened_in}
 use Rattle.spin_filter.specs.Passing.{Passed}
 use Rattle.spin_filter.specs.Sending.{OutletsAt, IsDone}
-use Rattle.spin_filter.proofs.Doings.{done-nothing, done-then, one-all}
+use Rattle.spin_filter.proofs.Doings.{PassedBy, done-nothing, done-then, one-all}
 use Rattle.spin_filter.proofs.Passings.{happened-then, PassesAll}
 
 pub both_told : {X : Type 0} (P Q R : X → Type 0) (o : Option X) → IfSome o P → IfSome o Q → ((x : X) → P x → Q x → R x) → IfSome o R
@@ -27,61 +25,59 @@ found-more : (files : List File) (names : List (List ℕ)) (seen : List PassedCa
 found-more files [] seen name c none own = (c, [], own, ap (λ cs. cs ++ c ∷ []) none, refl)
 found-more files (n ∷ names) seen name c (first, others, is, are, rest) own = (first, others ++ c ∷ [], is, ap (λ cs. cs ++ c ∷ []) are, found-more files names others name c rest own)
 
--- What captures came to that were passed.
-pub record HasFound (d : SetupData) (s : State) (round : List ℕ) (files : Option (List File)) (names : List (List ℕ)) (sends : List (List ℕ)) (capture : Option ℕ)
-    (cut : ℕ) (before after : OutletsAt) : Type 0 where
-  pub seen : List PassedCapture
-  pub passed : AllPassed d s round seen
-  pub found : IfSome files (λ fs. AreFound fs names seen)
-  pub cut_is : cut ≡ capped (sum_by (λ c. c.cut) seen)
-  pub done : IsDone sends capture (happened_in (records_of seen)) before after
+-- The capture of that name is passed, behind whose records so many bytes are left.
+abbrev pub FindsCapture : PassedBy → Option (List File) → List ℕ → ℕ → OutletsAt → OutletsAt → Type 0
+FindsCapture by files name cut x y =
+    (seen : PassedCapture) × (seen.cut ≡ cut) × ArePassed by.setup by.state by.round seen.head seen.passed × IfSome files (λ fs. IsFound fs name seen)
+    × IsDone by.names by.capture (happened_in seen.passed) x y
 
-pub captures-none : (d : SetupData) (s : State) (round : List ℕ) (files : Option (List File)) (sends : List (List ℕ)) (capture : Option ℕ) (x : OutletsAt) → HasFound d s round files [] sends capture 0 x x
-captures-none d s round files sends capture x = record {
-  seen = [];
-  passed = λ k c lt. absurd (omega (arith, lt));
-  found = whatever files (λ fs. refl);
-  cut_is = refl;
-  done = done-nothing sends capture x;
-} where
-  whatever : {X : Type 0} {P : X → Type 0} (o : Option X) → ((x : X) → P x) → IfSome o P
-  whatever None h = tt
-  whatever (Some x) h = h x
+-- The captures of these names are passed, behind whose records so many bytes are left in all.
+abbrev pub FindsCaptures : PassedBy → Option (List File) → List (List ℕ) → ℕ → OutletsAt → OutletsAt → Type 0
+FindsCaptures by files captures cut x y =
+    (seen : List PassedCapture) × AllPassed by.setup by.state by.round seen × IfSome files (λ fs. AreFound fs captures seen) × (cut ≡ capped (sum_by (λ c. c.cut) seen))
+    × IsDone by.names by.capture (happened_in (records_of seen)) x y
+
+whatever : {X : Type 0} {P : X → Type 0} (o : Option X) → ((x : X) → P x) → IfSome o P
+whatever None h = tt
+whatever (Some x) h = h x
+
+pub captures-none : (by : PassedBy) (files : Option (List File)) (x : OutletsAt) → FindsCaptures by files [] 0 x x
+captures-none by files x = ([], λ k c lt. absurd (omega (arith, lt)), whatever files (λ fs. refl), refl, done-nothing by.names by.capture x)
 
 -- one capture more
-pub captures-more : (d : SetupData) (s : State) (round : List ℕ) (files files' : Option (List File)) (names : List (List ℕ)) (sends : List (List ℕ)) (capture : Option ℕ) (i : ℕ) (name : List ℕ)
-    (cut more cut' : ℕ) (x y z : OutletsAt) → i < length names → name ≡ get_or names i name → files' ≡ files → HasFound d s round files (take i names) sends capture cut x y → ((n : ℕ) → cut ≡ capped n → cut' ≡ capped (n + more))
-    → (c : PassedCapture) × (c.cut ≡ more) × ArePassed d s round c.head c.passed × IfSome files' (λ fs. IsFound fs name c) × IsDone sends capture (happened_in c.passed) y z
-    → HasFound d s round files (take (i + 1) names) sends capture cut' x z
-captures-more d s round files files' names sends capture i name cut more cut' x y z lt is same h next (c, own, passed, found, done) =
-    let seen : List PassedCapture = h.seen ++ c ∷ [] in
-    let names-more : take i names ++ name ∷ [] ≡ take (i + 1) names = ap (λ n. take i names ++ n ∷ []) is ∙ sym ((take_at_read names i name lt).1) in
-    let sums : sum_by (λ (k : PassedCapture). k.cut) seen ≡ sum_by (λ (k : PassedCapture). k.cut) h.seen + more =
-    sum_by-append (λ (k : PassedCapture). k.cut) h.seen (c ∷ []) ∙ omega (arith, own) in
-    let records : records_of h.seen ++ c.passed ≡ records_of seen =
-    sym (flat_map-append (λ (k : PassedCapture). k.passed) h.seen (c ∷ []) ∙ ap (λ ps. records_of h.seen ++ ps) (append-nil c.passed)) in
-    record {
-      seen = seen;
-      passed = All-append (λ (k : PassedCapture). ArePassed d s round k.head k.passed) h.seen (c ∷ []) h.passed (one-all (λ (k : PassedCapture). ArePassed d s round k.head k.passed) c passed);
-      found = subst (λ (ns : List (List ℕ)). IfSome files (λ fs. AreFound fs ns seen)) names-more
-          (both_told (λ fs. AreFound fs (take i names) h.seen) (λ fs. IsFound fs name c) (λ fs. AreFound fs (take i names ++ name ∷ []) seen) files h.found
-          (subst (λ (fs : Option (List File)). IfSome fs (λ f. IsFound f name c)) same found) (λ fs are own. found-more fs (take i names) h.seen name c are own));
-      cut_is = next (sum_by (λ (k : PassedCapture). k.cut) h.seen) h.cut_is ∙ ap (λ n. capped n) (sym sums);
-      done = subst (λ (ps : List Passed). IsDone sends capture (happened_in ps) x z) records
-          (subst (λ h'. IsDone sends capture h' x z) (happened-then (records_of h.seen) c.passed)
-          (done-then sends capture (happened_in (records_of h.seen)) (happened_in c.passed) x y z h.done done));
-    }
+pub captures-more : (by : PassedBy) (files : Option (List File)) (captures : List (List ℕ)) (name : List ℕ) (cut more cut' : ℕ) (x y z : OutletsAt) → FindsCaptures by files captures cut x y
+    → ((n : ℕ) → cut ≡ capped n → cut' ≡ capped (n + more)) → FindsCapture by files name more y z → FindsCaptures by files (captures ++ name ∷ []) cut' x z
+captures-more by files captures name cut more cut' x y z (old, are, named, cut_is, did) next (c, own, passed, found, done) =
+    let seen : List PassedCapture = old ++ c ∷ [] in
+    let Passes = λ (k : PassedCapture). ArePassed by.setup by.state by.round k.head k.passed in
+    let sums : sum_by (λ (k : PassedCapture). k.cut) seen ≡ sum_by (λ (k : PassedCapture). k.cut) old + more = sum_by-append (λ (k : PassedCapture). k.cut) old (c ∷ []) ∙ omega (arith, own) in
+    let records : records_of old ++ c.passed ≡ records_of seen =
+    sym (flat_map-append (λ (k : PassedCapture). k.passed) old (c ∷ []) ∙ ap (λ ps. records_of old ++ ps) (append-nil c.passed)) in (
+      seen,
+      All-append Passes old (c ∷ []) are (one-all Passes c passed),
+      both_told (λ fs. AreFound fs captures old) (λ fs. IsFound fs name c) (λ fs. AreFound fs (captures ++ name ∷ []) seen) files named found
+          (λ fs these this. found-more fs captures old name c these this),
+      next (sum_by (λ (k : PassedCapture). k.cut) old) cut_is ∙ ap (λ n. capped n) (sym sums),
+      subst (λ (ps : List Passed). IsDone by.names by.capture (happened_in ps) x z) records
+          (subst (λ h. IsDone by.names by.capture h x z) (happened-then (records_of old) c.passed)
+          (done-then by.names by.capture (happened_in (records_of old)) (happened_in c.passed) x y z did done)),
+    )
+
+-- the names so far, with one more
+pub names-more : (names : List (List ℕ)) (i : ℕ) (name : List ℕ) → i < length names → name ≡ get_or names i name → take i names ++ name ∷ [] ≡ take (i + 1) names
+names-more names i name lt is = ap (λ n. take i names ++ n ∷ []) is ∙ sym ((take_at_read names i name lt).1)
 
 -- ---- one capture
 
 -- What passing a capture gives, behind whose records so many bytes are left.
-abbrev pub PassesCapture : SetupData → State → List ℕ → List (List ℕ) → Option ℕ → Option (List ℕ) → ℕ → OutletsAt → OutletsAt → Type 0
-PassesCapture d s round names capture whole cut x y =
-    (seen : PassedCapture) × (seen.cut ≡ cut) × ArePassed d s round seen.head seen.passed × IfSome whole (λ file. IsCaptureOf file seen) × IsDone names capture (happened_in seen.passed) x y
+abbrev pub PassesCapture : PassedBy → Option (List ℕ) → ℕ → OutletsAt → OutletsAt → Type 0
+PassesCapture by whole cut x y =
+    (seen : PassedCapture) × (seen.cut ≡ cut) × ArePassed by.setup by.state by.round seen.head seen.passed × IfSome whole (λ file. IsCaptureOf file seen)
+    × IsDone by.names by.capture (happened_in seen.passed) x y
 
-pub capture-whole : (d : SetupData) (s : State) (round : List ℕ) (names : List (List ℕ)) (capture : Option ℕ) (whole left : Option (List ℕ)) (head : Head) (cut : ℕ) (x y : OutletsAt)
-    → IfSome whole (λ file. IsHead file head × (left ≡ Some (drop 24 file))) → PassesAll d s round head names capture left cut x y → PassesCapture d s round names capture whole cut x y
-capture-whole d s round names capture whole left head cut x y header (passed, are, records, done) = (
+pub capture-whole : (by : PassedBy) (whole left : Option (List ℕ)) (head : Head) (cut : ℕ) (x y : OutletsAt) → IfSome whole (λ file. IsHead file head × (left ≡ Some (drop 24 file)))
+    → PassesAll by head left cut x y → PassesCapture by whole cut x y
+capture-whole by whole left head cut x y header (passed, are, records, done) = (
   record { head = head; passed = passed; cut = cut },
   refl,
   are,
@@ -97,19 +93,11 @@ named : (files : Option (List File)) (name : List ℕ) (left : Option (List ℕ)
 named None name left c whole is = tt
 named (Some files) name left c (bytes, found, told) is = (bytes, found, at_told (λ file. IsCaptureOf file c) left bytes told is)
 
-pub named-whole : (d : SetupData) (s : State) (round : List ℕ) (names : List (List ℕ)) (capture : Option ℕ) (files : Option (List File)) (name : List ℕ) (left : Option (List ℕ)) (cut : ℕ) (x y : OutletsAt)
-    → IsWholeFile files name left → PassesCapture d s round names capture left cut x y
-    → (seen : PassedCapture) × (seen.cut ≡ cut) × ArePassed d s round seen.head seen.passed × IfSome files (λ fs. IsFound fs name seen) × IsDone names capture (happened_in seen.passed) x y
-named-whole d s round names capture files name left cut x y whole (seen, own, are, found, done) = (seen, own, are, named files name left seen whole found, done)
+pub named-whole : (by : PassedBy) (files : Option (List File)) (name : List ℕ) (left : Option (List ℕ)) (cut : ℕ) (x y : OutletsAt) → IsWholeFile files name left → PassesCapture by left cut x y
+    → FindsCapture by files name cut x y
+named-whole by files name left cut x y whole (seen, own, are, found, done) = (seen, own, are, named files name left seen whole found, done)
 
 -- all captures
-pub captures-all : (d : SetupData) (s : State) (round : List ℕ) (files : Option (List File)) (names sends : List (List ℕ)) (capture : Option ℕ) (i cut : ℕ) (x y : OutletsAt) → length names ≤ i
-    → HasFound d s round files (take i names) sends capture cut x y
-    → (seen : List PassedCapture) × AllPassed d s round seen × IfSome files (λ fs. AreFound fs names seen) × (cut ≡ capped (sum_by (λ c. c.cut) seen)) × IsDone sends capture (happened_in (records_of seen)) x y
-captures-all d s round files names sends capture i cut x y le h = (
-  h.seen,
-  h.passed,
-  subst (λ (ns : List (List ℕ)). IfSome files (λ fs. AreFound fs ns h.seen)) (take_all i names le) h.found,
-  h.cut_is,
-  h.done,
-)
+pub captures-all : (by : PassedBy) (files : Option (List File)) (captures : List (List ℕ)) (i cut : ℕ) (x y : OutletsAt) → length captures ≤ i → FindsCaptures by files (take i captures) cut x y
+    → FindsCaptures by files captures cut x y
+captures-all by files captures i cut x y le = subst (λ (ns : List (List ℕ)). FindsCaptures by files ns cut x y) (take_all i captures le)

@@ -1,5 +1,5 @@
 -- What is done, one thing after another.
-use Rattle.std.proofs.Common.{◌≡◌, ◌+◌, ◌<◌, ℕ, zero, suc, Bool, true, false, cond, not, List, [], ◌∷◌, ◌++◌, map, filter, length, Option, Some, None, Err, refl, sym, ap, subst, ◌∙◌, arith, append_assoc, lit<, get_or, take, drop, ◌≤◌, ◌-◌, ◌==◌, ◌⊎◌, inl, inr, ⊎_elim}
+use Rattle.std.proofs.Common.{◌≡◌, ◌+◌, ◌<◌, ℕ, zero, suc, Bool, true, false, cond, not, List, [], ◌∷◌, ◌++◌, map, filter, length, Option, Some, None, Err, refl, sym, ap, subst, ◌∙◌, arith, append_assoc, lit<, get_or, take, drop, ◌≤◌, ◌-◌, ◌==◌, inl, inr, ⊎_elim}
 use Rattle.std.specs.Prelude.{bytes_eq, Any, Contains}
 use Rattle.std.specs.List.{filter_map}
 use Rattle.std.specs.Option.{option_map}
@@ -10,7 +10,9 @@ use Rattle.std.proofs.lemmas.List.{append-nil, length-append, map-append, take_a
 use Rattle.std.proofs.lemmas.List.Elements.{filter-append, filter_map-append, All-append, Contains-append_right, Contains-get_or}
 use Rattle.std.proofs.lemmas.Grind.{flat_map-append, take_at_read}
 use Rattle.spin_table.specs.Setups.{SetupData}
+use Rattle.spin_table.specs.SetupOf.{data_of}
 use Rattle.spin_table.specs.States.{State}
+use Rattle.spin_filter.specs.declared.passing.Passing.{Passing}
 use Rattle.spin_proto.specs.declared.deed.JobCall.{JobCall}
 use Rattle.spin_proto.specs.declared.reply.Reply.{Reply}
 use Rattle.spin_proto.specs.Parts.{trace_in}
@@ -18,7 +20,7 @@ use Rattle.spin_proto.specs.Replies.{IsDeedReply, IsJobReply, calls_left}
 use Rattle.spin_values.specs.declared.values.Value.{Value}
 use Rattle.spin_values.specs.declared.values.Value.TheVariants as value
 use Rattle.spin_word.specs.declared.work.Deed.TheVariants as deed
-use Rattle.spin_filter.specs.Passing.{TakenSeen, Passed, AreJobReplies, IsPassed}
+use Rattle.spin_filter.specs.Passing.{TakenSeen, Passed, raise_with, AreJobReplies, IsPassed}
 use Rattle.spin_proto.specs.declared.reply.Step.{Step}
 use Rattle.spin_proto.specs.declared.reply.Step.TheVariants as step
 use Rattle.spin_endpoint.specs.declared.faults.DeliverFault.{DeliverFault}
@@ -36,6 +38,18 @@ use Rattle.spin_filter.specs.Sending.{is_writer, handed, lost_of, written_by, Is
 use Rattle.spin_filter.specs.Stops.{IsSentIn, IsSentByJob, IsSentAt}
 use Rattle.spin_filter.specs.declared.stop.Stop.{Stop}
 use Rattle.spin_filter.specs.declared.stop.Stop.TheVariants as stop
+
+-- what records are passed by: the setup and the state, the events of a round, the names of endpoints, and the number of
+-- the one that writes a capture
+pub record PassedBy : Type 0 where
+  pub setup : SetupData
+  pub state : State
+  pub round : List ℕ
+  pub names : List (List ℕ)
+  pub capture : Option ℕ
+
+abbrev pub passed_by : {A B C : Type 0} {D : A → Type 0} {E : B → Type 0} {F : C → Type 0} → Passing A B C D E F → PassedBy
+passed_by p = record { setup = data_of p.setup.now; state = p.version.now.state; round = p.round.now; names = p.names.now; capture = p.capture }
 
 -- ---- endpoints
 
@@ -57,7 +71,7 @@ received-then names a b name true object =
     (ap (λ ps. gained ps object) (pieces-then names a b name) ∙ sym (gained_twice (pieces_for names a name) (pieces_for names b name) object))
 received-then names a b name false object = refl
 
-all_received-then : (names : List (List ℕ)) (a b : List SentSeen) (ends : List NamedEnd) → all_received names (a ++ b) ends ≡ all_received names b (all_received names a ends)
+pub all_received-then : (names : List (List ℕ)) (a b : List SentSeen) (ends : List NamedEnd) → all_received names (a ++ b) ends ≡ all_received names b (all_received names a ends)
 all_received-then names a b [] = refl
 all_received-then names a b (end ∷ ends) =
     ap (λ e. e ∷ all_received names (a ++ b) ends) (received-then names a b end.name end.stands end.object)
@@ -375,18 +389,24 @@ jobs-then taken replies r =
     sendings-then taken (steps_of_jobs replies) (job_steps (trace_in r)) ∙ ap (λ ms. sendings taken ms) steps in
     same_happened [] [] _ _ _ _ _ _ [] [] refl steps jobs sends refl
 
+-- These calls of jobs were done, one after another.
+abbrev pub DoesJobs : PassedBy → TakenSeen → List JobCall → OutletsAt → OutletsAt → Type 0
+DoesJobs by taken calls x y = (replies : List Reply) × AreJobReplies by.setup by.state calls replies × IsDone by.names by.capture (happened_in_jobs taken replies) x y
+
+-- That call of a job was done.
+abbrev pub DoesJob : PassedBy → TakenSeen → JobCall → OutletsAt → OutletsAt → Type 0
+DoesJob by taken call x y =
+    (reply : Reply) × IsJobReply by.setup by.state call reply × IsDone by.names by.capture (joined just_job (just_steps taken (job_steps (trace_in reply)))) x y
+
 -- one job more is done
-pub jobs-more : (names : List (List ℕ)) (capture : Option ℕ) (taken : TakenSeen) (d : SetupData) (s : State) (calls : List JobCall) (i : ℕ) (call : JobCall) (x y z : OutletsAt)
-    → i < length calls → call ≡ get_or calls i call
-    → (replies : List Reply) × AreJobReplies d s (take i calls) replies × IsDone names capture (happened_in_jobs taken replies) x y
-    → (reply : Reply) × IsJobReply d s call reply × IsDone names capture (joined just_job (just_steps taken (job_steps (trace_in reply)))) y z
-    → (replies : List Reply) × AreJobReplies d s (take (i + 1) calls) replies × IsDone names capture (happened_in_jobs taken replies) x z
-jobs-more names capture taken d s calls i call x y z lt is (replies, answer, done) (reply, own, did) = (
+pub jobs-more : (by : PassedBy) (taken : TakenSeen) (calls : List JobCall) (i : ℕ) (call : JobCall) (x y z : OutletsAt) → i < length calls → call ≡ get_or calls i call
+    → DoesJobs by taken (take i calls) x y → DoesJob by taken call y z → DoesJobs by taken (take (i + 1) calls) x z
+jobs-more by taken calls i call x y z lt is (replies, answer, done) (reply, own, did) = (
   replies ++ reply ∷ [],
-  subst (λ (cs : List JobCall). AreJobReplies d s cs (replies ++ reply ∷ []))
-      (ap (λ c. take i calls ++ c ∷ []) is ∙ sym ((take_at_read calls i call lt).1)) (replies-more d s (take i calls) replies call reply answer own),
-  subst (λ (h : Happened). IsDone names capture h x z) (jobs-then taken replies reply)
-      (done-then names capture (happened_in_jobs taken replies) (joined just_job (just_steps taken (job_steps (trace_in reply)))) x y z done did),
+  subst (λ (cs : List JobCall). AreJobReplies by.setup by.state cs (replies ++ reply ∷ []))
+      (ap (λ c. take i calls ++ c ∷ []) is ∙ sym ((take_at_read calls i call lt).1)) (replies-more by.setup by.state (take i calls) replies call reply answer own),
+  subst (λ (h : Happened). IsDone by.names by.capture h x z) (jobs-then taken replies reply)
+      (done-then by.names by.capture (happened_in_jobs taken replies) (joined just_job (just_steps taken (job_steps (trace_in reply)))) x y z done did),
 ) where
   replies-more : (d : SetupData) (s : State) (calls : List JobCall) (replies : List Reply) (call : JobCall) (reply : Reply) → AreJobReplies d s calls replies → IsJobReply d s call reply
       → AreJobReplies d s (calls ++ call ∷ []) (replies ++ reply ∷ [])
@@ -394,14 +414,11 @@ jobs-more names capture taken d s calls i call x y z lt is (replies, answer, don
   replies-more d s (c ∷ calls) replies call reply (r, others, first, are, rest) own =
       (r, others ++ reply ∷ [], first, ap (λ rs. rs ++ reply ∷ []) are, replies-more d s calls others call reply rest own)
 
-pub no-jobs : (names : List (List ℕ)) (capture : Option ℕ) (taken : TakenSeen) (d : SetupData) (s : State) (x : OutletsAt)
-    → (replies : List Reply) × AreJobReplies d s [] replies × IsDone names capture (happened_in_jobs taken replies) x x
-no-jobs names capture taken d s x = ([], refl, done-nothing names capture x)
+pub no-jobs : (by : PassedBy) (taken : TakenSeen) (x : OutletsAt) → DoesJobs by taken [] x x
+no-jobs by taken x = ([], refl, done-nothing by.names by.capture x)
 
-pub jobs-all : (names : List (List ℕ)) (capture : Option ℕ) (taken : TakenSeen) (d : SetupData) (s : State) (calls : List JobCall) (i : ℕ) (x y : OutletsAt) → length calls ≤ i
-    → (replies : List Reply) × AreJobReplies d s (take i calls) replies × IsDone names capture (happened_in_jobs taken replies) x y
-    → (replies : List Reply) × AreJobReplies d s calls replies × IsDone names capture (happened_in_jobs taken replies) x y
-jobs-all names capture taken d s calls i x y le (replies, answer, done) = (replies, subst (λ (cs : List JobCall). AreJobReplies d s cs replies) (take_all i calls le) answer, done)
+pub jobs-all : (by : PassedBy) (taken : TakenSeen) (calls : List JobCall) (i : ℕ) (x y : OutletsAt) → length calls ≤ i → DoesJobs by taken (take i calls) x y → DoesJobs by taken calls x y
+jobs-all by taken calls i x y le (replies, answer, done) = (replies, subst (λ (cs : List JobCall). AreJobReplies by.setup by.state cs replies) (take_all i calls le) answer, done)
 
 -- a whole record: its outcome, its steps, its jobs
 pub record-done : (names : List (List ℕ)) (capture : Option ℕ) (passed : Passed) (w x y z : OutletsAt) → IsDone names capture (just_outcome (outcome_of passed.reply)) w x
@@ -416,34 +433,27 @@ record-done names capture passed w x y z p q r =
     (done-then names capture (just_outcome (outcome_of passed.reply)) (just_steps taken later) w x y p q) r)
 
 -- one job
-pub job-one : (names : List (List ℕ)) (capture : Option ℕ) (taken : TakenSeen) (d : SetupData) (s : State) (call : JobCall) (reply : Reply) (steps : List Step) (x y z : OutletsAt)
-    → IsJobReply d s call reply → steps ≡ trace_in reply → IsDone names capture just_job x y → IsDone names capture (just_steps taken (job_steps steps)) y z
-    → (r : Reply) × IsJobReply d s call r × IsDone names capture (joined just_job (just_steps taken (job_steps (trace_in r)))) x z
-job-one names capture taken d s call reply steps x y z answer is p q = (
+pub job-one : (by : PassedBy) (taken : TakenSeen) (call : JobCall) (reply : Reply) (steps : List Step) (x y z : OutletsAt) → IsJobReply by.setup by.state call reply → steps ≡ trace_in reply
+    → IsDone by.names by.capture just_job x y → IsDone by.names by.capture (just_steps taken (job_steps steps)) y z → DoesJob by taken call x z
+job-one by taken call reply steps x y z answer is p q = (
   reply,
   answer,
-  done-then names capture just_job (just_steps taken (job_steps (trace_in reply))) x y z p
-      (subst (λ (ss : List Step). IsDone names capture (just_steps taken (job_steps ss)) y z) is q),
+  done-then by.names by.capture just_job (just_steps taken (job_steps (trace_in reply))) x y z p
+      (subst (λ (ss : List Step). IsDone by.names by.capture (just_steps taken (job_steps ss)) y z) is q),
 )
 
-pub record-whole : (names : List (List ℕ)) (capture : Option ℕ) (taken : TakenSeen) (d : SetupData) (s : State) (event : ℕ) (args : List Value) (reply seen : Reply) (outcome : ℕ) (steps : List Step)
-    (calls : List JobCall) (w x y z : OutletsAt) → args ≡ value.Bytes taken.packet.frame ∷ [] → IsDeedReply d s (deed.Raise event args) reply → seen ≡ reply → outcome ≡ outcome_of seen
-    → steps ≡ trace_in seen → calls ≡ calls_left seen
-    → IsDone names capture (just_outcome outcome) w x → IsDone names capture (just_steps taken (later_steps steps)) x y
-    → (replies : List Reply) × AreJobReplies d s calls replies × IsDone names capture (happened_in_jobs taken replies) y z
-    → (passed : Passed) × (passed.taken ≡ taken) × IsPassed d s event passed × IsDone names capture (happened_at passed) w z
-record-whole names capture taken d s event args reply seen outcome steps calls w x y z told answer view out is left p q (replies, answers, r) =
-    let passed : Passed = record { taken = taken; reply = reply; jobs = replies } in (
-      passed,
-      refl,
-      record {
-        reply = subst (λ (vs : List Value). IsDeedReply d s (deed.Raise event vs) reply) told answer;
-        jobs = subst (λ (cs : List JobCall). AreJobReplies d s cs replies) (left ∙ ap calls_left view) answers;
-      },
-      record-done names capture passed w x y z
-          (subst (λ (n : ℕ). IsDone names capture (just_outcome n) w x) (out ∙ ap outcome_of view) p)
-          (subst (λ (ss : List Step). IsDone names capture (just_steps taken (later_steps ss)) x y) (is ∙ ap trace_in view) q) r,
-    )
+-- the reply to a raise with these bytes, as it is seen
+pub raise-seen : (d : SetupData) (s : State) (event : ℕ) (frame : List ℕ) (args : List Value) (reply seen : Reply) → args ≡ value.Bytes frame ∷ [] → IsDeedReply d s (deed.Raise event args) reply → seen ≡ reply
+    → IsDeedReply d s (raise_with event frame) seen
+raise-seen d s event frame args reply seen told answer view =
+    subst (λ (r : Reply). IsDeedReply d s (raise_with event frame) r) (sym view) (subst (λ (vs : List Value). IsDeedReply d s (deed.Raise event vs) reply) told answer)
+
+pub record-whole : (by : PassedBy) (taken : TakenSeen) (event : ℕ) (reply : Reply) (w x y z : OutletsAt) → IsDeedReply by.setup by.state (raise_with event taken.packet.frame) reply
+    → IsDone by.names by.capture (just_outcome (outcome_of reply)) w x → IsDone by.names by.capture (just_steps taken (later_steps (trace_in reply))) x y → DoesJobs by taken (calls_left reply) y z
+    → (passed : Passed) × (passed.taken ≡ taken) × IsPassed by.setup by.state event passed × IsDone by.names by.capture (happened_at passed) w z
+record-whole by taken event reply w x y z answer p q (replies, answers, r) =
+    let passed : Passed = record { taken = taken; reply = reply; jobs = replies } in
+    (passed, refl, record { reply = answer; jobs = answers }, record-done by.names by.capture passed w x y z p q r)
 
 -- ---- the kinds of sends that may be refused
 
@@ -484,24 +494,29 @@ pub sent-jobs : (taken : TakenSeen) (d : SetupData) (st : State) (calls : List J
     → Within (IsOf taken (λ s. IsSentByJob d st s call)) (IsOf taken (λ s. Any (IsSentByJob d st s) calls))
 sent-jobs taken d st calls i call lt at s (same, is) = (same, (i, call, lt, sym at, is))
 
--- a send of a record: of its raise, or of a job
-at-record : (taken : TakenSeen) (d : SetupData) (st : State) (event : ℕ) (args : List Value) (reply seen : Reply) (s : Sending) → s.taken ≡ taken → args ≡ value.Bytes taken.packet.frame ∷ []
-    → IsDeedReply d st (deed.Raise event args) reply → seen ≡ reply → IsSentIn (trace_in seen) s ⊎ Any (IsSentByJob d st s) (calls_left seen) → IsSentAt d st event s
-at-record taken d st event args reply seen s same told answer view sent = record {
-  reply = reply;
-  raised = subst (λ (vs : List Value). IsDeedReply d st (deed.Raise event vs) reply) (told ∙ ap (λ (t : TakenSeen). value.Bytes t.packet.frame ∷ []) (sym same)) answer;
-  sent = subst (λ (r : Reply). IsSentIn (trace_in r) s ⊎ Any (IsSentByJob d st s) (calls_left r)) view sent;
-}
+-- a send of a record: of its raise
+pub sent-raise : (taken : TakenSeen) (d : SetupData) (st : State) (event : ℕ) (reply : Reply) (steps : List Step) → IsDeedReply d st (raise_with event taken.packet.frame) reply → steps ≡ trace_in reply
+    → Within (IsOf taken (IsSentIn steps)) (IsOf taken (IsSentAt d st event))
+sent-raise taken d st event reply steps answer is s (same, there) = (
+  same,
+  record {
+    reply = reply;
+    raised = subst (λ (t : TakenSeen). IsDeedReply d st (raise_with event t.packet.frame) reply) (sym same) answer;
+    sent = inl (subst (λ (ss : List Step). IsSentIn ss s) is there);
+  },
+)
 
-pub sent-raise : (taken : TakenSeen) (d : SetupData) (st : State) (event : ℕ) (args : List Value) (reply seen : Reply) (steps : List Step) → args ≡ value.Bytes taken.packet.frame ∷ []
-    → IsDeedReply d st (deed.Raise event args) reply → seen ≡ reply → steps ≡ trace_in seen → Within (IsOf taken (IsSentIn steps)) (IsOf taken (IsSentAt d st event))
-sent-raise taken d st event args reply seen steps told answer view is s (same, there) =
-    (same, at-record taken d st event args reply seen s same told answer view (inl (subst (λ (ss : List Step). IsSentIn ss s) is there)))
-
-pub sent-later : (taken : TakenSeen) (d : SetupData) (st : State) (event : ℕ) (args : List Value) (reply seen : Reply) (calls : List JobCall) → args ≡ value.Bytes taken.packet.frame ∷ []
-    → IsDeedReply d st (deed.Raise event args) reply → seen ≡ reply → calls ≡ calls_left seen → Within (IsOf taken (λ s. Any (IsSentByJob d st s) calls)) (IsOf taken (IsSentAt d st event))
-sent-later taken d st event args reply seen calls told answer view is s (same, there) =
-    (same, at-record taken d st event args reply seen s same told answer view (inr (subst (λ (cs : List JobCall). Any (IsSentByJob d st s) cs) is there)))
+-- or of a job that this leaves
+pub sent-later : (taken : TakenSeen) (d : SetupData) (st : State) (event : ℕ) (reply : Reply) (calls : List JobCall) → IsDeedReply d st (raise_with event taken.packet.frame) reply → calls ≡ calls_left reply
+    → Within (IsOf taken (λ s. Any (IsSentByJob d st s) calls)) (IsOf taken (IsSentAt d st event))
+sent-later taken d st event reply calls answer is s (same, there) = (
+  same,
+  record {
+    reply = reply;
+    raised = subst (λ (t : TakenSeen). IsDeedReply d st (raise_with event t.packet.frame) reply) (sym same) answer;
+    sent = inr (subst (λ (cs : List JobCall). Any (IsSentByJob d st s) cs) is there);
+  },
+)
 
 -- ---- stops
 
@@ -544,6 +559,11 @@ pub stop-here : (names : List (List ℕ)) (capture : Option ℕ) (Kind Other : S
     → StopsSending names capture Kind y z why → StopsSending names capture Other x z why
 stop-here names capture Kind Other x y z why within ends sink is =
     stop-after names capture Kind Other [] x y z why within (quiet-sent names capture x y ends sink) (ap (λ k. k.faults) sink) is
+
+-- a stop at a send of one kind is one at a send of a wider one
+pub stop-wider : (names : List (List ℕ)) (capture : Option ℕ) (Kind Other : Sending → Type 0) (x y : OutletsAt) (why : Stop) → Within Kind Other → StopsSending names capture Kind x y why
+    → StopsSending names capture Other x y why
+stop-wider names capture Kind Other x y why within is = stop-here names capture Kind Other x x y why within refl refl is
 
 -- a send that isn't written
 pub stop-put : (names : List (List ℕ)) (capture : Option ℕ) (s : Sending) (x y : OutletsAt) (why : Stop) → is_writer capture s.sent.endpoint ≡ true → y.ends ≡ x.ends

@@ -16,7 +16,7 @@ head-held : (held : List ℕ) (a b : Option (List ℕ)) (head : Head) → Consum
     → IfSome a (λ file. IsHead file head × (left_for (drop 24 held) b ≡ Some (drop 24 file)))
 head-held held None b head c is h = tt
 head-held held (Some file) b head c is h =
-    let more = consumed [] held file (Some file) b refl c in
+    let more = consumed (Some file) b held file refl c in
     let long : 24 ≤ length held = header-long held head.order is.order in
     let at : (place : ℕ) → place + 4 ≤ 24 → ordered_number_at head.order place 4 held ≡ ordered_number_at head.order place 4 file =
     λ place le. sym (number_at-front head.order place 4 held more.0 (omega (arith, le, long))) ∙ ap (λ bytes. ordered_number_at head.order place 4 bytes) (sym more.2) in (

@@ -1,35 +1,31 @@
 -- Why records are passed no further, from the inner calls to the outer ones.
-use Rattle.std.proofs.Common.{◌≡◌, ◌<◌, ◌≤◌, ◌+◌, ◌-◌, ◌^◌, ◌==◌, ℕ, Bool, true, false, cond, not, List, [], length, drop, get_or, Option, Some, None, Result, Ok, Err, IfSome, refl, sym, ap, subst, ◌∙◌, arith, inl, inr}
+use Rattle.std.proofs.Common.{◌≡◌, ◌<◌, ◌+◌, ◌-◌, ◌^◌, ◌==◌, ℕ, Bool, true, false, cond, not, List, [], length, drop, get_or, Option, Some, None, Result, Ok, Err, IfSome, refl, sym, ap, subst, ◌∙◌, arith, inl, inr}
 use Rattle.std.specs.Prelude.{nat_lt, ⊤, IfErr, MatchResult}
 use Rattle.std.specs.Result.{IsErrAnd}
 use Rattle.std.proofs.lemmas.List.{append-nil, length-append, get_or_default}
 use Rattle.spin_outside.specs.Counts.{Rose}
 use Rattle.spin_outside.specs.Files.{File, IsWholeFile, IsLacking}
-use Rattle.spin_outside.specs.Seen.{ShelfSeen, SinkSeen}
-use Rattle.spin_endpoint.specs.Named.{NamedEnd, FailsAt, stands}
-use Rattle.spin_endpoint.specs.Sends.{name_of, all_received}
-use Rattle.spin_outside.specs.Sources.{SourceSeen}
-use Rattle.spin_pcap.specs.declared.limits.TheConstants.{MAX_CAPTURED}
+use Rattle.spin_outside.specs.Seen.{ShelfSeen}
 use Rattle.spin_pcap.specs.declared.fault.PcapFault.{PcapFault}
 use Rattle.spin_pcap.specs.declared.fault.PcapFault.TheVariants as fault
 use Rattle.spin_pcap.specs.Captures.{captured_length, fields_of, order_of, header_of, is_version, ordered_number_at}
-use Rattle.spin_pcap.specs.Passing.{Passes, UnlessFailed, FaultByCount, left_for}
+use Rattle.spin_pcap.specs.Passing.{UnlessFailed, FaultByCount}
 use Rattle.spin_pcap.proofs.CaptureRecords.{at_told, told_more}
 use Rattle.spin_pcap.proofs.WholeRecords.{number_at-front}
 use Rattle.spin_frames.specs.declared.head.Head.{Head}
 use Rattle.spin_pcap.specs.declared.order.Order.{Order}
 use Rattle.spin_frames.specs.Heads.{IsHead}
-use Rattle.spin_frames.specs.Packets.{Packet, ArePackets, Finds}
+use Rattle.spin_frames.specs.Packets.{Packet, ArePackets}
 use Rattle.spin_table.specs.Setups.{SetupData}
 use Rattle.spin_table.specs.States.{State}
 use Rattle.spin_filter.specs.declared.stop.Stop.{Stop}
 use Rattle.spin_filter.specs.declared.stop.Stop.TheVariants as stop
-use Rattle.spin_filter.specs.Counting.{Happened, Sending}
-use Rattle.spin_filter.specs.Inner.Stopping.{StandsBehind, StandsInFile, StandsNamed, StopsHeader, StopsRecords, StopsCapture, StopsNamed}
-use Rattle.spin_filter.specs.Sending.{OutletsAt, AreSent, IsDone, IsNoFrame, StopsSending}
-use Rattle.spin_filter.specs.Stops.{stop_at, IsBadRecord, IsBadCapture, IsBadNamed, StandsAt, IsRecordOf, IsRecordNamed, IsSentFrom, StandsIn, StopsPass}
-use Rattle.spin_filter.proofs.Doings.{Within, stop-behind, stop-here}
-use Rattle.spin_filter.proofs.RecordsRead.{HasRead, consumed}
+use Rattle.spin_filter.specs.Counting.{Sending}
+use Rattle.spin_filter.specs.Inner.Stopping.{StandsBehind, StandsInFile, StandsNamed, StandsStill, StopsReading, StopsHeader, record_causes, capture_causes, named_causes}
+use Rattle.spin_filter.specs.Sending.{OutletsAt, StopsSending}
+use Rattle.spin_filter.specs.Stops.{Causes, StopsBy, pass_causes, stop_at, IsBadRecord, IsBadCapture, IsBadNamed, StandsAt, IsRecordOf, IsRecordNamed, IsSentFrom, StandsIn}
+use Rattle.spin_filter.proofs.Doings.{Within}
+use Rattle.spin_filter.proofs.RecordsRead.{HasRead, FindsAt, consumed}
 
 -- ---- the exit of a `?`
 
@@ -45,41 +41,93 @@ err-if (Err f) e Q is q = subst Q (sym is) q
 pub moved : {A : Type 0} (P : A → Type 0) (a b : A) → P a → b ≡ a → P b
 moved P a b p same = subst P (sym same) p
 
--- ---- a stop at a send of one kind is one at a send of a wider one
+-- ---- causes that give others
 
-pub stop-wider : (names : List (List ℕ)) (capture : Option ℕ) (Kind Other : Sending → Type 0) (x y : OutletsAt) (why : Stop) → Within Kind Other → StopsSending names capture Kind x y why
-    → StopsSending names capture Other x y why
-stop-wider names capture Kind Other x y why within is = stop-here names capture Kind Other x x y why within refl refl is
+pub record Gives (a b : Causes) : Type 0 where
+  pub unread : a.unread → b.unread
+  pub absent : a.absent → b.absent
+  pub refused : (number : ℕ) (wrong : PcapFault) → a.refused number wrong → b.refused number wrong
+  pub sending : (why : Stop) → a.sending why → b.sending why
+
+pub stops-as : {a b : Causes} → Gives a b → (why : Stop) → StopsBy a why → StopsBy b why
+stops-as g stop.Unread is = g.unread is
+stops-as g stop.Absent is = g.absent is
+stops-as g (stop.Capture number wrong) is = g.refused number wrong is
+stops-as g (stop.Endpoint number) is = g.sending (stop.Endpoint number) is
+stops-as g (stop.NoFrame number) is = g.sending (stop.NoFrame number) is
+stops-as g stop.WriteFault is = g.sending stop.WriteFault is
+stops-as g stop.NoMemory is = g.sending stop.NoMemory is
+stops-as g stop.Retires is = g.sending stop.Retires is
+stops-as g stop.Segments is = g.sending stop.Segments is
+stops-as g (stop.Lane number) is = g.sending (stop.Lane number) is
+stops-as g (stop.InTheWay number) is = g.sending (stop.InTheWay number) is
+stops-as g stop.NoRecords is = g.sending stop.NoRecords is
+
+-- the same but for sends
+pub but-sending : (a : Causes) (Sends : Stop → Type 0) → ((why : Stop) → a.sending why → Sends why) → Gives a (record a { sending = Sends })
+but-sending a Sends f = record { unread = λ u. u; absent = λ n. n; refused = λ number wrong r. r; sending = f }
+
+-- what stops reading
+pub stops-reading : (a : Causes) → a.sending stop.NoMemory → (why : Stop) → StopsReading a.unread a.refused why → StopsBy a why
+stops-reading a memory stop.Unread is = is
+stops-reading a memory stop.Absent is = absurd is
+stops-reading a memory (stop.Capture number wrong) is = is
+stops-reading a memory (stop.Endpoint number) is = absurd is
+stops-reading a memory (stop.NoFrame number) is = absurd is
+stops-reading a memory stop.WriteFault is = absurd is
+stops-reading a memory stop.NoMemory is = memory
+stops-reading a memory stop.Retires is = absurd is
+stops-reading a memory stop.Segments is = absurd is
+stops-reading a memory (stop.Lane number) is = absurd is
+stops-reading a memory (stop.InTheWay number) is = absurd is
+stops-reading a memory stop.NoRecords is = absurd is
+
+-- what stops a send
+pub stops-sending : (names : List (List ℕ)) (capture : Option ℕ) (Kind : Sending → Type 0) (x y : OutletsAt) (a : Causes) → ((why : Stop) → StopsSending names capture Kind x y why → a.sending why)
+    → (why : Stop) → StopsSending names capture Kind x y why → StopsBy a why
+stops-sending names capture Kind x y a gives stop.Unread is = absurd is
+stops-sending names capture Kind x y a gives stop.Absent is = absurd is
+stops-sending names capture Kind x y a gives (stop.Capture number wrong) is = absurd is
+stops-sending names capture Kind x y a gives (stop.Endpoint number) is = gives (stop.Endpoint number) is
+stops-sending names capture Kind x y a gives (stop.NoFrame number) is = gives (stop.NoFrame number) is
+stops-sending names capture Kind x y a gives stop.WriteFault is = gives stop.WriteFault is
+stops-sending names capture Kind x y a gives stop.NoMemory is = gives stop.NoMemory is
+stops-sending names capture Kind x y a gives stop.Retires is = absurd is
+stops-sending names capture Kind x y a gives stop.Segments is = absurd is
+stops-sending names capture Kind x y a gives (stop.Lane number) is = absurd is
+stops-sending names capture Kind x y a gives (stop.InTheWay number) is = absurd is
+stops-sending names capture Kind x y a gives stop.NoRecords is = absurd is
 
 -- ---- a bad record
 
 -- behind the records that were read stands one that is too long
-read-bad : (o : Order) (bytes : List ℕ) (packets : List Packet) (held held' : List ℕ) (source source' : SourceSeen) → HasRead o bytes packets (left_for held source.left)
-    → Passes [] held source held' source' → 16 ≤ length held' → MAX_CAPTURED < captured_length o held' → ArePackets o bytes packets (Err fault.TooLong)
-read-bad o bytes packets held held' source source' h p there long =
-    let c = consumed held held' h.rest source.left source'.left h.told p.left in
-    let says : captured_length o h.rest ≡ captured_length o held' =
-    ap (λ ys. captured_length o ys) c.2 ∙ number_at-front o 8 4 held' c.0 (omega (arith, there)) in
-    let size : length h.rest ≡ length held' + length c.0 = ap length c.2 ∙ length-append held' c.0 in
+read-bad : (o : Order) (bytes : List ℕ) (packets : List Packet) (left behind : Option (List ℕ)) (held : List ℕ) → HasRead o bytes packets left → FindsAt o left (Err fault.TooLong) held behind
+    → ArePackets o bytes packets (Err fault.TooLong)
+read-bad o bytes packets left behind held h f =
+    let c = consumed left behind held h.rest h.told f.kept in
+    let there = f.finds.0 in
+    let long = f.finds.1 in
+    let says : captured_length o h.rest ≡ captured_length o held =
+    ap (λ ys. captured_length o ys) c.2 ∙ number_at-front o 8 4 held c.0 (omega (arith, there)) in
+    let size : length h.rest ≡ length held + length c.0 = ap length c.2 ∙ length-append held c.0 in
     subst (λ (ps : List Packet). ArePackets o bytes ps (Err fault.TooLong)) (append-nil packets)
     (h.body [] (Err fault.TooLong) (omega arith, omega (arith, size, there), omega (arith, says, long)))
 
 -- a record that isn't found
-pub stop-found : (names : List (List ℕ)) (capture : Option ℕ) (Kind : Sending → Type 0) (o : Order) (number : ℕ) (start : Option (List ℕ)) (packets : List Packet) (held held' : List ℕ) (source source' : SourceSeen) (faults : ℕ)
-    (wrong : PcapFault) (x y : OutletsAt) → IfSome start (λ bytes. HasRead o bytes packets (left_for held source.left)) → length packets ≡ number → source.faults ≡ faults
-    → Finds o (Err wrong) held' source'.left → Passes [] held source held' source' → FaultByCount wrong source.faults source'.faults
-    → StopsRecords names capture Kind o start faults source'.faults x y (stop_at (number + 1) wrong)
-stop-found names capture Kind o number start packets held held' source source' faults fault.ReadFault x y read size same finds passes rose = subst (λ n. Rose n source'.faults) same rose
-stop-found names capture Kind o number start packets held held' source source' faults fault.TooLong x y read size same finds passes rose =
-    told_more (λ bytes. HasRead o bytes packets (left_for held source.left)) (λ bytes. IsBadRecord o bytes (number + 1) fault.TooLong) start read
-    (λ bytes r. (packets, read-bad o bytes packets held held' source source' r passes finds.0 finds.1, ap (λ n. n + 1) (sym size)))
-stop-found names capture Kind o number start packets held held' source source' faults fault.NoMemory x y read size same finds passes rose = tt
-stop-found names capture Kind o number start packets held held' source source' faults fault.BadMagic x y read size same finds passes rose = absurd finds
-stop-found names capture Kind o number start packets held held' source source' faults fault.BadVersion x y read size same finds passes rose = absurd finds
-stop-found names capture Kind o number start packets held held' source source' faults fault.BadLink x y read size same finds passes rose = absurd finds
-stop-found names capture Kind o number start packets held held' source source' faults fault.Short x y read size same finds passes rose = absurd finds
-stop-found names capture Kind o number start packets held held' source source' faults fault.TooManyRecords x y read size same finds passes rose = absurd finds
-stop-found names capture Kind o number start packets held held' source source' faults (fault.Spoilt first) x y read size same finds passes rose = absurd finds
+pub stop-found : (o : Order) (start left behind : Option (List ℕ)) (packets : List Packet) (held : List ℕ) (faults faults' : ℕ) (wrong : PcapFault) → IfSome start (λ bytes. HasRead o bytes packets left)
+    → FindsAt o left (Err wrong) held behind → FaultByCount wrong faults faults'
+    → StopsReading (Rose faults faults') (λ number fault. IfSome start (λ bytes. IsBadRecord o bytes number fault)) (stop_at (length packets + 1) wrong)
+stop-found o start left behind packets held faults faults' fault.ReadFault read f rose = rose
+stop-found o start left behind packets held faults faults' fault.TooLong read f rose =
+    told_more (λ bytes. HasRead o bytes packets left) (λ bytes. IsBadRecord o bytes (length packets + 1) fault.TooLong) start read
+    (λ bytes r. (packets, read-bad o bytes packets left behind held r f, refl))
+stop-found o start left behind packets held faults faults' fault.NoMemory read f rose = tt
+stop-found o start left behind packets held faults faults' fault.BadMagic read f rose = absurd f.finds
+stop-found o start left behind packets held faults faults' fault.BadVersion read f rose = absurd f.finds
+stop-found o start left behind packets held faults faults' fault.BadLink read f rose = absurd f.finds
+stop-found o start left behind packets held faults faults' fault.Short read f rose = absurd f.finds
+stop-found o start left behind packets held faults faults' fault.TooManyRecords read f rose = absurd f.finds
+stop-found o start left behind packets held faults faults' (fault.Spoilt first) read f rose = absurd f.finds
 
 whatever : {X : Type 0} (P : X → Type 0) (o : Option X) → ((x : X) → P x) → IfSome o P
 whatever P None h = tt
@@ -88,22 +136,6 @@ whatever P (Some x) h = h x
 -- a record whose number no count has
 pub stop-many : (o : Order) (start : Option (List ℕ)) → IfSome start (λ bytes. IsBadRecord o bytes (2 ^ 64 - 1) fault.TooManyRecords)
 stop-many o start = whatever (λ bytes. IsBadRecord o bytes (2 ^ 64 - 1) fault.TooManyRecords) start (λ bytes. refl)
-
--- a record whose sends aren't made, behind others
-pub stop-record : (names : List (List ℕ)) (capture : Option ℕ) (Kind Other : Sending → Type 0) (o : Order) (start : Option (List ℕ)) (faults faults' : ℕ) (more : Happened) (x y z : OutletsAt) (why : Stop)
-    → Within Kind Other → IsDone names capture more x y → StopsSending names capture Kind y z why → StopsRecords names capture Other o start faults faults' x z why
-stop-record names capture Kind Other o start faults faults' more x y z stop.Unread within done is = absurd is
-stop-record names capture Kind Other o start faults faults' more x y z (stop.Capture number wrong) within done is = absurd is
-stop-record names capture Kind Other o start faults faults' more x y z (stop.Endpoint number) within done is = stop-behind names capture Kind Other more x y z (stop.Endpoint number) within done is
-stop-record names capture Kind Other o start faults faults' more x y z (stop.NoFrame number) within done is = stop-behind names capture Kind Other more x y z (stop.NoFrame number) within done is
-stop-record names capture Kind Other o start faults faults' more x y z stop.WriteFault within done is = stop-behind names capture Kind Other more x y z stop.WriteFault within done is
-stop-record names capture Kind Other o start faults faults' more x y z stop.NoMemory within done is = tt
-stop-record names capture Kind Other o start faults faults' more x y z stop.Absent within done is = absurd is
-stop-record names capture Kind Other o start faults faults' more x y z stop.Retires within done is = absurd is
-stop-record names capture Kind Other o start faults faults' more x y z stop.Segments within done is = absurd is
-stop-record names capture Kind Other o start faults faults' more x y z (stop.Lane number) within done is = absurd is
-stop-record names capture Kind Other o start faults faults' more x y z (stop.InTheWay number) within done is = absurd is
-stop-record names capture Kind Other o start faults faults' more x y z stop.NoRecords within done is = absurd is
 
 -- ---- a bad header
 
@@ -141,21 +173,23 @@ stop-header file held faults faults' (fault.Spoilt first) is told = (refl, told)
 
 -- ---- one capture
 
-pub capture-header : (names : List (List ℕ)) (capture : Option ℕ) (Kind : Sending → Type 0) (file : Option (List ℕ)) (faults faults' : ℕ) (x y : OutletsAt) (why : Stop) → StopsHeader file faults faults' why
-    → StopsCapture names capture Kind file faults faults' x y why
-capture-header names capture Kind file faults faults' x y stop.Unread is = is
-capture-header names capture Kind file faults faults' x y (stop.Capture number wrong) is =
-    told_more (λ bytes. header_of bytes ≡ Err wrong) (λ bytes. IsBadCapture bytes number wrong) file is.1 (λ bytes bad. inl (is.0, bad))
-capture-header names capture Kind file faults faults' x y (stop.Endpoint number) is = absurd is
-capture-header names capture Kind file faults faults' x y (stop.NoFrame number) is = absurd is
-capture-header names capture Kind file faults faults' x y stop.WriteFault is = absurd is
-capture-header names capture Kind file faults faults' x y stop.NoMemory is = tt
-capture-header names capture Kind file faults faults' x y stop.Absent is = absurd is
-capture-header names capture Kind file faults faults' x y stop.Retires is = absurd is
-capture-header names capture Kind file faults faults' x y stop.Segments is = absurd is
-capture-header names capture Kind file faults faults' x y (stop.Lane number) is = absurd is
-capture-header names capture Kind file faults faults' x y (stop.InTheWay number) is = absurd is
-capture-header names capture Kind file faults faults' x y stop.NoRecords is = absurd is
+-- what stops the header of a capture, with sends
+abbrev pub header_causes : Option (List ℕ) → ℕ → ℕ → (Stop → Type 0) → Causes
+header_causes file faults faults' Sends = record {
+  unread = Rose faults faults';
+  absent = ⊥;
+  refused = λ number wrong. (number ≡ 0) × IfSome file (λ bytes. header_of bytes ≡ Err wrong);
+  sending = Sends;
+}
+
+pub capture-header : (file : Option (List ℕ)) (faults faults' : ℕ) (Sends : Stop → Type 0)
+    → Gives (header_causes file faults faults' Sends) (capture_causes file faults faults' Sends)
+capture-header file faults faults' Sends = record {
+  unread = λ rose. rose;
+  absent = λ none. none;
+  refused = λ number wrong is. told_more (λ bytes. header_of bytes ≡ Err wrong) (λ bytes. IsBadCapture bytes number wrong) file is.1 (λ bytes bad. inl (is.0, bad));
+  sending = λ why is. is;
+}
 
 -- a send at a record of the file
 pub sent-file : (d : SetupData) (s : State) (round : List ℕ) (file left : Option (List ℕ)) (head : Head) → IfSome file (λ bytes. IsHead bytes head × (left ≡ Some (drop 24 bytes)))
@@ -174,23 +208,16 @@ sent-file d s round file left head header send is =
       sent = is.sent;
     }
 
-pub capture-records : (names : List (List ℕ)) (capture : Option ℕ) (Kind Other : Sending → Type 0) (file left : Option (List ℕ)) (head : Head) (faults between faults' : ℕ) (x y : OutletsAt) (why : Stop)
-    → IfSome file (λ bytes. IsHead bytes head × (left ≡ Some (drop 24 bytes))) → between ≡ faults → Within Kind Other → StopsRecords names capture Kind head.order left between faults' x y why
-    → StopsCapture names capture Other file faults faults' x y why
-capture-records names capture Kind Other file left head faults between faults' x y stop.Unread header same within is = subst (λ n. Rose n faults') same is
-capture-records names capture Kind Other file left head faults between faults' x y (stop.Capture number wrong) header same within is =
-    told_more (λ bytes. IsHead bytes head × (left ≡ Some (drop 24 bytes))) (λ bytes. IsBadCapture bytes number wrong) file header
-    (λ bytes h. inr (head, h.0, at_told (λ rest. IsBadRecord head.order rest number wrong) left (drop 24 bytes) h.1 is))
-capture-records names capture Kind Other file left head faults between faults' x y (stop.Endpoint number) header same within is = is
-capture-records names capture Kind Other file left head faults between faults' x y (stop.NoFrame number) header same within is = stop-wider names capture Kind Other x y (stop.NoFrame number) within is
-capture-records names capture Kind Other file left head faults between faults' x y stop.WriteFault header same within is = is
-capture-records names capture Kind Other file left head faults between faults' x y stop.NoMemory header same within is = is
-capture-records names capture Kind Other file left head faults between faults' x y stop.Absent header same within is = is
-capture-records names capture Kind Other file left head faults between faults' x y stop.Retires header same within is = is
-capture-records names capture Kind Other file left head faults between faults' x y stop.Segments header same within is = is
-capture-records names capture Kind Other file left head faults between faults' x y (stop.Lane number) header same within is = is
-capture-records names capture Kind Other file left head faults between faults' x y (stop.InTheWay number) header same within is = is
-capture-records names capture Kind Other file left head faults between faults' x y stop.NoRecords header same within is = is
+pub capture-records : (file left : Option (List ℕ)) (head : Head) (faults between faults' : ℕ) (Sends : Stop → Type 0) → IfSome file (λ bytes. IsHead bytes head × (left ≡ Some (drop 24 bytes)))
+    → between ≡ faults → Gives (record_causes head.order left between faults' Sends) (capture_causes file faults faults' Sends)
+capture-records file left head faults between faults' Sends header same = record {
+  unread = λ rose. subst (λ n. Rose n faults') same rose;
+  absent = λ none. none;
+  refused = λ number wrong is.
+      told_more (λ bytes. IsHead bytes head × (left ≡ Some (drop 24 bytes))) (λ bytes. IsBadCapture bytes number wrong) file header
+      (λ bytes h. inr (head, h.0, at_told (λ rest. IsBadRecord head.order rest number wrong) left (drop 24 bytes) h.1 is));
+  sending = λ why is. is;
+}
 
 -- ---- a capture by its name
 
@@ -207,20 +234,14 @@ sent-named d s round files name left whole send is = record { number = is.number
   in-named None w = tt
   in-named (Some known) (bytes, found, told) = (bytes, found, at_told (λ file. IsRecordOf file is.number send.taken) left bytes told is.stands)
 
-pub named-capture : (names : List (List ℕ)) (capture : Option ℕ) (Kind Other : Sending → Type 0) (name : List ℕ) (shelf shelf' : ShelfSeen) (left : Option (List ℕ)) (faults : ℕ) (x y : OutletsAt) (why : Stop)
-    → IsWholeFile shelf.files name left → faults ≡ shelf.faults → Within Kind Other → StopsCapture names capture Kind left faults shelf'.faults x y why → StopsNamed names capture Other name shelf shelf' x y why
-named-capture names capture Kind Other name shelf shelf' left faults x y stop.Unread whole same within is = subst (λ n. Rose n shelf'.faults) same is
-named-capture names capture Kind Other name shelf shelf' left faults x y (stop.Capture number wrong) whole same within is = bad-named shelf.files name left number wrong whole is
-named-capture names capture Kind Other name shelf shelf' left faults x y (stop.Endpoint number) whole same within is = is
-named-capture names capture Kind Other name shelf shelf' left faults x y (stop.NoFrame number) whole same within is = stop-wider names capture Kind Other x y (stop.NoFrame number) within is
-named-capture names capture Kind Other name shelf shelf' left faults x y stop.WriteFault whole same within is = is
-named-capture names capture Kind Other name shelf shelf' left faults x y stop.NoMemory whole same within is = is
-named-capture names capture Kind Other name shelf shelf' left faults x y stop.Absent whole same within is = absurd is
-named-capture names capture Kind Other name shelf shelf' left faults x y stop.Retires whole same within is = is
-named-capture names capture Kind Other name shelf shelf' left faults x y stop.Segments whole same within is = is
-named-capture names capture Kind Other name shelf shelf' left faults x y (stop.Lane number) whole same within is = is
-named-capture names capture Kind Other name shelf shelf' left faults x y (stop.InTheWay number) whole same within is = is
-named-capture names capture Kind Other name shelf shelf' left faults x y stop.NoRecords whole same within is = is
+pub named-capture : (name : List ℕ) (shelf shelf' : ShelfSeen) (left : Option (List ℕ)) (faults : ℕ) (Sends : Stop → Type 0) → IsWholeFile shelf.files name left → faults ≡ shelf.faults
+    → Gives (capture_causes left faults shelf'.faults Sends) (named_causes name shelf shelf' Sends)
+named-capture name shelf shelf' left faults Sends whole same = record {
+  unread = λ rose. subst (λ n. Rose n shelf'.faults) same rose;
+  absent = λ none. absurd none;
+  refused = λ number wrong is. bad-named shelf.files name left number wrong whole is;
+  sending = λ why is. is;
+}
 
 -- a send at a record of one of the captures
 pub sent-among : (d : SetupData) (s : State) (round : List ℕ) (files files' : Option (List File)) (captures : List (List ℕ)) (i : ℕ) (name : List ℕ) → i < length captures → name ≡ get_or captures i name → files' ≡ files
@@ -231,58 +252,19 @@ sent-among d s round files files' captures i name lt at same send is = record {
   sent = is.sent;
 }
 
--- a capture behind others, on a shelf that has the same files and counts still
-pub pass-named : (names : List (List ℕ)) (capture : Option ℕ) (Kind Other : Sending → Type 0) (captures : List (List ℕ)) (i : ℕ) (name : List ℕ) (shelf shelf' shelf'' : ShelfSeen) (more : Happened) (x y z : OutletsAt) (why : Stop)
-    → i < length captures → name ≡ get_or captures i name → shelf'.files ≡ shelf.files → shelf'.faults ≡ shelf.faults → shelf'.absences ≡ shelf.absences → Within Kind Other → IsDone names capture more x y
-    → StopsNamed names capture Kind name shelf' shelf'' y z why → StopsPass names capture Other captures shelf shelf'' x z why
-pass-named names capture Kind Other captures i name shelf shelf' shelf'' more x y z stop.Unread lt at files faults absences within done is = subst (λ n. Rose n shelf''.faults) faults is
-pass-named names capture Kind Other captures i name shelf shelf' shelf'' more x y z (stop.Capture number wrong) lt at files faults absences within done is = (
-  i,
-  lt,
-  λ d. subst (IsBadNamed shelf.files number wrong) (at ∙ get_or_default captures i name d lt) (subst (λ fs. IsBadNamed fs number wrong name) files is),
-)
-pass-named names capture Kind Other captures i name shelf shelf' shelf'' more x y z stop.Absent lt at files faults absences within done is = (
-  subst (λ n. Rose n shelf''.absences) absences is.0,
-  (i, lt, λ d. subst (IsLacking shelf.files) (at ∙ get_or_default captures i name d lt) (subst (λ fs. IsLacking fs name) files is.1)),
-)
-pass-named names capture Kind Other captures i name shelf shelf' shelf'' more x y z (stop.Endpoint number) lt at files faults absences within done is = stop-behind names capture Kind Other more x y z (stop.Endpoint number) within done is
-pass-named names capture Kind Other captures i name shelf shelf' shelf'' more x y z (stop.NoFrame number) lt at files faults absences within done is = stop-behind names capture Kind Other more x y z (stop.NoFrame number) within done is
-pass-named names capture Kind Other captures i name shelf shelf' shelf'' more x y z stop.WriteFault lt at files faults absences within done is = stop-behind names capture Kind Other more x y z stop.WriteFault within done is
-pass-named names capture Kind Other captures i name shelf shelf' shelf'' more x y z stop.NoMemory lt at files faults absences within done is = tt
-pass-named names capture Kind Other captures i name shelf shelf' shelf'' more x y z stop.Retires lt at files faults absences within done is = is
-pass-named names capture Kind Other captures i name shelf shelf' shelf'' more x y z stop.Segments lt at files faults absences within done is = is
-pass-named names capture Kind Other captures i name shelf shelf' shelf'' more x y z (stop.Lane number) lt at files faults absences within done is = is
-pass-named names capture Kind Other captures i name shelf shelf' shelf'' more x y z (stop.InTheWay number) lt at files faults absences within done is = is
-pass-named names capture Kind Other captures i name shelf shelf' shelf'' more x y z stop.NoRecords lt at files faults absences within done is = is
-
--- the same from outlets that have other counts, by names that are the same
-pub again : (sends names : List (List ℕ)) (capture : Option ℕ) (Kind Other : Sending → Type 0) (captures : List (List ℕ)) (shelf shelf' : ShelfSeen) (x w z : OutletsAt) (why : Stop) → sends ≡ names → x.ends ≡ w.ends → x.sink ≡ w.sink → Within Kind Other
-    → StopsPass sends capture Kind captures shelf shelf' x z why → StopsPass names capture Other captures shelf shelf' w z why
-again sends names capture Kind Other captures shelf shelf' x w z stop.Unread same ends sink within is = is
-again sends names capture Kind Other captures shelf shelf' x w z (stop.Capture number wrong) same ends sink within is = is
-again sends names capture Kind Other captures shelf shelf' x w z stop.Absent same ends sink within is = is
-again sends names capture Kind Other captures shelf shelf' x w z (stop.Endpoint number) same ends sink within is = record {
-  sends = is.sends;
-  standing = subst (λ (ns : List (List ℕ)). stands (name_of ns number) w.ends ≡ true) same (subst (λ (es : List NamedEnd). stands (name_of sends number) es ≡ true) ends is.standing);
-  fails = subst (λ (ns : List (List ℕ)). FailsAt (name_of ns number) (all_received ns is.sends w.ends) z.ends) same
-      (subst (λ (es : List NamedEnd). FailsAt (name_of sends number) (all_received sends is.sends es) z.ends) ends is.fails);
+-- one of the captures, on a shelf that has the same files and counts still
+pub pass-named : (captures : List (List ℕ)) (i : ℕ) (name : List ℕ) (shelf shelf' shelf'' : ShelfSeen) (Sends : Stop → Type 0) → i < length captures → name ≡ get_or captures i name
+    → shelf'.files ≡ shelf.files → StandsStill shelf shelf' → Gives (named_causes name shelf' shelf'' Sends) (pass_causes captures shelf shelf'' Sends)
+pass-named captures i name shelf shelf' shelf'' Sends lt at files still = record {
+  unread = λ rose. subst (λ n. Rose n shelf''.faults) still.faults rose;
+  absent = λ is. (
+    subst (λ n. Rose n shelf''.absences) still.absences is.0,
+    (i, lt, λ d. subst (IsLacking shelf.files) (at ∙ get_or_default captures i name d lt) (subst (λ fs. IsLacking fs name) files is.1)),
+  );
+  refused = λ number wrong is. (
+    i,
+    lt,
+    λ d. subst (IsBadNamed shelf.files number wrong) (at ∙ get_or_default captures i name d lt) (subst (λ fs. IsBadNamed fs number wrong name) files is),
+  );
+  sending = λ why is. is;
 }
-again sends names capture Kind Other captures shelf shelf' x w z (stop.NoFrame number) same ends sink within is =
-    let own : IsNoFrame names capture Kind number x z = subst (λ (ns : List (List ℕ)). IsNoFrame ns capture Kind number x z) same is in
-    record {
-      sends = own.sends;
-      sent = subst (λ (es : List NamedEnd). AreSent names capture own.sends es z.ends w.sink.told z.sink.told) ends
-          (subst (λ (k : SinkSeen). AreSent names capture own.sends x.ends z.ends k.told z.sink.told) sink own.sent);
-      still = own.still ∙ ap (λ (k : SinkSeen). k.faults) sink;
-      refused = own.refused;
-      kind = within own.refused own.kind;
-      endpoint = own.endpoint;
-      no_frame = own.no_frame;
-    }
-again sends names capture Kind Other captures shelf shelf' x w z stop.WriteFault same ends sink within is = subst (λ (k : SinkSeen). Rose k.faults z.sink.faults) sink is
-again sends names capture Kind Other captures shelf shelf' x w z stop.NoMemory same ends sink within is = is
-again sends names capture Kind Other captures shelf shelf' x w z stop.Retires same ends sink within is = is
-again sends names capture Kind Other captures shelf shelf' x w z stop.Segments same ends sink within is = is
-again sends names capture Kind Other captures shelf shelf' x w z (stop.Lane number) same ends sink within is = is
-again sends names capture Kind Other captures shelf shelf' x w z (stop.InTheWay number) same ends sink within is = is
-again sends names capture Kind Other captures shelf shelf' x w z stop.NoRecords same ends sink within is = is

@@ -108,14 +108,34 @@ pub record IsSentBy (script : ScriptData) (files : Option (List File)) (captures
 
 -- ---- all captures
 
+-- why a pass may stop: a read failed, there is no such capture, one is refused at a record, or a send isn't made
+pub record Causes : Type 1 where
+  pub unread : Type 0
+  pub absent : Type 0
+  pub refused : ℕ → PcapFault → Type 0
+  pub sending : Stop → Type 0
+
+-- It stops for one of these.
+abbrev pub StopsBy : Causes → Stop → Type 0
+StopsBy causes stop.Unread = causes.unread
+StopsBy causes stop.Absent = causes.absent
+StopsBy causes (stop.Capture number wrong) = causes.refused number wrong
+StopsBy causes other = causes.sending other
+
+-- what stops a pass over captures of these names on a shelf, beside sends
+abbrev pub pass_causes : List (List ℕ) → ShelfSeen → ShelfSeen → (Stop → Type 0) → Causes
+pass_causes captures shelf shelf' sending = record {
+  unread = Rose shelf.faults shelf'.faults;
+  absent =
+      Rose shelf.absences shelf'.absences
+      × ((place : ℕ) × (place < length captures) × HoldsAt (IsLacking shelf.files) captures place);
+  refused = λ number wrong.
+      (place : ℕ) × (place < length captures) × HoldsAt (IsBadNamed shelf.files number wrong) captures place;
+  sending = sending;
+}
+
 -- Why a pass over captures of these names on a shelf stops, which makes sends of this kind by these names of endpoints.
 abbrev pub StopsPass : List (List ℕ) → Option ℕ → (Sending → Type 0) → List (List ℕ) → ShelfSeen → ShelfSeen
     → OutletsAt → OutletsAt → Stop → Type 0
-StopsPass names capture Kind captures shelf shelf' before after stop.Unread = Rose shelf.faults shelf'.faults
-StopsPass names capture Kind captures shelf shelf' before after stop.Absent =
-    Rose shelf.absences shelf'.absences
-    × ((place : ℕ) × (place < length captures) × HoldsAt (IsLacking shelf.files) captures place)
-StopsPass names capture Kind captures shelf shelf' before after (stop.Capture number wrong) =
-    (place : ℕ) × (place < length captures) × HoldsAt (IsBadNamed shelf.files number wrong) captures place
-StopsPass names capture Kind captures shelf shelf' before after other =
-    StopsSending names capture Kind before after other
+StopsPass names capture Kind captures shelf shelf' before after =
+    StopsBy (pass_causes captures shelf shelf' (StopsSending names capture Kind before after))

@@ -1,10 +1,10 @@
 use Rattle.std.proofs.Common.{◌≡◌, map, take}
 use Rattle.spin_endpoint.specs.Inner.View.{view_of}
-use Rattle.spin_table.specs.SetupOf.{data_of}
 use Rattle.spin_frames.specs.Written.{with_waiting}
 use Rattle.spin_filter.specs.Inner.Stopping.{StandsStill}
 use Rattle.spin_filter.specs.Sending.{outlets_at}
-use Rattle.spin_filter.proofs.CapturesFound.{HasFound}
+use Rattle.spin_filter.proofs.CapturesFound.{FindsCaptures}
+use Rattle.spin_filter.proofs.Doings.{passed_by}
 use Rattle.spin_filter.proofs.captures.pass_captures.Given as goal
 
 abbrev pub invariant-loop-name : goal.invariant-loop-name
@@ -13,8 +13,7 @@ invariant-loop-name g l =
     (with_waiting (g.W.Sink.seen o.file.sink) o.file.waiting) o.counts in
     let seen = g.F.Shelf.seen in
     record {
-      passed : HasFound (data_of l.passing.setup.now) l.passing.version.now.state l.passing.round.now (seen l.fn.shelf).files (take l.name-index l.captures) l.passing.names.now l.passing.capture l.cut
-          (at l.fn.outlets) (at l.outlets);
+      passed : FindsCaptures (passed_by l.passing) (seen l.fn.shelf).files (take l.name-index l.captures) l.cut (at l.fn.outlets) (at l.outlets);
       stood : StandsStill (seen l.fn.shelf) (seen l.shelf);
       files : (seen l.shelf).files ≡ (seen l.fn.shelf).files;
     }

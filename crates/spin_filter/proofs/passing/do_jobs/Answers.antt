@@ -8,20 +8,20 @@ use Rattle.spin_filter.proofs.Stopped.{err-out}
 use Rattle.std.specs.Prelude.{Any}
 use Rattle.spin_filter.specs.Inner.Sends.{IsOf}
 use Rattle.spin_filter.specs.Stops.{IsSentByJob}
-use Rattle.spin_filter.proofs.Doings.{stop-behind, sent-jobs, no-jobs, jobs-more, jobs-all}
+use Rattle.spin_filter.proofs.Doings.{passed_by, stop-behind, sent-jobs, no-jobs, jobs-more, jobs-all}
 use Rattle.spin_filter.proofs.passing.do_jobs.Goals as goal
 
 pub loop-call-init : goal.loop-call-init
-loop-call-init g c = no-jobs c.args.passing.now.names.now c.args.passing.now.capture c.args.taken.now (data_of c.args.passing.now.setup.now) c.args.passing.now.version.now.state _
+loop-call-init g c = no-jobs (passed_by c.args.passing.now) c.args.taken.now _
 
 pub loop-call-preserved : goal.loop-call-preserved
 loop-call-preserved g c =
-    jobs-more c.args.passing.now.names.now c.args.passing.now.capture c.args.taken.now (data_of c.args.passing.now.setup.now) c.args.passing.now.version.now.state c.args.calls.now c.loop-call.call-index c.call-item.result _ _ _
+    jobs-more (passed_by c.args.passing.now) c.args.taken.now c.args.calls.now c.loop-call.call-index c.call-item.result _ _ _
     (omega arith) c.call-item.is c.loop-call.invariant c.in_ok-do_job.ensures
 
 pub returns : goal.returns
 returns g c =
-    jobs-all c.args.passing.now.names.now c.args.passing.now.capture c.args.taken.now (data_of c.args.passing.now.setup.now) c.args.passing.now.version.now.state c.args.calls.now c.loop-call.call-index _ _ (omega arith) c.loop-call.invariant
+    jobs-all (passed_by c.args.passing.now) c.args.taken.now c.args.calls.now c.loop-call.call-index _ _ (omega arith) c.loop-call.invariant
 
 pub returns-in_err-do_job : goal.returns-in_err-do_job
 returns-in_err-do_job g c =

@@ -1,9 +1,9 @@
 use Rattle.std.proofs.Common.{◌≡◌, map}
 use Rattle.spin_endpoint.specs.Inner.View.{view_of}
-use Rattle.spin_table.specs.SetupOf.{data_of}
 use Rattle.spin_pcap.specs.Passing.{left_for}
 use Rattle.spin_frames.specs.Written.{with_waiting}
 use Rattle.spin_filter.specs.Sending.{outlets_at}
+use Rattle.spin_filter.proofs.Doings.{passed_by}
 use Rattle.spin_filter.proofs.Passings.{HasPassed}
 use Rattle.spin_filter.proofs.records.pass_records.Given as goal
 
@@ -13,8 +13,7 @@ invariant-loop-number g l =
     (with_waiting (g.W.Sink.seen o.file.sink) o.file.waiting) o.counts in
     let seen = g.S.Source.seen in
     record {
-      passed : HasPassed (data_of l.passing.setup.now) l.passing.version.now.state l.passing.round.now l.head l.passing.names.now l.passing.capture l.number
-          (left_for l.fn.window (seen l.fn.source).left) (left_for l.window (seen l.source).left) (at l.fn.outlets) (at l.outlets);
+      passed : HasPassed (passed_by l.passing) l.head (left_for l.fn.window (seen l.fn.source).left) l.number (left_for l.window (seen l.source).left) (at l.fn.outlets) (at l.outlets);
       faults : (seen l.source).faults ≡ (seen l.fn.source).faults;
       keep : (seen l.source).keep ≡ (seen l.fn.source).keep;
     }

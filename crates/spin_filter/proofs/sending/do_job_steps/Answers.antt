@@ -1,4 +1,4 @@
-use Rattle.std.proofs.Common.{map, refl, ◌∷◌, [], ◌-◌, length, take, drop, arith}
+use Rattle.std.proofs.Common.{map, refl, ◌∷◌, [], ◌-◌, length, take, drop}
 use Rattle.spin_endpoint.specs.Inner.View.{view_of}
 use Rattle.spin_frames.specs.Written.{with_waiting}
 use Rattle.spin_filter.specs.Sending.{outlets_at}
