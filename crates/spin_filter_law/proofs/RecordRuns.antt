@@ -23,7 +23,8 @@ use Rattle.spin_filter.specs.Histories.{PassedCapture, ArePassed, AllPassed, rec
 use Rattle.spin_filter.specs.Passing.{Passed, raise_with, AreJobReplies, IsPassed}
 use Rattle.spin_filter.specs.Rounds.{event_at}
 use Rattle.spin_filter_law.specs.Laws.{record_segment, AreRecordSegments, turns_at, turns_in, used_up, answered_in, at_record}
-use Rattle.spin_filter_law.proofs.SendOrder.{record_sends, all_received-then}
+use Rattle.spin_filter.proofs.Doings.{all_received-then}
+use Rattle.spin_filter_law.proofs.SendOrder.{record_sends}
 
 -- ---- jobs
 

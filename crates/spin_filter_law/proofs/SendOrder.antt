@@ -1,11 +1,10 @@
 -- What a filter sends, and where that goes, record after record.
-use Rattle.std.proofs.Common.{◌≡◌, ℕ, Bool, true, false, cond, not, List, [], ◌∷◌, ◌++◌, map, filter, Option, Some, None, refl, sym, ap, ◌∙◌, append_assoc}
+use Rattle.std.proofs.Common.{◌≡◌, ℕ, Bool, true, false, cond, not, List, [], ◌∷◌, ◌++◌, map, filter, Option, Some, None, refl, sym, ap, ◌∙◌}
 use Rattle.std.specs.Prelude.{◌||◌, bytes_eq, IfSome}
 use Rattle.std.specs.List.{flat_map, filter_map, cons_option}
-use Rattle.std.specs.Option.{option_map}
 use Rattle.std.proofs.lemmas.Bool.{eqb-true}
 use Rattle.std.proofs.lemmas.List.{map-append}
-use Rattle.std.proofs.lemmas.List.Elements.{filter-append, filter_map-append}
+use Rattle.std.proofs.lemmas.List.Elements.{filter_map-append}
 use Rattle.spin_proto.specs.declared.reply.Step.{Step}
 use Rattle.spin_proto.specs.declared.reply.Step.TheVariants as step
 use Rattle.spin_proto.specs.declared.reply.Reply.{Reply}
@@ -20,37 +19,10 @@ use Rattle.spin_filter.specs.Histories.{happened_in}
 use Rattle.spin_filter.specs.Passing.{TakenSeen, Passed}
 use Rattle.spin_filter.specs.Sending.{is_writer, AreSent}
 
--- ---- sends one behind the other
-
-gained_twice : (xs ys : List (List ℕ)) (end : EndpointSeen) → gained ys (gained xs end) ≡ gained (xs ++ ys) end
-gained_twice xs ys end = ap (λ pieces. record end { pieces = pieces }) (twice end.pieces) where
-  twice : (pieces : Option (List (List ℕ))) → option_map (λ told. told ++ ys) (option_map (λ told. told ++ xs) pieces) ≡ option_map (λ told. told ++ (xs ++ ys)) pieces
-  twice None = refl
-  twice (Some told) = ap Some (append_assoc told xs ys)
-
-pieces-then : (names : List (List ℕ)) (a b : List SentSeen) (name : List ℕ) → pieces_for names (a ++ b) name ≡ pieces_for names a name ++ pieces_for names b name
-pieces-then names a b name =
-    ap (λ xs. map (λ (s : SentSeen). s.bytes) xs) (filter-append (λ (s : SentSeen). bytes_eq name (name_of names s.endpoint)) a b)
-    ∙ map-append (λ (s : SentSeen). s.bytes) (filter (λ (s : SentSeen). bytes_eq name (name_of names s.endpoint)) a) (filter (λ (s : SentSeen). bytes_eq name (name_of names s.endpoint)) b)
+-- ---- a capture that is written under a name that doesn't stand
 
 abbrev end_with : List ℕ → Bool → EndpointSeen → NamedEnd
 end_with name up object = record { name = name; stands = up; object = object }
-
-received-then : (names : List (List ℕ)) (a b : List SentSeen) (name : List ℕ) (up : Bool) (object : EndpointSeen)
-    → received names (a ++ b) (end_with name up object) ≡ received names b (received names a (end_with name up object))
-received-then names a b name true object =
-    ap (λ (o : EndpointSeen). end_with name true o)
-    (ap (λ ps. gained ps object) (pieces-then names a b name) ∙ sym (gained_twice (pieces_for names a name) (pieces_for names b name) object))
-received-then names a b name false object = refl
-
-pub all_received-then : (names : List (List ℕ)) (a b : List SentSeen) (ends : List NamedEnd) → all_received names (a ++ b) ends ≡ all_received names b (all_received names a ends)
-all_received-then names a b [] = refl
-all_received-then names a b (end ∷ ends) =
-    let first = received-then names a b end.name end.stands end.object in
-    let rest = all_received-then names a b ends in
-    λ i. first i ∷ rest i
-
--- ---- a capture that is written under a name that doesn't stand
 
 abbrev goes : Option ℕ → SentSeen → Bool
 goes capture s = not (is_writer capture s.endpoint)
