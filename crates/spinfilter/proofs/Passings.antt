@@ -15,7 +15,10 @@ use Rattle.spin_filter.specs.declared.filter.Filtered.{Filtered}
 use Rattle.spin_filter.specs.declared.stop.Stop.{Stop}
 use Rattle.spin_filter.specs.declared.stop.Stop.TheVariants as stop
 use Rattle.spin_filter.specs.Filters.{IsFiltered, StopsFilter}
-use Rattle.spin_filter.specs.Sending.{OutletsAt, outlets_at}
+use Rattle.spin_filter.specs.Counting.{AreCounts}
+use Rattle.spin_filter.specs.Histories.{records_of, happened_in}
+use Rattle.spin_filter.specs.Listing.{bindings_at}
+use Rattle.spin_filter.specs.Sending.{OutletsAt, outlets_at, with_lost_of}
 use Rattle.spin_filter.proofs.RoundsMade.{never}
 use Rattle.spinfilter.specs.declared.words.Asked.{Asked}
 use Rattle.spinfilter.specs.Calls.{writer_of, IsHeaded, IsPassed, StopsPassing}
@@ -28,10 +31,25 @@ flushed-told (Some xs) None told' bytes waiting waiting' is flushed none = absur
 flushed-told (Some xs) (Some ys) None bytes waiting waiting' is flushed none = absurd flushed
 flushed-told (Some xs) (Some ys) (Some zs) bytes waiting waiting' is flushed none = ap (λ w. zs ++ w) none ∙ append-nil zs ∙ flushed ∙ is
 
-flushed-filter : (script : ScriptData) (capture : Option ℕ) (files : Option (List File)) (names : List (List ℕ)) (before : OutletsAt) (ends : List NamedEnd) (counts : Counts) (sink sink' : SinkSeen)
-    (waiting waiting' : List ℕ) (filtered : Filtered) → IsFiltered script capture files names before (outlets_at ends (with_waiting sink waiting) counts) filtered → Appends sink.told sink'.told waiting → waiting' ≡ [] → sink'.faults ≡ sink.faults
-    → IsFiltered script capture files names before (outlets_at ends (with_waiting sink' waiting') counts) filtered
-flushed-filter script capture files names before ends counts sink sink' waiting waiting' filtered is flushed none same = record {
+-- What waited was handed to the sink, and nothing else changed.
+pub record Flushes (x y : OutletsAt) : Type 0 where
+  pub ends : y.ends ≡ x.ends
+  pub counts : y.counts ≡ x.counts
+  pub told : (first : Option (List ℕ)) (bytes : List ℕ) → Appends first x.sink.told bytes → Appends first y.sink.told bytes
+  pub still : y.sink.faults ≡ x.sink.faults
+
+pub flushes : (ends : List NamedEnd) (counts : Counts) (sink sink' : SinkSeen) (waiting waiting' : List ℕ) → Appends sink.told sink'.told waiting → waiting' ≡ [] → sink'.faults ≡ sink.faults
+    → Flushes (outlets_at ends (with_waiting sink waiting) counts) (outlets_at ends (with_waiting sink' waiting') counts)
+flushes ends counts sink sink' waiting waiting' flushed none same = record {
+  ends = refl;
+  counts = refl;
+  told = λ first bytes is. flushed-told first sink.told sink'.told bytes waiting waiting' is flushed none;
+  still = same;
+}
+
+flushed-filter : (script : ScriptData) (capture : Option ℕ) (files : Option (List File)) (names : List (List ℕ)) (before x y : OutletsAt) (filtered : Filtered) → Flushes x y
+    → IsFiltered script capture files names before x filtered → IsFiltered script capture files names before y filtered
+flushed-filter script capture files names before x y filtered f is = record {
   verdicts = is.verdicts;
   state = is.state;
   captures = is.captures;
@@ -40,57 +58,57 @@ flushed-filter script capture files names before ends counts sink sink' waiting 
   found = is.found;
   passed = is.passed;
   sent = record {
-    ends_are = is.sent.ends_are;
-    written = flushed-told before.sink.told sink.told sink'.told _ waiting waiting' is.sent.written flushed none;
+    ends_are = f.ends ∙ is.sent.ends_are;
+    written = f.told before.sink.told _ is.sent.written;
     frames = is.sent.frames;
   };
-  still = same ∙ is.still;
-  counts = is.counts;
+  still = f.still ∙ is.still;
+  counts = subst (λ (c : Counts). AreCounts (bindings_at is.state) (with_lost_of script.endpoints capture before.ends (happened_in (records_of is.captures))) c) (sym f.counts) is.counts;
   accepted = is.accepted;
   refused = is.refused;
   cut = is.cut;
 }
 
+-- what holds for the capture that is written and the captures that are read holds for those that are asked for
+pub as-asked : (P : Option ℕ → List (List ℕ) → Type 0) (asked : Asked) (endpoints names : List (List ℕ)) (capture : Option ℕ) (captures : List (List ℕ)) → names ≡ endpoints
+    → capture ≡ writer_of asked.file names → captures ≡ asked.captures.items → P capture captures → P (writer_of asked.file endpoints) asked.captures.items
+as-asked P asked endpoints names capture captures same-names writer same-captures is =
+    subst (λ (number : Option ℕ). P number asked.captures.items) (writer ∙ ap (λ ns. writer_of asked.file ns) same-names) (subst (λ (cs : List (List ℕ)). P capture cs) same-captures is)
+
+-- The header of the capture that is written, if one is, was written.
+pub record HasHeader (asked : Asked) (before headed : OutletsAt) : Type 0 where
+  pub ends : headed.ends ≡ before.ends
+  pub header : IsHeaded asked.file before.sink headed.sink
+
 -- the records were passed, and nothing waits any longer
-pub passed-whole : (script : ScriptData) (asked : Asked) (files : Option (List File)) (capture : Option ℕ) (names captures : List (List ℕ)) (before headed : OutletsAt) (ends : List NamedEnd) (counts : Counts)
-    (sink sink' : SinkSeen) (waiting waiting' : List ℕ) (filtered : Filtered) → names ≡ script.endpoints → capture ≡ writer_of asked.file names → captures ≡ asked.captures.items → headed.ends ≡ before.ends
-    → IsHeaded asked.file before.sink headed.sink → IsFiltered script capture files captures headed (outlets_at ends (with_waiting sink waiting) counts) filtered → Appends sink.told sink'.told waiting
-    → waiting' ≡ [] → sink'.faults ≡ sink.faults → IsPassed script asked files before (outlets_at ends (with_waiting sink' waiting') counts) filtered
-passed-whole script asked files capture names captures before headed ends counts sink sink' waiting waiting' filtered same-names writer same-captures same-ends header is flushed none same =
-    let after = outlets_at ends (with_waiting sink' waiting') counts in
-    let own = writer ∙ ap (λ ns. writer_of asked.file ns) same-names in
-    let whole = flushed-filter script capture files captures headed ends counts sink sink' waiting waiting' filtered is flushed none same in
-    record {
-      headed = headed;
-      ends = same-ends;
-      header = header;
-      passed = subst (λ (cs : List (List ℕ)). IsFiltered script (writer_of asked.file script.endpoints) files cs headed after filtered) same-captures
-          (subst (λ (number : Option ℕ). IsFiltered script number files captures headed after filtered) own whole);
-    }
+pub passed-whole : (script : ScriptData) (asked : Asked) (files : Option (List File)) (before headed x y : OutletsAt) (filtered : Filtered) → HasHeader asked before headed → Flushes x y
+    → IsFiltered script (writer_of asked.file script.endpoints) files asked.captures.items headed x filtered → IsPassed script asked files before y filtered
+passed-whole script asked files before headed x y filtered h f is = record {
+  headed = headed;
+  ends = h.ends;
+  header = h.header;
+  passed = flushed-filter script (writer_of asked.file script.endpoints) files asked.captures.items headed x y filtered f is;
+}
 
--- the filter stopped, and the sink failed no less often by now
-stops-after : (script : ScriptData) (asked : Asked) (shelf shelf' : ShelfSeen) (before headed stopped after : OutletsAt) (why : Stop) → headed.ends ≡ before.ends → IsHeaded asked.file before.sink headed.sink
-    → StopsFilter script (writer_of asked.file script.endpoints) asked.captures.items shelf shelf' headed stopped why → after.ends ≡ stopped.ends → stopped.sink.faults ≤ after.sink.faults
-    → StopsPassing script asked shelf shelf' before after why
-stops-after script asked shelf shelf' before headed stopped after stop.Unread ends header is last le = (headed, stopped, ends, last, header, is)
-stops-after script asked shelf shelf' before headed stopped after (stop.Capture number wrong) ends header is last le = (headed, stopped, ends, last, header, is)
-stops-after script asked shelf shelf' before headed stopped after stop.Absent ends header is last le = (headed, stopped, ends, last, header, is)
-stops-after script asked shelf shelf' before headed stopped after (stop.Endpoint number) ends header is last le = (headed, stopped, ends, last, header, is)
-stops-after script asked shelf shelf' before headed stopped after (stop.NoFrame number) ends header is last le = (headed, stopped, ends, last, header, is)
-stops-after script asked shelf shelf' before headed stopped after stop.WriteFault ends header (inl (same, still, (one, lines))) last le = absurd (never (lines_in script.segments) lines.place lines.there lines.stops)
-stops-after script asked shelf shelf' before headed stopped after stop.WriteFault ends header (inr (suited, rose)) last le = omega (arith, rose, le, header.still)
-stops-after script asked shelf shelf' before headed stopped after stop.NoMemory ends header is last le = (headed, stopped, ends, last, header, is)
-stops-after script asked shelf shelf' before headed stopped after stop.Retires ends header is last le = (headed, stopped, ends, last, header, is)
-stops-after script asked shelf shelf' before headed stopped after stop.Segments ends header is last le = (headed, stopped, ends, last, header, is)
-stops-after script asked shelf shelf' before headed stopped after (stop.Lane number) ends header is last le = (headed, stopped, ends, last, header, is)
-stops-after script asked shelf shelf' before headed stopped after (stop.InTheWay number) ends header is last le = (headed, stopped, ends, last, header, is)
-stops-after script asked shelf shelf' before headed stopped after stop.NoRecords ends header is last le = (headed, stopped, ends, last, header, is)
+-- The outlets are left as they stopped, and the sink failed no less often by now.
+pub record Leaves (stopped after : OutletsAt) : Type 0 where
+  pub ends : after.ends ≡ stopped.ends
+  pub faults : stopped.sink.faults ≤ after.sink.faults
 
-pub stops-asked : (script : ScriptData) (asked : Asked) (capture : Option ℕ) (names captures : List (List ℕ)) (shelf shelf' : ShelfSeen) (before headed stopped after : OutletsAt) (why : Stop) → names ≡ script.endpoints
-    → capture ≡ writer_of asked.file names → captures ≡ asked.captures.items → headed.ends ≡ before.ends → IsHeaded asked.file before.sink headed.sink
-    → StopsFilter script capture captures shelf shelf' headed stopped why → after.ends ≡ stopped.ends → stopped.sink.faults ≤ after.sink.faults → StopsPassing script asked shelf shelf' before after why
-stops-asked script asked capture names captures shelf shelf' before headed stopped after why same-names writer same-captures same-ends header is last le =
-    let own = writer ∙ ap (λ ns. writer_of asked.file ns) same-names in
-    stops-after script asked shelf shelf' before headed stopped after why same-ends header
-    (subst (λ (cs : List (List ℕ)). StopsFilter script (writer_of asked.file script.endpoints) cs shelf shelf' headed stopped why) same-captures
-    (subst (λ (number : Option ℕ). StopsFilter script number captures shelf shelf' headed stopped why) own is)) last le
+-- the filter stopped
+pub stops-after : (script : ScriptData) (asked : Asked) (shelf shelf' : ShelfSeen) (before headed stopped after : OutletsAt) (why : Stop) → HasHeader asked before headed → Leaves stopped after
+    → StopsFilter script (writer_of asked.file script.endpoints) asked.captures.items shelf shelf' headed stopped why → StopsPassing script asked shelf shelf' before after why
+stops-after script asked shelf shelf' before headed stopped after stop.Unread h l is = (headed, stopped, h.ends, l.ends, h.header, is)
+stops-after script asked shelf shelf' before headed stopped after (stop.Capture number wrong) h l is = (headed, stopped, h.ends, l.ends, h.header, is)
+stops-after script asked shelf shelf' before headed stopped after stop.Absent h l is = (headed, stopped, h.ends, l.ends, h.header, is)
+stops-after script asked shelf shelf' before headed stopped after (stop.Endpoint number) h l is = (headed, stopped, h.ends, l.ends, h.header, is)
+stops-after script asked shelf shelf' before headed stopped after (stop.NoFrame number) h l is = (headed, stopped, h.ends, l.ends, h.header, is)
+stops-after script asked shelf shelf' before headed stopped after stop.WriteFault h l (inl (same, still, (one, lines))) = absurd (never (lines_in script.segments) lines.place lines.there lines.stops)
+stops-after script asked shelf shelf' before headed stopped after stop.WriteFault h l (inr (suited, rose)) =
+    let le = l.faults in let still = h.header.still in omega (arith, rose, le, still)
+stops-after script asked shelf shelf' before headed stopped after stop.NoMemory h l is = (headed, stopped, h.ends, l.ends, h.header, is)
+stops-after script asked shelf shelf' before headed stopped after stop.Retires h l is = (headed, stopped, h.ends, l.ends, h.header, is)
+stops-after script asked shelf shelf' before headed stopped after stop.Segments h l is = (headed, stopped, h.ends, l.ends, h.header, is)
+stops-after script asked shelf shelf' before headed stopped after (stop.Lane number) h l is = (headed, stopped, h.ends, l.ends, h.header, is)
+stops-after script asked shelf shelf' before headed stopped after (stop.InTheWay number) h l is = (headed, stopped, h.ends, l.ends, h.header, is)
+stops-after script asked shelf shelf' before headed stopped after stop.NoRecords h l is = (headed, stopped, h.ends, l.ends, h.header, is)
