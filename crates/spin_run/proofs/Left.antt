@@ -173,33 +173,44 @@ refused_again : (order : Order) (held : List ℕ) (given n : ℕ) (reader' : Rea
 refused_again order held given n reader' s s' after frame is =
     ([], Some (Err (fault.Spoilt n)), (Err (fault.Spoilt n), refl, (refl, refl)), ((refl, (fault.Spoilt n, refl, refl, omega (arith, ap (λ (y : ReaderState). y.given) is), tt)), tt))
 
-stop_given : (order : Order) (held : List ℕ) (given : ℕ) (st : State) (s : SourceSeen) (after : Option ReaderState) (reader' : ReaderState) (s' : SourceSeen) (frame gone : List ℕ)
-    (wrong : PcapFault) (left' : Option (List ℕ)) (A : Type 0) → Repeats st (Err wrong) → IfReading st (IfSome (left_for held s.left) (λ bytes. IsAnswer order given bytes (Err wrong) frame left')) A
-    → IfReading st (reader' ≡ after_of order given reader' (Err wrong)) (reader' ≡ reader_of order held given st) → IfReading st (IsRefusal given (Err wrong)) ⊤ → Passes gone held s reader'.held s'
-    → IsWithinRecord order gone → length held ≤ MAX_HELD → length reader'.held ≤ MAX_HELD → StopsNext (Some (reader_of order held given st)) s after s' frame (stop_of (reader'.given + 1) wrong)
-stop_given order held given state.Reading s after reader' s' frame gone fault.ReadFault left' A again h is refusal p within fits fits' =
-    let some = failed_left order held reader'.held given s s' gone p within fits fits' in
+-- how a call of a reader stopped
+pub record HasStopped (reader reader' : ReaderState) (s s' : SourceSeen) (frame : List ℕ) (wrong : PcapFault) (A : Type 0) : Type 0 where
+  pub gone : List ℕ
+  pub left : Option (List ℕ)
+  pub again : Repeats reader.state (Err wrong)
+  pub answer : IfReading reader.state (IfSome (left_for reader.held s.left) (λ bytes. IsAnswer reader.order reader.given bytes (Err wrong) frame left)) A
+  pub reader_is : IfReading reader.state (reader' ≡ after_of reader.order reader.given reader' (Err wrong)) (reader' ≡ reader)
+  pub refusal : IfReading reader.state (IsRefusal reader.given (Err wrong)) ⊤
+  pub passed : Passes gone reader.held s reader'.held s'
+  pub within : IsWithinRecord reader.order gone
+  pub fits : length reader.held ≤ MAX_HELD
+  pub fits' : length reader'.held ≤ MAX_HELD
+
+stop_given : (order : Order) (held : List ℕ) (given : ℕ) (st : State) (s : SourceSeen) (after : Option ReaderState) (reader' : ReaderState) (s' : SourceSeen) (frame : List ℕ)
+    (wrong : PcapFault) (A : Type 0) → HasStopped (reader_of order held given st) reader' s s' frame wrong A → StopsNext (Some (reader_of order held given st)) s after s' frame (stop_of (reader'.given + 1) wrong)
+stop_given order held given state.Reading s after reader' s' frame fault.ReadFault A h =
+    let some = failed_left order held reader'.held given s s' h.gone h.passed h.within h.fits h.fits' in
     (some.0, some.1, some.2, (tt, some.3))
-stop_given order held given state.Reading s after reader' s' frame gone fault.NoMemory left' A again h is refusal p within fits fits' =
-    let some = failed_left order held reader'.held given s s' gone p within fits fits' in
+stop_given order held given state.Reading s after reader' s' frame fault.NoMemory A h =
+    let some = failed_left order held reader'.held given s s' h.gone h.passed h.within h.fits h.fits' in
     (some.0, some.1, some.2, (tt, some.3))
-stop_given order held given state.Reading s after reader' s' frame gone fault.BadMagic left' A again h is refusal p within fits fits' = absurd refusal
-stop_given order held given state.Reading s after reader' s' frame gone fault.BadVersion left' A again h is refusal p within fits fits' = absurd refusal
-stop_given order held given state.Reading s after reader' s' frame gone fault.BadLink left' A again h is refusal p within fits fits' = absurd refusal
-stop_given order held given state.Reading s after reader' s' frame gone fault.Short left' A again h is refusal p within fits fits' = absurd refusal
-stop_given order held given state.Reading s after reader' s' frame gone fault.TooLong left' A again h is refusal p within fits fits' =
-    let made = some_long order given refusal in
-    refused_left order held given reader' fault.TooLong s s' after frame is h made.0 made.1
-stop_given order held given state.Reading s after reader' s' frame gone fault.TooManyRecords left' A again h is refusal p within fits fits' =
-    let made = some_more order given refusal in
-    refused_left order held given reader' fault.TooManyRecords s s' after frame is h made.0 made.1
-stop_given order held given state.Reading s after reader' s' frame gone (fault.Spoilt n) left' A again h is refusal p within fits fits' = absurd refusal
-stop_given order held given state.End s after reader' s' frame gone wrong left' A again h is refusal p within fits fits' = absurd (cc (again))
-stop_given order held given (state.Cut n) s after reader' s' frame gone wrong left' A again h is refusal p within fits fits' = absurd (cc (again))
-stop_given order held given (state.Spoilt n) s after reader' s' frame gone wrong left' A again h is refusal p within fits fits' =
-    let same : wrong ≡ fault.Spoilt n = cc (again) in
+stop_given order held given state.Reading s after reader' s' frame fault.BadMagic A h = absurd h.refusal
+stop_given order held given state.Reading s after reader' s' frame fault.BadVersion A h = absurd h.refusal
+stop_given order held given state.Reading s after reader' s' frame fault.BadLink A h = absurd h.refusal
+stop_given order held given state.Reading s after reader' s' frame fault.Short A h = absurd h.refusal
+stop_given order held given state.Reading s after reader' s' frame fault.TooLong A h =
+    let made = some_long order given h.refusal in
+    refused_left order held given reader' fault.TooLong s s' after frame h.reader_is h.answer made.0 made.1
+stop_given order held given state.Reading s after reader' s' frame fault.TooManyRecords A h =
+    let made = some_more order given h.refusal in
+    refused_left order held given reader' fault.TooManyRecords s s' after frame h.reader_is h.answer made.0 made.1
+stop_given order held given state.Reading s after reader' s' frame (fault.Spoilt n) A h = absurd h.refusal
+stop_given order held given state.End s after reader' s' frame wrong A h = absurd (cc (h.again))
+stop_given order held given (state.Cut n) s after reader' s' frame wrong A h = absurd (cc (h.again))
+stop_given order held given (state.Spoilt n) s after reader' s' frame wrong A h =
+    let same : wrong ≡ fault.Spoilt n = cc (h.again) in
     subst (λ (w : PcapFault). StopsNext (Some (reader_of order held given (state.Spoilt n))) s after s' frame (stop_of (reader'.given + 1) w))
-    (sym same) (refused_again order held given n reader' s s' after frame is)
+    (sym same) (refused_again order held given n reader' s s' after frame h.reader_is)
 
 -- ---- the same of a capture that has that reader
 
@@ -213,15 +224,16 @@ next_gives capture reader reader' s s' frame gone answer A e again h is few cut 
     subst (λ (c : Option ReaderState). Reads c s (Some reader') s' (Ok answer) (GivesNext c s (Some reader') s' frame (Ok answer))) (sym e)
     (next_given reader.order reader.held reader.given reader.state reader' s s' frame gone answer A again h is few cut small)
 
-pub stop_gives : (capture : Option ReaderState) (reader : ReaderState) (after : Option ReaderState) (reader' : ReaderState) (s s' : SourceSeen) (frame gone : List ℕ)
-    (wrong : PcapFault) (left' : Option (List ℕ)) (n : ℕ) (stop : RunEnd) (A : Type 0) → capture ≡ Some reader → n ≡ reader'.given → stop ≡ stop_of (n + 1) wrong
-    → Repeats reader.state (Err wrong) → IfReading reader.state (IfSome (left_for reader.held s.left) (λ bytes. IsAnswer reader.order reader.given bytes (Err wrong) frame left')) A
-    → IfReading reader.state (reader' ≡ after_of reader.order reader.given reader' (Err wrong)) (reader' ≡ reader) → IfReading reader.state (IsRefusal reader.given (Err wrong)) ⊤
-    → Passes gone reader.held s reader'.held s' → IsWithinRecord reader.order gone → length reader.held ≤ MAX_HELD → length reader'.held ≤ MAX_HELD → StopsNext capture s after s' frame stop
-stop_gives capture reader after reader' s s' frame gone wrong left' n stop A e same stops again h is refusal p within fits fits' =
+-- the end that it stopped with, by the number that was given
+pub stop_is : (n given : ℕ) (wrong : PcapFault) (stop : RunEnd) → n ≡ given → stop ≡ stop_of (n + 1) wrong → stop ≡ stop_of (given + 1) wrong
+stop_is n given wrong stop same stops = stops ∙ ap (λ (k : ℕ). stop_of (k + 1) wrong) same
+
+pub stop_gives : (capture : Option ReaderState) (reader : ReaderState) (after : Option ReaderState) (reader' : ReaderState) (s s' : SourceSeen) (frame : List ℕ) (wrong : PcapFault) (stop : RunEnd)
+    (A : Type 0) → capture ≡ Some reader → stop ≡ stop_of (reader'.given + 1) wrong → HasStopped reader reader' s s' frame wrong A → StopsNext capture s after s' frame stop
+stop_gives capture reader after reader' s s' frame wrong stop A e stops h =
     subst (λ (c : Option ReaderState). StopsNext c s after s' frame stop) (sym e)
-    (subst (λ (x : RunEnd). StopsNext (Some reader) s after s' frame x) (sym (stops ∙ ap (λ (k : ℕ). stop_of (k + 1) wrong) same))
-    (stop_given reader.order reader.held reader.given reader.state s after reader' s' frame gone wrong left' A again h is refusal p within fits fits'))
+    (subst (λ (x : RunEnd). StopsNext (Some reader) s after s' frame x) (sym stops)
+    (stop_given reader.order reader.held reader.given reader.state s after reader' s' frame wrong A h))
 
 abbrev answered : Next → Result Next RunEnd
 answered answer = Ok answer

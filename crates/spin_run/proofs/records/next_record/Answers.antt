@@ -1,6 +1,6 @@
 use Rattle.std.proofs.Common.{None, Ok, ap}
 use Rattle.spin_pcap.specs.Passing.{left_for}
-use Rattle.spin_run.proofs.Left.{next_gives, stop_gives, took_one}
+use Rattle.spin_run.proofs.Left.{next_gives, stop_gives, stop_is, took_one}
 use Rattle.spin_run.proofs.records.next_record.Goals as goal
 
 pub returns-in-Ok-clause-answer : goal.returns-in-Ok-clause-answer
@@ -13,8 +13,19 @@ pub returns-in-Err-clause-answer : goal.returns-in-Err-clause-answer
 returns-in-Err-clause-answer g c =
     let p = c.in-Err.ensures.passed in
     let now = g.S.Source.seen c.next.new.source in
-    stop_gives _ _ None c.next.new.self _ now c.next.new.frame p.0 _ (left_for c.next.new.self.held now.left) _ _ _ c.in-Some.is c.taken.ensures.taken c.stop_at.ensures
-    c.in-Err.ensures.repeats c.in-Err.ensures.answer c.in-Err.ensures.reader c.in-Err.ensures.refused p.1 p.2 c.in-Err.ensures.bound.0 c.in-Err.ensures.bound.1
+    stop_gives _ _ None c.next.new.self _ now c.next.new.frame _ _ _ c.in-Some.is (stop_is _ _ _ _ c.taken.ensures.taken c.stop_at.ensures)
+    (record {
+      gone = p.0;
+      left = left_for c.next.new.self.held now.left;
+      again = c.in-Err.ensures.repeats;
+      answer = c.in-Err.ensures.answer;
+      reader_is = c.in-Err.ensures.reader;
+      refusal = c.in-Err.ensures.refused;
+      passed = p.1;
+      within = p.2;
+      fits = c.in-Err.ensures.bound.0;
+      fits' = c.in-Err.ensures.bound.1;
+    })
 
 pub returns-in-Ok-clause-took : goal.returns-in-Ok-clause-took
 returns-in-Ok-clause-took g c is =
