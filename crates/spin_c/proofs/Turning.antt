@@ -1,7 +1,7 @@
 -- What is asked of a lane, and isn't to renew its hub or to end it; what is asked of an open handle, and isn't to close it;
 -- and that a lane stays well as its seat does.
-use Rattle.std.proofs.Common.{◌≡◌, ◌∙◌, ◌+◌, ◌*◌, ◌/◌, ◌%◌, ◌^◌, ◌<◌, ℕ, arith, refl, sym}
-use Rattle.std.specs.Prelude.{Some}
+use Rattle.std.proofs.Common.{◌≡◌, ◌∙◌, ◌+◌, ◌*◌, ◌/◌, ◌%◌, ◌^◌, ◌<◌, ℕ, List, arith, refl, sym}
+use Rattle.std.specs.Prelude.{Some, None}
 use Rattle.std.specs.Arc.{arc_value}
 use Rattle.spin_word.specs.declared.row.Row.{Row}
 use Rattle.spin_word.specs.Rows.{lane_of}
@@ -15,8 +15,30 @@ use Rattle.spin_c.specs.declared.lane.Lane.{Lane}
 use Rattle.spin_c.specs.declared.ask.Ask.{Ask}
 use Rattle.spin_c.specs.declared.ask.Ask.TheVariants as ask
 use Rattle.spin_c.specs.declared.ask.Outcome.{Outcome}
-use Rattle.spin_c.specs.Turns.{Does, DoesHeld, DoesOpen, in_lane}
+use Rattle.spin_c.specs.declared.ask.Outcome.TheVariants as outcome
+use Rattle.spin_c.specs.Verdicts.{no_natives}
+use Rattle.spin_c.specs.Turns.{Does, DoesClosed, DoesHeld, DoesOpen, in_lane}
 use Rattle.spin_c.proofs.Sharing.{whole_as}
+
+-- a closed handle stays closed at all calls but an open
+pub closed_else : (A C E : Type 0) (B : A → Type 0) (D : C → Type 0) (F : E → Type 0) (asked : Ask) → ((text : List ℕ) (lanes : ℕ) → asked ≡ ask.Open text lanes → ⊥) → DoesClosed {A = A} {C = C} {E = E} {B = B} {D = D} {F = F} no_natives asked None outcome.Closed
+closed_else A C E B D F (ask.Open text lanes) other = absurd (other text lanes refl)
+closed_else A C E B D F (ask.Raise event args) other = (refl, refl)
+closed_else A C E B D F (ask.Command row) other = (refl, refl)
+closed_else A C E B D F (ask.Step index) other = (refl, refl)
+closed_else A C E B D F (ask.Bytes index) other = (refl, refl)
+closed_else A C E B D F (ask.Later event args) other = (refl, refl)
+closed_else A C E B D F (ask.Job index) other = (refl, refl)
+closed_else A C E B D F (ask.JobStep index) other = (refl, refl)
+closed_else A C E B D F (ask.JobBytes index) other = (refl, refl)
+closed_else A C E B D F (ask.Cycle index) other = (refl, refl)
+closed_else A C E B D F (ask.Before index) other = (refl, refl)
+closed_else A C E B D F ask.Gather other = (refl, refl)
+closed_else A C E B D F (ask.RowAt index) other = (refl, refl)
+closed_else A C E B D F ask.Renew other = (refl, refl)
+closed_else A C E B D F ask.End other = (refl, refl)
+closed_else A C E B D F ask.Return other = (refl, refl)
+closed_else A C E B D F ask.Close other = (refl, refl)
 
 module _ {A C E : Type 0} {B : A → Type 0} {D : C → Type 0} {F : E → Type 0} where
   pub stays_placed : (l : Lane A C E B D F) (after : Held A C E B D F) (asked : Ask) (told : Outcome) → (asked ≡ ask.Renew → ⊥) → (asked ≡ ask.End → ⊥)

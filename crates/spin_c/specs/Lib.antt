@@ -8,6 +8,7 @@ pub mod Inner
 pub mod Jobs
 pub mod Judging
 pub mod Kept
+pub mod KeptRaises
 pub mod Lanes
 pub mod Moves
 pub mod OpenTellings

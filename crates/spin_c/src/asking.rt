@@ -25,7 +25,7 @@ pub(crate) fn call_on(alloc: Global, lane: &mut SpinLane, ask: Ask) -> Outcome
     ensures { Turns no_natives lane.old.kept ask lane.new.kept result }
 {
     let call = Call { alloc, ask };
-    let (after, outcome) = mem::replace(lane, SpinLane::closed(alloc)).turn(alloc, call);
+    let (after, outcome) = mem::replace(lane, SpinLane::closed(alloc)).turn(call);
     *lane = after;
     outcome
 }

@@ -20,7 +20,6 @@ use crate::raiser::SpinRaising;
 use crate::raising::Raising;
 use crate::step::SpinStep;
 use crate::turn::{steps_maybe, turn_maybe, words_maybe};
-use spin_objects::Natives;
 use std::alloc::Global;
 use std::marker::Model;
 use std::ptr::null_mut;
@@ -54,17 +53,15 @@ impl SpinLane {
     }
 
     // Does the call on what the handle holds. There are no natives.
-    pub(crate) fn turn(self, none: Global, call: Call) -> (SpinLane, Outcome)
+    pub(crate) fn turn(self, call: Call) -> (SpinLane, Outcome)
         ensures { Turns no_natives self.kept call.ask result.0.kept result.1 }
     {
         let SpinLane { at, alloc } = self;
-        let natives = Natives::new(none);
         let (maybe, outcome) = turn_maybe(
             Maybe {
                 at: at as *mut Held,
                 alloc,
             },
-            natives,
             call,
         );
         let Maybe { at, alloc } = maybe;

@@ -8,14 +8,14 @@ ghost use Rattle.spin_table.specs.SetupOf.{data_of};
 ghost use Rattle.spin_proto.specs.declared.reply.Reply.{Reply as ReplyValue};
 ghost use Rattle.spin_proto.specs.Parts.{trace_in};
 ghost use Rattle.spin_proto.specs.Replies.{calls_left};
-ghost use Rattle.spin_seat.specs.Replay.{IsReplayFrom};
 ghost use Rattle.spin_seat.specs.Seats.{IsSeat, version_of};
-ghost use Rattle.spin_seat.specs.Calls.{AddsAtMostAPin, GivesFrom, reply_answer};
+ghost use Rattle.spin_seat.specs.Calls.{AddsAtMostAPin};
 ghost use Rattle.std.specs.Option.{option_copied, option_map};
 ghost use Rattle.std.specs.Arc.{arc_value};
 ghost use Rattle.spin_table.specs.States.{VersionValue};
 ghost use Rattle.spin_c.specs.Jobs.{IsWellLeft};
 ghost use Rattle.spin_c.specs.Kept.{cycle_left, job_left, left_in, pinned_for, replied, reply_left};
+ghost use Rattle.spin_c.specs.KeptRaises.{IsKeptRaise};
 ghost use Rattle.spin_c.specs.Trails.{told_of};
 
 use crate::ask::Told;
@@ -203,18 +203,8 @@ impl Kept {
         ensures first { seat.new.base ≡ seat.old.base }
         ensures same { IsSamePen seat.old.pen seat.new.pen }
         ensures well { IsWellLeft (data_of hub.now.setup) self.new }
-        ensures answer { let d = data_of hub.now.setup in
-            let pen = seat.old.pen in
-            IfOk result (λ told.
-            (reply : ReplyValue)
-            × (self.new ≡ Some (replied record {
-              reply = reply;
-              pinned = pinned_for (calls_left reply) (version_of seat.new);
-              job = None;
-            }))
-            × (told.1 ≡ told_of reply)
-            × IsReplayFrom d seat.old.base seat.new.pen.front seat.new.state
-            × GivesFrom d seat.old.base pen (reply_answer pen.lane deed.now told.0 reply) seat.new.pen) }
+        ensures answer { IfOk result
+            (λ told. IsKeptRaise (data_of hub.now.setup) seat.old seat.new deed.now told self.new) }
         ensures err { OnErr result (AddsAtMostAPin seat.old.pen seat.new.pen × (self.new ≡ None)) }
     {
         self.forget();
@@ -242,19 +232,8 @@ impl Kept {
         ensures first { seat.new.base ≡ seat.old.base }
         ensures same { IsSamePen seat.old.pen seat.new.pen }
         ensures well { IsWellLeft (data_of hub.now.setup) self.new }
-        ensures answer { let d = data_of hub.now.setup in
-            let pen = seat.old.pen in
-            IfOk result (λ told.
-            (reply : ReplyValue)
-            × (self.new ≡ Some (replied record {
-              reply = reply;
-              pinned = pinned_for (calls_left reply) (version_of seat.new);
-              job = None;
-            }))
-            × (told.1 ≡ told_of reply)
-            × IsReplayFrom d seat.old.base seat.new.pen.front seat.new.state
-            × GivesFrom d seat.old.base pen
-            (reply_answer pen.lane (deed.Raise event (map value.Word words.now)) told.0 reply) seat.new.pen) }
+        ensures answer { let did = deed.Raise event (map value.Word words.now) in
+            IfOk result (λ told. IsKeptRaise (data_of hub.now.setup) seat.old seat.new did told self.new) }
         ensures err { OnErr result (AddsAtMostAPin seat.old.pen seat.new.pen × (self.new ≡ None)) }
     {
         let room = mem::replace(&mut self.args, Args::new(alloc));

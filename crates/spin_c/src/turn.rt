@@ -329,19 +329,20 @@ fn give_back(alloc: Global, held: Box<Held>) -> (Maybe<Held>, Outcome)
     }
 }
 
-// Does the call on what a handle holds.
-pub(crate) fn turn_maybe(maybe: Maybe<Held>, natives: Natives, call: Call) -> (Maybe<Held>, Outcome)
-    requires natives { ⟦<Natives as Sincere>⟧.sincere natives }
+// Does the call on what a handle holds. There are no natives.
+pub(crate) fn turn_maybe(maybe: Maybe<Held>, call: Call) -> (Maybe<Held>, Outcome)
     requires sincere { IfSome maybe.value (λ h. IfLane h
         (λ l. ⟦<Catalogue as Sincere>⟧.sincere (arc_value l.party).hub.setup.catalogue)) }
     requires well { IsWell maybe.value }
     ensures well { IsWell result.0.value }
-    ensures does { Turns (natives_seen natives) maybe.value call.ask result.0.value result.1 }
+    ensures does { Turns no_natives maybe.value call.ask result.0.value result.1 }
 {
     let Call { alloc, ask } = call;
     let Some(loose) = maybe.into_loose() else {
         return match ask {
-            Ask::Open { text, lanes } => open_maybe(alloc, natives, text.as_slice(), lanes),
+            Ask::Open { text, lanes } => {
+                open_maybe(alloc, Natives::new(alloc), text.as_slice(), lanes)
+            }
             _ => (Maybe::none(alloc), Outcome::Closed),
         };
     };

@@ -1,9 +1,11 @@
-use Rattle.std.proofs.Common.{Some, sym, ap, subst, ◌∙◌}
-use Rattle.spin_script.specs.States.{natives_seen}
-use Rattle.spin_c.specs.Turns.{DoesHeld, Turns}
+use Rattle.std.proofs.Common.{◌≡◌, Some, sym, ap, subst, ◌∙◌}
+use Rattle.spin_script.specs.States.{NativeData, natives_seen}
+use Rattle.spin_c.specs.Turns.{DoesHeld, OpensTo, Turns}
+use Rattle.spin_c.specs.Verdicts.{no_natives}
 use Rattle.spin_c.specs.Waiting.{IsWell}
-use Rattle.spin_c.proofs.Turning.{stays_open}
+use Rattle.spin_c.proofs.Turning.{closed_else, stays_open}
 use Rattle.spin_c.proofs.turn.turn_maybe.Goals as goal
+use Rattle.spin_c.proofs.turn.turn_maybe.Goals.{in-Open, in_default-ask}
 
 pub turn_held-outcome-requires : goal.turn_held-outcome-requires
 turn_held-outcome-requires g c =
@@ -19,6 +21,20 @@ returns g c =
     let open' = stays_open c.in-Some.loose.value after c.args.call.ask told c.in_default-ask-2.not-Close c.in_default-ask-3.not-Return does in
     record {
       well = subst (λ h. IsWell h) (sym kept) c.turn_held-outcome.ensures.well;
-      does = subst (λ h. Turns (natives_seen c.args.natives) c.args.maybe.value c.args.call.ask h told) (sym kept)
-          (subst (λ h. Turns (natives_seen c.args.natives) h c.args.call.ask (Some after) told) (sym c.in-Some.ensures) open');
+      does = subst (λ h. Turns no_natives c.args.maybe.value c.args.call.ask h told) (sym kept)
+          (subst (λ h. Turns no_natives h c.args.call.ask (Some after) told) (sym c.in-Some.ensures) open');
     }
+
+pub returns-in_default-clause-does : goal.returns-in_default-clause-does
+returns-in_default-clause-does g c = elim c.match-ask.branch [
+  | in-Open w ↦
+      let none : natives_seen w.new.result ≡ no_natives = λ i. record {
+        handlers = w.new.ensures.handlers i;
+        guards = w.new.ensures.guards i;
+        authorisers = w.new.ensures.authorisers i;
+      } in
+      let P : NativeData → Type 0 = λ n. OpensTo n w.as_slice.result.now w.in-Open.lanes w.open_maybe.result.0.value w.open_maybe.result.1 in
+      let opens : P no_natives = subst P none w.open_maybe.ensures.opens in
+      rw (c.in_default.ensures, w.in-Open.is, w.result-is) (rw w.as_slice.ensures at opens)
+  | in_default-ask w ↦ rw (c.in_default.ensures, w.result-is, w.none.ensures) (closed_else _ _ _ _ _ _ c.args.call.ask w.in_default-ask.not-Open)
+]

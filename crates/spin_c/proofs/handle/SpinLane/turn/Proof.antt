@@ -1,4 +1,4 @@
--- `turn` hands what the handle owns, and natives of which there are none, to `turn_maybe`, and takes it back.
+-- `turn` hands what the handle owns to `turn_maybe`, and takes it back.
 use Rattle.std.proofs.Common.{◌≡◌, List, [], ◌∷◌, ◌++◌, refl, sym, ap, ◌∙◌, subst}
 use lib.Dec.{T}
 use mathlib.Core.Bool.{true, ◌&&◌}
@@ -7,21 +7,20 @@ use mir.Val.{Val, has_ty, WT}
 use base.Logic.{SProp, ent, emp, id⊢}
 use base.Fml.{ftrue}
 use prog.Wp.{WpFn}
-use types.Kit.{‵, raw, ◌⊛◌, some, later, ◌$◌, ◌∵◌, !, qed, by, move, keep, drop, split, split3, join, fsplit, fsplit3, fjoin, fpick, fpack, pick, suffices, use0, use1, await, rewrite}
+use types.Kit.{‵, raw, ◌⊛◌, some, later, ◌$◌, ◌∵◌, !, qed, by, move, keep, drop, split, split3, join, fsplit, fjoin, fpick, fpack, pick, suffices, use0, use1, await, rewrite}
 use types.Run.{stop, fld, of_opd, no_more, and_then, returns, enter}
 use types.ByLocal.{alloc_all, pass_all, free_all, look_at, get, get_in, sets, lands_as}
 use types.Part.{agg, sub, whole}
 use contract.Running.{tables}
 use contract.Monad.{fact, fact_i}
 use denote.Exit.{yes, Last, left, rest}
-use denote.Laws.{Is, shows}
 use denote.RattleType.{RattleType, owns}
 use denote.Signature.{types_at, plain}
 use denote.RawPtr.{ptr_val}
-use denote.Steps.{nothing, only, heard, peeks}
+use denote.Steps.{nothing, only, heard}
 use denote.Param.{layout}
 use denote.Param.Mute.{blank}
-use denote.Param.Table.{none, Includes-refl}
+use denote.Param.Table.{Includes-refl}
 use denote.Struct.Tuple.{Tuple}
 use denote.Triple.Clauses.{Lasts, lasts}
 use denote.Triple.Spec.{triple_of}
@@ -34,19 +33,12 @@ use Rattle.std.proofs.raw_atomic.Walks.{proved_at, leaves}
 use Rattle.std.specs.Prelude.{IfSome}
 use Rattle.std.specs.Arc.{arc_value}
 use Rattle.std.specs.Global.{Global}
-use Rattle.std_heap.proofs.Global.TheLaws as heap_laws
 use Rattle.spin_objects.specs.Units.{IsSincere}
-use Rattle.spin_objects.specs.contracts.natives.Natives.new as fresh
-use Rattle.spin_objects.specs.contracts.natives.Natives.new.dyn-1 as first'
-use Rattle.spin_objects.specs.contracts.natives.Natives.new.dyn-2 as second'
-use Rattle.spin_objects.specs.contracts.natives.Natives.new.dyn-3 as third'
-use Rattle.spin_objects.proofs.natives.Natives.new.Met as fresh_met
-use Rattle.spin_script.specs.States.{NativeData, natives_seen}
 use Rattle.spin_c.specs.Lanes.{row_at, HeldAt, no_first, no_second, no_third}
 use Rattle.spin_c.specs.Turns.{Turns}
 use Rattle.spin_c.specs.Waiting.{IfLane, IsWell}
 use Rattle.spin_c.specs.Verdicts.{no_natives}
-use Rattle.spin_c.proofs.Laws.{row_laws, Bare, bare_laws, each_lane, none_seen}
+use Rattle.spin_c.proofs.Laws.{row_laws, each_lane}
 use Rattle.spin_c.specs.declared.ask.Ask.{Ask}
 use Rattle.spin_c.specs.declared.ask.Ask.TheVariants as asked
 use Rattle.spin_c.specs.contracts.ask.Call as call
@@ -63,15 +55,6 @@ use Rattle.spin_c.specs.contracts.handle.SpinLane.turn.{ended, clauses}
 use Rattle.spin_c.specs.contracts.handle.SpinLane.turn.Key.{name as #self}
 use Rattle.spin_c.proofs.handle.SpinLane.turn.Statement.{statement}
 use Rattle.spin_c.proofs.handle.SpinLane.turn.Code as code
-
-abbrev no_first' : first'.Ghosts
-no_first' = (none, (λ i. absurd i), (λ i. absurd i), (λ i. absurd i))
-
-abbrev no_second' : second'.Ghosts
-no_second' = (none, (λ i. absurd i), (λ i. absurd i), (λ i. absurd i))
-
-abbrev no_third' : third'.Ghosts
-no_third' = (none, (λ i. absurd i), (λ i. absurd i), (λ i. absurd i))
 
 abbrev Call : RattleType
 Call = call.the_row
@@ -102,59 +85,41 @@ asks_blank a asked.Close f = tt
 pub turn_spec : {M : Type 1} → statement M
 turn_spec 𝓤 𝓛 𝓜 𝓡 wired =
     let H = 𝓛.H in let 𝓣 = tables 𝓤 H 𝓜 𝓡 𝓡.env in let En = ended in let c = clauses 𝓛 𝓜.mem 𝓡.returns in let fn = code.function in
-    let C : RattleType = call.the_row in let O : RattleType = outcome.the_row in let Mb : RattleType = Maybe row_at in let LZ = heap_laws.the_row_laws in
-    let hs : Stays En.signature.params En.kept = (stay_dropped (plain (λ _. Handle)) yes, (stay_dropped (plain (λ _. Z)) yes, (stay_dropped (plain (λ _. C)) yes, tt))) in
+    let C : RattleType = call.the_row in let O : RattleType = outcome.the_row in let Mb : RattleType = Maybe row_at in
+    let hs : Stays En.signature.params En.kept = (stay_dropped (plain (λ _. Handle)) yes, (stay_dropped (plain (λ _. C)) yes, tt)) in
     proved_at 𝓛 En hs c 𝓜 𝓡 (
       Goes-dropped 𝓛 0 (plain (λ _. Handle)) yes (λ κs x f. refl),
-      (Goes-dropped 𝓛 0 (plain (λ _. Z)) yes (λ κs x f. refl), (Goes-blank 𝓛 0 (plain (λ _. C)) yes (λ κs x f. asks_blank x.alloc x.ask f), tt)),
+      (Goes-blank 𝓛 0 (plain (λ _. C)) yes (λ κs x f. asks_blank x.alloc x.ask f), tt),
     ) #self fn (code.unfolded 𝓤 H 𝓜 𝓡 wired) (λ z are.
     let κs = z.0.0 in let Post : Val → SProp 𝓤 = (walk_of 𝓛 En hs c).post z in let Run : List Val → SProp 𝓤 = λ ws. WpFn 𝓤 H 𝓣.C 𝓣.Λ fn ws Post in
-    let d = z.0.3.0 in let b = z.0.3.1.0 in let q = z.0.3.1.1.0 in let a = d.alloc in
-    let j = one (layout Z) z.0.4.1.0 ((LZ.lawful 𝓛).typed b z.0.4.1.0 are.1.0) in
-    let k = one (layout C) z.0.4.1.1.0 (((call_laws.the_row_laws).lawful 𝓛).typed q z.0.4.1.1.0 are.1.1.0) in
-    qed 𝓛 ((‵ ftrue ⊛ ‵ (owns (types_at En.signature.params κs) z.0.3 z.0.4)) ∷ raw (emp 𝓤) ∷ []) ∵ split ! $ move ! (1 ∷ []) $ fsplit3 ! $ move ! (2 ∷ []) $ fsplit ! $
-    -- [the call; true; the handle; the allocator; the tokens; the requires]
-    rewrite ! 0 (λ (us : List Val). ‵ (C.own_val q us)) k.1 refl $ rewrite ! 3 (λ (us : List Val). ‵ (Z.own_val b us)) j.1 refl $ move ! (2 ∷ []) $
-    handle_out ! d z.0.4.0
-    (λ h ws fits. fsplit ! $ move ! (1 ∷ []) $ fpick ! (λ well. drop ! $ let p = d.at in let w : Val = both (ptr_val p) h in let m : Mb.Denot = record { at = p; alloc = a; value = d.kept } in
-    maybe_in row_at ! p h a d.kept $
-    -- [the maybe; the call; true; the allocator; the tokens; the requires]
-    let F = triple_of 𝓛 (fresh.signature no_first' no_second' no_third') (fresh.spec no_first' no_second' no_third' 𝓛 𝓜.mem 𝓡.returns) in
-    let x : F.Ghost = ((tt, tt, tt, (b, tt), (j.0 ∷ [], tt)), tt) in
-    nothing ! $ move ! (4 ∷ 0 ∷ []) $ fjoin ! $ nothing ! $ join ! $ use0 𝓛 (raw (emp 𝓤)) (id⊢ 𝓤 (emp 𝓤)) $ move ! (1 ∷ 0 ∷ []) $ join ! $ use1 𝓛 (raw (F.pre x)) (id⊢ 𝓤 _) $
-    suffices ! (Run (w ∷ j.0 ∷ k.0 ∷ [])) (subst (λ (us : List Val). ent 𝓤 (Run (w ∷ j.0 ∷ k.0 ∷ [])) (Run us)) (sym (λ i. ws i ++ (j.1 i ++ (k.1 i ++ [])))) (id⊢ 𝓤 (Run (w ∷ j.0 ∷ k.0 ∷ [])))) $
-    enter ! 𝓣.C 𝓣.Λ fn (w ∷ j.0 ∷ k.0 ∷ []) Post $ alloc_all ! (λ l. pass_all ! refl (words_good p h fits, (j.2, (k.2, tt))) $
-    sets ! (of_opd ! (get_in ! (fld ! refl (stop !)) (sub ! 0 refl (whole !)))) refl (Ptr-Good p) $ sets ! (of_opd ! (get_in ! (fld ! refl (stop !)) (sub ! 1 refl (whole !)))) refl fits $
-    calls_at ! (fm 𝓛 𝓜 𝓡) F (fresh_met.met 𝓤 𝓛 𝓜 𝓡 (code.calls-spin_objects::natives::Natives::new 𝓡.env wired) no_first' (Includes-refl no_first'.0) no_second'
-    (Includes-refl no_second'.0) no_third' (Includes-refl no_third'.0) (fresh_met.hidden-dyn-1 𝓤 𝓛 𝓜 𝓡 (code.calls-spin_objects::natives::Natives::new 𝓡.env wired)).0
-    (fresh_met.hidden-dyn-2 𝓤 𝓛 𝓜 𝓡 (code.calls-spin_objects::natives::Natives::new 𝓡.env wired)).0 (fresh_met.hidden-dyn-3 𝓤 𝓛 𝓜 𝓡 (code.calls-spin_objects::natives::Natives::new 𝓡.env wired)).0) x
-    (and_then ! (get ! refl) (no_more !)) (λ t.
-    use1 𝓛 (later (some (λ (n : Bare.Denot). (‵ ftrue ⊛ ‵ (Bare.own_val n (t ∷ []))) ⊛ some (λ (ls : Lasts (fresh.ended no_first' no_second' no_third') tt x.0.3). ‵
-    (lasts (fresh.ended no_first' no_second' no_third') tt x.0.3 ls) ⊛ raw (((fresh.clauses no_first' no_second' no_third' 𝓛 𝓜.mem 𝓡.returns) tt x.0.3).ensures tt n _))))) (id⊢ 𝓤 _) $
-    await ! tt $ pick ! (λ n. split ! $ move ! (1 ∷ []) $ pick ! (λ ls'. drop ! $ split ! $ drop ! $
-    -- [the natives; the maybe; the call; true; the tokens; the requires]
-    peeks ! Bare (Is Bare) (shows 𝓛 Bare) n
-    (t ∷ []) (λ shown. let g = one (layout Bare) (t ∷ []) ((bare_laws.lawful 𝓛).typed n (t ∷ []) shown) in rewrite ! 0 (λ (us : List Val). ‵ (Bare.own_val n us)) g.1 refl $
+    let d = z.0.3.0 in let q = z.0.3.1.0 in
+    let k = one (layout C) z.0.4.1.0 (((call_laws.the_row_laws).lawful 𝓛).typed q z.0.4.1.0 are.1.0) in
+    qed 𝓛 ((‵ ftrue ⊛ ‵ (owns (types_at En.signature.params κs) z.0.3 z.0.4)) ∷ raw (emp 𝓤) ∷ []) ∵ split ! $ move ! (1 ∷ []) $ fsplit ! $ move ! (1 ∷ []) $ fsplit ! $
+    -- [the call; true; the handle; the tokens; the requires]
+    rewrite ! 0 (λ (us : List Val). ‵ (C.own_val q us)) k.1 refl $ move ! (2 ∷ []) $
+    handle_out ! d z.0.4.0 (λ h ws fits. fsplit ! $ move ! (1 ∷ []) $ fpick ! (λ well. drop ! $
+    let p = d.at in let w : Val = both (ptr_val p) h in let m : Mb.Denot = record { at = p; alloc = d.alloc; value = d.kept } in
+    maybe_in row_at ! p h d.alloc d.kept $
+    -- [the maybe; the call; true; the tokens; the requires]
     let G = triple_of 𝓛 (callee.signature no_first no_second no_third) (callee.spec no_first no_second no_third 𝓛 𝓜.mem 𝓡.returns) in
-    let y : G.Ghost = ((tt, tt, tt, (m, (n, (q, tt))), (w ∷ [], (g.0 ∷ [], (k.0 ∷ [], tt)))), tt) in let Pair = Tuple (Mb ∷ O ∷ []) in
-    let Sincere : Type 0 = IfSome d.kept (λ (h : HeldAt). IfLane h (λ l. IsSincere _ _ _ (arc_value l.party).hub.setup.catalogue.natives)) in let Bares : Type 0 = IsSincere _ _ _ n in
-    move ! (2 ∷ 3 ∷ []) $ fjoin ! $ move ! (1 ∷ 0 ∷ []) $ fjoin ! $ move ! (1 ∷ 0 ∷ []) $ fjoin ! $ move ! (1 ∷ 0 ∷ []) $ join ! $
+    let y : G.Ghost = ((tt, tt, tt, (m, (q, tt)), (w ∷ [], (k.0 ∷ [], tt))), tt) in let Pair = Tuple (Mb ∷ O ∷ []) in
+    let Sincere : Type 0 = IfSome d.kept (λ (h : HeldAt). IfLane h (λ l. IsSincere _ _ _ (arc_value l.party).hub.setup.catalogue.natives)) in
+    move ! (1 ∷ 2 ∷ []) $ fjoin ! $ move ! (1 ∷ 0 ∷ []) $ fjoin ! $ move ! (1 ∷ 0 ∷ []) $ join ! $
     use0 𝓛 (raw (fact 𝓤 (IsWell d.kept))) (fact_i 𝓤 (IsWell d.kept) (emp 𝓤) well) $
     use0 𝓛 (raw (fact 𝓤 Sincere)) (fact_i 𝓤 Sincere (emp 𝓤) (each_lane (λ l. IsSincere _ _ _ (arc_value l.party).hub.setup.catalogue.natives)
     (λ l. record { handlers = λ k n low. absurd n.object.vtable; guards = λ k n low. absurd n.object.vtable; authorisers = λ k n low. absurd n.object.vtable }) d.kept)) $ join ! $
-    use0 𝓛 (raw (fact 𝓤 Bares))
-    (fact_i 𝓤 Bares (emp 𝓤) (record { handlers = λ k n low. absurd n.object.vtable; guards = λ k n low. absurd n.object.vtable; authorisers = λ k n low. absurd n.object.vtable })) $ join ! $
     move ! (1 ∷ 0 ∷ []) $ join ! $ use1 𝓛 (raw (G.pre y)) (id⊢ 𝓤 _) $
-    lands_as ! (ap only g.1) refl g.2 $
-    sets ! (of_opd ! (get ! refl)) refl (Ptr-Good p) $ sets ! (agg ! (and_then ! (get ! refl) (and_then ! (get ! refl) (no_more !)))) refl
-    (words_good p h fits) $ sets ! (of_opd ! (get ! refl)) refl g.2 $ sets ! (of_opd ! (get ! refl)) refl k.2 $
+    suffices ! (Run (w ∷ k.0 ∷ [])) (subst (λ (us : List Val). ent 𝓤 (Run (w ∷ k.0 ∷ [])) (Run us)) (sym (λ i. ws i ++ (k.1 i ++ []))) (id⊢ 𝓤 (Run (w ∷ k.0 ∷ [])))) $
+    enter ! 𝓣.C 𝓣.Λ fn (w ∷ k.0 ∷ []) Post $ alloc_all ! (λ l. pass_all ! refl (words_good p h fits, (k.2, tt)) $
+    sets ! (of_opd ! (get_in ! (fld ! refl (stop !)) (sub ! 0 refl (whole !)))) refl (Ptr-Good p) $ sets ! (of_opd ! (get_in ! (fld ! refl (stop !)) (sub ! 1 refl (whole !)))) refl fits $
+    sets ! (of_opd ! (get ! refl)) refl (Ptr-Good p) $ sets ! (agg ! (and_then ! (get ! refl) (and_then ! (get ! refl) (no_more !)))) refl (words_good p h fits) $ sets ! (of_opd ! (get ! refl)) refl k.2 $
     calls_at ! (fm 𝓛 𝓜 𝓡) G (met 𝓤 𝓛 𝓜 𝓡 (code.calls-spin_c::turn::turn_maybe 𝓡.env wired) no_first (Includes-refl no_first.0) no_second (Includes-refl no_second.0) no_third
     (Includes-refl no_third.0) (hidden-dyn-1 𝓤 𝓛 𝓜 𝓡 (code.calls-spin_c::turn::turn_maybe 𝓡.env wired)).0 (hidden-dyn-2 𝓤 𝓛 𝓜 𝓡 (code.calls-spin_c::turn::turn_maybe 𝓡.env wired)).0
-    (hidden-dyn-3 𝓤 𝓛 𝓜 𝓡 (code.calls-spin_c::turn::turn_maybe 𝓡.env wired)).0) y (and_then ! (get ! refl) (and_then ! (get ! refl) (and_then ! (get ! refl) (no_more !)))) (λ u.
+    (hidden-dyn-3 𝓤 𝓛 𝓜 𝓡 (code.calls-spin_c::turn::turn_maybe 𝓡.env wired)).0) y (and_then ! (get ! refl) (and_then ! (get ! refl) (no_more !))) (λ u.
     use1 𝓛 (later (some (λ (r : Mb.Denot × O.Denot). (‵ ftrue ⊛ ‵ (Pair.own_val r (u ∷ []))) ⊛ some (λ (ls : Lasts (callee.ended no_first no_second no_third) tt y.0.3). ‵
-    (lasts (callee.ended no_first no_second no_third) tt y.0.3 ls) ⊛ (raw (fact 𝓤 (IsWell r.0.value)) ⊛ raw (fact 𝓤 (Turns (natives_seen n) d.kept q.ask r.0.value r.1))))))) (id⊢ 𝓤 _) $
+    (lasts (callee.ended no_first no_second no_third) tt y.0.3 ls) ⊛ (raw (fact 𝓤 (IsWell r.0.value)) ⊛ raw (fact 𝓤 (Turns no_natives d.kept q.ask r.0.value r.1))))))) (id⊢ 𝓤 _) $
     await ! tt $ pick ! (λ r. split ! $ move ! (1 ∷ []) $ pick !
-    (λ ls. split3 ! $ drop ! $ heard ! (IsWell r.0.value) (λ whole'. heard ! (Turns (natives_seen n) d.kept q.ask r.0.value r.1) (λ does. split ! $ move ! (1 ∷ []) $
+    (λ ls. split3 ! $ drop ! $ heard ! (IsWell r.0.value) (λ whole'. heard ! (Turns no_natives d.kept q.ask r.0.value r.1) (λ does. split ! $ move ! (1 ∷ []) $
     -- [the pair; the tokens; the requires]
     two_out Mb O r.0 r.1 ! refl refl ((maybe_laws.the_row_laws row_at row_laws).lawful 𝓛) ((outcome_laws.the_row_laws).lawful 𝓛) (u ∷ []) (λ v o gv go eu.
     maybe_out row_at ! r.0 (v ∷ []) (λ h' ev fits'. let p' = r.0.at in let w' : Val = both (ptr_val p') h' in let after : Handle.Denot = record { at = p'; alloc = r.0.alloc; kept = r.0.value } in
@@ -168,6 +133,6 @@ turn_spec 𝓤 𝓛 𝓜 𝓡 wired =
     sets ! (of_opd ! (get ! refl)) refl (Ptr-Good p') $ sets ! (agg ! (and_then ! (get ! refl) (and_then ! (get ! refl) (no_more !)))) refl good $ sets ! (of_opd ! (get ! refl)) refl go $
     sets ! (agg ! (and_then ! (get ! refl) (and_then ! (get ! refl) (no_more !)))) refl goods $
     let Claim : Type 0 = Turns no_natives d.kept q.ask r.0.value r.1 in
-    use0 𝓛 (raw (fact 𝓤 Claim)) (fact_i 𝓤 Claim (emp 𝓤) (subst (λ (s : NativeData). Turns s d.kept q.ask r.0.value r.1) (none_seen n) does)) $
-    nothing ! $ nothing ! $ fjoin ! $ nothing ! $ fjoin ! $ nothing ! $ fjoin ! $ returns ! (look_at ! 0 refl) $ free_all ! refl $ keep ! (3 ∷ 0 ∷ 2 ∷ 1 ∷ []) $
-    by ! (leaves 𝓛 En hs c z (both w' o) (after, r.1) (tt, (tt, (rest (Call.exit yes) q, tt))) (tt, (tt, (tt, tt)))))))))))))))))))
+    use0 𝓛 (raw (fact 𝓤 Claim)) (fact_i 𝓤 Claim (emp 𝓤) does) $
+    nothing ! $ nothing ! $ fjoin ! $ nothing ! $ fjoin ! $ returns ! (look_at ! 0 refl) $ free_all ! refl $ keep ! (3 ∷ 0 ∷ 2 ∷ 1 ∷ []) $
+    by ! (leaves 𝓛 En hs c z (both w' o) (after, r.1) (tt, (rest (Call.exit yes) q, tt)) (tt, (tt, tt))))))))))))))
