@@ -89,22 +89,44 @@ still_ends : (before sink after : SinkSeen) (whether : Bool) (end : End) → aft
 still_ends before sink after whether end same (inl w) = inl (w.0, same ∙ w.1)
 still_ends before sink after whether end same (inr w) = inr (w.0, subst (λ n. Rose before.faults n) (sym same) w.1)
 
-pub was_answered : (natives : NativeData) (before after : Outside) (mid end_shelf : ShelfSeen) (sink : SinkSeen) (name report : List ℕ)
-    (packets : Option (List ℕ)) (script : ScriptData) (capture : Option CaptureSeen) (text : List ℕ) (whether : Bool) (end : End) → ShelfStood before.shelf mid
-    → IsLoaded natives before.shelf.files name script → ShelfStood mid end_shelf → IsCaptured mid.files packets capture → ShelfStood end_shelf after.shelf
-    → IsContent end_shelf.files report text → length text ≤ max_report → Decides whether (IsRunText script capture before.ends text)
-    → TellsAnswer before.sink sink whether end → Tells sink after.sink (stop_line end) → after.ends ≡ before.ends → CheckHasCause natives before after name report packets end
-was_answered natives before after mid end_shelf sink name report packets script capture text whether end stood loaded stood' captured stood'' read few judged tells line ends =
-    let all = stood_stood before.shelf mid end_shelf stood stood' in
-    let none : Tells sink after.sink [] = subst (λ bytes. Tells sink after.sink bytes) (ends_silent before.sink sink whether end tells) line in
+-- the script, the capture and the report were read, one behind the other, from a shelf that stood
+pub record HasReadAll (natives : NativeData) (before after : ShelfSeen) (name report : List ℕ) (packets : Option (List ℕ)) : Type 0 where
+  pub mid : ShelfSeen
+  pub behind : ShelfSeen
+  pub script : ScriptData
+  pub capture : Option CaptureSeen
+  pub text : List ℕ
+  pub stood : ShelfStood before mid
+  pub loaded : IsLoaded natives before.files name script
+  pub stood_on : ShelfStood mid behind
+  pub captured : IsCaptured mid.files packets capture
+  pub stood_last : ShelfStood behind after
+  pub read : IsContent behind.files report text
+  pub few : length text ≤ max_report
+
+-- the answer was written, and then the line of how the command ends
+pub record HasAnswered (before after : SinkSeen) (whether : Bool) (end : End) : Type 0 where
+  pub sink : SinkSeen
+  pub tells : TellsAnswer before sink whether end
+  pub line : Tells sink after (stop_line end)
+
+pub was_answered : (natives : NativeData) (before after : Outside) (name report : List ℕ) (packets : Option (List ℕ)) (whether : Bool) (end : End)
+    (all : HasReadAll natives before.shelf after.shelf name report packets) → Decides whether (IsRunText all.script all.capture before.ends all.text)
+    → HasAnswered before.sink after.sink whether end → after.ends ≡ before.ends → CheckHasCause natives before after name report packets end
+was_answered natives before after name report packets whether end all judged told ends =
+    let stood = stood_stood before.shelf all.mid all.behind all.stood all.stood_on in
+    let none : Tells told.sink after.sink [] = subst (λ bytes. Tells told.sink after.sink bytes) (ends_silent before.sink told.sink whether end told.tells) told.line in
     inr (record {
-      stood = stood_stood before.shelf end_shelf after.shelf all stood'';
-      both = both_read natives before.shelf mid name packets script capture stood loaded captured;
-      text = text;
-      read = subst (λ files. IsContent files report text) all.files read;
-      few = few;
+      stood = stood_stood before.shelf all.behind after.shelf stood all.stood_last;
+      both = both_read natives before.shelf all.mid name packets all.script all.capture all.stood all.loaded all.captured;
+      text = all.text;
+      read = subst (λ files. IsContent files report all.text) stood.files all.read;
+      few = all.few;
       whether = whether;
       judged = judged;
-      tells = (tells_only before.sink sink after.sink (answer whether) tells.0 none, still_ends before.sink sink after.sink whether end (tells_nothing sink after.sink none) tells.1);
+      tells = (
+        tells_only before.sink told.sink after.sink (answer whether) told.tells.0 none,
+        still_ends before.sink told.sink after.sink whether end (tells_nothing told.sink after.sink none) told.tells.1,
+      );
       ends = ends;
     })

@@ -30,6 +30,18 @@ returns g c natives before name stood loaded =
     let judged = rw c.as_slice.ensures at c.in-Ok-is_of_history.ensures in (
       c.tell-end.result,
       c.stop-2.ensures.status,
-      was_answered _ _ _ _ _ _ _ _ _ _ (option_map capture_of c.in-Ok.capture) _ c.in-Ok-is_of_history.yes c.tell-end.result stood loaded
-          c.in-Ok.ensures.stood c.in-Ok.ensures.read c.in-Ok-report_of.ensures.stood c.in-Ok-report_of.ensures.read c.in-Ok-report_of.ensures.few judged c.tell-end.ensures c.stop-2.ensures.line refl,
+      was_answered _ _ _ _ _ _ c.in-Ok-is_of_history.yes c.tell-end.result record {
+        mid = _;
+        behind = _;
+        script = _;
+        capture = option_map capture_of c.in-Ok.capture;
+        text = _;
+        stood = stood;
+        loaded = loaded;
+        stood_on = c.in-Ok.ensures.stood;
+        captured = c.in-Ok.ensures.read;
+        stood_last = c.in-Ok-report_of.ensures.stood;
+        read = c.in-Ok-report_of.ensures.read;
+        few = c.in-Ok-report_of.ensures.few;
+      } judged record { sink = _; tells = c.tell-end.ensures; line = c.stop-2.ensures.line } refl,
     )
